@@ -1,0 +1,46 @@
+-- What a decoder answers, from what reading gives.
+use Rattle.std.proofs.Common.{◌≡◌, ℕ, ◌+◌, ◌^◌, ◌<◌, List, Result, Ok, Err, refl, sym, ap, subst, ◌∙◌, arith, inl, inr}
+use Rattle.depot_base.specs.declared.fault.Fault.{Fault}
+use Rattle.depot_base.specs.declared.fault.Fault.TheVariants.{Memory, At}
+use Rattle.depot_base.specs.declared.fault.DecodeError.TheVariants as errors
+use Rattle.depot_base.specs.Format.{Format, whole, FirstFault}
+use Rattle.depot_base.specs.Reading.{Gives, decoded, IsEarly, Decodes}
+use Rattle.depot_base.proofs.Laws.{IsBytes, cursor, Lawful, ok_is, not_err, err_is}
+use Rattle.depot_base.proofs.Combined.{whole_takes, whole_again, whole_faults, whole_stops, whole_early}
+
+pub is_early : {V : Type 0} (f : Format V) (m : ℕ) → Lawful f m → m < 2 ^ 32 → (text : List ℕ) → IsBytes text → (r : Result V Fault) → Gives r (whole f (cursor 0 text)) → IsEarly r
+is_early f m l lt text fits (Ok v) h = tt
+is_early f m l lt text fits (Err Memory) h = tt
+is_early f m l lt text fits (Err (At at)) h =
+    let w = whole_faults f m l (cursor 0 text) at fits h in
+    omega (arith, w.place, whole_early f m l text w.after w.fault)
+
+pub decodes : {V : Type 0} (f : Format V) (m : ℕ) → Lawful f m → (text : List ℕ) → IsBytes text → (r : Result V Fault) → Gives r (whole f (cursor 0 text)) → Decodes f text (decoded r)
+decodes {V = V} f m l text fits (Ok v) h = record {
+  found = λ w e. let p : v ≡ w = cc in subst (λ (x : V). f.fits x × (text ≡ f.text x)) p (whole_takes f m l (cursor 0 text) v fits h);
+  only = λ w fw e.
+      let again : whole f (cursor 0 text) ≡ Ok w = rw e (whole_again f m l 0 w fw) in
+      inr (ap (λ (x : V). Ok x) (ok_is v w (sym h ∙ again)));
+  ill_formed = λ at e. absurd cc;
+  first = λ at e. absurd (not_err v (0 + at) (sym h ∙ whole_stops f m l 0 text at e));
+}
+decodes f m l text fits (Err Memory) h = record {
+  found = λ w e. absurd cc;
+  only = λ w fw e. inl refl;
+  ill_formed = λ at e. absurd cc;
+  first = λ at e. inl refl;
+}
+decodes {V = V} f m l text fits (Err (At at)) h = record {
+  found = λ w e. absurd cc;
+  only = λ w fw e.
+      let again : whole f (cursor 0 text) ≡ Ok w = rw e (whole_again f m l 0 w fw) in
+      absurd (not_err w at (sym again ∙ h));
+  ill_formed = λ k e.
+      let p : at ≡ k = cc in
+      let w = whole_faults f m l (cursor 0 text) at fits h in
+      let q : w.after ≡ k = omega (arith, w.place) in
+      subst (λ (n : ℕ). FirstFault f text n) q w.fault;
+  first = λ k e.
+      let q : at ≡ k = omega (arith, err_is {A = V} at (0 + k) (sym h ∙ whole_stops f m l 0 text k e)) in
+      inr (ap (λ (n : ℕ). Err (errors.IllFormed n)) q);
+}

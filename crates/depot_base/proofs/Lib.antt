@@ -1,0 +1,9 @@
+pub mod Laws
+pub mod Numbers
+pub mod Combined
+pub mod Lists
+pub mod Loop
+pub mod PartLaws
+pub mod ClosedLaws
+pub mod Decoding
+pub mod Writing

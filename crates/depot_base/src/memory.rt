@@ -1,0 +1,38 @@
+//! What a call answers where memory runs out, or where bytes have the wrong length.
+ghost use Rattle.std.specs.Prelude.{◌≡◌};
+ghost use Rattle.depot_base.specs.declared.memory.LengthError.TheVariants as length_error;
+
+use std::alloc::{AllocError, AllocFailed};
+
+/// No memory was found. It is the one answer that may come in place of any other of a call that allocates.
+#[derive(Clone, Copy, Debug, PartialEq, Eq)]
+pub struct Memory;
+
+impl From<AllocError> for Memory {
+    fn from(_e: AllocError) -> Memory {
+        Memory
+    }
+}
+
+impl<T: Drop> From<AllocFailed<T>> for Memory {
+    fn from(_e: AllocFailed<T>) -> Memory {
+        Memory
+    }
+}
+
+/// Why bytes make no key or value.
+#[derive(Clone, Copy, Debug, PartialEq, Eq)]
+pub enum LengthError {
+    /// No memory was found.
+    Memory,
+    /// So many bytes were given, which is outside the type's range.
+    Length(usize),
+}
+
+impl From<Memory> for LengthError {
+    ghost from_gives = { λ _ e. e ≡ length_error.Memory };
+
+    fn from(_e: Memory) -> LengthError {
+        LengthError::Memory
+    }
+}

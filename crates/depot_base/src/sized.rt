@@ -1,0 +1,99 @@
+//! Keys and values: bytes of a bounded number.
+ghost use Rattle.std.specs.Prelude.{◌≡◌, ℕ, List, IfOk};
+ghost use Rattle.depot_base.specs.Sized.{IsKey, IsValue, GivesWithin};
+
+use crate::{Bytes, LengthError, Memory};
+use std::alloc::Global;
+use std::marker::Model;
+
+/// A key of 1 to 255 bytes.
+#[derive(Debug, Drop)]
+pub struct Key(Bytes);
+
+impl Model for Key {
+    ghost Value = { List ℕ };
+
+    ghost view = { λ k. k.0 };
+
+    ghost invariant = { λ k. IsKey k.0 };
+}
+
+impl Key {
+    /// The most bytes of a key.
+    pub const MOST: usize = 255;
+
+    /// The key of these bytes, or their number where it is no key's.
+    pub fn new(alloc: Global, bytes: &[u8]) -> Result<Key, LengthError>
+        ensures { GivesWithin IsKey bytes.now result }
+    {
+        if bytes.is_empty() || bytes.len() > Key::MOST {
+            return Err(LengthError::Length(bytes.len()));
+        }
+        Ok(Key(Bytes::from_slice(alloc, bytes)?))
+    }
+
+    /// The key of bytes whose number is known to be a key's. It takes no memory.
+    pub fn from_bytes(bytes: Bytes) -> Key
+        requires { IsKey bytes }
+        ensures { result ≡ bytes }
+    {
+        Key(bytes)
+    }
+
+    /// Its bytes.
+    pub fn bytes(&self) -> &[u8]
+        ensures same { result.now ≡ self.now }
+        ensures key { IsKey self.now }
+    {
+        self.0.as_slice()
+    }
+
+    /// The same key once more.
+    pub fn copy(&self) -> Result<Key, Memory>
+        ensures { IfOk result (λ k. k ≡ self.now) }
+    {
+        Ok(Key(self.0.copy()?))
+    }
+}
+
+/// A value of at most 65,536 bytes.
+#[derive(Debug, Drop)]
+pub struct Value(Bytes);
+
+impl Model for Value {
+    ghost Value = { List ℕ };
+
+    ghost view = { λ v. v.0 };
+
+    ghost invariant = { λ v. IsValue v.0 };
+}
+
+impl Value {
+    /// The most bytes of a value.
+    pub const MOST: usize = 65_536;
+
+    /// The value of these bytes, or their number where it is no value's.
+    pub fn new(alloc: Global, bytes: &[u8]) -> Result<Value, LengthError>
+        ensures { GivesWithin IsValue bytes.now result }
+    {
+        if bytes.len() > Value::MOST {
+            return Err(LengthError::Length(bytes.len()));
+        }
+        Ok(Value(Bytes::from_slice(alloc, bytes)?))
+    }
+
+    /// Its bytes.
+    pub fn bytes(&self) -> &[u8]
+        ensures same { result.now ≡ self.now }
+        ensures value { IsValue self.now }
+    {
+        self.0.as_slice()
+    }
+
+    /// The same value once more.
+    pub fn copy(&self) -> Result<Value, Memory>
+        ensures { IfOk result (λ v. v ≡ self.now) }
+    {
+        Ok(Value(self.0.copy()?))
+    }
+}

@@ -1,0 +1,71 @@
+//! Statements, and statements with their signatures.
+ghost use Rattle.std.specs.Prelude.{◌≡◌, IfOk};
+ghost use Rattle.depot_base.specs.Statement.{writer_of, seq_of};
+
+use crate::{Bytes, Memory, NodeId, Update, Voucher};
+
+/// What a node signs.
+#[derive(Debug, Drop)]
+pub enum Statement {
+    /// It wrote a key.
+    Update(Update),
+    /// It vouches for updates of others.
+    Voucher(Voucher),
+}
+
+impl Statement {
+    /// Who made it.
+    pub fn writer(&self) -> NodeId
+        ensures { result ≡ writer_of self.now }
+    {
+        match self {
+            Statement::Update(update) => update.writer,
+            Statement::Voucher(voucher) => voucher.node,
+        }
+    }
+
+    /// Which of its writer's statements it is, from 0: the one-time leaf that signs it.
+    pub fn seq(&self) -> u32
+        ensures { result ≡ seq_of self.now }
+    {
+        match self {
+            Statement::Update(update) => update.seq,
+            Statement::Voucher(voucher) => voucher.seq,
+        }
+    }
+
+    /// The same statement once more.
+    pub fn copy(&self) -> Result<Statement, Memory>
+        ensures { IfOk result (λ s. s ≡ self.now) }
+    {
+        match self {
+            Statement::Update(update) => Ok(Statement::Update(update.copy()?)),
+            Statement::Voucher(voucher) => Ok(Statement::Voucher(voucher.copy()?)),
+        }
+    }
+}
+
+/// A statement with its signature. Where it comes from a decoder, `body` is the text of `statement`; each call that
+/// takes one has this as its condition.
+#[derive(Debug, Drop)]
+pub struct Signed {
+    /// The statement.
+    pub statement: Statement,
+    /// Its text, which is signed.
+    pub body: Bytes,
+    /// The signature, at most 8,192 bytes. Nothing is said of whether it verifies.
+    pub signature: Bytes,
+}
+
+impl Signed {
+    /// The same once more.
+    pub fn copy(&self) -> Result<Signed, Memory>
+        ensures { IfOk result (λ s. s ≡ self.now) }
+    {
+        Ok(Signed {
+            statement: self.statement.copy()?,
+            body: self.body.copy()?,
+            signature: self.signature.copy()?,
+        })
+    }
+}

@@ -1,0 +1,57 @@
+//! One write of a key.
+ghost use Rattle.std.specs.Prelude.{◌≡◌, IfOk};
+
+use crate::{Deps, Hash32, Key, Memory, NodeId};
+
+/// An entry: an update that another one depends on.
+#[derive(Clone, Copy, Debug, PartialEq, Eq)]
+pub struct Dep {
+    /// Its writer.
+    pub writer: NodeId,
+    /// Its logical clock.
+    pub clock: u64,
+    /// Its id.
+    pub id: Hash32,
+}
+
+/// One write of a key, as its writer signs it.
+#[derive(Debug, Drop)]
+pub struct Update {
+    /// Who wrote it.
+    pub writer: NodeId,
+    /// Which of its writer's statements it is, from 0. It is the one-time leaf that signs it.
+    pub seq: u32,
+    /// Its Lamport clock, 1 and more.
+    pub clock: u64,
+    /// The id of its writer's update before it, or 32 zero bytes.
+    pub prev: Hash32,
+    /// The key.
+    pub key: Key,
+    /// SHA-256 of the value.
+    pub value_hash: Hash32,
+    /// The value's length in bytes, at most 65,536.
+    pub value_len: u32,
+    /// The updates of others that it depends on, at most 1,024, rising strictly by (writer, id).
+    pub deps: Deps,
+    /// The history hash of its past.
+    pub history: Hash32,
+}
+
+impl Update {
+    /// The same update once more.
+    pub fn copy(&self) -> Result<Update, Memory>
+        ensures { IfOk result (λ u. u ≡ self.now) }
+    {
+        Ok(Update {
+            writer: self.writer,
+            seq: self.seq,
+            clock: self.clock,
+            prev: self.prev,
+            key: self.key.copy()?,
+            value_hash: self.value_hash,
+            value_len: self.value_len,
+            deps: self.deps.copy()?,
+            history: self.history,
+        })
+    }
+}
