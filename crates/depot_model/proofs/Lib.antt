@@ -1,0 +1,12 @@
+pub mod TextLaws
+pub mod BodyLaws
+pub mod FirstLaws
+pub mod ContradictionLaws
+pub mod JudgementLaws
+pub mod Members
+pub mod Orders
+pub mod Pasts
+pub mod LatestLaws
+pub mod LogLaws
+pub mod UpdateProp
+pub mod Examples

@@ -1,0 +1,170 @@
+-- Membership, and the tests that decide it.
+use Rattle.std.proofs.Common.{◌≡◌, ℕ, zero, suc, ◌<◌, List, [], ◌∷◌, ◌++◌, map, length, get_or, Bool, true, false, ◌||◌, ◌&&◌, cond, refl, sym, ap, subst, ◌∙◌, arith, inl, inr, ◌⊎◌}
+use Rattle.std.specs.List.{AllByRecursion, Contains, list_any, list_all}
+use Rattle.std.specs.List.Sorted.{IsPermutation}
+use Rattle.std.specs.Str.{bytes_eq}
+use Rattle.std.proofs.lemmas.List.Sorted.{Contains-permutation}
+use Rattle.std.proofs.lemmas.Slice.Eq.{bytes_eq-Decides}
+use Rattle.std.proofs.lemmas.Bool.{or_cases, or_left, or_right, and_parts, and_from}
+use Rattle.depot_model.specs.Lists.{IsIn, is_among}
+
+-- ---- lists behind one another
+
+-- what is one of the first list is one of both
+pub in_left : {X : Type 0} (x : X) (xs ys : List X) → IsIn x xs → IsIn x (xs ++ ys)
+in_left x [] ys never = absurd never
+in_left x (y ∷ xs) ys (inl here) = inl here
+in_left x (y ∷ xs) ys (inr there) = inr (in_left x xs ys there)
+
+-- what is one of the second list is one of both
+pub in_right : {X : Type 0} (x : X) (xs ys : List X) → IsIn x ys → IsIn x (xs ++ ys)
+in_right x [] ys on = on
+in_right x (y ∷ xs) ys on = inr (in_right x xs ys on)
+
+-- what is one of both is one of the first or of the second
+pub in_parts : {X : Type 0} (x : X) (xs ys : List X) → IsIn x (xs ++ ys) → IsIn x xs ⊎ IsIn x ys
+in_parts x [] ys on = inr on
+in_parts x (y ∷ xs) ys (inl here) = inl (inl here)
+in_parts x (y ∷ xs) ys (inr there) = elim (in_parts x xs ys there) [ inl front ↦ inl (inr front) | inr back ↦ inr back ]
+
+-- what is one of a list or the last behind it
+pub in_pushed : {X : Type 0} (x : X) (xs : List X) (y : X) → IsIn x (xs ++ y ∷ []) → IsIn x xs ⊎ (y ≡ x)
+in_pushed x xs y on = elim (in_parts x xs (y ∷ []) on) [
+  | inl front ↦ inl front
+  | inr back ↦ elim back [ inl here ↦ inr here | inr never ↦ absurd never ]
+]
+
+-- the last is one of the list
+pub in_last : {X : Type 0} (xs : List X) (y : X) → IsIn y (xs ++ y ∷ [])
+in_last xs y = in_right y xs (y ∷ []) (inl refl)
+
+-- ---- map
+
+-- what f gives of one of the list is one of those that f gives
+pub in_map : {X Y : Type 0} (f : X → Y) (x : X) (xs : List X) → IsIn x xs → IsIn (f x) (map f xs)
+in_map f x [] never = absurd never
+in_map f x (y ∷ ys) (inl here) = inl (ap f here)
+in_map f x (y ∷ ys) (inr there) = inr (in_map f x ys there)
+
+-- what f gave came from one of the list
+pub from_map : {X Y : Type 0} (f : X → Y) (y : Y) (xs : List X) → IsIn y (map f xs) → (x : X) × (IsIn x xs × (f x ≡ y))
+from_map f y [] never = absurd never
+from_map f y (x ∷ xs) (inl here) = (x, (inl refl, here))
+from_map f y (x ∷ xs) (inr there) = let r = from_map f y xs there in (r.0, (inr r.1.0, r.1.1))
+
+-- ---- what holds of all
+
+-- what holds of all holds of each
+pub all_at : {X : Type 0} (P : X → Type 0) (xs : List X) (x : X) → AllByRecursion P xs → IsIn x xs → P x
+all_at P [] x all never = absurd never
+all_at P (y ∷ ys) x all (inl here) = subst P here all.0
+all_at P (y ∷ ys) x all (inr there) = all_at P ys x all.1 there
+
+-- what holds of each holds of all
+pub all_from : {X : Type 0} (P : X → Type 0) (xs : List X) → ((x : X) → IsIn x xs → P x) → AllByRecursion P xs
+all_from P [] each = tt
+all_from P (y ∷ ys) each = (each y (inl refl), all_from P ys (λ x on. each x (inr on)))
+
+-- what holds of all of a list, and of one more behind it
+pub all_push : {X : Type 0} (P : X → Type 0) (xs : List X) (x : X) → AllByRecursion P xs → P x → AllByRecursion P (xs ++ x ∷ [])
+all_push P [] x all one = (one, tt)
+all_push P (y ∷ ys) x all one = (all.0, all_push P ys x all.1 one)
+
+-- ---- tests
+
+-- a test that one of a list passes
+pub any_from : {X : Type 0} (test : X → Bool) (x : X) (xs : List X) → IsIn x xs → test x ≡ true → list_any test xs ≡ true
+any_from test x [] never e = absurd never
+any_from test x (y ∷ ys) (inl here) e = or_left (test y) (list_any test ys) (ap test here ∙ e)
+any_from test x (y ∷ ys) (inr there) e = or_right (test y) (list_any test ys) (any_from test x ys there e)
+
+-- the one that passes the test
+pub any_to : {X : Type 0} (test : X → Bool) (xs : List X) → list_any test xs ≡ true → (x : X) × (IsIn x xs × (test x ≡ true))
+any_to test [] e = absurd cc
+any_to test (y ∷ ys) e = elim (or_cases (test y) (list_any test ys) e) [
+  | inl here ↦ (y, (inl refl, here))
+  | inr there ↦ let r = any_to test ys there in (r.0, (inr r.1.0, r.1.1))
+]
+
+-- the test of membership passes where the bytes are one of the list
+pub among_from : (h : List ℕ) (hs : List (List ℕ)) → IsIn h hs → is_among h hs ≡ true
+among_from h hs on = any_from (bytes_eq h) h hs on ((bytes_eq-Decides h h).1 refl)
+
+-- and only there
+pub among_to : (h : List ℕ) (hs : List (List ℕ)) → is_among h hs ≡ true → IsIn h hs
+among_to h hs e = let r = any_to (bytes_eq h) hs e in subst (λ (k : List ℕ). IsIn k hs) (sym ((bytes_eq-Decides h r.0).0 r.1.1)) r.1.0
+
+-- all are members where each passes the test
+pub all_among_to : (hs ids : List (List ℕ)) → list_all (λ h. is_among h ids) hs ≡ true → AllByRecursion (λ h. IsIn h ids) hs
+all_among_to [] ids e = tt
+all_among_to (h ∷ hs) ids e = let p = and_parts (is_among h ids) _ e in (among_to h ids p.0, all_among_to hs ids p.1)
+
+-- and only there
+pub all_among_from : (hs ids : List (List ℕ)) → AllByRecursion (λ h. IsIn h ids) hs → list_all (λ h. is_among h ids) hs ≡ true
+all_among_from [] ids all = refl
+all_among_from (h ∷ hs) ids all = and_from (is_among h ids) _ (among_from h ids all.0) (all_among_from hs ids all.1)
+
+-- two tests that pass at the same time are one
+pub same_test : (a b : Bool) → (a ≡ true → b ≡ true) → (b ≡ true → a ≡ true) → a ≡ b
+same_test true b p q = sym (p refl)
+same_test false true p q = q refl
+same_test false false p q = refl
+
+-- ids are compared in either order
+pub bytes_eq_comm : (a b : List ℕ) → bytes_eq a b ≡ bytes_eq b a
+bytes_eq_comm a b = same_test (bytes_eq a b) (bytes_eq b a) (λ e. (bytes_eq-Decides b a).1 (sym ((bytes_eq-Decides a b).0 e))) (λ e. (bytes_eq-Decides a b).1 (sym ((bytes_eq-Decides b a).0 e)))
+
+-- one of both is one of the first or of the second
+pub among-append : (h : List ℕ) (xs ys : List (List ℕ)) → is_among h (xs ++ ys) ≡ (is_among h xs || is_among h ys)
+among-append h [] ys = refl
+among-append h (x ∷ xs) ys = ap (λ (b : Bool). bytes_eq h x || b) (among-append h xs ys) ∙ regroup (bytes_eq h x) (is_among h xs) (is_among h ys) where
+  regroup : (a b c : Bool) → (a || (b || c)) ≡ ((a || b) || c)
+  regroup true b c = refl
+  regroup false b c = refl
+
+-- all of both pass where all of the first and all of the second do
+pub all-append : {X : Type 0} (test : X → Bool) (xs ys : List X) → list_all test (xs ++ ys) ≡ (list_all test xs && list_all test ys)
+all-append test [] ys = refl
+all-append test (x ∷ xs) ys = ap (λ (b : Bool). test x && b) (all-append test xs ys) ∙ regroup (test x) (list_all test xs) (list_all test ys) where
+  regroup : (a b c : Bool) → (a && (b && c)) ≡ ((a && b) && c)
+  regroup true b c = refl
+  regroup false b c = refl
+
+-- a test of what each gives is a test of each
+pub all-map : {X Y : Type 0} (test : Y → Bool) (f : X → Y) (xs : List X) → list_all test (map f xs) ≡ list_all (λ x. test (f x)) xs
+all-map test f [] = refl
+all-map test f (x ∷ xs) = ap (λ (b : Bool). test (f x) && b) (all-map test f xs)
+
+-- ---- lists that are chosen from
+
+-- one of a list that is chosen by a test, with an element in front where it passes
+pub chosen_cases : {X : Type 0} (b : Bool) (x y : X) (ys : List X) → IsIn x (cond b (y ∷ ys) ys) → ((b ≡ true) × (y ≡ x)) ⊎ IsIn x ys
+chosen_cases true x y ys (inl here) = inl (refl, here)
+chosen_cases true x y ys (inr there) = inr there
+chosen_cases false x y ys on = inr on
+
+-- what stands behind is one of the list either way
+pub chosen_behind : {X : Type 0} (b : Bool) (x y : X) (ys : List X) → IsIn x ys → IsIn x (cond b (y ∷ ys) ys)
+chosen_behind true x y ys on = inr on
+chosen_behind false x y ys on = on
+
+-- what stands in front is one of the list where the test passes
+pub chosen_front : {X : Type 0} (b : Bool) (x y : X) (ys : List X) → b ≡ true → y ≡ x → IsIn x (cond b (y ∷ ys) ys)
+chosen_front true x y ys e same = inl same
+chosen_front false x y ys e same = absurd cc
+
+-- ---- lists in another order
+
+contains_from : {X : Type 0} (x : X) (xs : List X) → IsIn x xs → Contains xs x
+contains_from x [] never = absurd never
+contains_from x (y ∷ ys) (inl here) = (0, omega arith, here)
+contains_from x (y ∷ ys) (inr there) = let r = contains_from x ys there in (suc r.0, omega (arith, r.1), r.2)
+
+in_at : {X : Type 0} (x : X) (xs : List X) (k : ℕ) → k < length xs → get_or xs k x ≡ x → IsIn x xs
+in_at x [] k lt e = absurd (omega arith)
+in_at x (y ∷ ys) zero lt e = inl e
+in_at x (y ∷ ys) (suc k) lt e = inr (in_at x ys k (omega arith) e)
+
+-- a list in another order has the same members
+pub in_permuted : {X : Type 0} (x : X) (xs ys : List X) → IsPermutation xs ys → IsIn x xs → IsIn x ys
+in_permuted x xs ys p on = let c = Contains-permutation xs ys x p (contains_from x xs on) in in_at x ys c.0 c.1 c.2

@@ -1,0 +1,45 @@
+-- Updates by their places in a list, from 0.
+use Rattle.std.specs.Prelude.{◌≡◌, ℕ, ◌+◌, List, [], ◌∷◌, Bool, not, Option, Some, None, IfSome, slice_get, position, if◌then◌else◌}
+use Rattle.std.specs.List.{AllByRecursion}
+use Rattle.std.specs.Str.{bytes_eq}
+use Rattle.depot_base.specs.declared.update.Update.{Update}
+use Rattle.depot_model.specs.Lists.{IsIn, is_among}
+use Rattle.depot_model.specs.Texts.{id_of_update}
+use Rattle.depot_model.specs.Order.{Precedes, prevs}
+use Rattle.depot_model.specs.History.{is_prev_in}
+
+-- of the update at a place, if there is one, this holds
+abbrev pub at : List Update → ℕ → (Update → Type 0) → Type 0
+at us place P = IfSome (slice_get us place) P
+
+-- the place of the first update with this id
+abbrev pub place_of_id : List ℕ → List Update → Option ℕ
+place_of_id h us = position (λ u. bytes_eq (id_of_update u) h) us
+
+-- the update at place a precedes the one at place b
+abbrev pub PrecedesAt : List Update → ℕ → ℕ → Type 0
+PrecedesAt us a b = at us a (λ t. at us b (λ u. Precedes us t u))
+
+-- the places from n on of the updates that pass a test
+unfoldable pub places_where : (Update → Bool) → ℕ → List Update → List ℕ
+places_where test n [] = []
+places_where test n (u ∷ us) = if test u then n ∷ places_where test (n + 1) us else places_where test (n + 1) us
+
+-- no number stands twice
+abbrev pub AreDistinct : List ℕ → Type 0
+AreDistinct [] = Unit {0}
+AreDistinct (n ∷ ns) = AllByRecursion (λ m. m ≡ n → ⊥) ns × AreDistinct ns
+
+-- These are the places of the leaves, each once.
+pub record AreLeaves (us : List Update) (places : List ℕ) : Type 0 where
+  pub all : (n : ℕ) → IsIn n (places_where (λ t. not (is_prev_in us (id_of_update t))) 0 us) → IsIn n places
+  pub only : (n : ℕ) → IsIn n places → IsIn n (places_where (λ t. not (is_prev_in us (id_of_update t))) 0 us)
+  pub once : AreDistinct places
+
+-- the places of the updates whose prev is the one at a place
+abbrev pub children_by : List Update → Option Update → List ℕ
+children_by us None = []
+children_by us (Some t) = places_where (λ u. is_among (id_of_update t) (prevs u)) 0 us
+
+abbrev pub children_of : List Update → ℕ → List ℕ
+children_of us place = children_by us (slice_get us place)

@@ -1,0 +1,51 @@
+-- What a judge says of a proof.
+use Rattle.std.specs.Prelude.{◌≡◌, List, [], ◌∷◌, ℕ, not, ◌==◌, Option, Some, None, Result, Ok, Err}
+use Rattle.std.specs.Str.{bytes_eq}
+use Rattle.depot_base.specs.Format.{FirstFault}
+use Rattle.depot_base.specs.Parts.{is_below}
+use Rattle.depot_base.specs.Statement.{writer_of}
+use Rattle.depot_base.specs.declared.proof.Proof.{Proof}
+use Rattle.depot_base.specs.declared.key.RosterEntry.{RosterEntry}
+use Rattle.depot_model.specs.declared.judgement.Verdict.{Verdict}
+use Rattle.depot_model.specs.declared.judgement.Half.TheVariants.{First, Second}
+use Rattle.depot_model.specs.declared.judgement.JudgeError.{JudgeError}
+use Rattle.depot_model.specs.declared.judgement.JudgeError.TheVariants as point
+use Rattle.depot_model.specs.Lists.{when, first}
+use Rattle.depot_model.specs.Texts.{IsProof, text_of_proof, proof}
+use Rattle.depot_model.specs.Contradictions.{contradicts}
+use Rattle.depot_model.specs.Roster.{Verifies, has_node, is_signed}
+
+-- the points of a proof in their order, each with what it carries where it fails
+unfoldable pub points : Verifies → List RosterEntry → Proof → List (Option JudgeError)
+points verifies r p =
+    let a = writer_of p.first.statement in
+    let b = writer_of p.second.statement in
+    when (not (has_node r a)) (point.UnknownWriter a) ∷
+    when (not (has_node r b)) (point.UnknownWriter b) ∷
+    when (not (is_signed verifies r p.first)) (point.BadSignature First) ∷
+    when (not (is_signed verifies r p.second)) (point.BadSignature Second) ∷
+    when (not (a == b)) (point.TwoWriters a b) ∷
+    when (bytes_eq p.first.body p.second.body) point.Same ∷
+    when (not (is_below p.first.body p.second.body)) point.WrongOrder ∷
+    when (not (contradicts p.kind p.first.statement p.second.statement)) (point.NotContradictory p.kind) ∷ []
+
+-- the first point that fails, or none
+abbrev pub first_failed_point : Verifies → List RosterEntry → Proof → Option JudgeError
+first_failed_point verifies r p = first (points verifies r p)
+
+-- the verdict of a proof that fails no point
+abbrev pub verdict_of : Proof → Verdict
+verdict_of p = record { node = writer_of p.first.statement; kind = p.kind }
+
+-- the text is that of a proof
+pub record IsTextOfProof (text : List ℕ) (p : Proof) : Type 0 where
+  pub fits : IsProof p
+  pub is : text ≡ text_of_proof p
+
+-- A text that is no proof's is ill-formed at its first fault.
+-- A proof's answer is the first point that fails, and where none does the verdict. Memory may stand in place of each answer.
+abbrev pub IsJudgementOf : Verifies → List RosterEntry → List ℕ → Result Verdict JudgeError → Type 0
+IsJudgementOf verifies r text (Ok verdict) = (p : Proof) × (IsTextOfProof text p × ((first_failed_point verifies r p ≡ None) × (verdict ≡ verdict_of p)))
+IsJudgementOf verifies r text (Err point.Memory) = Unit {0}
+IsJudgementOf verifies r text (Err (point.IllFormed at)) = FirstFault proof text at
+IsJudgementOf verifies r text (Err other) = (p : Proof) × (IsTextOfProof text p × (first_failed_point verifies r p ≡ Some other))

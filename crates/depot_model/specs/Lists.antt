@@ -1,0 +1,23 @@
+-- Membership and the like, by cases on the list.
+use Rattle.std.specs.Prelude.{◌≡◌, ℕ, List, [], ◌∷◌, Bool, Option, Some, None, ◌⊎◌, if◌then◌else◌}
+use Rattle.std.specs.List.{list_any}
+use Rattle.std.specs.Str.{bytes_eq}
+
+-- x is one of the list
+abbrev pub IsIn : {X : Type 0} → X → List X → Type 0
+IsIn x [] = ⊥
+IsIn x (y ∷ ys) = (y ≡ x) ⊎ IsIn x ys
+
+-- whether these bytes are one of the list
+abbrev pub is_among : List ℕ → List (List ℕ) → Bool
+is_among h hs = list_any (bytes_eq h) hs
+
+-- x where the test holds
+abbrev pub when : {X : Type 0} → Bool → X → Option X
+when test x = if test then Some x else None
+
+-- the first that there is
+abbrev pub first : {X : Type 0} → List (Option X) → Option X
+first [] = None
+first (None ∷ os) = first os
+first (Some x ∷ os) = Some x
