@@ -1,0 +1,40 @@
+//! What stands outside a run: a shelf of named files, a sink, and a disk.
+//!
+//! Each is a trait, with a fake in memory and the real adapter. A shelf is a map from names to bytes, a sink is the
+//! list of the bytes written to it, and a disk is the bytes of one file, each where it tells them.
+//!
+//! - A fake tells its content. Its calls are numbered from 1, and those of the numbers given to `new` fail.
+//! - A real adapter tells nothing of content: what the system does with the bytes is no fact of a proof.
+//! - Each object has a count of its faults, which contracts alone see. It never falls, and a call answers `Failed` only
+//!   where it rose in that call. So a caller that hands a fault on can say whose it is.
+//!
+//! No call is made again after a fault, and nothing here keeps a copy of what stands outside. Of a disk's calls there is
+//! `length` alone.
+#![tactic(auto)]
+
+mod calls;
+mod disk;
+mod error;
+mod faults;
+mod mem_disk;
+mod mem_shelf;
+mod mem_sink;
+mod real_disk;
+mod real_shelf;
+mod real_sink;
+mod shelf;
+mod sink;
+#[cfg(test)]
+mod tests;
+mod transfer;
+
+pub use disk::Disk;
+pub use error::{Failed, OutError};
+pub use mem_disk::MemDisk;
+pub use mem_shelf::MemShelf;
+pub use mem_sink::MemSink;
+pub use real_disk::RealDisk;
+pub use real_shelf::RealShelf;
+pub use real_sink::RealSink;
+pub use shelf::Shelf;
+pub use sink::Sink;

@@ -1,0 +1,74 @@
+//! A shelf in memory.
+ghost use Rattle.std.specs.Prelude.{◌≡◌, ◌≢◌, ℕ, List, [], Some, None, true, IsTrue, OnOk, OnErr};
+ghost use Rattle.std.specs.BTreeMap.{get_by_text};
+
+use crate::calls::Calls;
+use crate::{OutError, Shelf};
+use depot_base::{Bytes, Items, Memory};
+use std::alloc::Global;
+use std::collections::BTreeMap;
+
+/// A shelf in memory.
+#[derive(Debug, Drop)]
+pub struct MemShelf {
+    alloc: Global,
+    files: BTreeMap<String, Bytes>,
+    calls: Calls,
+}
+
+impl MemShelf {
+    /// A shelf with no file. Of its loads and stores, counted together from 1, those of these numbers fail. It takes no
+    /// memory.
+    pub fn new(alloc: Global, fails: Items) -> MemShelf
+        ensures tells { IsTrue (⟦<MemShelf as Shelf>⟧.tells result) }
+        ensures empty { (name : List ℕ) → ⟦<MemShelf as Shelf>⟧.file result name ≡ None }
+        ensures faults { ⟦<MemShelf as Shelf>⟧.faults result ≡ 0 }
+        ensures faultless { fails ≡ [] → ⟦<MemShelf as Shelf>⟧.is_faultless result }
+    {
+        MemShelf {
+            alloc,
+            files: BTreeMap::new(alloc),
+            calls: Calls::new(fails),
+        }
+    }
+
+    /// Puts bytes under a name, in place of those that were there. It isn't counted among the calls, so it never fails.
+    /// After Memory nothing has changed.
+    #[tactic(auto, using(std::proofs::lemmas::Map::Text::text_keys))]
+    pub fn put(&mut self, name: &str, bytes: &[u8]) -> Result<(), Memory>
+        ensures stored { OnOk result (⟦<MemShelf as Shelf>⟧.file self.new name.now ≡ Some bytes.now) }
+        ensures others { (other : List ℕ) → other ≢ name.now →
+            ⟦<MemShelf as Shelf>⟧.file self.new other ≡ ⟦<MemShelf as Shelf>⟧.file self.old other }
+        ensures memory { OnErr result (⟦<MemShelf as Shelf>⟧.file self.new ≡ ⟦<MemShelf as Shelf>⟧.file self.old) }
+        ensures faults { ⟦<MemShelf as Shelf>⟧.faults self.new ≡ ⟦<MemShelf as Shelf>⟧.faults self.old }
+        ensures faultless { ⟦<MemShelf as Shelf>⟧.is_faultless self.old → ⟦<MemShelf as Shelf>⟧.is_faultless self.new }
+    {
+        let key = String::from_str(self.alloc, name)?;
+        let file = Bytes::from_slice(self.alloc, bytes)?;
+        self.files.insert(key, file)?;
+        Ok(())
+    }
+}
+
+impl Shelf for MemShelf {
+    ghost tells = { λ _. true };
+
+    ghost file = { λ s name. get_by_text s.files name };
+
+    ghost faults = { λ s. s.calls.faults.number };
+
+    ghost is_faultless = { λ s. s.calls.fails ≡ [] };
+
+    fn load(&mut self, name: &str) -> Result<Option<Bytes>, OutError> {
+        self.calls.begin()?;
+        match self.files.get(name) {
+            Some(file) => Ok(Some(file.copy()?)),
+            None => Ok(None),
+        }
+    }
+
+    fn store(&mut self, name: &str, bytes: &[u8]) -> Result<(), OutError> {
+        self.calls.begin()?;
+        Ok(self.put(name, bytes)?)
+    }
+}

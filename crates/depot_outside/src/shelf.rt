@@ -1,0 +1,39 @@
+//! Named files.
+ghost use Rattle.std.specs.Prelude.{◌≡◌, ◌≢◌, ℕ, List, Bool, IsTrue, Option, Some, OnOk, IfOk, IsErrOf};
+ghost use Rattle.depot_outside.specs.Outside.{HasCause};
+
+use crate::OutError;
+use depot_base::Bytes;
+
+/// A map from names to bytes.
+pub trait Shelf {
+    /// Whether it tells its files. Where it doesn't, `file` says nothing.
+    ghost tells: { Self → Bool };
+
+    /// The bytes under each name.
+    ghost file: { Self → List ℕ → Option (List ℕ) };
+
+    /// How often it has failed.
+    ghost faults: { Self → ℕ };
+
+    /// No call on it fails from now on. A shelf that can't promise this leaves it out.
+    ghost is_faultless: { Self → Type 0 } = { λ _. ⊥ };
+
+    /// The file of a name, or None where there is none, which is no fault. No file changes, whatever is answered.
+    fn load(&mut self, name: &str) -> Result<Option<Bytes>, OutError>
+        ensures found { IsTrue (tells self.old) → IfOk result (λ found. found ≡ file self.old name.now) }
+        ensures same { file self.new ≡ file self.old }
+        ensures tells { tells self.new ≡ tells self.old }
+        ensures cause { HasCause (faults self.old) (faults self.new) (IsErrOf result OutError.Failed) }
+        ensures faultless { is_faultless self.old → is_faultless self.new × (faults self.new ≡ faults self.old) };
+
+    /// Puts bytes under a name, in place of those that were there. After Failed that name may hold anything, and after
+    /// Memory nothing has changed.
+    fn store(&mut self, name: &str, bytes: &[u8]) -> Result<(), OutError>
+        ensures stored { IsTrue (tells self.old) → OnOk result (file self.new name.now ≡ Some bytes.now) }
+        ensures others { (other : List ℕ) → other ≢ name.now → file self.new other ≡ file self.old other }
+        ensures memory { IsErrOf result OutError.Memory → file self.new ≡ file self.old }
+        ensures tells { tells self.new ≡ tells self.old }
+        ensures cause { HasCause (faults self.old) (faults self.new) (IsErrOf result OutError.Failed) }
+        ensures faultless { is_faultless self.old → is_faultless self.new × (faults self.new ≡ faults self.old) };
+}

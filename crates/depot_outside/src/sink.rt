@@ -1,0 +1,27 @@
+//! Where a run writes.
+ghost use Rattle.std.specs.Prelude.{◌≡◌, ℕ, List, Bool, IsTrue, IsErrOf};
+ghost use Rattle.depot_outside.specs.Outside.{HasCause, Writes};
+
+use crate::OutError;
+
+/// The list of the bytes written to it.
+pub trait Sink {
+    /// Whether it tells what was written. Where it doesn't, `written` says nothing.
+    ghost tells: { Self → Bool };
+
+    /// What was written.
+    ghost written: { Self → List ℕ };
+
+    /// How often it has failed.
+    ghost faults: { Self → ℕ };
+
+    /// No call on it fails from now on. A sink that can't promise this leaves it out.
+    ghost is_faultless: { Self → Type 0 } = { λ _. ⊥ };
+
+    /// Adds bytes at the end: after Failed a front of them is there, and after Memory none.
+    fn write(&mut self, bytes: &[u8]) -> Result<(), OutError>
+        ensures written { IsTrue (tells self.old) → Writes (written self.old) (written self.new) bytes.now result }
+        ensures tells { tells self.new ≡ tells self.old }
+        ensures cause { HasCause (faults self.old) (faults self.new) (IsErrOf result OutError.Failed) }
+        ensures faultless { is_faultless self.old → is_faultless self.new × (faults self.new ≡ faults self.old) };
+}

@@ -1,0 +1,206 @@
+//! Which calls of a fake fail, the loops over broken readers and writers, and the real adapters.
+
+use super::transfer::{read_whole, write_whole};
+use super::*;
+use depot_base::{Bytes, Items, Memory};
+use std::alloc::Global;
+use std::io::{ErrorKind, Read, Write};
+use std::test::Fail;
+use std::{fs, io};
+
+/// The number of this one call, or no number for 0.
+fn only(alloc: Global, call: u32) -> Result<Items, Memory> {
+    let mut calls = Items::new(alloc);
+    if call > 0 {
+        calls.push(call)?;
+    }
+    Ok(calls)
+}
+
+/// Whether a file was found that holds these bytes.
+fn is_file(found: &Option<Bytes>, bytes: &[u8]) -> bool {
+    match found {
+        Some(file) => file.as_slice() == bytes,
+        None => false,
+    }
+}
+
+#[test]
+fn fakes_fail_at_the_given_calls(rt: HostRuntime) -> Result<(), Fail> {
+    let alloc = rt.alloc();
+    for failing in 0..4 {
+        let mut shelf = MemShelf::new(alloc, only(alloc, failing)?);
+        let mut sink = MemSink::new(alloc, only(alloc, failing)?);
+        let mut disk = MemDisk::new(Bytes::new(alloc), only(alloc, failing)?);
+        shelf.put("a", b"first")?;
+        for call in 1..4 {
+            let fails = call == failing;
+            if call == 2 {
+                assert_eq!(rt; shelf.store("a", b"second").is_err(), fails, "{failing}");
+            } else {
+                assert_eq!(rt; shelf.load("a").is_err(), fails, "{failing}");
+            }
+            assert_eq!(rt; sink.write(b"piece").is_err(), fails, "{failing}");
+            assert_eq!(rt; (&mut disk).length().is_err(), fails, "{failing}");
+        }
+        let written = if failing == 0 { 15 } else { 10 };
+        assert_eq!(rt; sink.bytes().len(), written, "{failing}");
+        let kept = if failing == 2 {
+            b"first".as_slice()
+        } else {
+            b"second"
+        };
+        assert!(rt; is_file(&shelf.load("a")?, kept), "{failing}");
+    }
+    Ok(())
+}
+
+#[test]
+fn fakes_keep_what_they_are_given(rt: HostRuntime) -> Result<(), Fail> {
+    let alloc = rt.alloc();
+    let mut shelf = MemShelf::new(alloc, Items::new(alloc));
+    shelf.put("a", b"first")?;
+    shelf.store("b", b"second")?;
+    shelf.put("a", b"third")?;
+    assert!(rt; is_file(&shelf.load("a")?, b"third"));
+    assert!(rt; is_file(&shelf.load("b")?, b"second"));
+    assert!(rt; shelf.load("c")?.is_none());
+    let mut sink = MemSink::new(alloc, Items::new(alloc));
+    sink.write(b"wri")?;
+    sink.write(b"tten")?;
+    assert_eq!(rt; sink.bytes(), b"written".as_slice());
+    let mut disk = MemDisk::new(Bytes::from_slice(alloc, b"file")?, Items::new(alloc));
+    assert_eq!(rt; disk.length(), Ok(4));
+    assert_eq!(rt; disk.bytes(), b"file".as_slice());
+    Ok(())
+}
+
+/// What one read or write of a broken device does.
+#[derive(Clone, Copy, Debug, PartialEq, Eq)]
+enum Turn {
+    /// It moves at most so many bytes.
+    Move(usize),
+    Interrupted,
+    Broken,
+}
+
+/// A reader of some bytes and a writer to others, which goes by its turns and then moves nothing.
+#[derive(Drop)]
+struct Device<'a> {
+    turns: &'a [Turn],
+    left: &'a [u8],
+    taken: Bytes,
+}
+
+impl<'a> Device<'a> {
+    fn new(alloc: Global, turns: &'a [Turn], left: &'a [u8]) -> Device<'a> {
+        Device {
+            turns,
+            left,
+            taken: Bytes::new(alloc),
+        }
+    }
+
+    fn next(&mut self) -> io::Result<usize> {
+        let [turn, turns @ ..] = self.turns else {
+            return Ok(0);
+        };
+        self.turns = turns;
+        match *turn {
+            Turn::Move(most) => Ok(most),
+            Turn::Interrupted => Err(ErrorKind::Interrupted.into()),
+            Turn::Broken => Err(ErrorKind::Other.into()),
+        }
+    }
+}
+
+impl Read for Device<'_> {
+    fn read(&mut self, into: &mut [u8]) -> io::Result<usize> {
+        let most = self.next()?;
+        let count = most.min(into.len()).min(self.left.len());
+        let (front, rest) = self.left.split_at(count);
+        into[..count].copy_from_slice(front);
+        self.left = rest;
+        Ok(count)
+    }
+}
+
+impl Write for Device<'_> {
+    fn write(&mut self, bytes: &[u8]) -> io::Result<usize> {
+        let most = self.next()?;
+        let count = most.min(bytes.len());
+        match self.taken.push_all(&bytes[..count]) {
+            Ok(()) => Ok(count),
+            Err(Memory) => Err(ErrorKind::OutOfMemory.into()),
+        }
+    }
+
+    fn flush(&mut self) -> io::Result<()> {
+        Ok(())
+    }
+}
+
+#[test]
+fn transfers_go_on_to_the_end_or_to_a_fault(rt: HostRuntime) -> Result<(), Fail> {
+    use Turn::{Broken, Interrupted, Move};
+    let alloc = rt.alloc();
+    let text = b"transferred".as_slice();
+    // The turns, how many bytes they move, and whether the device breaks then.
+    let cases: [(&[Turn], usize, bool); 4] = [
+        (&[Move(4), Interrupted, Move(99)], 11, false),
+        (&[Move(4)], 4, false),
+        (&[Move(4), Broken, Move(7)], 4, true),
+        (&[Broken], 0, true),
+    ];
+    for (turns, moved, breaks) in cases {
+        let mut reader = Device::new(alloc, turns, text);
+        match read_whole(alloc, 11, &mut reader) {
+            Ok(bytes) => assert_eq!(rt; bytes.as_slice(), &text[..moved], "{turns:?}"),
+            Err(_) => assert!(rt; breaks, "{turns:?}"),
+        }
+        let mut writer = Device::new(alloc, turns, b"");
+        assert_eq!(rt;
+            write_whole(&mut writer, text).is_ok(),
+            moved == 11,
+            "{turns:?}"
+        );
+        assert_eq!(rt; writer.taken.as_slice(), &text[..moved], "{turns:?}");
+    }
+    let mut long = Device::new(alloc, &[Move(5), Move(6)], text);
+    assert!(rt; read_whole(alloc, 10, &mut long).is_err());
+    Ok(())
+}
+
+#[test]
+fn a_real_shelf_keeps_files(rt: HostRuntime) -> Result<(), Fail> {
+    let name = "depot_outside.test";
+    let _ = fs::remove_file(&rt, name);
+    let mut shelf = RealShelf::new(rt.clone()?);
+    assert!(rt; shelf.load(name)?.is_none());
+    for text in [b"longer".as_slice(), b"short", b""] {
+        shelf.store(name, text)?;
+        assert!(rt; is_file(&shelf.load(name)?, text));
+    }
+    fs::remove_file(&rt, name)?;
+    assert!(rt; shelf.load(".").is_err());
+    assert!(rt; shelf.store("absent/file", b"").is_err());
+    Ok(())
+}
+
+#[test]
+fn a_real_disk_is_the_journal(rt: HostRuntime) -> Result<(), Fail> {
+    let _ = fs::remove_file(&rt, "depot.journal");
+    let mut disk = RealDisk::new(rt.clone()?);
+    assert_eq!(rt; disk.length(), Ok(0));
+    fs::write(&rt, "depot.journal", "four")?;
+    assert_eq!(rt; disk.length(), Ok(4));
+    fs::remove_file(&rt, "depot.journal")?;
+    Ok(())
+}
+
+#[test]
+fn a_real_sink_prints(rt: HostRuntime) -> Result<(), Fail> {
+    let mut sink = RealSink::new(rt.clone()?);
+    assert_eq!(rt; sink.write(b"written to a real sink\n"), Ok(()));
+    Ok(())
+}
