@@ -1,0 +1,33 @@
+//! What holds of all texts of a kind. Each law is a function that does nothing; its contract is the law.
+ghost use Rattle.std.specs.Prelude.{◌≡◌, ◌↔◌};
+ghost use Rattle.depot_base.specs.Reading.{IsPrefixFree};
+ghost use Rattle.depot_base.specs.declared.update.Update.{Update};
+ghost use Rattle.depot_base.specs.declared.statement.Statement.TheVariants as statements;
+ghost use Rattle.depot_model.specs.Texts.{update_body, statement, signed, proof, IsUpdate, IsStatement, text_of_update, text_of_statement};
+
+/// No body of an update begins the body of another.
+pub fn updates_are_prefix_free()
+    ensures { IsPrefixFree update_body }
+{}
+
+/// No body of a statement begins the body of another.
+pub fn statements_are_prefix_free()
+    ensures { IsPrefixFree statement }
+{}
+
+/// No text of a signed statement begins the text of another.
+pub fn signed_are_prefix_free()
+    ensures { IsPrefixFree signed }
+{}
+
+/// No text of a proof begins the text of another.
+pub fn proofs_are_prefix_free()
+    ensures { IsPrefixFree proof }
+{}
+
+/// An update has the same body as the statement that it is, and is in the ranges of the one exactly where it is in
+/// those of the other.
+pub fn update_texts_agree()
+    ensures text { (u : Update) → text_of_statement (statements.Update u) ≡ text_of_update u }
+    ensures fits { (u : Update) → IsStatement (statements.Update u) ↔ IsUpdate u }
+{}

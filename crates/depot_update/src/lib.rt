@@ -1,0 +1,27 @@
+//! The codecs: texts of updates, statements, signed statements and proofs, read and written.
+//!
+//! A value has one text and a text has one value, as the formats of `depot_model` say (docs/FORMATS.md). Each decoder
+//! gives the value of its text, or the offset of the first fault; each encoder gives the one text of its value; and no
+//! text begins another of its kind. What a decoder gives owns its bytes, each copied once.
+//!
+//! Nothing here asks whether a hash or a signature is right, or whether a roster has a node.
+#![tactic(auto)]
+
+mod laws;
+mod proof;
+mod signed;
+mod statement;
+#[cfg(test)]
+mod tests;
+mod update;
+mod voucher;
+
+pub use depot_base::DecodeError;
+pub use laws::{
+    proofs_are_prefix_free, signed_are_prefix_free, statements_are_prefix_free, update_texts_agree,
+    updates_are_prefix_free,
+};
+pub use proof::{decode_proof, encode_proof};
+pub use signed::{decode_signed, encode_signed};
+pub use statement::{decode_statement, encode_statement};
+pub use update::{decode_update, encode_update, id_of};

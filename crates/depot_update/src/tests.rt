@@ -1,0 +1,243 @@
+//! Texts and offsets from outside: a worked body, and a table of faults for each format.
+use crate::*;
+use depot_base::{Bytes, Hash32};
+use std::alloc::Global;
+use std::test::Fail;
+
+/// The first update of node 1: key `k`, and the hash and length of the value `abc`.
+const UPDATE: &str = "0101 0001 00000000 0000000000000001 \
+    0000000000000000000000000000000000000000000000000000000000000000 016b \
+    ba7816bf8f01cfea414140de5dae2223b00361a396177a9cb410ff61f20015ad 00000003 0000 \
+    e3b0c44298fc1c149afbf4c8996fb92427ae41e4649b934ca495991b7852b855";
+
+/// SHA-256 of it, by another program.
+const UPDATE_ID: &str = "b1b71fe559a0af9d8cd799bec43413803425cbf3ce164fded47cc3300867a6ba";
+
+/// The same with two entries of writer 2, from offset 88 and from 130.
+const JOINING: &str = "0101 0001 00000000 0000000000000001 \
+    0000000000000000000000000000000000000000000000000000000000000000 016b \
+    ba7816bf8f01cfea414140de5dae2223b00361a396177a9cb410ff61f20015ad 00000003 0002 \
+    0002 0000000000000005 1111111111111111111111111111111111111111111111111111111111111111 \
+    0002 0000000000000005 1111111111111111111111111111111111111111111111111111111111111112 \
+    e3b0c44298fc1c149afbf4c8996fb92427ae41e4649b934ca495991b7852b855";
+
+/// SHA-256 of it, by another program.
+const JOINING_ID: &str = "f7c26c5ccec6a769f1b2cb8c2f3730baf44c3ed1f0d42a32235ab57325cf6563";
+
+/// A voucher of node 7 for two updates, whose ids stand from offset 10 and from 42.
+const VOUCHER: &str = "0102 0007 00000005 0002 \
+    3333333333333333333333333333333333333333333333333333333333333333 \
+    3333333333333333333333333333333333333333333333333333333333333334";
+
+/// A signed voucher: its body stands from offset 4, its signature from 50.
+const SIGNED: &str = "0000002a 0102 0007 00000005 0001 \
+    3333333333333333333333333333333333333333333333333333333333333333 00000002 aabb";
+
+/// A proof of two signed vouchers, which stand from offset 2 and from 54.
+const PROOF: &str = "0102 0000002a 0102 0007 00000005 0001 \
+    3333333333333333333333333333333333333333333333333333333333333333 00000002 aabb \
+    0000002a 0102 0007 00000005 0001 \
+    4444444444444444444444444444444444444444444444444444444444444444 00000002 ccdd";
+
+/// The bytes of a text in hexadecimal digits, two a byte; other characters are skipped.
+fn bytes(alloc: Global, hex: &str) -> Result<Vec<u8>, Fail> {
+    let mut out = Vec::new(alloc);
+    let mut high = None;
+    for digit in hex.bytes() {
+        let digit = match digit {
+            b'0'..=b'9' => digit - b'0',
+            b'a'..=b'f' => digit - b'a' + 10,
+            _ => continue,
+        };
+        match high.take() {
+            None => high = Some(digit),
+            Some(high) => out.push((high << 4) | digit)?,
+        }
+    }
+    Ok(out)
+}
+
+/// The same with another byte at one place.
+fn changed(alloc: Global, hex: &str, place: usize, byte: u8) -> Result<Vec<u8>, Fail> {
+    let mut out = bytes(alloc, hex)?;
+    *out.get_mut(place).ok_or("no such place")? = byte;
+    Ok(out)
+}
+
+/// The offset that a decoder tells.
+fn fault<V: Drop>(decoded: Result<V, DecodeError>) -> Option<u32> {
+    match decoded {
+        Err(DecodeError::IllFormed(at)) => Some(at),
+        _ => None,
+    }
+}
+
+#[test]
+fn a_cut_body_goes_wrong_at_the_cut_field(rt: HostRuntime) -> Result<(), Fail> {
+    let mut body = bytes(rt.alloc(), UPDATE)?;
+    assert_eq!(rt; body.len(), 120);
+    for n in 0..120 {
+        let at = match n {
+            0 => 0,
+            1 => 1,
+            2..=3 => 2,
+            4..=7 => 4,
+            8..=15 => 8,
+            16..=47 => 16,
+            48 => 48,
+            49 => 49,
+            50..=81 => 50,
+            82..=85 => 82,
+            86..=87 => 86,
+            _ => 88,
+        };
+        let cut = body.get(..n).ok_or("a shorter text")?;
+        assert_eq!(rt;
+            fault(decode_statement(rt.alloc(), cut)),
+            Some(at),
+            "{n} bytes"
+        );
+        assert_eq!(rt;
+            fault(decode_update(rt.alloc(), cut)),
+            Some(at),
+            "{n} bytes"
+        );
+    }
+    body.push(0)?;
+    assert_eq!(rt;
+        fault(decode_statement(rt.alloc(), body.as_slice())),
+        Some(120)
+    );
+    Ok(())
+}
+
+#[test]
+fn a_faulty_field_of_an_update_is_told(rt: HostRuntime) -> Result<(), Fail> {
+    for (place, byte, at) in [
+        (0, 2, 0),
+        (1, 0, 1),
+        (1, 3, 1),
+        (3, 0, 2),
+        (15, 0, 8),
+        (48, 0, 48),
+        (83, 1, 82),
+        (86, 5, 86),
+        (89, 0, 88),
+        (89, 1, 88),
+        (89, 3, 130),
+        (131, 1, 130),
+        (171, 0x11, 130),
+        (171, 0x10, 130),
+        (87, 3, 182),
+        (87, 1, 162),
+    ] {
+        let text = changed(rt.alloc(), JOINING, place, byte)?;
+        let told = fault(decode_statement(rt.alloc(), text.as_slice()));
+        assert_eq!(rt; told, Some(at), "{byte} at {place}");
+        let told = fault(decode_update(rt.alloc(), text.as_slice()));
+        assert_eq!(rt; told, Some(at), "{byte} at {place}");
+    }
+    let text = bytes(rt.alloc(), VOUCHER)?;
+    assert_eq!(rt; fault(decode_update(rt.alloc(), text.as_slice())), Some(1));
+    Ok(())
+}
+
+#[test]
+fn a_faulty_field_of_a_voucher_is_told(rt: HostRuntime) -> Result<(), Fail> {
+    for (place, byte, at) in [
+        (0, 0, 0),
+        (1, 3, 1),
+        (3, 0, 2),
+        (9, 0, 8),
+        (8, 1, 8),
+        (9, 1, 42),
+        (9, 3, 74),
+        (73, 0x33, 42),
+        (73, 0x32, 42),
+    ] {
+        let text = changed(rt.alloc(), VOUCHER, place, byte)?;
+        let told = fault(decode_statement(rt.alloc(), text.as_slice()));
+        assert_eq!(rt; told, Some(at), "{byte} at {place}");
+    }
+    Ok(())
+}
+
+#[test]
+fn a_faulty_field_of_a_signed_statement_is_told(rt: HostRuntime) -> Result<(), Fail> {
+    for (place, byte, at) in [
+        (1, 1, 0),
+        (2, 1, 4),
+        (3, 43, 46),
+        (3, 41, 14),
+        (4, 2, 4),
+        (5, 3, 5),
+        (7, 0, 6),
+        (13, 0, 12),
+        (47, 1, 46),
+        (49, 3, 50),
+        (49, 1, 51),
+    ] {
+        let text = changed(rt.alloc(), SIGNED, place, byte)?;
+        let told = fault(decode_signed(rt.alloc(), text.as_slice()));
+        assert_eq!(rt; told, Some(at), "{byte} at {place}");
+    }
+    Ok(())
+}
+
+#[test]
+fn a_faulty_field_of_a_proof_is_told(rt: HostRuntime) -> Result<(), Fail> {
+    for (place, byte, at) in [
+        (0, 2, 0),
+        (1, 0, 1),
+        (1, 4, 1),
+        (3, 1, 2),
+        (4, 1, 6),
+        (9, 0, 8),
+        (49, 1, 48),
+        (55, 1, 54),
+        (56, 1, 58),
+        (59, 3, 59),
+        (103, 3, 104),
+        (103, 1, 105),
+    ] {
+        let text = changed(rt.alloc(), PROOF, place, byte)?;
+        let told = fault(decode_proof(rt.alloc(), text.as_slice()));
+        assert_eq!(rt; told, Some(at), "{byte} at {place}");
+    }
+    Ok(())
+}
+
+#[test]
+fn a_text_is_read_and_written(rt: HostRuntime) -> Result<(), Fail> {
+    for hex in [UPDATE, JOINING, VOUCHER] {
+        let text = bytes(rt.alloc(), hex)?;
+        let statement = decode_statement(rt.alloc(), text.as_slice())?;
+        let again = encode_statement(rt.alloc(), &statement)?;
+        assert_eq!(rt; again.as_slice(), text.as_slice());
+    }
+    let text = bytes(rt.alloc(), SIGNED)?;
+    let signed = decode_signed(rt.alloc(), text.as_slice())?;
+    let again = encode_signed(rt.alloc(), &signed)?;
+    assert_eq!(rt; again.as_slice(), text.as_slice());
+    let text = bytes(rt.alloc(), PROOF)?;
+    let proof = decode_proof(rt.alloc(), text.as_slice())?;
+    let again = encode_proof(rt.alloc(), &proof)?;
+    assert_eq!(rt; again.as_slice(), text.as_slice());
+    Ok(())
+}
+
+#[test]
+fn an_id_is_the_hash_of_the_body(rt: HostRuntime) -> Result<(), Fail> {
+    for (hex, id) in [(UPDATE, UPDATE_ID), (JOINING, JOINING_ID)] {
+        let text = bytes(rt.alloc(), hex)?;
+        let update = decode_update(rt.alloc(), text.as_slice())?;
+        let again = encode_update(rt.alloc(), &update)?;
+        assert_eq!(rt; again.as_slice(), text.as_slice());
+        let right = bytes(rt.alloc(), id)?;
+        assert_eq!(rt;
+            id_of(rt.alloc(), &update)?.bytes().as_slice(),
+            right.as_slice()
+        );
+    }
+    Ok(())
+}
