@@ -1,0 +1,9 @@
+pub mod Chains
+pub mod Climbs
+pub mod DigitLemmas
+pub mod Ends
+pub mod Heights
+pub mod Laws
+pub mod Lengths
+pub mod Levels
+pub mod Smaller

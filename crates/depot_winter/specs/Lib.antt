@@ -1,0 +1,4 @@
+pub mod Signer
+pub mod Signing
+pub mod Smaller
+pub mod Tree
