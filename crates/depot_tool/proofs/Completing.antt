@@ -1,0 +1,119 @@
+-- What a run comes to where nothing fails.
+use Rattle.std.proofs.Common.{◌≡◌, ℕ, ◌+◌, ◌⊎◌, List, Option, Some, None, Ok, Err, Result, refl, sym, subst, ◌∙◌, inl, inr, arith}
+use Rattle.std.specs.Bool.{IsTrue}
+use Rattle.std.specs.Result.{IsErrOf}
+use Rattle.depot_outside.specs.Outside.{HasCause, Writes}
+use Rattle.depot_outside.specs.declared.error.OutError.{OutError}
+use Rattle.depot_outside.specs.declared.error.OutError.TheVariants as error
+use Rattle.depot_base.specs.Format.{FirstFault, whole}
+use Rattle.depot_base.specs.declared.update.Update.{Update}
+use Rattle.depot_base.specs.declared.key.RosterEntry.{RosterEntry}
+use Rattle.depot_base.proofs.Laws.{cursor, not_err}
+use Rattle.depot_base.proofs.Combined.{whole_again, whole_stops}
+use Rattle.depot_model.specs.Texts.{roster}
+use Rattle.depot_model.specs.Log.{first_orphan}
+use Rattle.depot_model.proofs.TextLaws.{roster_lawful}
+use Rattle.depot_model.proofs.LogLaws.{one_log, log_has_no_fault}
+use Rattle.depot_tool.specs.declared.status.Status.{Status}
+use Rattle.depot_tool.specs.declared.status.Status.TheVariants.{Done, Words, Input, Shelf, Disk, Sink, Memory, NoProof, Limit, NotLawful, Identity}
+use Rattle.depot_tool.specs.Words.{Command, scan_log, winter_key, judge_proof}
+use Rattle.depot_tool.specs.Runs.{Shelves, Sinks, HasFile, LacksFile, IsNoLog, IsOrphaned, Scans, PrintsKey, IsRosterText, IsNoRoster, HasRoster, JudgesProof, Judges, Answers, IsWell, IsWholeLog, Completes, EndsCutShort}
+
+-- a file that is there isn't lacking where the shelf is well
+not_lacking : (shelf : Shelves) (sink : Sinks) (name bytes : List ℕ) → IsWell shelf sink → shelf.file name ≡ Some bytes → LacksFile shelf name → ⊥
+not_lacking shelf sink name bytes well there (inl rose) = omega (arith, rose, well.shelf_is_well)
+not_lacking shelf sink name bytes well there (inr absent) = let none = absent well.tells in cc
+
+-- the bytes of a file are one
+one_file : (shelf : Shelves) (name x y : List ℕ) → shelf.file name ≡ Some x → shelf.file name ≡ Some y → x ≡ y
+one_file shelf name x y e f = cc
+
+no_log : (shelf : Shelves) (name text : List ℕ) → HasFile shelf name IsWholeLog → HasFile shelf name (IsNoLog name text) → ⊥
+no_log shelf name text whole broken =
+    let same = one_file shelf name whole.bytes broken.bytes whole.there broken.there in
+    let log = subst IsWholeLog same whole.holds in
+    log_has_no_fault broken.bytes log.updates broken.holds.at log.log broken.holds.fault
+
+no_orphan : (shelf : Shelves) (name text : List ℕ) → HasFile shelf name IsWholeLog → HasFile shelf name (IsOrphaned text) → ⊥
+no_orphan shelf name text whole broken =
+    let same = one_file shelf name whole.bytes broken.bytes whole.there broken.there in
+    let log = subst IsWholeLog same whole.holds in
+    let one = one_log broken.bytes log.updates broken.holds.updates log.log broken.holds.log in
+    let moved : first_orphan broken.holds.updates ≡ None = subst (λ (us : List Update). first_orphan us ≡ None) one log.whole in
+    let found = broken.holds.first in
+    cc
+
+scan_completes : (shelf : Shelves) (sink : Sinks) (log key : List ℕ) (status : Status) (text : List ℕ) → IsWell shelf sink → Scans shelf log key status text → HasFile shelf log IsWholeLog → (status ≡ Done) ⊎ (status ≡ Memory)
+scan_completes shelf sink log key Done text well answer whole = inl refl
+scan_completes shelf sink log key Input text well answer whole = absurd (no_log shelf log text whole (answer well.tells))
+scan_completes shelf sink log key NotLawful text well answer whole = absurd (no_orphan shelf log text whole (answer well.tells))
+scan_completes shelf sink log key Shelf text well answer whole = absurd (not_lacking shelf sink log whole.bytes well whole.there answer.0)
+scan_completes shelf sink log key Words text well answer whole = absurd answer
+scan_completes shelf sink log key Disk text well answer whole = absurd answer
+scan_completes shelf sink log key Sink text well answer whole = absurd answer
+scan_completes shelf sink log key Memory text well answer whole = absurd answer
+scan_completes shelf sink log key NoProof text well answer whole = absurd answer
+scan_completes shelf sink log key Limit text well answer whole = absurd answer
+scan_completes shelf sink log key Identity text well answer whole = absurd answer
+
+key_completes : (seed : List ℕ) (height : ℕ) (status : Status) (text : List ℕ) → PrintsKey seed height status text → (status ≡ Done) ⊎ (status ≡ Memory)
+key_completes seed height Done text answer = inl refl
+key_completes seed height Words text answer = absurd answer
+key_completes seed height Input text answer = absurd answer
+key_completes seed height Shelf text answer = absurd answer
+key_completes seed height Disk text answer = absurd answer
+key_completes seed height Sink text answer = absurd answer
+key_completes seed height Memory text answer = absurd answer
+key_completes seed height NoProof text answer = absurd answer
+key_completes seed height Limit text answer = absurd answer
+key_completes seed height NotLawful text answer = absurd answer
+key_completes seed height Identity text answer = absurd answer
+
+-- a roster's text has no fault
+roster_has_no_fault : (bytes : List ℕ) (r : List RosterEntry) (at : ℕ) → IsRosterText bytes r → FirstFault roster bytes at → ⊥
+roster_has_no_fault bytes r at is fault =
+    let read : whole roster (cursor 0 bytes) ≡ Ok r = rw is.is (whole_again roster 8964 roster_lawful 0 r is.fits) in
+    not_err r (0 + at) (sym read ∙ whole_stops roster 8964 roster_lawful 0 bytes at fault)
+
+no_roster : (shelf : Shelves) (name text : List ℕ) → HasRoster shelf name → HasFile shelf name (IsNoRoster name text) → ⊥
+no_roster shelf name text good broken =
+    let same = one_file shelf name good.bytes broken.bytes good.there broken.there in
+    let is = subst (λ (x : List ℕ). (r : List RosterEntry) × IsRosterText x r) same good.holds in
+    roster_has_no_fault broken.bytes is.0 broken.holds.at is.1 broken.holds.fault
+
+proof_completes : (shelf : Shelves) (sink : Sinks) (listed : List RosterEntry) (proof : List ℕ) (status : Status) (text : List ℕ) → IsWell shelf sink → JudgesProof shelf listed proof status text → HasFile shelf proof (λ bytes. Unit {0}) → (status ≡ Done) ⊎ ((status ≡ NoProof) ⊎ (status ≡ Memory))
+proof_completes shelf sink listed proof Done text well answer there = inl refl
+proof_completes shelf sink listed proof NoProof text well answer there = inr (inl refl)
+proof_completes shelf sink listed proof Shelf text well answer there = absurd (not_lacking shelf sink proof there.bytes well there.there answer.0)
+proof_completes shelf sink listed proof Words text well answer there = absurd answer
+proof_completes shelf sink listed proof Input text well answer there = absurd answer
+proof_completes shelf sink listed proof Disk text well answer there = absurd answer
+proof_completes shelf sink listed proof Sink text well answer there = absurd answer
+proof_completes shelf sink listed proof Memory text well answer there = absurd answer
+proof_completes shelf sink listed proof Limit text well answer there = absurd answer
+proof_completes shelf sink listed proof NotLawful text well answer there = absurd answer
+proof_completes shelf sink listed proof Identity text well answer there = absurd answer
+
+judge_completes : (shelf : Shelves) (sink : Sinks) (name proof : List ℕ) (status : Status) (text : List ℕ) → IsWell shelf sink → Judges shelf name proof status text → HasRoster shelf name → HasFile shelf proof (λ bytes. Unit {0}) → (status ≡ Done) ⊎ ((status ≡ NoProof) ⊎ (status ≡ Memory))
+judge_completes shelf sink name proof status text well (inl lacks) good there = absurd (not_lacking shelf sink name good.bytes well good.there lacks.1.0)
+judge_completes shelf sink name proof status text well (inr (inl broken)) good there = absurd (no_roster shelf name text good (broken.1 well.tells))
+judge_completes shelf sink name proof status text well (inr (inr judged)) good there = proof_completes shelf sink judged.0 proof status text well judged.1.1 there
+
+-- what a command answers is what it comes to
+pub completes : (shelf : Shelves) (sink : Sinks) (command : Option Command) (status : Status) (text : List ℕ) → Answers shelf command status text → IsWell shelf sink → Completes shelf command status
+completes shelf sink None status text answer well = inl answer.0
+completes shelf sink (Some (scan_log log key)) status text answer well = scan_completes shelf sink log key status text well answer
+completes shelf sink (Some (winter_key seed height)) status text answer well = key_completes seed height status text answer
+completes shelf sink (Some (judge_proof name proof)) status text answer well = judge_completes shelf sink name proof status text well answer
+
+-- a write that failed leaves a run cut short
+pub cut_short : (answers : Status → List ℕ → Type 0) (sink : Sinks) (answer : Status) (text : List ℕ) (result : Result (Unit {0}) OutError) → answers answer text → result ≡ Err error.Failed
+    → (IsTrue sink.tells → Writes sink.before sink.after text result) → HasCause sink.faults_before sink.faults_after (IsErrOf result error.Failed) → EndsCutShort answers sink Sink
+cut_short answers sink answer text result answered failed writes cause = record {
+  is = refl;
+  rose = cause.rose (rw failed refl);
+  answer = answer;
+  text = text;
+  answered = answered;
+  wrote = λ tells. rw failed at (writes tells);
+}

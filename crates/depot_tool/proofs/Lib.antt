@@ -1,0 +1,9 @@
+pub mod IdSteps
+pub mod LogSteps
+pub mod OrderSteps
+pub mod CoveredLaws
+pub mod WalkSteps
+pub mod ListedOrder
+pub mod Numbers
+pub mod Completing
+pub mod Printing

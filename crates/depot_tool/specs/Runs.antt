@@ -1,0 +1,216 @@
+-- What each command answers and prints, and how a run ends.
+use Rattle.std.specs.Prelude.{◌≡◌, ◌<◌, ◌⊎◌, ℕ, List, [], ◌++◌, codes, take, Bool, IsTrue, Option, Some, None, Ok, Err}
+use Rattle.std.specs.List.{flat_map}
+use Rattle.std.specs.Fmt.{decimal}
+use Rattle.hex.specs.Hex.{encode_lower}
+use Rattle.depot_base.specs.declared.update.Update.{Update}
+use Rattle.depot_base.specs.declared.key.RosterEntry.{RosterEntry}
+use Rattle.depot_model.specs.declared.judgement.Verdict.{Verdict}
+use Rattle.depot_model.specs.declared.judgement.JudgeError.{JudgeError}
+use Rattle.depot_model.specs.declared.judgement.JudgeError.TheVariants as point
+use Rattle.depot_model.specs.Texts.{IsRoster, text_of_roster, roster}
+use Rattle.depot_base.specs.Format.{FirstFault}
+use Rattle.depot_model.specs.RosterText.{roster_error}
+use Rattle.depot_model.specs.Order.{AreLatestIn}
+use Rattle.depot_model.specs.Log.{IsLog, IsLogFault, firsts, first_orphan}
+use Rattle.depot_model.specs.Judgement.{IsJudgementOf}
+use Rattle.depot_model.specs.Winternitz.{root_of, winternitz_verifies}
+use Rattle.depot_model.specs.Lines.{text_of_verdict, text_of_point, text_of_roster_error}
+use Rattle.depot_tool.specs.Lines.{line_of_write}
+use Rattle.depot_tool.specs.Words.{Command, scan_log, winter_key, judge_proof}
+use Rattle.depot_tool.specs.declared.status.Status.{Status}
+use Rattle.depot_tool.specs.declared.status.Status.TheVariants.{Done, Words, Input, Shelf, Sink, Memory, NoProof, NotLawful}
+
+-- ---- the shelf as a run meets it
+
+-- what a shelf tells of its files, and its count of faults before and after the run
+pub record Shelves : Type 0 where
+  pub tells : Bool
+  pub file : List ℕ → Option (List ℕ)
+  pub faults_before : ℕ
+  pub faults_after : ℕ
+
+abbrev pub shelves : Bool → (List ℕ → Option (List ℕ)) → ℕ → ℕ → Shelves
+shelves tells file faults_before faults_after = record { tells = tells; file = file; faults_before = faults_before; faults_after = faults_after }
+
+-- the file of the name is there, and of its bytes this holds
+pub record HasFile (shelf : Shelves) (name : List ℕ) (P : List ℕ → Type 0) : Type 0 where
+  pub bytes : List ℕ
+  pub there : shelf.file name ≡ Some bytes
+  pub holds : P bytes
+
+-- where the shelf tells its files
+abbrev pub WhereTold : Shelves → Type 0 → Type 0
+WhereTold shelf P = IsTrue shelf.tells → P
+
+-- The shelf failed in this run; else the file of the name isn't there.
+abbrev pub LacksFile : Shelves → List ℕ → Type 0
+LacksFile shelf name = (shelf.faults_before < shelf.faults_after) ⊎ WhereTold shelf (shelf.file name ≡ None)
+
+abbrev pub shelf_line : List ℕ → List ℕ
+shelf_line name = codes "shelf " ++ name ++ codes "\n"
+
+-- ---- scan
+
+-- The bytes are a log in which each parent stands before its child, and the text has a line for each latest write of
+-- the key among its updates, each id once, in the listed order.
+pub record IsScanned (key text bytes : List ℕ) : Type 0 where
+  pub updates : List Update
+  pub log : IsLog bytes updates
+  pub whole : first_orphan updates ≡ None
+  pub latest : List Update
+  pub are : AreLatestIn key (firsts updates) latest
+  pub is : text ≡ flat_map line_of_write latest
+
+-- the bytes are no log, and the text tells where they go wrong
+pub record IsNoLog (name text bytes : List ℕ) : Type 0 where
+  pub at : ℕ
+  pub fault : IsLogFault bytes at
+  pub is : text ≡ codes "input " ++ name ++ codes " at " ++ decimal at ++ codes "\n"
+
+-- the bytes are a log, and the text tells the place of the first body with a parent that doesn't stand before it
+pub record IsOrphaned (text bytes : List ℕ) : Type 0 where
+  pub updates : List Update
+  pub log : IsLog bytes updates
+  pub place : ℕ
+  pub first : first_orphan updates ≡ Some place
+  pub is : text ≡ codes "not lawful " ++ decimal place ++ codes " 5 Missing\n"
+
+-- what a scan of these bytes answers
+abbrev pub ScanOf : List ℕ → List ℕ → List ℕ → Status → List ℕ → Type 0
+ScanOf log key bytes Done text = IsScanned key text bytes
+ScanOf log key bytes Input text = IsNoLog log text bytes
+ScanOf log key bytes NotLawful text = IsOrphaned text bytes
+ScanOf log key bytes status text = ⊥
+
+-- what a scan answers, whether or not its log can be had
+abbrev pub Scans : Shelves → List ℕ → List ℕ → Status → List ℕ → Type 0
+Scans shelf log key Done text = WhereTold shelf (HasFile shelf log (IsScanned key text))
+Scans shelf log key Input text = WhereTold shelf (HasFile shelf log (IsNoLog log text))
+Scans shelf log key NotLawful text = WhereTold shelf (HasFile shelf log (IsOrphaned text))
+Scans shelf log key Shelf text = LacksFile shelf log × (text ≡ shelf_line log)
+Scans shelf log key status text = ⊥
+
+-- ---- key
+
+-- the root of the Winternitz key of a seed, in hex
+abbrev pub PrintsKey : List ℕ → ℕ → Status → List ℕ → Type 0
+PrintsKey seed height Done text = text ≡ encode_lower (root_of seed height) ++ codes "\n"
+PrintsKey seed height status text = ⊥
+
+-- ---- judge
+
+-- the bytes are the text of this roster
+pub record IsRosterText (bytes : List ℕ) (r : List RosterEntry) : Type 0 where
+  pub fits : IsRoster r
+  pub is : bytes ≡ text_of_roster r
+
+-- the bytes are no roster's, and the text tells where they go wrong
+pub record IsNoRoster (name text bytes : List ℕ) : Type 0 where
+  pub at : ℕ
+  pub fault : FirstFault roster bytes at
+  pub is : text ≡ codes "input " ++ name ++ codes " " ++ text_of_roster_error (roster_error bytes at) ++ codes "\n"
+
+-- the roster of the name is there, and is one
+abbrev pub HasRoster : Shelves → List ℕ → Type 0
+HasRoster shelf name = HasFile shelf name (λ bytes. (r : List RosterEntry) × IsRosterText bytes r)
+
+-- a point, and not want of memory
+abbrev pub IsPoint : JudgeError → Type 0
+IsPoint point.Memory = ⊥
+IsPoint e = Unit {0}
+
+-- what judging these bytes under a roster answers
+abbrev pub JudgementOf : List RosterEntry → List ℕ → Status → List ℕ → Type 0
+JudgementOf listed bytes Done text = (v : Verdict) × ((text ≡ text_of_verdict v ++ codes "\n") × IsJudgementOf winternitz_verifies listed bytes (Ok v))
+JudgementOf listed bytes NoProof text = (e : JudgeError) × (IsPoint e × ((text ≡ text_of_point e ++ codes "\n") × IsJudgementOf winternitz_verifies listed bytes (Err e)))
+JudgementOf listed bytes status text = ⊥
+
+-- what judging the proof of a name under a roster answers, whether or not it can be had
+abbrev pub JudgesProof : Shelves → List RosterEntry → List ℕ → Status → List ℕ → Type 0
+JudgesProof shelf listed proof Done text = (v : Verdict) × ((text ≡ text_of_verdict v ++ codes "\n") × WhereTold shelf (HasFile shelf proof (λ bytes. IsJudgementOf winternitz_verifies listed bytes (Ok v))))
+JudgesProof shelf listed proof NoProof text = (e : JudgeError) × (IsPoint e × ((text ≡ text_of_point e ++ codes "\n") × WhereTold shelf (HasFile shelf proof (λ bytes. IsJudgementOf winternitz_verifies listed bytes (Err e)))))
+JudgesProof shelf listed proof Shelf text = LacksFile shelf proof × (text ≡ shelf_line proof)
+JudgesProof shelf listed proof status text = ⊥
+
+-- what `judge` answers: the roster is loaded and parsed first, and then the proof
+abbrev pub Judges : Shelves → List ℕ → List ℕ → Status → List ℕ → Type 0
+Judges shelf roster proof status text =
+    ((status ≡ Shelf) × (LacksFile shelf roster × (text ≡ shelf_line roster))) ⊎
+    (((status ≡ Input) × WhereTold shelf (HasFile shelf roster (IsNoRoster roster text))) ⊎
+    ((listed : List RosterEntry) × (WhereTold shelf (HasFile shelf roster (λ bytes. IsRosterText bytes listed)) × JudgesProof shelf listed proof status text)))
+
+-- ---- any command
+
+-- what the command answers and prints, where memory is found and the sink doesn't fail
+abbrev pub Answers : Shelves → Option Command → Status → List ℕ → Type 0
+Answers shelf None status text = (status ≡ Words) × (text ≡ codes "words\n")
+Answers shelf (Some (scan_log log key)) status text = Scans shelf log key status text
+Answers shelf (Some (winter_key seed height)) status text = PrintsKey seed height status text
+Answers shelf (Some (judge_proof roster proof)) status text = Judges shelf roster proof status text
+
+-- ---- the sink as a run leaves it
+
+-- what a sink tells of what was written, and its count of faults, before and after the run
+pub record Sinks : Type 0 where
+  pub tells : Bool
+  pub before : List ℕ
+  pub after : List ℕ
+  pub faults_before : ℕ
+  pub faults_after : ℕ
+
+abbrev pub sinks : Bool → List ℕ → List ℕ → ℕ → ℕ → Sinks
+sinks tells before after faults_before faults_after = record { tells = tells; before = before; after = after; faults_before = faults_before; faults_after = faults_after }
+
+-- this text was added, where the sink tells it
+abbrev pub Wrote : Sinks → List ℕ → Type 0
+Wrote sink text = IsTrue sink.tells → sink.after ≡ sink.before ++ text
+
+-- a prefix of this text was added, where the sink tells it
+abbrev pub WrotePrefix : Sinks → List ℕ → Type 0
+WrotePrefix sink text = IsTrue sink.tells → (n : ℕ) × (sink.after ≡ sink.before ++ take n text)
+
+-- the run ended as the command answers, and its whole text was written
+pub record EndsWhole (answers : Status → List ℕ → Type 0) (sink : Sinks) (status : Status) : Type 0 where
+  pub text : List ℕ
+  pub answered : answers status text
+  pub wrote : Wrote sink text
+
+-- memory ran out before anything was written
+pub record EndsWithoutMemory (sink : Sinks) (status : Status) : Type 0 where
+  pub is : status ≡ Memory
+  pub wrote : Wrote sink []
+
+-- the sink failed in this run: a prefix of the text that the command answers went out
+pub record EndsCutShort (answers : Status → List ℕ → Type 0) (sink : Sinks) (status : Status) : Type 0 where
+  pub is : status ≡ Sink
+  pub rose : sink.faults_before < sink.faults_after
+  pub answer : Status
+  pub text : List ℕ
+  pub answered : answers answer text
+  pub wrote : WrotePrefix sink text
+
+-- How a run ends.
+abbrev pub Ends : (Status → List ℕ → Type 0) → Sinks → Status → Type 0
+Ends answers sink status = EndsWhole answers sink status ⊎ (EndsWithoutMemory sink status ⊎ EndsCutShort answers sink status)
+
+-- ---- what nothing stands in the way of
+
+-- no count of faults rose in this run, and the shelf tells its files
+pub record IsWell (shelf : Shelves) (sink : Sinks) : Type 0 where
+  pub tells : IsTrue shelf.tells
+  pub shelf_is_well : shelf.faults_after ≡ shelf.faults_before
+  pub sink_is_well : sink.faults_after ≡ sink.faults_before
+
+-- the bytes are a log in which every parent stands before its child
+pub record IsWholeLog (bytes : List ℕ) : Type 0 where
+  pub updates : List Update
+  pub log : IsLog bytes updates
+  pub whole : first_orphan updates ≡ None
+
+-- what such a run comes to, where its files are there and in their grammars; Memory may stand in place of each status
+abbrev pub Completes : Shelves → Option Command → Status → Type 0
+Completes shelf None status = (status ≡ Words) ⊎ (status ≡ Memory)
+Completes shelf (Some (scan_log log key)) status = HasFile shelf log IsWholeLog → (status ≡ Done) ⊎ (status ≡ Memory)
+Completes shelf (Some (winter_key seed height)) status = (status ≡ Done) ⊎ (status ≡ Memory)
+Completes shelf (Some (judge_proof roster proof)) status = HasRoster shelf roster → HasFile shelf proof (λ bytes. Unit {0}) → (status ≡ Done) ⊎ ((status ≡ NoProof) ⊎ (status ≡ Memory))

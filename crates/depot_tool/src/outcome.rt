@@ -1,0 +1,40 @@
+//! What a command came to, before it is written.
+ghost use Rattle.std.specs.Prelude.{◌≡◌, ◌++◌, IfOk, codes, string_bytes};
+
+use crate::status::Status;
+use depot_base::{Bytes, Memory};
+use std::alloc::Global;
+
+/// What a command came to: the status, and the whole text that it prints.
+#[derive(Debug, Drop)]
+pub struct Outcome {
+    pub status: Status,
+    pub text: Bytes,
+}
+
+impl Outcome {
+    /// This status and the text of a line.
+    pub fn of_line(alloc: Global, status: Status, line: &str) -> Result<Outcome, Memory>
+        ensures { IfOk result (λ o. o ≡ record { status = status; text = line.now }) }
+    {
+        Ok(Outcome {
+            status,
+            text: Bytes::from_slice(alloc, line.as_bytes())?,
+        })
+    }
+
+    /// The words are no command.
+    pub fn words(alloc: Global) -> Result<Outcome, Memory>
+        ensures { IfOk result (λ o. o ≡ record { status = Status.Words; text = codes "words\n" }) }
+    {
+        Outcome::of_line(alloc, Status::Words, "words\n")
+    }
+
+    /// The file of that name can't be had.
+    pub fn no_file(alloc: Global, name: &str) -> Result<Outcome, Memory>
+        ensures { IfOk result (λ o. o ≡ record { status = Status.Shelf; text = codes "shelf " ++ name.now ++ codes "\n" }) }
+    {
+        let line = format!(in alloc; "shelf {name}\n")?;
+        Outcome::of_line(alloc, Status::Shelf, line.as_str())
+    }
+}

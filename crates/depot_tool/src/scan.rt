@@ -1,0 +1,68 @@
+//! `scan LOG KEY`: the latest writes of a key in a log.
+ghost use Rattle.std.specs.Prelude.{◌≡◌, ◌++◌, IfOk, codes};
+ghost use Rattle.std.specs.Fmt.{decimal};
+ghost use Rattle.depot_tool.specs.Runs.{shelves, Scans, ScanOf};
+
+use crate::lines::lines_of;
+use crate::log::bodies_of;
+use crate::order::{first_orphan, firsts};
+use crate::outcome::Outcome;
+use crate::status::Status;
+use crate::writes::latest;
+use depot_base::fault::Fault;
+use depot_base::{Bytes, Key, Memory};
+use depot_outside::{OutError, Shelf};
+use std::alloc::Global;
+
+/// The file of that name is no log, printed.
+fn no_log(alloc: Global, name: &str, at: usize) -> Result<Outcome, Memory>
+    ensures { IfOk result (λ o. o ≡ record { status = Status.Input; text = codes "input " ++ name.now ++ codes " at " ++ decimal at ++ codes "\n" }) }
+{
+    let line = format!(in alloc; "input {name} at {at}\n")?;
+    Outcome::of_line(alloc, Status::Input, line.as_str())
+}
+
+/// A body's parent doesn't stand before it, printed.
+fn no_parent(alloc: Global, place: usize) -> Result<Outcome, Memory>
+    ensures { IfOk result (λ o. o ≡ record { status = Status.NotLawful; text = codes "not lawful " ++ decimal place ++ codes " 5 Missing\n" }) }
+{
+    let line = format!(in alloc; "not lawful {place} 5 Missing\n")?;
+    Outcome::of_line(alloc, Status::NotLawful, line.as_str())
+}
+
+/// What a scan of these bytes comes to; `name` is the log's.
+fn scan_bytes(alloc: Global, log: &[u8], name: &str, key: &Key) -> Result<Outcome, Memory>
+    ensures { IfOk result (λ o. ScanOf name.now key.now log.now o.status o.text) }
+{
+    let bodies = match bodies_of(alloc, log) {
+        Ok(bodies) => bodies,
+        Err(Fault::Memory) => return Err(Memory),
+        Err(Fault::At(at)) => return no_log(alloc, name, at),
+    };
+    if let Some(place) = first_orphan(alloc, &bodies)? {
+        return no_parent(alloc, place);
+    }
+    let kept = firsts(alloc, bodies)?;
+    let found = latest(alloc, key.bytes(), kept)?;
+    Ok(Outcome {
+        status: Status::Done,
+        text: lines_of(alloc, &found)?,
+    })
+}
+
+/// What a scan of the log of that name comes to.
+pub fn scan<F: Shelf>(
+    alloc: Global,
+    shelf: &mut F,
+    name: &str,
+    key: &Key,
+) -> Result<Outcome, Memory>
+    ensures scans { IfOk result (λ o. Scans (shelves (F.tells shelf.old) (F.file shelf.old) (F.faults shelf.old) (F.faults shelf.new)) name.now key.now o.status o.text) }
+    ensures files { F.file shelf.new ≡ F.file shelf.old }
+{
+    match shelf.load(name) {
+        Ok(Some(log)) => scan_bytes(alloc, log.as_slice(), name, key),
+        Ok(None) | Err(OutError::Failed) => Outcome::no_file(alloc, name),
+        Err(OutError::Memory) => Err(Memory),
+    }
+}

@@ -1,0 +1,71 @@
+//! A word of the command line.
+ghost use Rattle.std.specs.Prelude.{◌≡◌, string_bytes};
+ghost use Rattle.std.specs.List.{list_all};
+ghost use Rattle.std.specs.Str.{bytes_eq};
+ghost use Rattle.depot_tool.specs.Words.{has_length, is_name_byte, is_name};
+
+use std::marker::Model;
+
+/// A word of the command line, seen as its bytes.
+#[derive(Debug, Drop)]
+pub struct Word(String);
+
+impl Model for Word {
+    ghost use Rattle.std.specs.Prelude.{List, ℕ, string_bytes};
+
+    ghost Value = { List ℕ };
+
+    ghost view = { λ w. string_bytes w.0 };
+}
+
+impl Word {
+    /// The word of a text, which gives its memory.
+    pub fn new(text: String) -> Word
+        ensures { result ≡ string_bytes text }
+    {
+        Word(text)
+    }
+
+    /// Its text.
+    pub fn text(&self) -> &str
+        ensures { result.now ≡ self.now }
+    {
+        self.0.as_str()
+    }
+
+    /// Whether this is the word.
+    pub fn is(&self, text: &str) -> bool
+        ensures { result ≡ bytes_eq self.now text.now }
+    {
+        self.0.as_bytes() == text.as_bytes()
+    }
+
+    /// Whether it names a file: 1 to 4,096 bytes without space or LF.
+    pub fn is_name(&self) -> bool
+        ensures { result ≡ is_name self.now }
+    {
+        let bytes = self.0.as_bytes();
+        has_length(bytes, 1, 4096) && are_name_bytes(bytes)
+    }
+}
+
+/// Whether the bytes are at least `low` and at most `high`.
+pub fn has_length(bytes: &[u8], low: usize, high: usize) -> bool
+    ensures { result ≡ has_length low high bytes.now }
+{
+    low <= bytes.len() && bytes.len() <= high
+}
+
+/// Whether the byte may stand in a name.
+fn is_name_byte(b: u8) -> bool
+    ensures { result ≡ is_name_byte b }
+{
+    !(b == b' ' || b == b'\n')
+}
+
+/// Whether all bytes may stand in a name.
+fn are_name_bytes(bytes: &[u8]) -> bool
+    ensures { result ≡ list_all is_name_byte bytes.now }
+{
+    bytes.iter().all(|b| is_name_byte(*b))
+}
