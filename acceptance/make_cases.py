@@ -1,0 +1,255 @@
+#!/usr/bin/env python3
+"""Writes the cases of this folder that need bytes: logs, rosters, proofs with Winternitz signatures.
+
+    python3 acceptance/make_cases.py
+
+It uses hashlib alone and is written from docs/FORMATS.md, apart from the program: what a case expects is never the program's
+own output. Each case is a folder: args (one word a line), stdout, status (0 where there is none), data/.
+"""
+
+import hashlib
+import os
+import shutil
+
+HERE = os.path.dirname(os.path.abspath(__file__))
+ZEROS = bytes(32)
+
+
+def sha(*parts):
+    return hashlib.sha256(b"".join(parts)).digest()
+
+
+def u(size, number):
+    return number.to_bytes(size, "big")
+
+
+# ---- texts
+
+
+def update(writer, seq, clock, prev, key, value, deps=(), history=None):
+    """The body of an update; deps are (writer, clock, id), rising by (writer, id)."""
+    history = sha() if history is None else history
+    entries = b"".join(u(2, w) + u(8, c) + i for w, c, i in deps)
+    return b"".join([
+        b"\x01\x01", u(2, writer), u(4, seq), u(8, clock), prev, u(1, len(key)), key,
+        sha(value), u(4, len(value)), u(2, len(deps)), entries, history,
+    ])
+
+
+def history_of(leaves):
+    """The history hash of a past with these leaves, (writer, clock, id) each."""
+    return sha(b"".join(u(2, w) + u(8, c) + i for w, c, i in sorted(leaves, key=lambda x: (x[0], x[2]))))
+
+
+def log(*bodies):
+    return b"".join(u(4, len(body)) + body for body in bodies)
+
+
+def signed(body, signature):
+    return u(4, len(body)) + body + u(4, len(signature)) + signature
+
+
+def proof(kind, first, second):
+    return b"\x01" + u(1, kind) + first + second
+
+
+def roster(*entries):
+    """Entries are (node, height, root)."""
+    return b"\x01\x04" + u(2, len(entries)) + b"".join(u(2, n) + u(1, h) + r for n, h, r in entries)
+
+
+# ---- Winternitz signatures
+
+
+def step(i, j, p, value):
+    return sha(b"\x02", u(4, i), u(2, j), u(1, p), value)
+
+
+def walk(i, j, p, count, value):
+    for at in range(p, p + count):
+        value = step(i, j, at, value)
+    return value
+
+
+def secret(seed, i, j):
+    return sha(b"\x01", seed, u(4, i), u(2, j))
+
+
+def leaf(seed, i):
+    return sha(b"\x03", u(4, i), *[walk(i, j, 0, 15, secret(seed, i, j)) for j in range(67)])
+
+
+def tree(seed, height):
+    """The levels of the tree, from the leaves to the root."""
+    levels = [[leaf(seed, i) for i in range(2**height)]]
+    while len(levels[-1]) > 1:
+        row = levels[-1]
+        levels.append([sha(b"\x04", row[k], row[k + 1]) for k in range(0, len(row), 2)])
+    return levels
+
+
+def digits(digest):
+    own = [d for byte in digest for d in (byte // 16, byte % 16)]
+    total = sum(15 - d for d in own)
+    return own + [total // 256, total // 16 % 16, total % 16]
+
+
+class Signer:
+    def __init__(self, node, seed, height):
+        self.node, self.seed, self.height = node, seed, height
+        self.levels = tree(seed, height)
+        self.root = self.levels[-1][0]
+
+    def entry(self):
+        return (self.node, self.height, self.root)
+
+    def sign(self, i, body):
+        marks = digits(sha(b"\x05", self.root, u(4, i), body))
+        values = [walk(i, j, 0, d, secret(self.seed, i, j)) for j, d in enumerate(marks)]
+        siblings = [self.levels[n][(i >> n) ^ 1] for n in range(self.height)]
+        return u(4, i) + b"".join(values) + b"".join(siblings)
+
+
+# ---- cases
+
+
+def case(name, args, stdout, status=0, **files):
+    folder = os.path.join(HERE, name)
+    shutil.rmtree(folder, ignore_errors=True)
+    os.makedirs(folder)
+
+    def write(path, data):
+        with open(path, "wb") as out:
+            out.write(data)
+
+    write(os.path.join(folder, "args"), "".join(a + "\n" for a in args).encode())
+    write(os.path.join(folder, "stdout"), stdout.encode())
+    if status:
+        write(os.path.join(folder, "status"), b"%d\n" % status)
+    if files:
+        os.makedirs(os.path.join(folder, "data"))
+    for file, data in files.items():
+        write(os.path.join(folder, "data", file), data)
+
+
+def scans():
+    one = update(1, 0, 1, ZEROS, b"k", b"abc")
+    line = "1/0/1=ba7816bf8f01cfea414140de5dae2223b00361a396177a9cb410ff61f20015ad\n"
+    assert len(one) == 120
+    case("scan_one_update", ["scan", "LOG", "6b"], line, LOG=log(one))
+    case("scan_another_key", ["scan", "LOG", "6c"], "", LOG=log(one))
+    case("scan_an_empty_log", ["scan", "LOG", "6b"], "", LOG=b"")
+    case("scan_a_cut_log", ["scan", "LOG", "6b"], "input LOG at 0\n", 2, LOG=log(one)[:100])
+    case("scan_a_cut_length", ["scan", "LOG", "6b"], "input LOG at 124\n", 2, LOG=log(one) + b"\0\0\0")
+    case("scan_a_wrong_version", ["scan", "LOG", "6b"], "input LOG at 4\n", 2, LOG=log(b"\x02" + one[1:]))
+    case("scan_a_voucher", ["scan", "LOG", "6b"], "input LOG at 5\n", 2,
+         LOG=log(b"\x01\x02" + u(2, 1) + u(4, 0) + u(2, 1) + ZEROS))
+    case("scan_a_zero_writer", ["scan", "LOG", "6b"], "input LOG at 6\n", 2, LOG=log(one[:2] + b"\0\0" + one[4:]))
+    case("scan_trailing_bytes", ["scan", "LOG", "6b"], "input LOG at 124\n", 2, LOG=log(one + b"\0"))
+    case("scan_a_repeat", ["scan", "LOG", "6b"], line, LOG=log(one, one))
+    orphan = update(1, 0, 1, b"\x11" * 32, b"k", b"abc")
+    case("scan_a_missing_parent", ["scan", "LOG", "6b"], "not lawful 0 5 Missing\n", 9, LOG=log(orphan))
+    later = update(1, 1, 2, sha(one), b"k", b"def", history=history_of([(1, 1, sha(one))]))
+    case("scan_a_parent_that_comes_later", ["scan", "LOG", "6b"], "not lawful 0 5 Missing\n", 9, LOG=log(later, one))
+    case("scan_a_later_write_supersedes", ["scan", "LOG", "6b"],
+         "1/1/2=%s\n" % sha(b"def").hex(), LOG=log(one, later))
+    case("scan_an_absent_file", ["scan", "NOWHERE", "6b"], "shelf NOWHERE\n", 3)
+
+    # Two writers at once, and then a write that has seen both.
+    two = update(2, 0, 1, ZEROS, b"k", b"other")
+    both = "1/0/1=%s\n2/0/1=%s\n" % (sha(b"abc").hex(), sha(b"other").hex())
+    case("scan_concurrent_writes", ["scan", "LOG", "6b"], both, LOG=log(two, one))
+    join = update(1, 1, 2, sha(one), b"k", b"joined", [(2, 1, sha(two))],
+                  history_of([(1, 1, sha(one)), (2, 1, sha(two))]))
+    case("scan_a_join_supersedes_both", ["scan", "LOG", "6b"],
+         "1/1/2=%s\n" % sha(b"joined").hex(), LOG=log(one, two, join))
+    over = update(1, 1, 2, sha(one), b"other key", b"x", [(2, 1, sha(two))],
+                  history_of([(1, 1, sha(one)), (2, 1, sha(two))]))
+    case("scan_a_write_of_another_key_supersedes_none", ["scan", "LOG", "6b"], both, LOG=log(one, two, over))
+    entries = update(3, 0, 2, ZEROS, b"k", b"y", [(2, 1, sha(two)), (1, 1, sha(one))])
+    case("scan_entries_out_of_order", ["scan", "LOG", "6b"], "input LOG at %d\n" % (124 + 124 + 4 + 88 + 42), 2,
+         LOG=log(one, two, entries))
+
+
+def words():
+    for name, args in {
+        "words_none": [],
+        "words_help": ["--help"],
+        "words_too_few": ["scan", "LOG"],
+        "words_too_many": ["scan", "LOG", "6b", "6b"],
+        "words_key_in_capitals": ["scan", "LOG", "6B"],
+        "words_key_of_odd_length": ["scan", "LOG", "6b6"],
+        "words_key_empty": ["scan", "LOG", ""],
+        "words_key_too_long": ["scan", "LOG", "61" * 256],
+        "words_name_with_a_space": ["scan", "A LOG", "6b"],
+        "words_height_below": ["key", "00" * 32, "1"],
+        "words_height_above": ["key", "00" * 32, "13"],
+        "words_height_with_a_zero": ["key", "00" * 32, "02"],
+        "words_height_with_a_sign": ["key", "00" * 32, "-2"],
+        "words_seed_too_short": ["key", "0" * 63, "2"],
+        "words_seed_too_long": ["key", "0" * 65, "2"],
+        "words_seed_in_capitals": ["key", "AB" * 32, "2"],
+        "words_unknown_command": ["replay", "SCHEDULE"],
+    }.items():
+        case(name, args, "words\n", 1)
+
+
+def keys():
+    for name, seed, height in [("key_of_zeros", ZEROS, 2), ("key_of_height_five", bytes(range(32)), 5)]:
+        root = tree(seed, height)[-1][0]
+        case(name, ["key", seed.hex(), str(height)], root.hex() + "\n")
+
+
+def judgements():
+    nine = Signer(9, b"\x09" * 32, 2)
+    eight = Signer(8, b"\x08" * 32, 2)
+    known = roster(eight.entry(), nine.entry())
+    x = update(9, 0, 1, ZEROS, b"k", b"a")
+    y = update(9, 1, 2, ZEROS, b"k", b"b")
+    z = update(9, 2, 3, sha(x), b"k", b"c", history=history_of([(9, 1, sha(x))]))
+    w = update(8, 0, 1, ZEROS, b"k", b"a")
+    sx, sy, sz = (signed(b, nine.sign(i, b)) for i, b in enumerate([x, y, z]))
+    sw = signed(w, eight.sign(0, w))
+    same_number = update(9, 0, 1, ZEROS, b"k", b"d")
+    sn = signed(same_number, nine.sign(0, same_number))
+    back = update(9, 3, 1, sha(x), b"k", b"e")
+    sb = signed(back, nine.sign(3, back))
+    # Whose body is the smaller decides the order of halves.
+    assert w < x < y < z and x < back
+
+    def judged(name, text, stdout, status, listed=known):
+        case(name, ["judge", "ROSTER", "PROOF"], stdout, status, ROSTER=listed, PROOF=text)
+
+    good = proof(2, sx, sy)
+    judged("judge_same_prev", good, "9 SamePrev\n", 0)
+    first, second = sorted([(x, sx), (same_number, sn)])
+    judged("judge_same_number", proof(1, first[1], second[1]), "9 SameNumber\n", 0)
+    judged("judge_backward", proof(3, sx, sb), "9 Backward\n", 0)
+    judged("judge_a_bad_second_signature", good[:-1] + bytes([good[-1] ^ 1]), "BadSignature second\n", 7)
+    flipped = bytearray(good)
+    flipped[2 + 4 + len(x) + 4 + 5] ^= 1
+    judged("judge_a_bad_first_signature", bytes(flipped), "BadSignature first\n", 7)
+    judged("judge_an_empty_text", b"", "IllFormed 0\n", 7)
+    judged("judge_a_cut_text", good[:-1], "IllFormed %d\n" % (len(good) - len(nine.sign(0, x))), 7)
+    judged("judge_a_trailing_byte", good + b"\0", "IllFormed %d\n" % len(good), 7)
+    judged("judge_an_unknown_kind", b"\x01\x04" + good[2:], "IllFormed 1\n", 7)
+    judged("judge_halves_swapped", proof(2, sy, sx), "WrongOrder\n", 7)
+    judged("judge_one_half_twice", proof(2, sx, sx), "Same\n", 7)
+    judged("judge_no_contradiction", proof(3, sx, sz), "NotContradictory Backward\n", 7)
+    judged("judge_two_writers", proof(2, sw, sx), "TwoWriters 8 9\n", 7)
+    judged("judge_an_unknown_first_writer", proof(2, sw, sx), "UnknownWriter 8\n", 7, roster(nine.entry()))
+    judged("judge_an_unknown_second_writer", proof(2, sw, sx), "UnknownWriter 9\n", 7, roster(eight.entry()))
+    judged("judge_a_number_signed_by_another_leaf", proof(2, sx, signed(y, nine.sign(2, y))), "BadSignature second\n", 7)
+    judged("judge_an_empty_roster", good, "input ROSTER at 2\n", 2, b"\x01\x04\0\0")
+    judged("judge_a_roster_with_a_node_twice", good, "input ROSTER twice 9\n", 2, roster(nine.entry(), nine.entry()))
+    judged("judge_a_roster_of_too_many", good, "input ROSTER many 257\n", 2, b"\x01\x04" + u(2, 257))
+    judged("judge_a_roster_with_a_low_height", good, "input ROSTER at 6\n", 2, roster((9, 1, nine.root)))
+    case("judge_an_absent_roster", ["judge", "ROSTER", "PROOF"], "shelf ROSTER\n", 3, PROOF=good)
+    case("judge_an_absent_proof", ["judge", "ROSTER", "PROOF"], "shelf PROOF\n", 3, ROSTER=known)
+
+
+if __name__ == "__main__":
+    scans()
+    words()
+    keys()
+    judgements()

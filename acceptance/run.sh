@@ -1,0 +1,40 @@
+#!/usr/bin/env bash
+# Runs each case of this folder on the built program, and prints 'N passed, N failed'.
+#
+# A case is a folder: args (one word a line), stdout (what the program must write), status (its exit status, 0 where there
+# is no such file), and data/ (the files that lie where it runs, if it reads any). Names of cases may be given as words.
+here=$(cd "$(dirname "$0")" && pwd)
+passed=0
+failed=0
+room=$(mktemp -d)
+trap 'rm -rf "$room"' EXIT
+
+# The program is built before the first case, so that no case waits for it.
+"$here/../depot" >/dev/null
+
+run_case() {
+  local case=$1 place="$room/$2" status want words
+  mkdir -p "$place"
+  [ ! -d "$case/data" ] || cp -r "$case/data/." "$place"
+  mapfile -t words <"$case/args"
+  (cd "$place" && "$here/../depot" "${words[@]}" >"$room/$2.stdout" </dev/null)
+  status=$?
+  want=$(cat "$case/status" 2>/dev/null || echo 0)
+  if [ "$status" -ne "$want" ]; then
+    echo "$2: status $status, wanted $want"
+    return 1
+  fi
+  cmp -s "$room/$2.stdout" "$case/stdout" && return 0
+  echo "$2: wrote other text than $case/stdout"
+  diff "$case/stdout" "$room/$2.stdout" | head -n 5
+  return 1
+}
+
+for args in "$here"/*/args; do
+  case=$(dirname "$args")
+  name=$(basename "$case")
+  [ $# -eq 0 ] || [[ " $* " == *" $name "* ]] || continue
+  if run_case "$case" "$name"; then passed=$((passed + 1)); else failed=$((failed + 1)); fi
+done
+echo "$passed passed, $failed failed"
+[ "$failed" -eq 0 ] && [ "$passed" -gt 0 ]
