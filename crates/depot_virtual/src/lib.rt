@@ -1,0 +1,172 @@
+//! The chains of a forest of items: its virtual writers.
+//!
+//! Items come one after another, each with an earlier item as its prev or with none. The first child of an item continues
+//! its chain; each later child, and each item without a prev, starts a new one. So the updates of a writer that never forks
+//! make one chain, and each further branch of a writer that forks is a chain of its own.
+//!
+//! A forest is seen as the list of the prevs that were added, and the number of items that have their memory. Each prev is
+//! an earlier item. What the items are, this crate doesn't know.
+#![tactic(auto)]
+
+ghost use Rattle.std.specs.Prelude.{◌≡◌, ◌<◌, ◌-◌, ◌≤◌, ◌==◌, ℕ, List, [], ◌∷◌, ◌++◌, length, Option, Some, slice_get, slice_set, OnOk, OnErr, IfOk, IfSome, IsOk, vec_len, if◌then◌else◌};
+ghost use Rattle.std.specs.Vec.{vec_capacity};
+ghost use Rattle.depot_virtual.specs.Spots.{IsForest, spots, next_spot, number_of_chains, IsAt, IsTip, LeadsBack};
+
+use depot_base::Memory;
+use std::alloc::Global;
+use std::marker::Model;
+
+/// Where an item stands.
+#[derive(Clone, Copy, Debug, PartialEq, Eq)]
+pub struct Spot {
+    /// Its chain, from 0 in the order in which the chains start.
+    pub chain: u32,
+    /// How many items of the chain stand before it.
+    pub place: u32,
+}
+
+/// A forest of items, numbered from 0 in the order in which they were added.
+#[derive(Debug, Drop)]
+pub struct Chains {
+    prevs: Vec<Option<u32>>,
+    placed: Vec<Spot>,
+    tips: Vec<u32>,
+}
+
+impl Model for Chains {
+    ghost use Rattle.std.specs.Prelude.{min, ◌-◌, vec_len};
+    ghost use Rattle.std.specs.Vec.{vec_capacity};
+    ghost use Rattle.depot_virtual.specs.Spots.{Forest};
+    ghost use Rattle.depot_virtual.specs.Numbered.{IsNumbered};
+
+    ghost Value = { Forest };
+
+    ghost view = { λ c. record { prevs = c.prevs.items; room = min (vec_capacity c.prevs - vec_len c.prevs) (min (vec_capacity c.placed - vec_len c.placed) (vec_capacity c.tips - vec_len c.tips)) } };
+
+    ghost invariant = { λ c. IsNumbered c.prevs.items c.placed.items c.tips.items };
+}
+
+impl Chains {
+    /// No items. It takes no memory.
+    pub fn new(alloc: Global) -> Chains
+        ensures { result.prevs ≡ [] }
+    {
+        Chains {
+            prevs: Vec::new(alloc),
+            placed: Vec::new(alloc),
+            tips: Vec::new(alloc),
+        }
+    }
+
+    /// Finds the memory for one item more.
+    pub fn reserve(&mut self) -> Result<(), Memory>
+        ensures same { self.new.prevs ≡ self.old.prevs }
+        ensures room { OnOk result (0 < self.new.room) }
+        ensures known { 0 < self.old.room → IsOk result }
+    {
+        self.prevs.reserve(1)?;
+        self.placed.reserve(1)?;
+        self.tips.reserve(1)?;
+        Ok(())
+    }
+
+    /// Adds an item with this prev behind the others, and gives its spot.
+    pub fn add(&mut self, prev: Option<u32>) -> Result<Spot, Memory>
+        requires earlier { IfSome prev (λ item. item < length self.old.prevs) }
+        requires few { length self.old.prevs < 4294967295 }
+        ensures added { OnOk result (self.new.prevs ≡ self.old.prevs ++ prev ∷ []) }
+        ensures spot { IfOk result (λ s. slice_get (spots self.new.prevs) (length self.old.prevs) ≡ Some s) }
+        ensures err { OnErr result (self.new.prevs ≡ self.old.prevs) }
+        ensures room { 0 < self.old.room → IsOk result }
+    {
+        self.reserve()?;
+        let spot = self.next_spot(prev);
+        self.place(prev, spot);
+        Ok(spot)
+    }
+
+    /// The spot of the next item, if it has this prev.
+    fn next_spot(&self, prev: Option<u32>) -> Spot
+        requires earlier { IfSome prev (λ item. item < length self.now.prevs) }
+        requires few { length self.now.prevs < 4294967295 }
+        ensures { result ≡ next_spot self.now.prevs (spots self.now.prevs) prev }
+    {
+        if let Some(parent) = prev {
+            let spot = self.placed[parent as usize];
+            if self.tips[spot.chain as usize] == parent {
+                return Spot {
+                    chain: spot.chain,
+                    place: spot.place + 1,
+                };
+            }
+        }
+        Spot {
+            chain: self.chain_count(),
+            place: 0,
+        }
+    }
+
+    /// Places the next item where it belongs. There is room for it.
+    fn place(&mut self, prev: Option<u32>, spot: Spot)
+        requires room { 0 < self.old.room }
+        requires earlier { IfSome prev (λ item. item < length self.old.prevs) }
+        requires few { length self.old.prevs < 4294967295 }
+        requires spot { spot ≡ next_spot self.old.prevs (spots self.old.prevs) prev }
+        ensures { self.new.prevs ≡ self.old.prevs ++ prev ∷ [] }
+    {
+        let item = self.prevs.len() as u32;
+        move_tip(&mut self.tips, spot, item);
+        self.prevs.push_reserved(prev);
+        self.placed.push_reserved(spot);
+    }
+
+    /// The spot of an item. It takes no memory.
+    pub fn spot(&self, item: u32) -> Spot
+        requires { item < length self.now.prevs }
+        ensures { slice_get (spots self.now.prevs) item ≡ Some result }
+    {
+        self.placed[item as usize]
+    }
+
+    /// The last item of a chain. It takes no memory.
+    pub fn tip(&self, chain: u32) -> u32
+        requires { chain < number_of_chains self.now.prevs }
+        ensures { IsTip (spots self.now.prevs) chain result }
+    {
+        self.tips[chain as usize]
+    }
+
+    /// How many chains there are. It takes no memory.
+    pub fn chain_count(&self) -> u32
+        ensures count { result ≡ number_of_chains self.now.prevs }
+        ensures forest { IsForest self.now.prevs }
+    {
+        self.tips.len() as u32
+    }
+}
+
+/// The item is its chain's tip from now on. Where it starts the chain, there is room for a tip.
+fn move_tip(tips: &mut Vec<u32>, spot: Spot, item: u32)
+    requires room { vec_len tips.old < vec_capacity tips.old }
+    requires known { (spot.place ≡ 0 → ⊥) → spot.chain < vec_len tips.old }
+    ensures { tips.new.items ≡ (if spot.place == 0 then tips.old.items ++ item ∷ [] else slice_set tips.old.items spot.chain item) }
+{
+    if spot.place == 0 {
+        tips.push_reserved(item);
+    } else {
+        tips[spot.chain as usize] = item;
+    }
+}
+
+/// A chain is one path by prev, with each place once, whatever the prevs are: from an item to one that stands before it
+/// in its chain lead as many steps as its place is higher.
+pub fn one_chain_is_one_path()
+    ensures path { (prevs : List (Option ℕ)) (chain a b i j : ℕ) → IsAt prevs a chain i → IsAt prevs b chain j → i < j → LeadsBack prevs (j - i) b a }
+    ensures once { (prevs : List (Option ℕ)) (chain place a b : ℕ) → IsAt prevs a chain place → IsAt prevs b chain place → a ≡ b }
+    ensures gapless { (prevs : List (Option ℕ)) (chain place lower a : ℕ) → IsAt prevs a chain place → lower ≤ place → (b : ℕ) × IsAt prevs b chain lower }
+    ensures started { (prevs : List (Option ℕ)) (chain : ℕ) → chain < number_of_chains prevs → (a : ℕ) × IsAt prevs a chain 0 }
+    ensures counted { (prevs : List (Option ℕ)) (chain place a : ℕ) → IsAt prevs a chain place → chain < number_of_chains prevs }
+{}
+
+#[cfg(test)]
+mod tests;
