@@ -1,0 +1,123 @@
+//! What others vouched for, and who is convicted.
+//!
+//! Two sets that only grow. An id that some other node's voucher names is vouched, and stays so when the node that vouched
+//! is convicted. A convicted node stays convicted. They are seen as the list of the vouched ids and that of the convicted
+//! nodes, each once; room for the convictions of all nodes is found at the start. Whether a voucher or a proof is to be
+//! believed, this crate doesn't know.
+#![tactic(auto)]
+
+ghost use Rattle.std.specs.Prelude.{◌≡◌, ◌<◌, ◌≤◌, ◌+◌, ◌⊎◌, [], ◌∷◌, ◌++◌, length, true, false, OnOk, OnErr, IfOk};
+ghost use Rattle.indexmap.specs.IndexSet.{spare};
+ghost use Rattle.depot_model.specs.Lists.{is_among};
+ghost use Rattle.depot_vouch.specs.Vouching.{is_one_of, AreTogether, with_node};
+
+use depot_base::{Hash32, Ids, Memory, NodeId};
+use indexmap::IndexSet;
+use std::alloc::Global;
+use std::marker::Model;
+
+/// The ids that others vouched for, and the convicted nodes of a roster.
+#[derive(Drop)]
+pub struct Vouched {
+    ids: IndexSet<Hash32>,
+    convicted: IndexSet<NodeId>,
+    nodes: u32,
+}
+
+impl Model for Vouched {
+    ghost use Rattle.std.specs.Prelude.{length};
+    ghost use Rattle.indexmap.specs.IndexSet.{spare};
+    ghost use Rattle.depot_vouch.specs.Vouching.{Vouching, HasRoom};
+
+    ghost Value = { Vouching };
+
+    ghost view = { λ v. record { ids = v.ids.keys; convicted = v.convicted.keys; nodes = v.nodes } };
+
+    ghost invariant = { λ v. HasRoom v.nodes (length v.convicted.keys) (spare v.convicted) };
+}
+
+impl Vouched {
+    /// Nothing, with room for the convictions of so many nodes: at most 256, as many as a roster has.
+    pub fn new(alloc: Global, nodes: u32) -> Result<Vouched, Memory>
+        ensures ids { IfOk result (λ v. v.ids ≡ []) }
+        ensures convicted { IfOk result (λ v. v.convicted ≡ []) }
+        ensures nodes { IfOk result (λ v. v.nodes ≡ nodes) }
+    {
+        Ok(Vouched {
+            ids: IndexSet::new(alloc),
+            convicted: IndexSet::with_capacity(alloc, nodes as usize)?,
+            nodes,
+        })
+    }
+
+    /// Adds ids that were vouched for: all of them, or none where memory runs out.
+    pub fn add(&mut self, ids: &Ids) -> Result<(), Memory>
+        ensures ids { OnOk result (AreTogether self.old.ids ids.now self.new.ids) }
+        ensures err { OnErr result (self.new.ids ≡ self.old.ids) }
+        ensures convicted { self.new.convicted ≡ self.old.convicted }
+        ensures nodes { self.new.nodes ≡ self.old.nodes }
+    {
+        self.ids.reserve(ids.as_slice().len())?;
+        insert_ids(&mut self.ids, ids.as_slice());
+        Ok(())
+    }
+
+    /// Whether someone vouched for the update with this id. It takes no memory.
+    pub fn is_vouched(&self, id: &Hash32) -> bool
+        ensures { result ≡ is_among id.now self.now.ids }
+    {
+        self.ids.contains(id)
+    }
+
+    /// Convicts a node. It takes no memory.
+    pub fn convict(&mut self, node: NodeId)
+        requires { (length self.old.convicted < self.old.nodes) ⊎ (is_one_of node self.old.convicted ≡ true) }
+        ensures convicted { self.new.convicted ≡ with_node self.old.convicted node }
+        ensures ids { self.new.ids ≡ self.old.ids }
+        ensures nodes { self.new.nodes ≡ self.old.nodes }
+    {
+        if self.is_convicted(node) {
+            return;
+        }
+        insert_node(&mut self.convicted, node);
+    }
+
+    /// Whether a node is convicted. It takes no memory.
+    pub fn is_convicted(&self, node: NodeId) -> bool
+        ensures { result ≡ is_one_of node self.now.convicted }
+    {
+        self.convicted.contains(&node)
+    }
+}
+
+/// Adds ids to a set that has room for them.
+fn insert_ids(known: &mut IndexSet<Hash32>, more: &[Hash32])
+    requires { length more.now ≤ spare known.old }
+    ensures { AreTogether known.old.keys more.now known.new.keys }
+{
+    for id in more {
+        insert_id(known, *id);
+    }
+}
+
+/// Adds an id to a set that has room for it.
+fn insert_id(known: &mut IndexSet<Hash32>, id: Hash32)
+    requires { 0 < spare known.old }
+    ensures together { AreTogether known.old.keys (id ∷ []) known.new.keys }
+    ensures room { spare known.old ≤ spare known.new + 1 }
+{
+    let _ = known.insert(id);
+}
+
+/// Adds a node to a set that has room for it, and hasn't got it.
+fn insert_node(known: &mut IndexSet<NodeId>, node: NodeId)
+    requires room { 0 < spare known.old }
+    requires new { is_one_of node known.old.keys ≡ false }
+    ensures last { known.new.keys ≡ known.old.keys ++ node ∷ [] }
+    ensures room { spare known.old ≤ spare known.new + 1 }
+{
+    let _ = known.insert(node);
+}
+
+#[cfg(test)]
+mod tests;

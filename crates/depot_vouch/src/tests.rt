@@ -1,0 +1,31 @@
+use super::*;
+use std::test::Fail;
+
+fn ids(alloc: Global, bytes: &[u8]) -> Result<Ids, Fail> {
+    let mut ids = Ids::new(alloc);
+    for byte in bytes {
+        ids.push(Hash32::new([*byte; 32]))?;
+    }
+    Ok(ids)
+}
+
+#[test]
+fn what_was_added_stays(rt: HostRuntime) -> Result<(), Fail> {
+    let mut vouched = Vouched::new(rt.alloc(), 1)?;
+    vouched.add(&ids(rt.alloc(), [1, 3].as_slice())?)?;
+    vouched.add(&ids(rt.alloc(), [3, 4].as_slice())?)?;
+    for (byte, known) in [(1, true), (2, false), (3, true), (4, true)] {
+        assert_eq!(rt;
+            vouched.is_vouched(&Hash32::new([byte; 32])),
+            known,
+            "{byte}"
+        );
+    }
+    let node = NodeId::new(7).ok_or("a node")?;
+    assert!(rt; !vouched.is_convicted(node));
+    vouched.convict(node);
+    vouched.convict(node);
+    assert!(rt; vouched.is_convicted(node));
+    assert!(rt; !vouched.is_convicted(NodeId::new(8).ok_or("a node")?));
+    Ok(())
+}
