@@ -3,6 +3,7 @@ use Rattle.std.specs.Prelude.{◌≡◌, ℕ, ◌^◌, ◌<◌, ◌≤◌, ◌�
 use Rattle.std.specs.Int.{Width, byte_len, from_be_bytes}
 use Rattle.depot_base.specs.Cursor.{Cursor, advanced}
 use Rattle.depot_base.specs.Format.{Format, FirstFault}
+use Rattle.depot_base.specs.Closed.{Closed}
 use Rattle.depot_base.specs.declared.fault.Fault.{Fault}
 use Rattle.depot_base.specs.declared.fault.Fault.TheVariants.{Memory, At}
 use Rattle.depot_base.specs.declared.fault.DecodeError.{DecodeError}
@@ -66,6 +67,21 @@ pub record Decodes {V : Type 0} (f : Format V) (text : List ℕ) (result : Resul
   pub ill_formed : (at : ℕ) → result ≡ Err (errors.IllFormed at) → FirstFault f text at
   pub first : (at : ℕ) → FirstFault f text at → UnlessMemory result (Err (errors.IllFormed at))
 
+-- The same of a format whose last field may take all that is left.
+pub record DecodesClosed {V : Type 0} (f : Closed V) (text : List ℕ) (result : Result V DecodeError) : Type 0 where
+  -- what is given is a value with this text, and a value with this text is given
+  pub found : (v : V) → result ≡ Ok v → f.fits v × (text ≡ f.text v)
+  pub only : (v : V) → f.fits v → text ≡ f.text v → UnlessMemory result (Ok v)
+  -- the offset is that of the first fault, and a fault is found
+  pub ill_formed : (at : ℕ) → result ≡ Err (errors.IllFormed at) → f.fault text at
+  pub first : (at : ℕ) → f.fault text at → UnlessMemory result (Err (errors.IllFormed at))
+
 -- No text of a value begins a text of another value.
 abbrev pub IsPrefixFree : {V : Type 0} → Format V → Type 0
 IsPrefixFree {V} f = (v w : V) (x y : List ℕ) → f.fits v → f.fits w → f.text v ++ x ≡ f.text w ++ y → (v ≡ w) × (x ≡ y)
+
+-- Each text is that of one value, or goes wrong at one place.
+pub record IsReadInOneWay {V : Type 0} (f : Format V) : Type 0 where
+  pub value : (v w : V) → f.fits v → f.fits w → f.text v ≡ f.text w → v ≡ w
+  pub good : (v : V) (at : ℕ) → f.fits v → FirstFault f (f.text v) at → ⊥
+  pub place : (text : List ℕ) (a b : ℕ) → FirstFault f text a → FirstFault f text b → a ≡ b

@@ -6,13 +6,15 @@ ghost use Rattle.depot_model.specs.Texts.{IsSigned, text_of_update};
 use depot_base::{Kind, Signed, Statement, Update};
 use sha2::{Digest, Sha256};
 
-/// Whether `update` names as its prev the update `earlier`, whose body is at hand, with a seq or a clock that isn't greater.
+/// Whether `update` names as its prev the update `earlier`, whose body is at hand, with a seq or a clock that isn't
+/// greater.
 #[tactic(auto, unfolding(depot_model::specs::Texts::id_of_update))]
 fn goes_back(earlier: &Update, body: &[u8], update: &Update) -> bool
     requires { body.now ≡ text_of_update earlier.now }
     ensures { result ≡ goes_back earlier.now update.now }
 {
     (update.seq <= earlier.seq || update.clock <= earlier.clock)
+        && !update.prev.is_zeros()
         && *update.prev.bytes() == Sha256::digest(body)
 }
 

@@ -48,9 +48,9 @@ fn first_failed_point<S: Scheme>(roster: &Roster, scheme: &S, proof: &Proof) -> 
     None
 }
 
-/// Judges the text of a proof under a roster (docs/FORMATS.md). The answer is the first of the points of [`JudgeError`],
-/// in their order, that fails, and where none does the node that is convicted and the kind. Each signature is verified
-/// once at most, and only where all points before it hold.
+/// Judges the text of a proof under a roster (docs/FORMATS.md). The answer is the first of the points of
+/// [`JudgeError`], in their order, that fails, and where none does the node that is convicted and the kind. Each
+/// signature is verified once at most, and only where all points before it hold.
 pub fn judge<S: Scheme>(
     alloc: Global,
     roster: &Roster,

@@ -9,4 +9,5 @@ pub mod Pasts
 pub mod LatestLaws
 pub mod LogLaws
 pub mod UpdateProp
+pub mod RecordLaws
 pub mod Examples

@@ -26,7 +26,7 @@ use Rattle.depot_model.specs.History.{history_hash}
 use Rattle.depot_model.specs.Contradictions.{contradicts, kind_of}
 use Rattle.depot_model.specs.Conviction.{proof_of}
 use Rattle.depot_model.specs.Roster.{Verifies, has_node, is_signed}
-use Rattle.depot_model.specs.Journal.{accepted, foreign, accused, voucher_by, has_id, named, is_convicted, is_vouched, holds_hash, is_wanted}
+use Rattle.depot_model.specs.Journal.{accepted, foreign, accused, update_in, voucher_by, has_id, named, is_convicted, is_vouched, holds_hash, is_wanted}
 
 -- where a node stands: its scheme, its own number, its roster
 pub record Setting : Type 0 where
@@ -202,10 +202,14 @@ unfoldable pub due : List Record → Signed → Option (Signed × Kind) → List
 due J s None = []
 due J s (Some o) = if is_convicted J (writer_of s.statement) then [] else Conviction (proof_of o.1 o.0 s) ∷ []
 
--- the kept statement of the update with this id, as the one that a statement contradicts
+-- an update with this id
+abbrev pub is_update_with : List ℕ → Statement → Bool
+is_update_with h s = list_any (λ u. bytes_eq (id_of_update u) h) (update_in s)
+
+-- the first kept update with this id, as the one that a statement contradicts
 unfoldable pub named_opponent : List Signed → List ℕ → Statement → Option (Signed × Kind)
 named_opponent [] h s = None
-named_opponent (f ∷ fs) h s = if bytes_eq (id_of_statement f.statement) h then option_map (λ k. (f, k)) (kind_of f.statement s) else named_opponent fs h s
+named_opponent (f ∷ fs) h s = if is_update_with h f.statement then option_map (λ k. (f, k)) (kind_of f.statement s) else named_opponent fs h s
 
 -- what is appended for something new
 unfoldable pub added : List Record → Given → List Record

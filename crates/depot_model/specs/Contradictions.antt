@@ -7,12 +7,13 @@ use Rattle.depot_base.specs.declared.statement.Statement.{Statement}
 use Rattle.depot_base.specs.declared.statement.Statement.TheVariants as statement
 use Rattle.depot_base.specs.declared.proof.Kind.{Kind}
 use Rattle.depot_base.specs.declared.proof.Kind.TheVariants.{SameNumber, SamePrev, Backward}
-use Rattle.depot_model.specs.Lists.{when, first}
+use Rattle.depot_model.specs.Lists.{is_among, when, first}
 use Rattle.depot_model.specs.Texts.{text_of_statement, id_of_update}
+use Rattle.depot_model.specs.Order.{prevs}
 
 -- the second names the first as its prev, and its seq or its clock isn't greater
 abbrev pub goes_back : Update → Update → Bool
-goes_back t u = bytes_eq u.prev (id_of_update t) && (nat_le u.seq t.seq || nat_le u.clock t.clock)
+goes_back t u = is_among (id_of_update t) (prevs u) && (nat_le u.seq t.seq || nat_le u.clock t.clock)
 
 -- both are updates, of which the test holds
 abbrev pub are_updates : (Update → Update → Bool) → Statement → Statement → Bool

@@ -2,6 +2,7 @@
 use Rattle.std.specs.Prelude.{◌≡◌, ℕ, ◌+◌, List, [], ◌∷◌, Bool, not, Option, Some, None, IfSome, slice_get, position, if◌then◌else◌}
 use Rattle.std.specs.List.{AllByRecursion}
 use Rattle.std.specs.Str.{bytes_eq}
+use Rattle.depot_base.specs.Zeros.{zeros}
 use Rattle.depot_base.specs.declared.update.Update.{Update}
 use Rattle.depot_model.specs.Lists.{IsIn, is_among}
 use Rattle.depot_model.specs.Texts.{id_of_update}
@@ -15,6 +16,10 @@ at us place P = IfSome (slice_get us place) P
 -- the place of the first update with this id
 abbrev pub place_of_id : List ℕ → List Update → Option ℕ
 place_of_id h us = position (λ u. bytes_eq (id_of_update u) h) us
+
+-- the place of the update that a prev names: 32 zero bytes name nothing
+abbrev pub place_of_prev : List ℕ → List Update → Option ℕ
+place_of_prev h us = if bytes_eq h zeros then None else place_of_id h us
 
 -- the update at place a precedes the one at place b
 abbrev pub PrecedesAt : List Update → ℕ → ℕ → Type 0

@@ -1,5 +1,5 @@
 -- The readings of a journal: what its records tell.
-use Rattle.std.specs.Prelude.{ℕ, List, [], ◌∷◌, ◌++◌, length, map, Bool, ◌&&◌, ◌==◌, Option, Some, None, if◌then◌else◌}
+use Rattle.std.specs.Prelude.{ℕ, List, [], ◌∷◌, ◌++◌, length, map, Bool, ◌&&◌, ◌==◌, Option, Some, None, option_and_then, if◌then◌else◌}
 use Rattle.std.specs.List.{flat_map, list_any}
 use Rattle.std.specs.Str.{bytes_eq}
 use Rattle.sha2.specs.Sha256.{sha256}
@@ -13,7 +13,7 @@ use Rattle.depot_base.specs.declared.statement.Signed.{Signed}
 use Rattle.depot_base.specs.declared.proof.Proof.{Proof}
 use Rattle.depot_base.specs.declared.record.Record.{Record}
 use Rattle.depot_base.specs.declared.record.Record.TheVariants.{OwnPut, OwnVoucher, Foreign, Conviction, Held}
-use Rattle.depot_model.specs.Lists.{is_among}
+use Rattle.depot_model.specs.Lists.{is_among, when}
 use Rattle.depot_model.specs.Texts.{id_of_update}
 
 -- ---- what one record tells
@@ -101,6 +101,10 @@ unfoldable pub named : List Update → List ℕ → Option Update
 named [] h = None
 named (t ∷ ts) h = if bytes_eq (id_of_update t) h then Some t else named ts h
 
+-- the update that a prev names: 32 zero bytes name nothing
+unfoldable pub prev_of : List Update → List ℕ → Option Update
+prev_of us h = if bytes_eq h zeros then None else named us h
+
 -- the id of the last own update, or 32 zero bytes; h where no update follows
 abbrev pub last_own_behind : List ℕ → List Statement → List ℕ
 last_own_behind h [] = h
@@ -123,6 +127,15 @@ holds_hash J h = list_any (λ v. bytes_eq (sha256 v) h) (held J)
 -- a value of this hash and this length is held
 unfoldable pub holds : List Record → List ℕ → ℕ → Bool
 holds J h len = list_any (λ v. bytes_eq (sha256 v) h && (length v == len)) (held J)
+
+-- the first of these values with this hash
+abbrev pub value_with : List ℕ → List (List ℕ) → Option (List ℕ)
+value_with h [] = None
+value_with h (v ∷ vs) = if bytes_eq (sha256 v) h then Some v else value_with h vs
+
+-- the held value of an update: that of its hash, where it has its length too
+unfoldable pub value_of : List Record → Update → Option (List ℕ)
+value_of J u = option_and_then (λ v. when (length v == u.value_len) v) (value_with u.value_hash (held J))
 
 -- an accepted update names this hash and this length
 unfoldable pub is_wanted : List Update → List ℕ → ℕ → Bool

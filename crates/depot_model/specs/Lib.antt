@@ -16,5 +16,6 @@ pub mod Items
 pub mod Journal
 pub mod Checks
 pub mod Room
+pub mod Taking
 pub mod Own
 pub mod Lawful

@@ -11,15 +11,15 @@ use Rattle.depot_model.specs.Texts.{id_of_update}
 use Rattle.depot_model.specs.Order.{past}
 use Rattle.depot_model.specs.History.{leaves_of, by_id, history_hash, greatest_clock}
 use Rattle.depot_model.specs.Roster.{key_of}
-use Rattle.depot_model.specs.Journal.{accepted, own, has_id, named, last_own}
+use Rattle.depot_model.specs.Journal.{accepted, own, has_id, prev_of, last_own}
 
 -- an entry that names an update
 abbrev pub entry_of : Update → Dep
 entry_of t = record { writer = t.writer; clock = t.clock; id = id_of_update t }
 
--- t precedes the accepted update with this id, if there is one
+-- t precedes the update that a prev names, if it names one
 unfoldable pub precedes_named : List Update → List ℕ → Update → Bool
-precedes_named us h t = option_map_or (λ p. has_id (past p us) (id_of_update t)) (named us h) false
+precedes_named us h t = option_map_or (λ p. has_id (past p us) (id_of_update t)) (prev_of us h) false
 
 -- the updates that the next own one names: the leaves of other writers that don't precede the last own update
 unfoldable pub next_entries : ℕ → List Update → List ℕ → List Update

@@ -31,6 +31,11 @@ full_with me J new = first (
     when (nat_lt (2 ^ 30) (journal_bytes (J ++ new))) (record { what = full_of.Bytes; number = journal_bytes J }) ∷
     when (take_an_update new && nat_lt 4096 (length (foreign_leaves me (J ++ new)))) (record { what = full_of.Writers; number = length (foreign_leaves me J) }) ∷ [])
 
+-- the same for what a call appends: where that is nothing, no limit is passed
+abbrev pub full_by : ℕ → List Record → List Record → Option Full
+full_by me J [] = None
+full_by me J (r ∷ rs) = full_with me J (r ∷ rs)
+
 -- there is room for these records
 abbrev pub HasRoom : ℕ → List Record → List Record → Type 0
 HasRoom me J new = full_with me J new ≡ None

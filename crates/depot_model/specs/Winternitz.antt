@@ -71,6 +71,7 @@ full_digits (suc n) = 15 ∷ full_digits n
 unfoldable pub leaf_of : List ℕ → ℕ → List ℕ
 leaf_of seed i = leaf i (values_from seed i 0 (full_digits 67))
 
+-- an inner node, of its two children
 unfoldable pub inner_node : List ℕ → List ℕ → List ℕ
 inner_node left right = sha256 (4 ∷ (left ++ right))
 

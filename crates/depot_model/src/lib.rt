@@ -3,7 +3,7 @@
 //! Each definition stands once, in `specs/`, over plain lists and numbers: the texts of values (`Texts`, `Records`), the order of
 //! updates and their latest writes (`Order`, `Items`, `History`), contradictions and judgement (`Contradictions`, `Judgement`,
 //! `Conviction`), signatures (`Plain`, `Winternitz`), rosters (`Roster`, `RosterText`), what a journal tells and which journals
-//! are lawful (`Journal`, `Checks`, `Room`, `Own`, `Lawful`), the log of `scan` (`Log`) and printed texts (`Lines`).
+//! are lawful (`Journal`, `Checks`, `Room`, `Taking`, `Own`, `Lawful`), the log of `scan` (`Log`) and printed texts (`Lines`).
 //!
 //! A law is a public function with an empty body, whose contract is the law. This crate computes nothing.
 #![tactic(auto)]
@@ -22,4 +22,4 @@ pub use order::{latest_writes_are_one_list, past_is_what_precedes};
 pub use past::Past;
 pub use roster::RosterError;
 pub use signature::{Scheme, Signer};
-pub use taken::Taken;
+pub use taken::{TakeError, Taken};

@@ -1,4 +1,5 @@
 //! What a node answers to what it takes.
+use depot_base::{Check, Full};
 
 /// What was taken is new, or was here before.
 #[derive(Clone, Copy, Debug, PartialEq, Eq)]
@@ -7,4 +8,19 @@ pub enum Taken {
     New,
     /// It was here before; nothing changed.
     Known,
+}
+
+/// Why a node doesn't take what it is given.
+#[derive(Clone, Copy, Debug, PartialEq, Eq)]
+pub enum TakeError {
+    /// No memory was found; the node is as before.
+    Memory,
+    /// The disk failed; the node is stopped.
+    Disk,
+    /// The disk failed in an earlier call.
+    Stopped,
+    /// There is no room for what would be kept; the node is as before.
+    Full(Full),
+    /// The first check that fails. The node is as before, but where a fork or a step back convicts its writer.
+    Refused(Check),
 }

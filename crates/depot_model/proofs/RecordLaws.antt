@@ -1,0 +1,121 @@
+-- The text of a record is lawful.
+use Rattle.std.proofs.Common.{◌≡◌, ℕ, zero, suc, ◌≤◌, eqb, Some, List, refl, ap, arith}
+use Rattle.std.specs.Int.{w8, w32}
+use Rattle.depot_base.specs.Format.{number, inner, HasPart}
+use Rattle.depot_base.specs.Closed.{closing, rest_of}
+use Rattle.depot_base.specs.declared.update.Update.{Update}
+use Rattle.depot_base.specs.declared.voucher.Voucher.{Voucher}
+use Rattle.depot_base.specs.declared.statement.Signed.{Signed}
+use Rattle.depot_base.specs.declared.proof.Proof.{Proof}
+use Rattle.depot_base.specs.declared.record.Record.{Record}
+use Rattle.depot_base.specs.declared.record.Record.TheVariants.{Birth, OwnPut, OwnVoucher, Foreign, Conviction, Held}
+use Rattle.depot_base.proofs.Laws.{weaken}
+use Rattle.depot_base.proofs.Numbers.{number_within}
+use Rattle.depot_base.proofs.Combined.{bytes_lawful, inner_lawful, inner_count, made_lawful, field_lawful}
+use Rattle.depot_base.proofs.PartLaws.{u8_lawful, u32_lawful, node_lawful, digest_lawful}
+use Rattle.depot_base.proofs.ClosedLaws.{LawfulClosed, closing_lawful, rest_lawful, before_lawful, closed_variant_lawful, closed_choose_lawful, weaken_closed}
+use Rattle.depot_model.specs.Texts.{update_fields, update_body, voucher_body, signed, proof, IsUpdate}
+use Rattle.depot_model.specs.Records.{as_birth, as_own_put, as_own_voucher, as_foreign, as_conviction, as_held, birth, own_put, tag_of, tagged, record_text}
+use Rattle.depot_model.proofs.TextLaws.{update_body_lawful, voucher_body_lawful, signed_lawful, proof_lawful}
+
+-- ---- what stands behind a tag
+
+birth_lawful : LawfulClosed birth 34
+unfolding birth
+birth_lawful = closing_lawful _ 34
+    (field_lawful _ _ _ 2 32 node_lawful (λ a b f h. ap (λ (x : ℕ × List ℕ). x.0) h.1) λ node _.
+    field_lawful _ _ _ 32 0 digest_lawful (λ a b f h. ap (λ (x : ℕ × List ℕ). x.1) h) λ roster _.
+    made_lawful _)
+
+-- the value that an update names has at most 65,536 bytes
+short_value : (u : Update) → IsUpdate u → u.value_len ≤ 65536
+unfolding update_body update_fields
+short_value u fits = let r = number_within w32 0 65536 u.value_len fits.1.1.1.1.1.1.1.1.1.0 in omega arith
+
+own_put_lawful : LawfulClosed own_put 108922
+unfolding own_put inner
+own_put_lawful =
+    before_lawful _ _ _ 4 108918 (u32_lawful 0 4294967295 (omega arith)) (λ a p f h. inner_count a update_body p.0 h.0) λ body_length _.
+    before_lawful _ _ _ 43382 65536 (inner_lawful update_body 43382 body_length update_body_lawful) (λ a p f h. ap (λ (x : Update × List ℕ). x.0) h.1) λ update body.
+    closing_lawful _ 65536
+    (field_lawful _ _ _ 65536 0 (weaken _ update.value_len 65536 (short_value update body.0) (bytes_lawful update.value_len)) (λ a p f h. ap (λ (x : Update × List ℕ). x.1) h) λ value _.
+    made_lawful _)
+
+-- ---- a record of a kind is made of its part
+
+is_birth : (r : Record) (b : ℕ × List ℕ) → as_birth r ≡ Some b → r ≡ Birth b.0 b.1
+is_birth (Birth node roster) b e = let p : (node, roster) ≡ b = cc in ap (λ (x : ℕ × List ℕ). Birth x.0 x.1) p
+is_birth r b e = absurd cc
+
+is_own_put : (r : Record) (p : Update × List ℕ) → as_own_put r ≡ Some p → r ≡ OwnPut p.0 p.1
+is_own_put (OwnPut u value) p e = let q : (u, value) ≡ p = cc in ap (λ (x : Update × List ℕ). OwnPut x.0 x.1) q
+is_own_put r p e = absurd cc
+
+is_own_voucher : (r : Record) (v : Voucher) → as_own_voucher r ≡ Some v → r ≡ OwnVoucher v
+is_own_voucher (OwnVoucher w) v e = let p : w ≡ v = cc in ap (λ (x : Voucher). OwnVoucher x) p
+is_own_voucher r v e = absurd cc
+
+is_foreign : (r : Record) (s : Signed) → as_foreign r ≡ Some s → r ≡ Foreign s
+is_foreign (Foreign t) s e = let p : t ≡ s = cc in ap (λ (x : Signed). Foreign x) p
+is_foreign r s e = absurd cc
+
+is_conviction : (r : Record) (p : Proof) → as_conviction r ≡ Some p → r ≡ Conviction p
+is_conviction (Conviction q) p e = let same : q ≡ p = cc in ap (λ (x : Proof). Conviction x) same
+is_conviction r p e = absurd cc
+
+is_held : (r : Record) (v : List ℕ) → as_held r ≡ Some v → r ≡ Held v
+is_held (Held w) v e = let p : w ≡ v = cc in ap (λ (x : List ℕ). Held x) p
+is_held r v e = absurd cc
+
+-- ---- the tag tells the kind
+
+birth_tag : (fits : (ℕ × List ℕ) → Type 0) (r : Record) → HasPart fits (as_birth r) → tag_of r ≡ 1
+birth_tag fits (Birth node roster) h = refl
+birth_tag fits r h = absurd h
+
+own_put_tag : (fits : (Update × List ℕ) → Type 0) (r : Record) → HasPart fits (as_own_put r) → tag_of r ≡ 2
+own_put_tag fits (OwnPut u value) h = refl
+own_put_tag fits r h = absurd h
+
+own_voucher_tag : (fits : Voucher → Type 0) (r : Record) → HasPart fits (as_own_voucher r) → tag_of r ≡ 3
+own_voucher_tag fits (OwnVoucher v) h = refl
+own_voucher_tag fits r h = absurd h
+
+foreign_tag : (fits : Signed → Type 0) (r : Record) → HasPart fits (as_foreign r) → tag_of r ≡ 4
+foreign_tag fits (Foreign s) h = refl
+foreign_tag fits r h = absurd h
+
+conviction_tag : (fits : Proof → Type 0) (r : Record) → HasPart fits (as_conviction r) → tag_of r ≡ 5
+conviction_tag fits (Conviction p) h = refl
+conviction_tag fits r h = absurd h
+
+held_tag : (fits : List ℕ → Type 0) (r : Record) → HasPart fits (as_held r) → tag_of r ≡ 6
+held_tag fits (Held v) h = refl
+held_tag fits r h = absurd h
+
+tag_is : (a : ℕ) (r : Record) → 1 ≤ a → a ≤ 6 → (tagged a).fits r → tag_of r ≡ a
+unfolding tagged
+tag_is zero r low high h = absurd (omega arith)
+tag_is (suc zero) r low high h = birth_tag _ r h
+tag_is (suc (suc zero)) r low high h = own_put_tag _ r h
+tag_is (suc (suc (suc zero))) r low high h = own_voucher_tag _ r h
+tag_is (suc (suc (suc (suc zero)))) r low high h = foreign_tag _ r h
+tag_is (suc (suc (suc (suc (suc zero))))) r low high h = conviction_tag _ r h
+tag_is (suc (suc (suc (suc (suc (suc zero)))))) r low high h = held_tag _ r h
+tag_is (suc (suc (suc (suc (suc (suc (suc n))))))) r low high h = absurd (omega arith)
+
+tagged_lawful : (tag : ℕ) → LawfulClosed (tagged tag) 108922
+unfolding tagged
+tagged_lawful tag =
+    closed_choose_lawful (eqb tag 1) _ _ 108922 (closed_variant_lawful (λ b. Birth b.0 b.1) as_birth birth 108922 (λ b. refl) is_birth (weaken_closed _ 34 108922 (omega arith) birth_lawful))
+    (closed_choose_lawful (eqb tag 2) _ _ 108922 (closed_variant_lawful (λ p. OwnPut p.0 p.1) as_own_put own_put 108922 (λ p. refl) is_own_put own_put_lawful)
+    (closed_choose_lawful (eqb tag 3) _ _ 108922 (closed_variant_lawful (λ v. OwnVoucher v) as_own_voucher (closing voucher_body) 108922 (λ v. refl) is_own_voucher (weaken_closed _ 8202 108922 (omega arith) (closing_lawful _ 8202 voucher_body_lawful)))
+    (closed_choose_lawful (eqb tag 4) _ _ 108922 (closed_variant_lawful (λ s. Foreign s) as_foreign (closing signed) 108922 (λ s. refl) is_foreign (weaken_closed _ 51582 108922 (omega arith) (closing_lawful _ 51582 signed_lawful)))
+    (closed_choose_lawful (eqb tag 5) _ _ 108922 (closed_variant_lawful (λ p. Conviction p) as_conviction (closing proof) 108922 (λ p. refl) is_conviction (weaken_closed _ 103166 108922 (omega arith) (closing_lawful _ 103166 proof_lawful)))
+    (closed_variant_lawful (λ v. Held v) as_held (rest_of 65536) 108922 (λ v. refl) is_held (weaken_closed _ 65536 108922 (omega arith) (rest_lawful 65536)))))))
+
+-- A record's text is read back, and each fault is found where it is.
+pub record_text_lawful : LawfulClosed record_text 108923
+unfolding record_text
+record_text_lawful =
+    before_lawful (number w8 1 6) tag_of tagged 1 108922 (u8_lawful 1 6 (omega arith)) (λ a r f h. let w = number_within w8 1 6 a f in tag_is a r w.0 w.1 h) λ tag _. tagged_lawful tag
