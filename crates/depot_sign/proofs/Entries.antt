@@ -18,6 +18,7 @@ pub roster_count : (r : List RosterEntry) → IsRoster r → (1 ≤ length r) ×
 unfolding roster number
 roster_count r fits = fits.1.1.0
 
+-- a number of two bytes is written as two
 pub two_bytes : (n : ℕ) → length (numeral w16 n) ≡ 2
 unfolding numeral
 two_bytes n = refl
@@ -49,12 +50,13 @@ pub count_at : (text : List ℕ) (count : ℕ) (rest : List ℕ) → count < 655
 unfolding numeral
 count_at text count rest small parts = ap (λ (l : List ℕ). number_at l 2) parts ∙ from_be_bytes-to_be_bytes_2 count (omega arith)
 
--- some entries, of which one is the last
+-- Some entries, of which one is the last.
 pub record Ends (es : List RosterEntry) : Type 0 where
   pub front : List RosterEntry
   pub last : RosterEntry
   pub is : es ≡ front ++ last ∷ []
 
+-- one entry or more have a last one
 pub ends : (es : List RosterEntry) → 1 ≤ length es → Ends es
 ends [] some = absurd (omega arith)
 ends (e ∷ []) some = record { front = []; last = e; is = refl }
@@ -62,10 +64,12 @@ ends (e ∷ d ∷ es) some =
     let more = ends (d ∷ es) (omega arith) in
     record { front = e ∷ more.front; last = more.last; is = ap (λ (l : List RosterEntry). e ∷ l) more.is }
 
+-- the last of good entries is good
 pub last_fits : (before front : List RosterEntry) (e : RosterEntry) → Follows roster_entry roster_entry_rises before (front ++ e ∷ []) → roster_entry.fits e
 last_fits before [] e follow = follow.0
 last_fits before (d ∷ front) e follow = last_fits (before ++ d ∷ []) front e follow.2
 
+-- and it is the one that `last_of` finds
 pub last_of-append : (front : List RosterEntry) (e : RosterEntry) → last_of (front ++ e ∷ []) ≡ Some e
 last_of-append front e =
     let all = front ++ e ∷ [] in

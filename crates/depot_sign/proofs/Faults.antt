@@ -17,6 +17,7 @@ counted =
     field (list_of count roster_entry roster_entry_rises) (λ r. r) λ listed.
     made listed
 
+-- The version and the kind stand in front, and what follows them goes wrong.
 pub record BehindKind (text : List ℕ) (at : ℕ) : Type 0 where
   pub bytes : List ℕ
   pub later : ℕ
@@ -24,10 +25,12 @@ pub record BehindKind (text : List ℕ) (at : ℕ) : Type 0 where
   pub place : at ≡ 2 + later
   pub fault : counted.fault bytes later
 
+-- a byte of one value is written as it is
 byte_text : (n v : ℕ) → n < 256 → (constant n).fits v → (constant n).text v ≡ n ∷ []
 unfolding number numeral
 byte_text n v small fits = ap (λ (byte : ℕ). byte ∷ []) (omega (arith, fits.0, fits.1))
 
+-- so it is with a fault behind them
 pub behind_kind : (text : List ℕ) (at : ℕ) → 2 ≤ at → roster.fault text at → BehindKind text at
 unfolding roster number
 behind_kind text at far fault =
@@ -95,6 +98,7 @@ entry_near bytes k fault =
       ]
     ]
 
+-- so it is with a fault of the entries
 behind_count : (text : List ℕ) (at : ℕ) → 4 ≤ at → roster.fault text at → BehindEntries text at
 unfolding number list_of
 behind_count text at far fault =
@@ -118,10 +122,12 @@ behind_count text at far fault =
       ]
     ]
 
+-- the header has four bytes
 pub length-roster_text : (r : List RosterEntry) → length (roster.text r) ≡ 4 + length (flat_map roster_entry.text r)
 unfolding roster list_of number numeral
 length-roster_text r = omega (arith, length-append (flat_map roster_entry.text r) [])
 
+-- and with bytes behind the last of them
 behind_roster : (text : List ℕ) (at : ℕ) → Trailing roster text at → BehindEntries text at
 unfolding roster list_of number numeral
 behind_roster text at t = record {
@@ -137,7 +143,7 @@ behind_roster text at t = record {
   bad = inr refl;
 }
 
--- where a text goes wrong behind the count
+-- and so with each fault behind the count
 pub behind_entries : (text : List ℕ) (at : ℕ) → 4 ≤ at → FirstFault roster text at → BehindEntries text at
 behind_entries text at far (inl fault) = behind_count text at far fault
 behind_entries text at far (inr trailing) = behind_roster text at trailing

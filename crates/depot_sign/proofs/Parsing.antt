@@ -1,11 +1,10 @@
 -- What the parser of a roster answers, from what reading gives.
-use Rattle.std.proofs.Common.{◌≡◌, ℕ, ◌+◌, ◌≤◌, List, Result, Ok, Err, refl, sym, ap, subst, ◌∙◌, arith, inl, inr}
+use Rattle.std.proofs.Common.{◌≡◌, ℕ, ◌+◌, ◌≤◌, List, Result, Ok, Err, refl, sym, ap, subst, ◌∙◌, arith, inr}
 use Rattle.depot_base.specs.Format.{whole, FirstFault}
 use Rattle.depot_base.specs.declared.key.RosterEntry.{RosterEntry}
 use Rattle.depot_base.proofs.Laws.{IsBytes, cursor, ok_is, not_err, err_is}
 use Rattle.depot_base.proofs.Combined.{whole_takes, whole_again, whole_faults, whole_stops, whole_early}
 use Rattle.depot_model.specs.declared.roster.RosterError.{RosterError}
-use Rattle.depot_model.specs.declared.roster.RosterError.TheVariants as error
 use Rattle.depot_model.specs.Texts.{IsRoster, text_of_roster, hash_of_roster, roster}
 use Rattle.depot_model.specs.RosterText.{roster_error, ParsesRoster}
 use Rattle.depot_model.proofs.TextLaws.{roster_lawful}
@@ -23,7 +22,7 @@ stops_at_fault text at fits h =
 pub fault_early : (text : List ℕ) (at : ℕ) → FirstFault roster text at → at ≤ 8964
 fault_early text at fault = whole_early roster 8964 roster_lawful text at fault
 
--- what is read is kept with the hash of the text
+-- what is read makes a roster, and the text's hash is its hash
 pub read_is_kept : (text : List ℕ) (r : List RosterEntry) → IsBytes text → whole roster (cursor 0 text) ≡ Ok r → IsKept r (sha256 text)
 unfolding hash_of_roster
 read_is_kept text r fits h =
@@ -36,6 +35,7 @@ given r = Ok r
 abbrev refused : RosterError → Result (List RosterEntry) RosterError
 refused e = Err e
 
+-- what the parser gives, where reading gives a roster
 pub parses_ok : (text : List ℕ) (r : List RosterEntry) → IsBytes text → whole roster (cursor 0 text) ≡ Ok r → ParsesRoster text (given r)
 parses_ok text r fits h = record {
   found = λ w e. let p : r ≡ w = cc in subst (λ (x : List RosterEntry). IsRoster x × (text ≡ text_of_roster x)) p (whole_takes roster 8964 roster_lawful (cursor 0 text) r fits h);
@@ -46,14 +46,7 @@ parses_ok text r fits h = record {
   first = λ at f. absurd (not_err r (0 + at) (sym h ∙ whole_stops roster 8964 roster_lawful 0 text at f));
 }
 
-pub parses_memory : (text : List ℕ) → ParsesRoster text (refused error.Memory)
-parses_memory text = record {
-  found = λ w e. absurd cc;
-  only = λ w fw e. inl refl;
-  refused = λ e h. inl cc;
-  first = λ at f. inl refl;
-}
-
+-- and where reading stops
 pub parses_fault : (text : List ℕ) (at : ℕ) → IsBytes text → whole roster (cursor 0 text) ≡ Err at → ParsesRoster text (refused (roster_error text at))
 parses_fault text at fits h = record {
   found = λ w e. absurd cc;
@@ -66,7 +59,7 @@ parses_fault text at fits h = record {
       inr (ap (λ (n : ℕ). refused (roster_error text n)) q);
 }
 
--- a roster is kept with the hash of its text
+-- the hash of a roster's text is its hash
 pub text_is_kept : (r : List RosterEntry) → IsRoster r → IsKept r (sha256 (text_of_roster r))
 unfolding hash_of_roster
 text_is_kept r fits = record { is_roster = fits; is_hash = refl }

@@ -19,22 +19,24 @@ use Rattle.depot_sign.specs.Refusals.{HasGreatCount, RepeatsNode, IsToldWhere}
 use Rattle.depot_sign.proofs.Entries.{two_bytes, length-entry_text, length-entry_texts, entry_node, node_at, count_at, ends, last_fits, last_of-append}
 use Rattle.depot_sign.proofs.Faults.{counted, BehindKind, behind_kind, fault_behind_kind, IsBadBehind, behind_entries, length-roster_text}
 
--- ---- a count over 256
-
--- Such a count is the first fault, and it is told.
+-- The error is that of the text's first fault.
 pub record ToldAt (text : List ℕ) (e : RosterError) : Type 0 where
   pub at : ℕ
   pub fault : FirstFault roster text at
   pub is : roster_error text at ≡ e
 
+-- ---- a count over 256
+
+-- two tests don't hold where the second doesn't
 not_both : (a b : Bool) → b ≡ false → (a && b) ≡ false
 not_both true b e = e
 not_both false b e = refl
 
--- 256 is the most
+-- a count over 256 is out of its range
 over_range : (n : ℕ) → 256 < n → is_in_range 1 256 n ≡ false
 over_range n great = not_both (leb 1 n) (leb n 256) (lt-leb n 256 great)
 
+-- such a count is told
 pub great_count_told : (text : List ℕ) (count : ℕ) → HasGreatCount text count → ToldAt text (error.TooMany count)
 unfolding number roster_error
 great_count_told text count h =
@@ -52,6 +54,7 @@ great_count_told text count h =
       is = rw (great, number) refl;
     }
 
+-- where a count is told, the first test held
 too_many_inverse : (g r : Bool) (m n at count : ℕ) → cond g (error.TooMany m) (cond r (error.TwiceNode n) (error.IllFormed at)) ≡ error.TooMany count → (g ≡ true) × (m ≡ count)
 too_many_inverse true r m n at count e = (refl, cc)
 too_many_inverse false true m n at count e = absurd cc
@@ -72,6 +75,7 @@ stands_behind_kind text count bytes k long great is =
       great = omega (arith, great, is);
     }
 
+-- a count that is told stands there
 pub great_count_stands : (text : List ℕ) (at count : ℕ) → IsBytes text → FirstFault roster text at → roster_error text at ≡ error.TooMany count → HasGreatCount text count
 unfolding roster_error
 great_count_stands text at count bytes fault e =
@@ -88,11 +92,13 @@ great_count_stands text at count bytes fault e =
 
 -- ---- a node that stands twice
 
+-- where a node is told, the second test held
 twice_inverse : (g r : Bool) (m n at node : ℕ) → cond g (error.TooMany m) (cond r (error.TwiceNode n) (error.IllFormed at)) ≡ error.TwiceNode node → (r ≡ true) × (n ≡ node)
 twice_inverse true r m n at node e = absurd cc
 twice_inverse false true m n at node e = (refl, cc)
 twice_inverse false false m n at node e = absurd cc
 
+-- of the numbers of two bytes, 0 alone is no node's
 outside : (n : ℕ) → n ≤ 65535 → is_in_range 1 65535 n ≡ false → n ≡ 0
 outside n small e =
     elim (cases_lt 0 n) [
@@ -139,6 +145,7 @@ next_node text count good again rest fits parts =
     let split : text ≡ head ++ (roster_entry.text again ++ rest) = parts ∙ ap (λ (l : List ℕ). 1 ∷ 4 ∷ l) (sym (append_assoc (numeral w16 count) some (roster_entry.text again ++ rest))) in
     node_at text head (start_behind good) again rest fits split (omega (arith, length-append (numeral w16 count) some, two_bytes count))
 
+-- where the test holds behind good entries, a whole entry names the node of the last of them
 repeated_behind : (text : List ℕ) (at count : ℕ) (front : List RosterEntry) (before : RosterEntry) (rest : List ℕ) → IsBytes text → count ≤ 256
     → at + 2 ≤ length text → number_at text at ≡ number_at text (at - 35)
     → Follows roster_entry roster_entry_rises [] (front ++ before ∷ [])
@@ -196,6 +203,7 @@ repeated_there text at count front before good rest later bytes limit long same 
     let known : P (front ++ before ∷ []) 0 = repeated_behind text at count front before rest bytes limit long same in
     subst (λ (k : ℕ). P good k) (sym start) (subst (λ (es : List RosterEntry). P es 0) (sym is) known)
 
+-- a node that is told stands twice
 pub repeated_stands : (text : List ℕ) (at : ℕ) → IsBytes text → FirstFault roster text at → repeats_node text at ≡ true → RepeatsNode text (number_at text at)
 repeated_stands text at bytes fault repeats =
     let e = and_parts _ _ repeats in
@@ -218,6 +226,7 @@ repeated_stands text at bytes fault repeats =
     let last = ends b.good some in
     repeated_there text at b.count last.front last.last b.good b.rest b.later bytes b.limit long same last.is start b.follow b.parts place bad
 
+-- an entry may not stand behind one of the same node
 misplaced_behind : (front : List RosterEntry) (before again : RosterEntry) → again.node ≡ before.node → roster_entry_rises (last_of (front ++ before ∷ [])) again ≡ false
 misplaced_behind front before again same =
     ap (λ (o : Option RosterEntry). roster_entry_rises o again) (last_of-append front before) ∙ le-ltb before.node again.node (omega (arith, same))
@@ -252,6 +261,7 @@ repeated_fault text node h =
     let place : 2 + (2 + length some) ≡ start_behind good = omega arith in
     inl (subst (λ (l : List ℕ). roster.fault l (start_behind good)) (sym h.parts) (subst (λ (n : ℕ). roster.fault (1 ∷ 4 ∷ bytes) n) place (fault_behind_kind bytes (2 + length some) fault)))
 
+-- the test, part by part
 seen : (text : List ℕ) (at : ℕ) → 39 ≤ at → at + 2 ≤ length text → at < 4 + 35 * number_at text 2 → (at - 4) % 35 ≡ 0 → number_at text at ≡ number_at text (at - 35) → repeats_node text at ≡ true
 seen text at far long within aligned same =
     and_from _ _ (and_from _ _ (and_from _ _ (and_from _ _ (le-leb 39 at far) (le-leb (at + 2) (length text) long)) (lt-ltb at (4 + 35 * number_at text 2) within)) (eq-eqb ((at - 4) % 35) 0 aligned)) (eq-eqb (number_at text at) (number_at text (at - 35)) same)
@@ -274,9 +284,11 @@ repeated_seen text node h =
     let aligned : (start_behind good - 4) % 35 ≡ 0 = omega (arith, texts) in
     seen text (start_behind good) far long within aligned (second ∙ h.second ∙ sym h.first ∙ sym first)
 
+-- no entry starts at the count
 not_at_count : (text : List ℕ) (at : ℕ) → 4 ≤ at → has_great_count text at ≡ false
 not_at_count text at far = rw (ne_eqb at 2 (λ e. omega arith)) refl
 
+-- such a node is told
 pub repeated_told : (text : List ℕ) (node : ℕ) → RepeatsNode text node → ToldAt text (error.TwiceNode node)
 unfolding roster_error
 repeated_told text node h =
@@ -299,6 +311,7 @@ repeated_node text at bytes fault repeats =
 abbrev refused : RosterError → Result (List RosterEntry) RosterError
 refused e = Err e
 
+-- an error comes exactly where its cause stands
 told_where : (text : List ℕ) (result : Result (List RosterEntry) RosterError) (e : RosterError) {Holds : Type 0} → ParsesRoster text result → (e ≡ error.Memory → ⊥)
     → ((at : ℕ) → FirstFault roster text at → roster_error text at ≡ e → Holds) → (Holds → ToldAt text e) → IsToldWhere result e Holds
 told_where text result e p other stands tells = record {

@@ -21,5 +21,5 @@ mod text;
 
 pub use depot_model::{RosterError, Scheme, Signer};
 pub use plain::{PlainScheme, PlainSigner};
-pub use roster::{Roster, rosters_are_prefix_free};
+pub use roster::{Roster, rosters_are_prefix_free, rosters_are_read_in_one_way};
 pub use signed::verify_signed;

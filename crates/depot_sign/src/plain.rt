@@ -9,6 +9,9 @@ use depot_model::{Scheme, Signer};
 use sha2::{Digest, Sha256};
 use std::alloc::Global;
 
+/// What a text that is signed begins with.
+const TAG: u8 = 6;
+
 /// A scheme whose signatures **anyone can forge**: a signature is a digest of the public key, the leaf and the body. Only
 /// replays and tests use it. No call takes memory.
 #[derive(Clone, Copy, Debug)]
@@ -35,8 +38,11 @@ impl PlainSigner {
     /// memory.
     #[tactic(auto, unfolding(depot_model::specs::Plain::plain_root))]
     pub fn from_seed(alloc: Global, seed: &Hash32, height: u8) -> PlainSigner
-        ensures key { ⟦<PlainSigner as Signer>⟧.key_of result ≡ record { root = plain_root seed.now; height = height } }
-        ensures signs { (seq : ℕ) (body : List ℕ) → ⟦<PlainSigner as Signer>⟧.signature_of result seq body ≡ plain_signature (plain_root seed.now) seq body }
+        ensures key { ⟦<PlainSigner as Signer>⟧.key_of result
+            ≡ record { root = plain_root seed.now; height = height } }
+        ensures signs { (seq : ℕ) (body : List ℕ) →
+            ⟦<PlainSigner as Signer>⟧.signature_of result seq body
+            ≡ plain_signature (plain_root seed.now) seq body }
     {
         PlainSigner {
             alloc,
@@ -81,7 +87,7 @@ fn digest_of(key: &PublicKey, seq: u32, body: &[u8]) -> [u8; 32]
     ensures { result ≡ plain_signature key.now.root seq body.now }
 {
     let mut hasher = Sha256::new();
-    hasher.update([6]);
+    hasher.update([TAG]);
     hasher.update(key.root.bytes());
     hasher.update(seq.to_be_bytes());
     hasher.update(body);

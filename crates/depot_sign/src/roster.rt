@@ -1,6 +1,6 @@
 //! The nodes that take part, and their public keys.
 ghost use Rattle.std.specs.Prelude.{◌≡◌, ◌≤◌, ℕ, length, IfOk};
-ghost use Rattle.depot_base.specs.Reading.{IsPrefixFree};
+ghost use Rattle.depot_base.specs.Reading.{IsPrefixFree, IsReadInOneWay};
 ghost use Rattle.depot_model.specs.Roster.{key_of, has_node};
 ghost use Rattle.depot_model.specs.RosterText.{ParsesRoster};
 ghost use Rattle.depot_model.specs.Texts.{IsRoster, roster, text_of_roster, hash_of_roster};
@@ -47,8 +47,10 @@ impl Roster {
     /// entry whose node is smaller than the one before, or bytes behind the last entry.
     pub fn parse(alloc: Global, text: &[u8]) -> Result<Roster, RosterError>
         ensures parses { ParsesRoster text.now result }
-        ensures too_many { (count : ℕ) → IsToldWhere result (RosterError.TooMany count) (HasGreatCount text.now count) }
-        ensures twice_node { (node : ℕ) → IsToldWhere result (RosterError.TwiceNode node) (RepeatsNode text.now node) }
+        ensures too_many { (count : ℕ) →
+            IsToldWhere result (RosterError.TooMany count) (HasGreatCount text.now count) }
+        ensures twice_node { (node : ℕ) →
+            IsToldWhere result (RosterError.TwiceNode node) (RepeatsNode text.now node) }
     {
         match whole_roster(alloc, text) {
             Ok(entries) => Ok(Roster {
@@ -139,4 +141,9 @@ impl Roster {
 /// No text of a roster begins another.
 pub fn rosters_are_prefix_free()
     ensures { IsPrefixFree roster }
+{}
+
+/// A text is that of one roster, or it is no roster's and its first fault is at one place.
+pub fn rosters_are_read_in_one_way()
+    ensures { IsReadInOneWay roster }
 {}

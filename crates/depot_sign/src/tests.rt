@@ -159,6 +159,7 @@ fn rosters_are_copied(rt: HostRuntime) -> Result<(), Fail> {
         text.as_slice(),
     )?;
     rosters_are_prefix_free();
+    rosters_are_read_in_one_way();
     Ok(())
 }
 
