@@ -1,6 +1,6 @@
 //! What holds of all texts of a kind. Each law is a function that does nothing; its contract is the law.
 ghost use Rattle.std.specs.Prelude.{◌≡◌, ◌↔◌};
-ghost use Rattle.depot_base.specs.Reading.{IsPrefixFree};
+ghost use Rattle.depot_base.specs.Reading.{IsPrefixFree, IsReadInOneWay};
 ghost use Rattle.depot_base.specs.declared.update.Update.{Update};
 ghost use Rattle.depot_base.specs.declared.statement.Statement.TheVariants as statements;
 ghost use Rattle.depot_model.specs.Texts.{update_body, statement, signed, proof, IsUpdate, IsStatement, text_of_update, text_of_statement};
@@ -23,6 +23,11 @@ pub fn signed_are_prefix_free()
 /// No text of a proof begins the text of another.
 pub fn proofs_are_prefix_free()
     ensures { IsPrefixFree proof }
+{}
+
+/// A text is that of one proof, or it is no proof's and its first fault is at one place.
+pub fn proofs_are_read_in_one_way()
+    ensures { IsReadInOneWay proof }
 {}
 
 /// An update has the same body as the statement that it is, and is in the ranges of the one exactly where it is in

@@ -1,14 +1,16 @@
-//! The codecs: texts of updates, statements, signed statements and proofs, read and written.
+//! The codecs: texts of updates, statements, signed statements, proofs and records, read and written.
 //!
 //! A value has one text and a text has one value, as the formats of `depot_model` say (docs/FORMATS.md). Each decoder
 //! gives the value of its text, or the offset of the first fault; each encoder gives the one text of its value; and no
-//! text begins another of its kind. What a decoder gives owns its bytes, each copied once.
+//! text but that of a record begins another of its kind. What a decoder gives owns its bytes, each copied once.
 //!
-//! Nothing here asks whether a hash or a signature is right, or whether a roster has a node.
+//! An encoder's condition is that the value is in the ranges of its format. Nothing here asks whether a hash or a
+//! signature is right, or whether a roster has a node.
 #![tactic(auto)]
 
 mod laws;
 mod proof;
+mod record;
 mod signed;
 mod statement;
 #[cfg(test)]
@@ -22,6 +24,7 @@ pub use laws::{
     updates_are_prefix_free,
 };
 pub use proof::{decode_proof, encode_proof};
+pub use record::{decode_record, encode_record};
 pub use signed::{decode_signed, encode_signed};
 pub use statement::{decode_statement, encode_statement};
 pub use update::{decode_update, encode_update, id_of};

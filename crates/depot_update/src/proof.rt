@@ -49,16 +49,16 @@ fn proof_in(alloc: Global, fields: &mut Fields<'_>) -> Result<Proof, Fault>
 }
 
 /// The same, of all the bytes that are left.
-fn whole_proof(alloc: Global, fields: &mut Fields<'_>) -> Result<Proof, Fault>
+pub(crate) fn whole_proof(alloc: Global, fields: &mut Fields<'_>) -> Result<Proof, Fault>
     ensures { Gives result (whole proof fields.old) }
 {
     let found = proof_in(alloc, fields)?;
     at_end(fields, found)
 }
 
-/// The proof whose text this is; the body of each half is the text of its statement. `IllFormed` comes exactly where it
-/// is no proof's text, with the offset of the first fault, which a fault inside a half shares (docs/FORMATS.md).
-/// Whether the halves contradict each other isn't asked.
+/// The proof whose text this is (docs/FORMATS.md); the body of each half is the text of its statement. `IllFormed`
+/// comes exactly where it is no proof's text, with the offset in bytes of its first fault. An offset inside a half
+/// counts from the start of the whole text too. Whether the halves contradict each other isn't asked.
 pub fn decode_proof(alloc: Global, text: &[u8]) -> Result<Proof, DecodeError>
     ensures { Decodes proof text.now result }
 {
@@ -67,7 +67,7 @@ pub fn decode_proof(alloc: Global, text: &[u8]) -> Result<Proof, DecodeError>
 
 /// Writes a proof.
 #[tactic(auto, using(depot_base::proofs::Writing::texts), unfolding(depot_model::specs::Texts::proof, depot_base::specs::Format::number))]
-fn put_proof(out: &mut Bytes, proof: &Proof) -> Result<(), Memory>
+pub(crate) fn put_proof(out: &mut Bytes, proof: &Proof) -> Result<(), Memory>
     requires { IsProof proof.now }
     ensures { OnOk result (out.new ≡ out.old ++ text_of_proof proof.now) }
 {
@@ -77,7 +77,7 @@ fn put_proof(out: &mut Bytes, proof: &Proof) -> Result<(), Memory>
     put_signed(out, &proof.second)
 }
 
-/// The proof's one text.
+/// The proof's one text, of at most 103,166 bytes (docs/FORMATS.md).
 pub fn encode_proof(alloc: Global, proof: &Proof) -> Result<Bytes, Memory>
     requires { IsProof proof.now }
     ensures { IfOk result (λ text. text ≡ text_of_proof proof.now) }

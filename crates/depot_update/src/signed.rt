@@ -45,16 +45,16 @@ pub(crate) fn signed_in(alloc: Global, fields: &mut Fields<'_>) -> Result<Signed
 }
 
 /// The same, of all the bytes that are left.
-fn whole_signed(alloc: Global, fields: &mut Fields<'_>) -> Result<Signed, Fault>
+pub(crate) fn whole_signed(alloc: Global, fields: &mut Fields<'_>) -> Result<Signed, Fault>
     ensures { Gives result (whole signed fields.old) }
 {
     let found = signed_in(alloc, fields)?;
     at_end(fields, found)
 }
 
-/// The signed statement whose text this is; its `body` is the text of its `statement`. `IllFormed` comes exactly where
-/// it is no signed statement's text, with the offset of the first fault, which a fault inside the body shares
-/// (docs/FORMATS.md). Whether the signature verifies isn't asked.
+/// The signed statement whose text this is (docs/FORMATS.md); its `body` is the text of its `statement`. `IllFormed`
+/// comes exactly where it is no signed statement's text, with the offset in bytes of its first fault. An offset inside
+/// the body counts from the start of the whole text too. Whether the signature verifies isn't asked.
 pub fn decode_signed(alloc: Global, text: &[u8]) -> Result<Signed, DecodeError>
     ensures { Decodes signed text.now result }
 {
@@ -75,7 +75,7 @@ pub(crate) fn put_signed(out: &mut Bytes, signed: &Signed) -> Result<(), Memory>
     out.push_all(signature)
 }
 
-/// The signed statement's one text.
+/// The signed statement's one text, of at most 51,582 bytes (docs/FORMATS.md).
 pub fn encode_signed(alloc: Global, signed: &Signed) -> Result<Bytes, Memory>
     requires { IsSigned signed.now }
     ensures { IfOk result (λ text. text ≡ text_of_signed signed.now) }

@@ -33,8 +33,8 @@ pub(crate) fn whole_statement(alloc: Global, fields: &mut Fields<'_>) -> Result<
     at_end(fields, found)
 }
 
-/// The statement whose body this is. `IllFormed` comes exactly where it is no statement's body, with the offset of the
-/// first fault (docs/FORMATS.md).
+/// The update or voucher whose body this is (docs/FORMATS.md). `IllFormed` comes exactly where it is no statement's
+/// body, with the offset in bytes of its first fault.
 pub fn decode_statement(alloc: Global, text: &[u8]) -> Result<Statement, DecodeError>
     ensures { Decodes statement text.now result }
 {
@@ -60,7 +60,7 @@ fn put_statement(out: &mut Bytes, statement: &Statement) -> Result<(), Memory>
     }
 }
 
-/// The statement's one body.
+/// The statement's one body, of at most 43,382 bytes (docs/FORMATS.md).
 pub fn encode_statement(alloc: Global, statement: &Statement) -> Result<Bytes, Memory>
     requires { IsStatement statement.now }
     ensures { IfOk result (λ text. text ≡ text_of_statement statement.now) }

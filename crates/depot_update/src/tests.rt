@@ -241,3 +241,74 @@ fn an_id_is_the_hash_of_the_body(rt: HostRuntime) -> Result<(), Fail> {
     }
     Ok(())
 }
+
+/// The texts of a record of each kind: a birth; an own update with its value, an own voucher, a foreign statement, a
+/// proof and a value, each behind its tag.
+fn records(alloc: Global) -> Result<Vec<Vec<u8>>, Fail> {
+    let mut all = Vec::new(alloc);
+    for parts in [
+        [
+            "01 0007",
+            "5555555555555555555555555555555555555555555555555555555555555555",
+            "",
+        ],
+        ["02 00000078", UPDATE, "616263"],
+        ["03", VOUCHER, ""],
+        ["04", SIGNED, ""],
+        ["05", PROOF, ""],
+        ["06", "616263", ""],
+    ] {
+        let mut text = Vec::new(alloc);
+        for part in parts {
+            text.extend_from_slice(bytes(alloc, part)?.as_slice())?;
+        }
+        all.push(text)?;
+    }
+    Ok(all)
+}
+
+#[test]
+fn a_record_is_read_and_written(rt: HostRuntime) -> Result<(), Fail> {
+    for text in &records(rt.alloc())? {
+        let item = decode_record(rt.alloc(), text.as_slice()).map_err(|_| "a record")?;
+        assert_eq!(rt;
+            encode_record(rt.alloc(), &item)?.as_slice(),
+            text.as_slice()
+        );
+    }
+    Ok(())
+}
+
+#[test]
+fn a_faulty_field_of_a_record_is_told(rt: HostRuntime) -> Result<(), Fail> {
+    let all = records(rt.alloc())?;
+    for (kind, place, byte, at) in [
+        (0, 0, 0, 0),
+        (0, 0, 7, 0),
+        (0, 0, 2, 5),
+        (0, 2, 0, 1),
+        (1, 0, 3, 1),
+        (1, 1, 1, 5),
+        (1, 4, 0x77, 93),
+        (1, 4, 0x79, 125),
+        (1, 53, 0, 53),
+        (1, 90, 2, 127),
+        (1, 90, 4, 125),
+        (2, 2, 1, 2),
+        (3, 0, 5, 1),
+        (4, 2, 0, 2),
+    ] {
+        let mut text = Vec::new(rt.alloc());
+        text.extend_from_slice(all.as_slice().get(kind).ok_or("a kind")?.as_slice())?;
+        *text.get_mut(place).ok_or("no such place")? = byte;
+        let told = fault(decode_record(rt.alloc(), text.as_slice()));
+        assert_eq!(rt; told, Some(at), "{byte} at {place} of {kind}");
+    }
+    assert_eq!(rt; fault(decode_record(rt.alloc(), &[])), Some(0));
+    let long = vec![in rt.alloc(); 6; 65_538]?;
+    assert_eq!(rt;
+        fault(decode_record(rt.alloc(), long.as_slice())),
+        Some(65_537)
+    );
+    Ok(())
+}

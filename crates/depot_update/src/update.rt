@@ -1,5 +1,5 @@
 //! Bodies of updates.
-ghost use Rattle.std.specs.Prelude.{◌≡◌, ◌++◌, OnOk, IfOk};
+ghost use Rattle.std.specs.Prelude.{◌≡◌, ◌≤◌, ◌++◌, OnOk, IfOk};
 ghost use Rattle.depot_base.specs.Format.{whole};
 ghost use Rattle.depot_base.specs.Parts.{deps_of};
 ghost use Rattle.depot_base.specs.Reading.{Reads, Gives, Decodes};
@@ -24,7 +24,8 @@ fn deps_in(alloc: Global, fields: &mut Fields<'_>, own: u16, count: u16) -> Resu
 /// The fields of an update behind its version and kind.
 #[tactic(auto, unfolding(depot_model::specs::Texts::update_fields))]
 pub(crate) fn update_fields_in(alloc: Global, fields: &mut Fields<'_>) -> Result<Update, Fault>
-    ensures { Reads result fields.new (update_fields.read fields.old) }
+    ensures reads { Reads result fields.new (update_fields.read fields.old) }
+    ensures sized { IfOk result (λ update. update.value_len ≤ 65536) }
 {
     let writer = node_in(fields)?;
     let seq = u32_in(fields, 0, u32::MAX)?;
@@ -53,7 +54,8 @@ pub(crate) fn update_fields_in(alloc: Global, fields: &mut Fields<'_>) -> Result
 /// The body of an update, where nothing else may stand.
 #[tactic(auto, unfolding(depot_model::specs::Texts::update_body))]
 fn update_in(alloc: Global, fields: &mut Fields<'_>) -> Result<Update, Fault>
-    ensures { Reads result fields.new (update_body.read fields.old) }
+    ensures reads { Reads result fields.new (update_body.read fields.old) }
+    ensures sized { IfOk result (λ update. update.value_len ≤ 65536) }
 {
     u8_in(fields, 1, 1)?;
     u8_in(fields, 1, 1)?;
@@ -61,15 +63,16 @@ fn update_in(alloc: Global, fields: &mut Fields<'_>) -> Result<Update, Fault>
 }
 
 /// The same, of all the bytes that are left.
-fn whole_update(alloc: Global, fields: &mut Fields<'_>) -> Result<Update, Fault>
-    ensures { Gives result (whole update_body fields.old) }
+pub(crate) fn whole_update(alloc: Global, fields: &mut Fields<'_>) -> Result<Update, Fault>
+    ensures gives { Gives result (whole update_body fields.old) }
+    ensures sized { IfOk result (λ update. update.value_len ≤ 65536) }
 {
     let update = update_in(alloc, fields)?;
     at_end(fields, update)
 }
 
-/// The update whose body this is. `IllFormed` comes exactly where it is no update's body, a voucher's among them, with
-/// the offset of the first fault (docs/FORMATS.md).
+/// The update whose body this is (docs/FORMATS.md). `IllFormed` comes exactly where it is no update's body, with the
+/// offset in bytes of its first fault: a voucher's body goes wrong at the kind, offset 1.
 pub fn decode_update(alloc: Global, text: &[u8]) -> Result<Update, DecodeError>
     ensures { Decodes update_body text.now result }
 {
@@ -99,7 +102,7 @@ pub(crate) fn put_update_fields(out: &mut Bytes, update: &Update) -> Result<(), 
 
 /// Writes the body of an update.
 #[tactic(auto, using(depot_base::proofs::Writing::texts), unfolding(depot_model::specs::Texts::update_body, depot_base::specs::Format::number))]
-fn put_update(out: &mut Bytes, update: &Update) -> Result<(), Memory>
+pub(crate) fn put_update(out: &mut Bytes, update: &Update) -> Result<(), Memory>
     requires { IsUpdate update.now }
     ensures { OnOk result (out.new ≡ out.old ++ text_of_update update.now) }
 {
@@ -108,7 +111,7 @@ fn put_update(out: &mut Bytes, update: &Update) -> Result<(), Memory>
     put_update_fields(out, update)
 }
 
-/// The update's one body.
+/// The update's one body, of 120 to 43,382 bytes (docs/FORMATS.md).
 pub fn encode_update(alloc: Global, update: &Update) -> Result<Bytes, Memory>
     requires { IsUpdate update.now }
     ensures { IfOk result (λ text. text ≡ text_of_update update.now) }
@@ -118,7 +121,7 @@ pub fn encode_update(alloc: Global, update: &Update) -> Result<Bytes, Memory>
     Ok(out)
 }
 
-/// The update's id: SHA-256 of its body.
+/// The update's id: SHA-256 (FIPS 180-4) of its body.
 #[tactic(auto, unfolding(depot_model::specs::Texts::id_of_update))]
 pub fn id_of(alloc: Global, update: &Update) -> Result<Hash32, Memory>
     requires { IsUpdate update.now }

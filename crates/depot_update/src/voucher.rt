@@ -1,12 +1,13 @@
 //! Fields of vouchers.
 ghost use Rattle.std.specs.Prelude.{◌≡◌, ◌++◌, OnOk};
 ghost use Rattle.depot_base.specs.Parts.{digests};
-ghost use Rattle.depot_base.specs.Reading.{Reads};
-ghost use Rattle.depot_model.specs.Texts.{voucher_fields};
+ghost use Rattle.depot_base.specs.Format.{whole};
+ghost use Rattle.depot_base.specs.Reading.{Reads, Gives};
+ghost use Rattle.depot_model.specs.Texts.{voucher_fields, voucher_body};
 
 use depot_base::entry::{entries_in, put_entries};
 use depot_base::fault::Fault;
-use depot_base::reading::{node_in, u16_in, u32_in};
+use depot_base::reading::{at_end, node_in, u8_in, u16_in, u32_in};
 use depot_base::{Bytes, Fields, Ids, Memory, Voucher};
 use std::alloc::Global;
 
@@ -31,6 +32,24 @@ pub(crate) fn voucher_fields_in(alloc: Global, fields: &mut Fields<'_>) -> Resul
     Ok(Voucher { node, seq, ids })
 }
 
+/// The body of a voucher, where nothing else may stand.
+#[tactic(auto, unfolding(depot_model::specs::Texts::voucher_body))]
+fn voucher_in(alloc: Global, fields: &mut Fields<'_>) -> Result<Voucher, Fault>
+    ensures { Reads result fields.new (voucher_body.read fields.old) }
+{
+    u8_in(fields, 1, 1)?;
+    u8_in(fields, 2, 2)?;
+    voucher_fields_in(alloc, fields)
+}
+
+/// The same, of all the bytes that are left.
+pub(crate) fn whole_voucher(alloc: Global, fields: &mut Fields<'_>) -> Result<Voucher, Fault>
+    ensures { Gives result (whole voucher_body fields.old) }
+{
+    let voucher = voucher_in(alloc, fields)?;
+    at_end(fields, voucher)
+}
+
 /// Writes the fields of a voucher behind its version and kind.
 #[tactic(auto, using(depot_base::proofs::Writing::texts), unfolding(depot_model::specs::Texts::voucher_fields, depot_base::specs::Format::number, depot_base::specs::Format::list_of))]
 pub(crate) fn put_voucher_fields(out: &mut Bytes, voucher: &Voucher) -> Result<(), Memory>
@@ -42,4 +61,15 @@ pub(crate) fn put_voucher_fields(out: &mut Bytes, voucher: &Voucher) -> Result<(
     let ids = voucher.ids.as_slice();
     out.push_u16(ids.len() as u16)?;
     put_entries(out, ids)
+}
+
+/// Writes the body of a voucher.
+#[tactic(auto, using(depot_base::proofs::Writing::texts), unfolding(depot_model::specs::Texts::voucher_body, depot_base::specs::Format::number))]
+pub(crate) fn put_voucher(out: &mut Bytes, voucher: &Voucher) -> Result<(), Memory>
+    requires { voucher_body.fits voucher.now }
+    ensures { OnOk result (out.new ≡ out.old ++ voucher_body.text voucher.now) }
+{
+    out.push_u8(1)?;
+    out.push_u8(2)?;
+    put_voucher_fields(out, voucher)
 }
