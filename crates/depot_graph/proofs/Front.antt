@@ -1,0 +1,125 @@
+-- The front of a list in which each parent stands before its children.
+use Rattle.std.proofs.Common.{◌≡◌, ℕ, zero, suc, ◌<◌, ◌≤◌, List, [], ◌∷◌, ◌++◌, take, drop, Some, true, refl, sym, ap, subst, ◌∙◌, inl, inr, arith, slice_get, append_assoc}
+use Rattle.std.specs.Str.{bytes_eq}
+use Rattle.std.proofs.lemmas.Slice.Eq.{bytes_eq-Decides}
+use Rattle.std.proofs.lemmas.List.{take-append-drop}
+use Rattle.depot_base.specs.declared.update.Update.{Update}
+use Rattle.depot_model.specs.Lists.{IsIn}
+use Rattle.depot_model.specs.Texts.{id_of_update}
+use Rattle.depot_model.specs.Order.{IsPath, IsParent, Precedes, past, IsCausal}
+use Rattle.depot_model.specs.Journal.{has_id}
+use Rattle.depot_model.proofs.Members.{in_left, in_right, in_parts, in_pushed, in_last, any_from, any_to}
+use Rattle.depot_model.proofs.Orders.{fresh, one_of_id, causal_front, parent_is_there, precedes_from, precedes_wider, precedes_irreflexive}
+use Rattle.depot_model.proofs.Pasts.{past_in, past_of_next}
+
+-- ---- places
+
+-- a list, around the element at a place
+pub parts_at : {X : Type 0} (xs : List X) (n : ℕ) (x : X) → slice_get xs n ≡ Some x → xs ≡ take n xs ++ x ∷ drop (suc n) xs
+parts_at [] n x e = absurd cc
+parts_at (y ∷ ys) zero x e = let same : y ≡ x = cc in ap (λ (z : _). z ∷ ys) same
+parts_at (y ∷ ys) (suc n) x e = ap (λ (zs : _). y ∷ zs) (parts_at ys n x e)
+
+-- the element at a place before n is one of the first n
+pub in_take : {X : Type 0} (xs : List X) (n a : ℕ) (x : X) → slice_get xs a ≡ Some x → a < n → IsIn x (take n xs)
+in_take [] n a x e lt = absurd cc
+in_take (y ∷ ys) zero a x e lt = absurd (omega arith)
+in_take (y ∷ ys) (suc n) zero x e lt = let same : y ≡ x = cc in inl same
+in_take (y ∷ ys) (suc n) (suc a) x e lt = inr (in_take ys n a x e (omega arith))
+
+-- the element at a place from n on is one of those behind the first n
+pub in_drop : {X : Type 0} (xs : List X) (n a : ℕ) (x : X) → slice_get xs a ≡ Some x → n ≤ a → IsIn x (drop n xs)
+in_drop [] n a x e le = absurd cc
+in_drop (y ∷ ys) zero zero x e le = let same : y ≡ x = cc in inl same
+in_drop (y ∷ ys) zero (suc a) x e le = inr (in_drop ys zero a x e (omega arith))
+in_drop (y ∷ ys) (suc n) zero x e le = absurd (omega arith)
+in_drop (y ∷ ys) (suc n) (suc a) x e le = in_drop ys n a x e (omega arith)
+
+-- the element at a place is one of the list
+pub in_at : {X : Type 0} (xs : List X) (a : ℕ) (x : X) → slice_get xs a ≡ Some x → IsIn x xs
+in_at [] a x e = absurd cc
+in_at (y ∷ ys) zero x e = let same : y ≡ x = cc in inl same
+in_at (y ∷ ys) (suc a) x e = inr (in_at ys a x e)
+
+-- ---- what stands in front
+
+-- no id stands in front and behind
+pub apart : (ids : List (List ℕ)) (us vs : List Update) (t u : Update) → IsCausal ids (us ++ vs) → IsIn t us → IsIn u vs → id_of_update t ≡ id_of_update u → ⊥
+unfolding IsCausal
+apart ids [] vs t u c never on e = never
+apart ids (x ∷ us) vs t u c (inl here) on e = fresh (id_of_update x ∷ ids) (us ++ vs) u c.1.1 (in_right u us vs on) (inl (ap id_of_update here ∙ e))
+apart ids (x ∷ us) vs t u c (inr there) on e = apart (id_of_update x ∷ ids) us vs t u c.1.1 there on e
+
+step_in_front : (us vs : List Update) (t u : Update) → IsCausal [] (us ++ vs) → IsIn u us → IsParent (us ++ vs) t u → IsParent us t u
+step_in_front us vs t u c u_in p = elim (in_parts t us vs p.above) [
+  | inl front ↦ record { above = front; below = u_in; named = p.named }
+  | inr back ↦ elim (parent_is_there [] us u (id_of_update t) (causal_front [] us vs c) u_in p.named) [
+    | inl never ↦ absurd never
+    | inr found ↦ absurd (apart [] us vs found.0 t c found.1.0 back found.1.1)
+  ]
+]
+
+path_in_front : (us vs : List Update) (t : Update) (stops : List Update) (u : Update) → IsCausal [] (us ++ vs) → IsIn u us → IsPath (IsParent (us ++ vs)) t stops u → IsPath (IsParent us) t stops u
+path_in_front us vs t [] u c u_in path = step_in_front us vs t u c u_in path
+path_in_front us vs t (w ∷ stops) u c u_in path =
+    let later = path_in_front us vs w stops u c u_in path.1 in
+    (step_in_front us vs t w c (precedes_from us w u (record { stops = stops; path = later })) path.0, later)
+
+-- what precedes an update in front stands in front
+pub precedes_in_front : (us vs : List Update) (t u : Update) → IsCausal [] (us ++ vs) → IsIn u us → Precedes (us ++ vs) t u → Precedes us t u
+precedes_in_front us vs t u c u_in p = record { stops = p.stops; path = path_in_front us vs t p.stops u c u_in p.path }
+
+-- an update behind others precedes none of them
+pub last_precedes_none : (us : List Update) (t u : Update) → IsCausal [] (us ++ u ∷ []) → IsIn t us → Precedes (us ++ u ∷ []) u t → ⊥
+last_precedes_none us t u c on p = apart [] us (u ∷ []) u u c (precedes_from us u t (precedes_in_front us (u ∷ []) u t c on p)) (inl refl) refl
+
+-- ---- the test of the past
+
+-- t is in the past of u where an update of its id is
+pub has_past : (us : List Update) (t u : Update) → IsCausal [] us → IsIn t us → has_id (past u us) (id_of_update t) ≡ true → IsIn t (past u us)
+unfolding has_id
+has_past us t u c on e =
+    let r = any_to (λ (w : Update). bytes_eq (id_of_update w) (id_of_update t)) (past u us) e in
+    subst (λ (w : Update). IsIn w (past u us)) (one_of_id [] us r.0 t c (past_in u us r.0 r.1.0) on ((bytes_eq-Decides (id_of_update r.0) (id_of_update t)).0 r.1.1)) r.1.0
+
+pub is_past : (us : List Update) (t u : Update) → IsIn t (past u us) → has_id (past u us) (id_of_update t) ≡ true
+unfolding has_id
+is_past us t u on = any_from (λ (w : Update). bytes_eq (id_of_update w) (id_of_update t)) t (past u us) on ((bytes_eq-Decides (id_of_update t) (id_of_update t)).1 refl)
+
+-- ---- precedence by places
+
+at_parts : (us : List Update) (b : ℕ) (u : Update) → slice_get us b ≡ Some u → (take b us ++ u ∷ []) ++ drop (suc b) us ≡ us
+at_parts us b u e = append_assoc (take b us) (u ∷ []) (drop (suc b) us) ∙ sym (parts_at us b u e)
+
+causal_at : (us : List Update) (b : ℕ) (u : Update) → IsCausal [] us → slice_get us b ≡ Some u → IsCausal [] ((take b us ++ u ∷ []) ++ drop (suc b) us)
+causal_at us b u c e = subst (IsCausal []) (sym (at_parts us b u e)) c
+
+-- in the past of one at a place is what precedes it and stands before that place
+pub past_to_precedes : (us : List Update) (a b : ℕ) (t u : Update) → IsCausal [] us → slice_get us a ≡ Some t → slice_get us b ≡ Some u → a < b → has_id (past u (take b us)) (id_of_update t) ≡ true → Precedes us t u
+past_to_precedes us a b t u c at_a at_b lt e =
+    let whole = causal_at us b u c at_b in
+    let near = causal_front [] (take b us ++ u ∷ []) (drop (suc b) us) whole in
+    let front = causal_front [] (take b us) (u ∷ []) near in
+    let p = (past_of_next (take b us) u t front).0 (has_past (take b us) t u front (in_take us b a t at_a lt) e) in
+    subst (λ (ws : List Update). Precedes ws t u) (at_parts us b u at_b) (precedes_wider (take b us ++ u ∷ []) ((take b us ++ u ∷ []) ++ drop (suc b) us) (λ w on. in_left w (take b us ++ u ∷ []) (drop (suc b) us) on) t u p.1)
+
+-- what precedes one at a place stands before that place
+near_precedes : (us : List Update) (b : ℕ) (t u : Update) → IsCausal [] us → slice_get us b ≡ Some u → Precedes us t u → Precedes (take b us ++ u ∷ []) t u
+near_precedes us b t u c at_b p =
+    precedes_in_front (take b us ++ u ∷ []) (drop (suc b) us) t u (causal_at us b u c at_b) (in_last (take b us) u)
+    (subst (λ (ws : List Update). Precedes ws t u) (sym (at_parts us b u at_b)) p)
+
+pub past_from_precedes : (us : List Update) (a b : ℕ) (t u : Update) → IsCausal [] us → slice_get us a ≡ Some t → slice_get us b ≡ Some u → a < b → Precedes us t u → has_id (past u (take b us)) (id_of_update t) ≡ true
+past_from_precedes us a b t u c at_a at_b lt p =
+    let front = causal_front [] (take b us) (u ∷ []) (causal_front [] (take b us ++ u ∷ []) (drop (suc b) us) (causal_at us b u c at_b)) in
+    is_past (take b us) t u ((past_of_next (take b us) u t front).1 (in_take us b a t at_a lt, near_precedes us b t u c at_b p))
+
+pub not_before : (us : List Update) (a b : ℕ) (t u : Update) → IsCausal [] us → slice_get us a ≡ Some t → slice_get us b ≡ Some u → b ≤ a → Precedes us t u → ⊥
+not_before us a b t u c at_a at_b le p =
+    let whole = causal_at us b u c at_b in
+    let near = near_precedes us b t u c at_b p in
+    let front = precedes_from (take b us ++ u ∷ []) t u near in
+    elim (in_pushed t (take b us) u front) [
+      | inl on ↦ apart [] (take b us) (drop b us) t t (subst (IsCausal []) (sym (take-append-drop b us)) c) on (in_drop us b a t at_a le) refl
+      | inr same ↦ precedes_irreflexive [] us u c (subst (λ (w : Update). Precedes us w u) (sym same) p)
+    ]

@@ -1,0 +1,10 @@
+pub mod Front
+pub mod RowLaws
+pub mod KinLaws
+pub mod MapLaws
+pub mod PastLaws
+pub mod RisingLaws
+pub mod LatestLaws
+pub mod PlaceLaws
+pub mod AddLaws
+pub mod Known

@@ -1,0 +1,202 @@
+-- The latest writes by their places.
+use Rattle.std.proofs.Common.{◌≡◌, ℕ, zero, suc, ◌<◌, ◌+◌, List, [], ◌∷◌, ◌++◌, length, take, drop, get_or, filter, Option, Some, option_map, Bool, true, false, not, cond, refl, sym, ap, subst, ◌∙◌, arith, slice_get, append_assoc, append-nil, add-one, drop-cons}
+use Rattle.std.specs.List.{AllByRecursion}
+use Rattle.std.specs.Option.{option_to_list, option_map_or}
+use Rattle.std.specs.Ordering.{is_lt}
+use Rattle.std.specs.Str.{bytes_eq}
+use Rattle.std.proofs.lemmas.Slice.Eq.{bytes_eq-Decides}
+use Rattle.std.proofs.lemmas.Option.{slice_get-map, slice_get-get_or, get_or_from_slice_get}
+use Rattle.std.proofs.lemmas.List.{length_push, take_more, drop_all}
+use Rattle.depot_base.specs.declared.update.Update.{Update}
+use Rattle.depot_model.specs.Texts.{id_of_update}
+use Rattle.depot_model.specs.Order.{listed, past, IsCausal, AreLatestIn}
+use Rattle.depot_model.specs.Journal.{has_id}
+use Rattle.depot_model.proofs.Orders.{causal_front}
+use Rattle.depot_graph.specs.Kept.{past_row}
+use Rattle.depot_graph.specs.Latest.{stands_before, put_place, is_apart, mended, latest_behind, latest_places}
+use Rattle.depot_graph.specs.Reads.{updates_at}
+use Rattle.depot_graph.proofs.RisingLaws.{put_listed}
+use Rattle.depot_graph.proofs.LatestLaws.{is_free, others_stay, mended_are_latest}
+
+-- each place is below n
+abbrev pub AreBelow : ℕ → List ℕ → Type 0
+AreBelow n ns = AllByRecursion (λ m. m < n) ns
+
+pub below_at : (n : ℕ) (ns : List ℕ) → AreBelow n ns → (k d : ℕ) → k < length ns → get_or ns k d < n
+below_at n [] below k d lt = absurd (omega arith)
+below_at n (m ∷ ns) below zero d lt = below.0
+below_at n (m ∷ ns) below (suc k) d lt = below_at n ns below.1 k d (omega arith)
+
+-- ---- places in a longer list
+
+get_front : {X : Type 0} (xs ys : List X) (n : ℕ) → n < length xs → slice_get (xs ++ ys) n ≡ slice_get xs n
+get_front [] ys n lt = absurd (omega arith)
+get_front (x ∷ xs) ys zero lt = refl
+get_front (x ∷ xs) ys (suc n) lt = get_front xs ys n (omega arith)
+
+get_last : {X : Type 0} (xs : List X) (x : X) → slice_get (xs ++ x ∷ []) (length xs) ≡ Some x
+get_last [] x = refl
+get_last (y ∷ ys) x = get_last ys x
+
+updates_at-front : (us vs : List Update) (ns : List ℕ) → AreBelow (length us) ns → updates_at (us ++ vs) ns ≡ updates_at us ns
+updates_at-front us vs [] below = refl
+updates_at-front us vs (n ∷ ns) below =
+    ap (λ (o : Option Update). option_to_list o ++ updates_at (us ++ vs) ns) (get_front us vs n below.0) ∙ ap (λ (ts : List Update). option_to_list (slice_get us n) ++ ts) (updates_at-front us vs ns below.1)
+
+-- the update at a place in front
+at_cons : (us : List Update) (n : ℕ) (ns : List ℕ) (t : Update) → slice_get us n ≡ Some t → updates_at us (n ∷ ns) ≡ t ∷ updates_at us ns
+at_cons us n ns t e = ap (λ (o : Option Update). option_to_list o ++ updates_at us ns) e
+
+put_chosen : (b : Bool) (us : List Update) (u t : Update) (n : ℕ) (ns : List ℕ) → slice_get us n ≡ Some t → AreBelow (length us) (n ∷ ns) → updates_at (us ++ u ∷ []) (put_place u us ns) ≡ put_listed u (updates_at us ns)
+    → updates_at (us ++ u ∷ []) (cond b (length us ∷ n ∷ ns) (n ∷ put_place u us ns)) ≡ cond b (u ∷ t ∷ updates_at us ns) (t ∷ put_listed u (updates_at us ns))
+put_chosen true us u t n ns e below rest =
+    at_cons (us ++ u ∷ []) (length us) (n ∷ ns) u (get_last us u) ∙ ap (λ (ts : List Update). u ∷ ts) (updates_at-front us (u ∷ []) (n ∷ ns) below ∙ at_cons us n ns t e)
+put_chosen false us u t n ns e below rest = at_cons (us ++ u ∷ []) n (put_place u us ns) t (get_front us (u ∷ []) n below.0 ∙ e) ∙ ap (λ (ts : List Update). t ∷ ts) rest
+
+-- where the place of u is put, u is put among the updates
+updates_at-put : (us : List Update) (u : Update) (ns : List ℕ) → AreBelow (length us) ns → updates_at (us ++ u ∷ []) (put_place u us ns) ≡ put_listed u (updates_at us ns)
+unfolding put_place put_listed
+updates_at-put us u [] below = at_cons (us ++ u ∷ []) (length us) [] u (get_last us u)
+updates_at-put us u (n ∷ ns) below =
+    let t = get_or us n u in
+    let e : slice_get us n ≡ Some t = slice_get-get_or us n u below.0 in
+    ap (λ (o : Option Update). updates_at (us ++ u ∷ []) (cond (option_map_or (λ t. is_lt (listed u t)) o false) (length us ∷ n ∷ ns) (n ∷ put_place u us ns))) e
+    ∙ (put_chosen (is_lt (listed u t)) us u t n ns e below (updates_at-put us u ns below.1) ∙ ap (put_listed u) (sym (at_cons us n ns t e)))
+
+apart_is_free : (us : List Update) (u t : Update) (n : ℕ) → slice_get us n ≡ Some t → is_apart u us n ≡ is_free us u t
+apart_is_free us u t n e =
+    let f : Update → Bool = λ w. has_id (past u us) (id_of_update w) in
+    ap not (get_or_from_slice_get (past_row us u) n (f t) false (slice_get-map f us n ∙ ap (λ (o : Option Update). option_map f o) e))
+
+filter_chosen : (b : Bool) (us : List Update) (t : Update) (n : ℕ) (ns : List ℕ) (ts : List Update) → slice_get us n ≡ Some t → updates_at us ns ≡ ts → updates_at us (cond b (n ∷ ns) ns) ≡ cond b (t ∷ ts) ts
+filter_chosen true us t n ns ts e rest = at_cons us n ns t e ∙ ap (λ (vs : List Update). t ∷ vs) rest
+filter_chosen false us t n ns ts e rest = rest
+
+-- where the places apart from u are chosen, the updates free of it are
+updates_at-filter : (us : List Update) (u : Update) (ns : List ℕ) → AreBelow (length us) ns → updates_at us (filter (is_apart u us) ns) ≡ filter (is_free us u) (updates_at us ns)
+updates_at-filter us u [] below = refl
+updates_at-filter us u (n ∷ ns) below =
+    let t = get_or us n u in
+    let e : slice_get us n ≡ Some t = slice_get-get_or us n u below.0 in
+    ap (λ (b : Bool). updates_at us (cond b (n ∷ filter (is_apart u us) ns) (filter (is_apart u us) ns))) (apart_is_free us u t n e)
+    ∙ (filter_chosen (is_free us u t) us t n (filter (is_apart u us) ns) (filter (is_free us u) (updates_at us ns)) e (updates_at-filter us u ns below.1)
+    ∙ ap (filter (is_free us u)) (sym (at_cons us n ns t e)))
+
+-- ---- places that stay below
+
+below_more : (n : ℕ) (ns : List ℕ) → AreBelow n ns → AreBelow (n + 1) ns
+below_more n [] below = tt
+below_more n (m ∷ ns) below = (omega (arith, below.0), below_more n ns below.1)
+
+pub below_filter : (test : ℕ → Bool) (n : ℕ) (ns : List ℕ) → AreBelow n ns → AreBelow n (filter test ns)
+below_filter test n [] below = tt
+below_filter test n (m ∷ ns) below = elim (test m) as (λ b. AreBelow n (cond b (m ∷ filter test ns) (filter test ns))) [
+  | true ↦ (below.0, below_filter test n ns below.1)
+  | false ↦ below_filter test n ns below.1
+]
+
+below_put : (us : List Update) (u : Update) (ns : List ℕ) → AreBelow (length us) ns → AreBelow (length us + 1) (put_place u us ns)
+unfolding put_place
+below_put us u [] below = (omega arith, tt)
+below_put us u (n ∷ ns) below = elim (stands_before u us n) as (λ b. AreBelow (length us + 1) (cond b (length us ∷ n ∷ ns) (n ∷ put_place u us ns))) [
+  | true ↦ (omega arith, below_more (length us) (n ∷ ns) below)
+  | false ↦ (omega (arith, below.0), below_put us u ns below.1)
+]
+
+-- ---- the latest writes
+
+-- the places are those of the latest writes
+pub record AreLatestPlaces (key : List ℕ) (us : List Update) (ns : List ℕ) : Type 0 where
+  pub below : AreBelow (length us) ns
+  pub latest : AreLatestIn key us (updates_at us ns)
+
+mended_places : (key : List ℕ) (us : List Update) (u : Update) (ns : List ℕ) → IsCausal [] (us ++ u ∷ []) → u.key ≡ key → AreLatestPlaces key us ns → AreLatestPlaces key (us ++ u ∷ []) (mended u us ns)
+mended_places key us u ns c writes old = record {
+  below = subst (λ (n : ℕ). AreBelow n (mended u us ns)) (sym (length_push us u)) (below_put us u (filter (is_apart u us) ns) (below_filter (is_apart u us) (length us) ns old.below));
+  latest = subst (AreLatestIn key (us ++ u ∷ []))
+      (sym (updates_at-put us u (filter (is_apart u us) ns) (below_filter (is_apart u us) (length us) ns old.below) ∙ ap (put_listed u) (updates_at-filter us u ns old.below)))
+      (mended_are_latest key us u c (updates_at us ns) writes old.latest);
+}
+
+same_places : (key : List ℕ) (us : List Update) (u : Update) (ns : List ℕ) → IsCausal [] (us ++ u ∷ []) → (u.key ≡ key → ⊥) → AreLatestPlaces key us ns → AreLatestPlaces key (us ++ u ∷ []) ns
+same_places key us u ns c other old = record {
+  below = subst (λ (n : ℕ). AreBelow n ns) (sym (length_push us u)) (below_more (length us) ns old.below);
+  latest = subst (AreLatestIn key (us ++ u ∷ [])) (sym (updates_at-front us (u ∷ []) ns old.below)) (others_stay key us u c (updates_at us ns) other old.latest);
+}
+
+next_places : (b : Bool) (key : List ℕ) (us : List Update) (u : Update) (ns : List ℕ) → bytes_eq key u.key ≡ b → IsCausal [] (us ++ u ∷ []) → AreLatestPlaces key us ns → AreLatestPlaces key (us ++ u ∷ []) (cond b (mended u us ns) ns)
+next_places true key us u ns e c old = mended_places key us u ns c (sym ((bytes_eq-Decides key u.key).0 e)) old
+next_places false key us u ns e c old = same_places key us u ns c (λ same. differs (sym ((bytes_eq-Decides key u.key).1 (sym same)) ∙ e)) old where
+  differs : true ≡ false → ⊥
+  differs h = cc
+
+behind_places : (key : List ℕ) (front us : List Update) (ns : List ℕ) → IsCausal [] (front ++ us) → AreLatestPlaces key front ns → AreLatestPlaces key (front ++ us) (latest_behind key front ns us)
+unfolding latest_behind
+behind_places key front [] ns c old = subst (λ (us : List Update). AreLatestPlaces key us ns) (sym (append-nil front)) old
+behind_places key front (u ∷ us) ns c old =
+    let whole : (front ++ u ∷ []) ++ us ≡ front ++ u ∷ us = append_assoc front (u ∷ []) us in
+    let causal : IsCausal [] ((front ++ u ∷ []) ++ us) = subst (IsCausal []) (sym whole) c in
+    let next = cond (bytes_eq key u.key) (mended u front ns) ns in
+    subst (λ (ws : List Update). AreLatestPlaces key ws (latest_behind key (front ++ u ∷ []) next us)) whole
+    (behind_places key (front ++ u ∷ []) us next causal (next_places (bytes_eq key u.key) key front u ns refl (causal_front [] (front ++ u ∷ []) us causal) old))
+
+-- what is mended update by update are the latest writes
+pub are_latest_places : (key : List ℕ) (us : List Update) → IsCausal [] us → AreLatestPlaces key us (latest_places key us)
+are_latest_places key us c = behind_places key [] us [] c (record {
+  below = tt;
+  latest = record { all = λ u l. l.known; only = λ u never. absurd never; rising = tt };
+})
+
+pub kept_below : (key : List ℕ) (us : List Update) → IsCausal [] us → AreBelow (length us) (latest_places key us)
+kept_below key us c = (are_latest_places key us c).below
+
+-- one update more
+behind-push : (key : List ℕ) (front : List Update) (ns : List ℕ) (us : List Update) (u : Update) → latest_behind key front ns (us ++ u ∷ []) ≡ cond (bytes_eq key u.key) (mended u (front ++ us) (latest_behind key front ns us)) (latest_behind key front ns us)
+unfolding latest_behind
+behind-push key front ns [] u = ap (λ (ws : List Update). cond (bytes_eq key u.key) (mended u ws ns) ns) (sym (append-nil front))
+behind-push key front ns (t ∷ us) u =
+    let next = cond (bytes_eq key t.key) (mended t front ns) ns in
+    behind-push key (front ++ t ∷ []) next us u
+    ∙ ap (λ (ws : List Update). cond (bytes_eq key u.key) (mended u ws (latest_behind key (front ++ t ∷ []) next us)) (latest_behind key (front ++ t ∷ []) next us)) (append_assoc front (t ∷ []) us)
+
+pub latest_places-push : (key : List ℕ) (us : List Update) (u : Update) → latest_places key (us ++ u ∷ []) ≡ cond (bytes_eq key u.key) (mended u us (latest_places key us)) (latest_places key us)
+latest_places-push key us u = behind-push key [] [] us u
+
+-- the latest writes of its own key, and of any
+pub latest_of_key : (us : List Update) (u : Update) (ns old : List ℕ) → old ≡ latest_places u.key us → ns ≡ mended u us old → ns ≡ latest_places u.key (us ++ u ∷ [])
+latest_of_key us u ns old kept e =
+    e ∙ (ap (mended u us) kept ∙ sym (latest_places-push u.key us u ∙ ap (λ (b : Bool). cond b (mended u us (latest_places u.key us)) (latest_places u.key us)) ((bytes_eq-Decides u.key u.key).1 refl)))
+
+pub latest_of_any : (key : List ℕ) (us : List Update) (u : Update) → cond (bytes_eq key u.key) (latest_places u.key (us ++ u ∷ [])) (latest_places key us) ≡ latest_places key (us ++ u ∷ [])
+latest_of_any key us u = go (bytes_eq key u.key) refl where
+  go : (b : Bool) → bytes_eq key u.key ≡ b → cond b (latest_places u.key (us ++ u ∷ [])) (latest_places key us) ≡ latest_places key (us ++ u ∷ [])
+  go true e = ap (λ (k : List ℕ). latest_places k (us ++ u ∷ [])) (sym ((bytes_eq-Decides key u.key).0 e))
+  go false e = sym (latest_places-push key us u ∙ ap (λ (b : Bool). cond b (mended u us (latest_places key us)) (latest_places key us)) e)
+
+-- ---- finding the place
+
+pub stands_is : (u : Update) (us : List Update) (n : ℕ) (t : Update) → slice_get us n ≡ Some t → is_lt (listed u t) ≡ stands_before u us n
+stands_is u us n t e = sym (ap (λ (o : Option Update). option_map_or (λ t. is_lt (listed u t)) o false) e)
+
+pub place_found : (u : Update) (us : List Update) (ns : List ℕ) (i : ℕ) → i < length ns → stands_before u us (get_or ns i 0) ≡ true → put_place u us ns ≡ take i ns ++ put_place u us (drop i ns) → put_place u us ns ≡ take i ns ++ length us ∷ drop i ns
+unfolding put_place
+place_found u us ns i lt stands e =
+    let here : drop i ns ≡ get_or ns i 0 ∷ drop (suc i) ns = drop-cons ns i 0 lt in
+    e ∙ ap (λ (rest : List ℕ). take i ns ++ rest) (ap (put_place u us) here ∙ (ap (λ (b : Bool). cond b (length us ∷ get_or ns i 0 ∷ drop (suc i) ns) (get_or ns i 0 ∷ put_place u us (drop (suc i) ns))) stands ∙ ap (λ (rest : List ℕ). length us ∷ rest) (sym here)))
+
+pub place_later : (u : Update) (us : List Update) (ns : List ℕ) (i : ℕ) → i < length ns → stands_before u us (get_or ns i 0) ≡ false → put_place u us ns ≡ take i ns ++ put_place u us (drop i ns) → put_place u us ns ≡ take (i + 1) ns ++ put_place u us (drop (i + 1) ns)
+unfolding put_place
+place_later u us ns i lt stands e =
+    let here : drop i ns ≡ get_or ns i 0 ∷ drop (suc i) ns = drop-cons ns i 0 lt in
+    let step : put_place u us (drop i ns) ≡ get_or ns i 0 ∷ put_place u us (drop (suc i) ns) =
+    ap (put_place u us) here ∙ ap (λ (b : Bool). cond b (length us ∷ get_or ns i 0 ∷ drop (suc i) ns) (get_or ns i 0 ∷ put_place u us (drop (suc i) ns))) stands in
+    e ∙ (ap (λ (rest : List ℕ). take i ns ++ rest) step
+    ∙ (sym (append_assoc (take i ns) (get_or ns i 0 ∷ []) (put_place u us (drop (suc i) ns)))
+    ∙ (ap (λ (front : List ℕ). front ++ put_place u us (drop (suc i) ns)) (sym (take_more ns i 0 lt)) ∙ ap (λ (n : ℕ). take (i + 1) ns ++ put_place u us (drop n ns)) (sym (add-one i)))))
+
+pub place_last : (u : Update) (us : List Update) (ns : List ℕ) (i : ℕ) → i ≡ length ns → put_place u us ns ≡ take i ns ++ put_place u us (drop i ns) → put_place u us ns ≡ take (length ns) ns ++ length us ∷ drop (length ns) ns
+unfolding put_place
+place_last u us ns i last e =
+    let none : drop i ns ≡ [] = drop_all i ns (omega (arith, last)) in
+    subst (λ (n : ℕ). put_place u us ns ≡ take n ns ++ length us ∷ drop n ns) last
+    (e ∙ ap (λ (rest : List ℕ). take i ns ++ rest) (ap (put_place u us) none ∙ ap (λ (rest : List ℕ). length us ∷ rest) (sym none)))

@@ -1,0 +1,129 @@
+-- Lists that rise in the listed order.
+use Rattle.std.proofs.Common.{◌≡◌, ℕ, List, [], ◌∷◌, Bool, true, false, cond, filter, refl, sym, ap, ◌∙◌, inl, inr, ◌⊎◌}
+use Rattle.std.specs.List.{AllByRecursion}
+use Rattle.std.specs.declared.cmp.Ordering.{Ordering}
+use Rattle.std.specs.declared.cmp.Ordering.TheVariants.{Less, Equal, Greater}
+use Rattle.std.specs.Ordering.{is_lt, is_eq, ordering_reverse}
+use Rattle.std.proofs.lemmas.Cmp.{nat_list_cmp_total}
+use Rattle.std.proofs.lemmas.Map.Text.{is_eq-slice_cmp}
+use Rattle.std.proofs.lemmas.Slice.Eq.{bytes_eq-Decides}
+use Rattle.depot_base.specs.declared.update.Update.{Update}
+use Rattle.depot_model.specs.Lists.{IsIn}
+use Rattle.depot_model.specs.Texts.{id_of_update}
+use Rattle.depot_model.specs.Order.{listed, RisesStrictly}
+use Rattle.depot_model.proofs.LatestLaws.{rank}
+use Rattle.depot_model.proofs.Members.{chosen_cases, chosen_behind, chosen_front}
+
+-- u put in front of the first before which it stands
+unfoldable pub put_listed : Update → List Update → List Update
+put_listed u [] = u ∷ []
+put_listed u (t ∷ ts) = cond (is_lt (listed u t)) (u ∷ t ∷ ts) (t ∷ put_listed u ts)
+
+-- ---- the listed order
+
+lt_is : (o : Ordering) → is_lt o ≡ true → o ≡ Less
+lt_is Less e = refl
+lt_is Equal e = absurd cc
+lt_is Greater e = absurd cc
+
+listed_trans : (t u v : Update) → is_lt (listed t u) ≡ true → is_lt (listed u v) ≡ true → is_lt (listed t v) ≡ true
+listed_trans t u v p q = ap is_lt (nat_list_cmp_total.trans (rank t) (rank u) (rank v) (lt_is _ p) (lt_is _ q))
+
+ends : (a b c : ℕ) (xs : List ℕ) (d e f : ℕ) (ys : List ℕ) → a ∷ b ∷ c ∷ xs ≡ d ∷ e ∷ f ∷ ys → xs ≡ ys
+ends a b c xs d e f ys h = cc
+
+tied_ids : (t u : Update) → listed t u ≡ Equal → id_of_update t ≡ id_of_update u
+tied_ids t u e = ends t.clock t.writer t.seq (id_of_update t) u.clock u.writer u.seq (id_of_update u) ((bytes_eq-Decides (rank t) (rank u)).0 (sym (is_eq-slice_cmp (rank t) (rank u)) ∙ ap is_eq e))
+
+turned : (o p : Ordering) → o ≡ ordering_reverse p → is_lt p ≡ false → (p ≡ Equal → ⊥) → is_lt o ≡ true
+turned o Less e n ne = absurd cc
+turned o Equal e n ne = absurd (ne refl)
+turned o Greater e n ne = ap is_lt e
+
+-- of two with different ids one stands before the other
+listed_back : (u t : Update) → is_lt (listed u t) ≡ false → (id_of_update t ≡ id_of_update u → ⊥) → is_lt (listed t u) ≡ true
+listed_back u t n ne = turned (listed t u) (listed u t) (nat_list_cmp_total.antisymm (rank t) (rank u)) n (λ e. ne (sym (tied_ids u t e)))
+
+-- ---- putting one in
+
+abbrev IsBelow : Update → Update → Type 0
+IsBelow t v = is_lt (listed t v) ≡ true
+
+all_below : (u t : Update) (ts : List Update) → IsBelow u t → AllByRecursion (λ v. IsBelow t v) ts → AllByRecursion (λ v. IsBelow u v) ts
+all_below u t [] p all = tt
+all_below u t (v ∷ ts) p all = (listed_trans u t v p all.0, all_below u t ts p all.1)
+
+all_put : (t u : Update) (ts : List Update) → IsBelow t u → AllByRecursion (λ v. IsBelow t v) ts → AllByRecursion (λ v. IsBelow t v) (put_listed u ts)
+unfolding put_listed
+all_put t u [] p all = (p, tt)
+all_put t u (v ∷ vs) p all = elim (is_lt (listed u v)) as (λ b. AllByRecursion (λ v. IsBelow t v) (cond b (u ∷ v ∷ vs) (v ∷ put_listed u vs))) [
+  | true ↦ (p, all)
+  | false ↦ (all.0, all_put t u vs p all.1)
+]
+
+rises_chosen : (b : Bool) (u t : Update) (ts : List Update) → is_lt (listed u t) ≡ b → RisesStrictly (t ∷ ts) → (id_of_update t ≡ id_of_update u → ⊥) → (IsBelow t u → AllByRecursion (λ v. IsBelow t v) (put_listed u ts))
+    → RisesStrictly (put_listed u ts) → RisesStrictly (cond b (u ∷ t ∷ ts) (t ∷ put_listed u ts))
+rises_chosen true u t ts e r ne more put = ((e, all_below u t ts e r.0), r)
+rises_chosen false u t ts e r ne more put = (more (listed_back u t e ne), put)
+
+-- one with an id of its own leaves it rising
+pub rises_put : (u : Update) (ts : List Update) → RisesStrictly ts → ((t : Update) → IsIn t ts → id_of_update t ≡ id_of_update u → ⊥) → RisesStrictly (put_listed u ts)
+unfolding put_listed
+rises_put u [] r differs = (tt, tt)
+rises_put u (t ∷ ts) r differs = rises_chosen (is_lt (listed u t)) u t ts refl r (differs t (inl refl)) (λ p. all_put t u ts p r.0) (rises_put u ts r.1 (λ v on. differs v (inr on)))
+
+-- what is in it then
+pub in_put : (t u : Update) (ts : List Update) → IsIn t (put_listed u ts) → (u ≡ t) ⊎ IsIn t ts
+unfolding put_listed
+in_put t u [] (inl here) = inl here
+in_put t u [] (inr never) = absurd never
+in_put t u (v ∷ vs) on = chosen (is_lt (listed u v)) on (in_put t u vs) where
+  chosen : (b : Bool) → IsIn t (cond b (u ∷ v ∷ vs) (v ∷ put_listed u vs)) → (IsIn t (put_listed u vs) → (u ≡ t) ⊎ IsIn t vs) → (u ≡ t) ⊎ IsIn t (v ∷ vs)
+  chosen true (inl here) rest = inl here
+  chosen true (inr there) rest = inr there
+  chosen false (inl here) rest = inr (inl here)
+  chosen false (inr there) rest = elim (rest there) [ inl same ↦ inl same | inr old ↦ inr (inr old) ]
+
+pub put_here : (u : Update) (ts : List Update) → IsIn u (put_listed u ts)
+unfolding put_listed
+put_here u [] = inl refl
+put_here u (v ∷ vs) = elim (is_lt (listed u v)) as (λ b. IsIn u (cond b (u ∷ v ∷ vs) (v ∷ put_listed u vs))) [
+  | true ↦ inl refl
+  | false ↦ inr (put_here u vs)
+]
+
+pub put_keeps : (t u : Update) (ts : List Update) → IsIn t ts → IsIn t (put_listed u ts)
+unfolding put_listed
+put_keeps t u [] never = absurd never
+put_keeps t u (v ∷ vs) on = elim (is_lt (listed u v)) as (λ b. IsIn t (cond b (u ∷ v ∷ vs) (v ∷ put_listed u vs))) [
+  | true ↦ inr on
+  | false ↦ elim on [ inl here ↦ inl here | inr there ↦ inr (put_keeps t u vs there) ]
+]
+
+-- ---- leaving some out
+
+all_filtered : (P : Update → Type 0) (test : Update → Bool) (ts : List Update) → AllByRecursion P ts → AllByRecursion P (filter test ts)
+all_filtered P test [] all = tt
+all_filtered P test (t ∷ ts) all = elim (test t) as (λ b. AllByRecursion P (cond b (t ∷ filter test ts) (filter test ts))) [
+  | true ↦ (all.0, all_filtered P test ts all.1)
+  | false ↦ all_filtered P test ts all.1
+]
+
+pub rises_filtered : (test : Update → Bool) (ts : List Update) → RisesStrictly ts → RisesStrictly (filter test ts)
+rises_filtered test [] r = tt
+rises_filtered test (t ∷ ts) r = elim (test t) as (λ b. RisesStrictly (cond b (t ∷ filter test ts) (filter test ts))) [
+  | true ↦ (all_filtered (λ v. IsBelow t v) test ts r.0, rises_filtered test ts r.1)
+  | false ↦ rises_filtered test ts r.1
+]
+
+pub in_filtered : {X : Type 0} (test : X → Bool) (x : X) (xs : List X) → IsIn x (filter test xs) → IsIn x xs × (test x ≡ true)
+in_filtered test x [] never = absurd never
+in_filtered test x (y ∷ ys) on = elim (chosen_cases (test y) x y (filter test ys) on) [
+  | inl here ↦ (inl here.1, sym (ap test here.1) ∙ here.0)
+  | inr there ↦ let rest = in_filtered test x ys there in (inr rest.0, rest.1)
+]
+
+pub filtered_in : {X : Type 0} (test : X → Bool) (x : X) (xs : List X) → IsIn x xs → test x ≡ true → IsIn x (filter test xs)
+filtered_in test x [] never e = absurd never
+filtered_in test x (y ∷ ys) (inl here) e = chosen_front (test y) x y (filter test ys) (ap test here ∙ e) here
+filtered_in test x (y ∷ ys) (inr there) e = chosen_behind (test y) x y (filter test ys) (filtered_in test x ys there e)

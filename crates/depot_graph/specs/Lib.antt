@@ -1,0 +1,7 @@
+pub mod Causal
+pub mod Change
+pub mod Fills
+pub mod Kept
+pub mod Kin
+pub mod Latest
+pub mod Reads

@@ -1,0 +1,27 @@
+//! The graph of accepted updates.
+//!
+//! A `Graph` is the list of the updates that were added, each behind its parents and each with an id of its own. Its items
+//! are numbered from 0 in that order. It tells the item with an id, whether an item precedes another by a path of parents,
+//! the leaves, the children by prev, the latest writes of each key (those that precede no other write of the key), and how
+//! many virtual writers there are.
+//!
+//! What always holds: each parent of an item is an earlier item, and no two items have one id. Of each item a graph keeps
+//! the update, which of the earlier items precede it, its children and its spot in a chain; of each key it keeps the latest
+//! writes in the order in which a read lists them. All this is mended at each `add`, and an `add` that finds no memory
+//! changes nothing: what an update changes is found first (`Change`), and then written.
+//!
+//! The rows of what precedes what take a byte for each pair of items. So `before` takes one look, and an `add` takes time in
+//! proportion to the items times the update's parents. Nothing is ever taken out.
+//!
+//! It asks nothing of an update but that it fits behind the others: not its signature, its clock or its history hash.
+#![tactic(auto)]
+
+mod change;
+mod graph;
+mod item;
+mod latest;
+
+pub use graph::Graph;
+
+#[cfg(test)]
+mod tests;
