@@ -1,0 +1,139 @@
+-- What is kept, and what is listed of it.
+use Rattle.std.proofs.Common.{◌≡◌, ℕ, zero, suc, ◌+◌, ◌<◌, List, [], ◌∷◌, ◌++◌, length, Bool, true, false, ◌||◌, refl, sym, ap, subst, ◌∙◌, arith, inl, inr, Some, if◌then◌else◌}
+use Rattle.std.specs.List.{slice_get, AllByRecursion}
+use Rattle.depot_base.specs.Format.{inner}
+use Rattle.depot_base.specs.Statement.{writer_of, seq_of}
+use Rattle.depot_base.specs.declared.statement.Statement.{Statement}
+use Rattle.depot_base.specs.declared.statement.Statement.TheVariants as statements
+use Rattle.depot_base.specs.declared.statement.Signed.{Signed}
+use Rattle.depot_base.specs.declared.update.Update.{Update}
+use Rattle.depot_base.specs.declared.voucher.Voucher.{Voucher}
+use Rattle.depot_model.specs.Lists.{IsIn}
+use Rattle.depot_model.specs.Texts.{IsSigned, IsStatement, signed, id_of_statement}
+use Rattle.depot_fork.specs.declared.entry.Entry.{Entry}
+use Rattle.depot_fork.specs.declared.marks.Mark.{Mark}
+use Rattle.depot_fork.specs.declared.marks.Mark.TheVariants as marks
+use Rattle.depot_fork.specs.declared.table.Table.{Table}
+use Rattle.depot_fork.specs.Links.{same_mark}
+use Rattle.depot_fork.specs.Table.{listed}
+use Rattle.depot_fork.specs.Marks.{has_mark}
+use Rattle.depot_fork.specs.Keeping.{IsEntry, AreEntries, IsKeeping, places_before, places_under, is_under}
+use Rattle.depot_fork.proofs.PlaceLaws.{one_more_place, is_listed, is_within}
+
+-- ---- signed statements
+
+-- the statement of one that fits is one that fits
+pub signed_statement : (s : Signed) → IsSigned s → IsStatement s.statement
+unfolding signed inner
+signed_statement s h = h.1.0.0.0
+
+-- ---- each of a list
+
+-- what holds of each holds of the one at a place
+each_at : {X : Type 0} (P : X → Type 0) (xs : List X) (i : ℕ) (x : X) → AllByRecursion P xs → slice_get xs i ≡ Some x → P x
+each_at P [] i x all e = absurd cc
+each_at P (y ∷ ys) zero x all e = let same : y ≡ x = cc in subst P same all.0
+each_at P (y ∷ ys) (suc i) x all e = each_at P ys i x all.1 e
+
+-- and of each with one more of which it holds
+each_pushed : {X : Type 0} (P : X → Type 0) (xs : List X) (x : X) → AllByRecursion P xs → P x → AllByRecursion P (xs ++ x ∷ [])
+each_pushed P [] x all one = (one, tt)
+each_pushed P (y ∷ ys) x all one = (all.0, each_pushed P ys x all.1 one)
+
+-- ---- entries
+
+-- an entry at a place
+pub entry_of : (es : List Entry) (i : ℕ) (e : Entry) → AreEntries es → slice_get es i ≡ Some e → IsEntry e
+entry_of es i e all at = each_at IsEntry es i e all at
+
+-- ---- nothing, and one more
+
+-- nothing is listed where nothing is kept
+pub nothing_kept : (es : List Entry) (table : Table) → es ≡ [] → ((mark : Mark) → listed table mark ≡ []) → IsKeeping es table
+unfolding places_under
+nothing_kept es table none empty = rw none (record { entries = tt; listed = empty })
+
+-- what is kept with one statement more, listed under its marks
+pub kept_more : (es : List Entry) (old between new : Table) (s : Signed) (id : List ℕ) (place : ℕ) → IsKeeping es old → IsSigned s → id ≡ id_of_statement s.statement → place ≡ length es → ((mark : Mark) → listed between mark ≡ listed old mark) →
+    ((mark : Mark) → listed new mark ≡ (if has_mark s.statement id mark then place ∷ listed between mark else listed between mark)) → IsKeeping (es ++ record { signed = s; id = id } ∷ []) new
+unfolding places_under
+kept_more es old between new s id place keeping text is last same more =
+    let last_place : place ≡ 0 + length es = omega arith in
+    record {
+      entries = each_pushed IsEntry es (record { signed = s; id = id }) keeping.entries (record { signed = text; id = is });
+      listed = λ mark.
+          more mark
+          ∙ ap (λ (k : ℕ). if has_mark s.statement id mark then k ∷ listed between mark else listed between mark) last_place
+          ∙ ap (λ (ps : List ℕ). if has_mark s.statement id mark then (0 + length es) ∷ ps else ps) (same mark ∙ keeping.listed mark)
+          ∙ sym (one_more_place (is_under mark) 0 es (record { signed = s; id = id }) []);
+    }
+
+-- ---- places
+
+-- an entry with a mark is listed under it
+pub met : (es : List Entry) (table : Table) (mark : Mark) (place : ℕ) (e : Entry) → IsKeeping es table → slice_get es place ≡ Some e → is_under mark e ≡ true → IsIn place (listed table mark)
+unfolding places_under
+met es table mark place e keeping at has =
+    let here : 0 + place ≡ place = omega arith in
+    rw (keeping.listed mark) (subst (λ (j : ℕ). IsIn j (places_before (is_under mark) 0 es [])) here (is_listed (is_under mark) 0 es [] place e at has))
+
+-- what is listed is the place of an entry
+pub place_low : (es : List Entry) (table : Table) (mark : Mark) (place : ℕ) → IsKeeping es table → IsIn place (listed table mark) → place < length es
+unfolding places_under
+place_low es table mark place keeping known =
+    let P : List ℕ → Type 0 = λ (l : List ℕ). IsIn place l in
+    elim (is_within (is_under mark) 0 es [] place (subst P (keeping.listed mark) known)) [
+      | inl nowhere ↦ absurd nowhere
+      | inr low ↦ omega arith
+    ]
+
+-- ---- the marks of a statement
+
+-- a test and no other
+or_none : (a : Bool) → a ≡ (a || false)
+or_none true = refl
+or_none false = refl
+
+-- a place more, by a test that is one of several
+by_one : (b : Bool) (place : ℕ) (ps : List ℕ) → (if b then place ∷ ps else ps) ≡ (if b || false then place ∷ ps else ps)
+by_one b place ps = ap (λ (r : Bool). if r then place ∷ ps else ps) (or_none b)
+
+-- the mark that each statement has
+abbrev pub number_of : Statement → Mark
+number_of s = marks.Number (writer_of s) (seq_of s)
+
+-- the same mark from what was read
+pub is_number : (s : Statement) (w n : ℕ) → w ≡ writer_of s → n ≡ seq_of s → marks.Number w n ≡ number_of s
+is_number s w n writer seq = ap (λ (x : ℕ). marks.Number x n) writer ∙ ap (λ (x : ℕ). marks.Number (writer_of s) x) seq
+
+-- a place more under that mark
+pub under_number : (s : Statement) (w n : ℕ) (mark : Mark) (place : ℕ) (old new : List ℕ) → w ≡ writer_of s → n ≡ seq_of s → new ≡ (if same_mark (marks.Number w n) mark then place ∷ old else old) → new ≡ (if same_mark (number_of s) mark then place ∷ old else old)
+under_number s w n mark place old new writer seq one = one ∙ ap (λ (m : Mark). if same_mark m mark then place ∷ old else old) (is_number s w n writer seq)
+
+-- all the marks of a voucher
+pub under_voucher : (s : Statement) (v : Voucher) (id : List ℕ) (mark : Mark) (place : ℕ) (old new : List ℕ) → s ≡ statements.Voucher v → new ≡ (if same_mark (number_of s) mark then place ∷ old else old) →
+    new ≡ (if has_mark s id mark then place ∷ old else old)
+unfolding has_mark
+under_voucher (statements.Voucher w) v id mark place old new is one = one ∙ by_one (same_mark (marks.Number w.node w.seq) mark) place old
+under_voucher (statements.Update u) v id mark place old new is one = absurd cc
+
+-- a place more under each of three marks
+three_marks : (u : Update) (id : List ℕ) (mark : Mark) (place : ℕ) (old first second new : List ℕ) → first ≡ (if same_mark (marks.Number u.writer u.seq) mark then place ∷ old else old) →
+    second ≡ (if same_mark (marks.Prev u.writer u.prev) mark then place ∷ first else first) → new ≡ (if same_mark (marks.Id id) mark then place ∷ second else second) →
+    new ≡ (if has_mark (statements.Update u) id mark then place ∷ old else old)
+unfolding has_mark
+three_marks u id (marks.Number w n) place old first second new one two three = three ∙ two ∙ one ∙ by_one (same_mark (marks.Number u.writer u.seq) (marks.Number w n)) place old
+three_marks u id (marks.Prev w h) place old first second new one two three =
+    three ∙ two ∙ ap (λ (ps : List ℕ). if same_mark (marks.Prev u.writer u.prev) (marks.Prev w h) then place ∷ ps else ps) one ∙ by_one (same_mark (marks.Prev u.writer u.prev) (marks.Prev w h)) place old
+three_marks u id (marks.Id h) place old first second new one two three =
+    three ∙ ap (λ (ps : List ℕ). if same_mark (marks.Id id) (marks.Id h) then place ∷ ps else ps) (two ∙ one) ∙ by_one (same_mark (marks.Id id) (marks.Id h)) place old
+
+-- all the marks of an update
+pub under_update : (s : Statement) (u : Update) (id : List ℕ) (mark : Mark) (place : ℕ) (old first second new : List ℕ) → s ≡ statements.Update u → first ≡ (if same_mark (number_of s) mark then place ∷ old else old) →
+    second ≡ (if same_mark (marks.Prev u.writer u.prev) mark then place ∷ first else first) → new ≡ (if same_mark (marks.Id id) mark then place ∷ second else second) →
+    new ≡ (if has_mark s id mark then place ∷ old else old)
+under_update (statements.Update t) u id mark place old first second new is one two three =
+    let same : t ≡ u = cc in
+    let P : Update → Type 0 = λ (x : Update). second ≡ (if same_mark (marks.Prev x.writer x.prev) mark then place ∷ first else first) in
+    three_marks t id mark place old first second new one (subst P (sym same) two) three
+under_update (statements.Voucher v) u id mark place old first second new is one two three = absurd cc

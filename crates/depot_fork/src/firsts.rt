@@ -1,0 +1,60 @@
+//! The first kept statement, of those at some places, that a statement contradicts.
+ghost use Rattle.std.specs.Prelude.{◌≡◌, ◌<◌, [], ◌∷◌, length};
+ghost use Rattle.depot_model.specs.Texts.{IsStatement, id_of_statement};
+ghost use Rattle.depot_fork.specs.Keeping.{IsKeeping, AreEntries};
+ghost use Rattle.depot_fork.specs.Firsts.{IsFirstOf, earlier_of};
+ghost use Rattle.depot_fork.specs.Table.{listed};
+
+use crate::Found;
+use crate::entry::Entry;
+use crate::marks::Mark;
+use crate::table::Table;
+use depot_base::{Hash32, Statement};
+
+/// The first of those under a mark.
+pub(crate) fn first_under(
+    mark: &Mark,
+    entries: &[Entry],
+    table: &Table,
+    statement: &Statement,
+    id: &Hash32,
+) -> Option<Found>
+    requires keeping { IsKeeping entries.now table.now }
+    requires text { IsStatement statement.now }
+    requires id { id.now ≡ id_of_statement statement.now }
+    ensures { IsFirstOf entries.now (listed table.now mark.now) statement.now result }
+{
+    let mut first = None;
+    for place in table.places(mark) {
+        first = earlier(first, contradiction_at(place, entries, statement, id));
+    }
+    first
+}
+
+/// The one at a place.
+fn contradiction_at(
+    place: u32,
+    entries: &[Entry],
+    statement: &Statement,
+    id: &Hash32,
+) -> Option<Found>
+    requires place { place < length entries.now }
+    requires entries { AreEntries entries.now }
+    requires text { IsStatement statement.now }
+    requires id { id.now ≡ id_of_statement statement.now }
+    ensures { IsFirstOf entries.now (place ∷ []) statement.now result }
+{
+    let kind = entries[place as usize].kind_with(statement, id)?;
+    Some(Found { kind, index: place })
+}
+
+/// That of the two which was kept first.
+pub(crate) fn earlier(a: Option<Found>, b: Option<Found>) -> Option<Found>
+    ensures { result ≡ earlier_of a b }
+{
+    match (a, b) {
+        (None, _) => b,
+        (_, None) => a,
+        (Some(x), Some(y)) => { if y.index < x.index { b } else { a } }
+    }
+}

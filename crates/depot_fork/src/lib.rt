@@ -1,0 +1,197 @@
+//! Contradictions among the signed statements that a node took from others.
+//!
+//! A set of kept statements, seen as their list in the order in which they were kept, and the number of statements more that
+//! have their memory. A statement that came is looked up among them: the first that it contradicts, and how. Each is kept with
+//! its id, so that nothing is hashed twice. Whether a contradiction is a fork that convicts its writer, this crate doesn't know.
+//!
+//! Kept statements are listed under marks: each under its writer and seq, an update under its writer and prev, and under its
+//! id. Two statements that contradict each other share such a mark, or one's prev is the other's id. So `contradiction` goes
+//! through at most four of these lists, and `find` through one: what a look-up costs grows with the kept statements that have a
+//! mark that it asks for, not with all that are kept.
+#![tactic(auto)]
+
+mod entry;
+mod firsts;
+mod kinds;
+mod marks;
+mod table;
+
+ghost use Rattle.std.specs.Prelude.{◌≡◌, ◌<◌, ◌≤◌, ◌+◌, [], ◌∷◌, ◌++◌, length, Some, None, slice_get, position, OnOk, OnErr, IsOk, MatchOption, OnSome, if◌then◌else◌};
+ghost use Rattle.std.specs.List.{list_any};
+ghost use Rattle.depot_model.specs.Texts.{IsSigned, IsStatement, id_of_statement};
+ghost use Rattle.depot_model.specs.Contradictions.{kind_of};
+ghost use Rattle.depot_model.specs.Checks.{is_update_with};
+ghost use Rattle.depot_base.specs.declared.statement.Signed.{Signed};
+ghost use Rattle.depot_fork.specs.declared.marks.Mark.{Mark};
+ghost use Rattle.depot_fork.specs.Marks.{has_mark};
+ghost use Rattle.depot_fork.specs.Table.{listed, spare_places};
+ghost use Rattle.depot_fork.specs.Opponents.{IsContradiction, has_body_of};
+
+use crate::entry::Entry;
+use crate::firsts::{earlier, first_under};
+use crate::marks::Mark;
+use crate::table::Table;
+use depot_base::{Hash32, Kind, Memory, Signed, Statement};
+use std::alloc::Global;
+use std::marker::Model;
+
+/// A kept statement that another one contradicts.
+#[derive(Clone, Copy, Debug, PartialEq, Eq)]
+pub struct Found {
+    /// How the two contradict each other.
+    pub kind: Kind,
+    /// The kept statement, from 0 in the order in which they were kept.
+    pub index: u32,
+}
+
+/// The signed statements that were kept.
+#[derive(Drop)]
+pub struct Seen {
+    entries: Vec<Entry>,
+    table: Table,
+}
+
+impl Model for Seen {
+    ghost use Rattle.std.specs.Prelude.{map, min, ◌-◌, ◌/◌, vec_len};
+    ghost use Rattle.std.specs.Vec.{vec_capacity};
+    ghost use Rattle.depot_fork.specs.Opponents.{Kept};
+    ghost use Rattle.depot_fork.specs.Keeping.{IsKeeping};
+    ghost use Rattle.depot_fork.specs.Table.{spare_places};
+
+    ghost Value = { Kept };
+
+    ghost view = { λ s. record { kept = map (λ e. e.signed) s.entries.items; room = min (vec_capacity s.entries - vec_len s.entries) (spare_places s.table / 3) } };
+
+    ghost invariant = { λ s. IsKeeping s.entries.items s.table };
+}
+
+impl Seen {
+    /// Nothing. It takes no memory.
+    pub fn new(alloc: Global) -> Seen
+        ensures { result.kept ≡ [] }
+    {
+        Seen {
+            entries: Vec::new(alloc),
+            table: Table::new(alloc),
+        }
+    }
+
+    /// Finds the memory to keep this signed statement: after it the next `add` can't fail. After Memory the same are kept.
+    pub fn reserve(&mut self, _signed: &Signed) -> Result<(), Memory>
+        ensures same { self.new.kept ≡ self.old.kept }
+        ensures room { OnOk result (0 < self.new.room) }
+        ensures known { 0 < self.old.room → IsOk result }
+    {
+        self.entries.reserve(1)?;
+        self.table.reserve(MARKS)
+    }
+
+    /// Keeps a signed statement behind the others. `id` is SHA-256 of its body. Where room was found before, it can't fail;
+    /// after Memory the same are kept.
+    pub fn add(&mut self, signed: Signed, id: Hash32) -> Result<(), Memory>
+        requires text { IsSigned signed }
+        requires id { id ≡ id_of_statement signed.statement }
+        requires few { length self.old.kept < 4294967295 }
+        ensures ok { OnOk result (self.new.kept ≡ self.old.kept ++ signed ∷ []) }
+        ensures err { OnErr result (self.new.kept ≡ self.old.kept) }
+        ensures room { 0 < self.old.room → IsOk result }
+    {
+        self.entries.reserve(1)?;
+        self.table.reserve(MARKS)?;
+        let place = self.entries.len() as u32;
+        list_marks(&mut self.table, &signed.statement, &id, place);
+        self.entries.push_reserved(Entry { signed, id });
+        Ok(())
+    }
+
+    /// The first kept statement that this one contradicts, and how. None exactly where it contradicts none. `id` is SHA-256 of
+    /// the statement's body. It takes no memory.
+    pub fn contradiction(&self, statement: &Statement, id: &Hash32) -> Option<Found>
+        requires text { IsStatement statement.now }
+        requires id { id.now ≡ id_of_statement statement.now }
+        ensures { IsContradiction self.now.kept statement.now result }
+    {
+        let entries = self.entries.as_slice();
+        let number = Mark::Number(statement.writer(), statement.seq());
+        let same_number = first_under(&number, entries, &self.table, statement, id);
+        let Statement::Update(update) = statement else {
+            return same_number;
+        };
+        let prev = Mark::Prev(update.writer, update.prev);
+        let same_prev = first_under(&prev, entries, &self.table, statement, id);
+        let parent = Mark::Id(update.prev);
+        let named = first_under(&parent, entries, &self.table, statement, id);
+        let child = Mark::Prev(update.writer, *id);
+        let naming = first_under(&child, entries, &self.table, statement, id);
+        earlier(earlier(same_number, same_prev), earlier(named, naming))
+    }
+
+    /// The kept signed statement of an index. It takes no memory.
+    pub fn at(&self, index: u32) -> &Signed
+        requires { index < length self.now.kept }
+        ensures kept { slice_get self.now.kept index ≡ Some result.now }
+        ensures text { IsSigned result.now }
+    {
+        &self.entries[index as usize].signed
+    }
+
+    /// The id of the kept statement of an index. It takes no memory.
+    pub fn id_at(&self, index: u32) -> &Hash32
+        requires { index < length self.now.kept }
+        ensures { (s : Signed) → slice_get self.now.kept index ≡ Some s → result.now ≡ id_of_statement s.statement }
+    {
+        &self.entries[index as usize].id
+    }
+
+    /// Whether a kept statement has the same body as this one. `id` is SHA-256 of its body. It takes no memory.
+    pub fn holds(&self, statement: &Statement, id: &Hash32) -> bool
+        requires text { IsStatement statement.now }
+        requires id { id.now ≡ id_of_statement statement.now }
+        ensures { result ≡ list_any (has_body_of statement.now) self.now.kept }
+    {
+        let number = Mark::Number(statement.writer(), statement.seq());
+        for place in self.table.places(&number) {
+            if self.entries[place as usize].has_body_of(statement, id) {
+                return true;
+            }
+        }
+        false
+    }
+
+    /// The index of the first kept update with this id. It takes no memory.
+    pub fn find(&self, id: &Hash32) -> Option<u32>
+        ensures { result ≡ position (λ s. is_update_with id.now s.statement) self.now.kept }
+    {
+        self.table.places(&Mark::Id(*id)).last()
+    }
+
+    /// How this statement contradicts the kept one of an index. None exactly where it doesn't. `id` is SHA-256 of the
+    /// statement's body. It takes no memory.
+    pub fn kind_with(&self, index: u32, statement: &Statement, id: &Hash32) -> Option<Kind>
+        requires index { index < length self.now.kept }
+        requires text { IsStatement statement.now }
+        requires id { id.now ≡ id_of_statement statement.now }
+        ensures { (s : Signed) → slice_get self.now.kept index ≡ Some s → result ≡ kind_of s.statement statement.now }
+    {
+        self.entries[index as usize].kind_with(statement, id)
+    }
+}
+
+/// The most marks of a statement.
+const MARKS: usize = 3;
+
+/// Lists the place of a statement under each of its marks.
+fn list_marks(table: &mut Table, statement: &Statement, id: &Hash32, place: u32)
+    requires { MARKS ≤ spare_places table.old }
+    ensures { (mark : Mark) → listed table.new mark ≡ (if has_mark statement.now id.now mark then place ∷ listed table.old mark else listed table.old mark) }
+{
+    table.add(Mark::Number(statement.writer(), statement.seq()), place);
+    let Statement::Update(update) = statement else {
+        return;
+    };
+    table.add(Mark::Prev(update.writer, update.prev), place);
+    table.add(Mark::Id(*id), place);
+}
+
+#[cfg(test)]
+mod tests;

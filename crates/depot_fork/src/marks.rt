@@ -1,0 +1,13 @@
+//! What statements that contradict each other share.
+use depot_base::{Hash32, NodeId};
+
+/// What a kept statement is listed under.
+#[derive(Clone, Copy, Debug, PartialEq, Eq, Hash)]
+pub(crate) enum Mark {
+    /// The writer of a statement, and its seq.
+    Number(NodeId, u32),
+    /// The writer of an update, and its prev.
+    Prev(NodeId, Hash32),
+    /// The id of an update.
+    Id(Hash32),
+}
