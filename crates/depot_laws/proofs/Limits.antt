@@ -1,0 +1,71 @@
+-- The room of a journal, for its records one by one.
+use Rattle.std.proofs.Common.{◌≡◌, ℕ, ◌+◌, ◌≤◌, ◌^◌, ltb, ◌&&◌, false, List, [], ◌∷◌, ◌++◌, length, Option, None, refl, sym, subst, append_assoc, arith}
+use Rattle.std.specs.List.{AllByRecursion}
+use Rattle.std.proofs.lemmas.Bool.{ltb-false, le-ltb}
+use Rattle.std.proofs.lemmas.List.Sums.{sum_by-append}
+use Rattle.std.proofs.lemmas.List.{length-append}
+use Rattle.depot_base.specs.declared.proof.Proof.{Proof}
+use Rattle.depot_base.specs.declared.record.Record.{Record}
+use Rattle.depot_base.specs.declared.record.Record.TheVariants.{Conviction}
+use Rattle.depot_base.specs.declared.check.Full.{Full}
+use Rattle.depot_base.specs.declared.check.FullOf.TheVariants as full_of
+use Rattle.depot_model.specs.Lists.{when}
+use Rattle.depot_model.specs.Records.{text_of_record, journal_bytes}
+use Rattle.depot_model.specs.Room.{foreign_leaves, take_an_update, full_with, HasRoom}
+use Rattle.depot_model.proofs.FirstLaws.{each_is_none, when-none}
+
+abbrev limits : ℕ → List Record → List Record → List (Option Full)
+limits me J new =
+    when (ltb 131072 (length (J ++ new))) (record { what = full_of.Records; number = length J }) ∷
+    when (ltb (2 ^ 30) (journal_bytes (J ++ new))) (record { what = full_of.Bytes; number = journal_bytes J }) ∷
+    when (take_an_update new && ltb 4096 (length (foreign_leaves me (J ++ new)))) (record { what = full_of.Writers; number = length (foreign_leaves me J) }) ∷ []
+
+-- what the three limits say
+pub record Within (me : ℕ) (J new : List Record) : Type 0 where
+  pub records : length (J ++ new) ≤ 131072
+  pub bytes : journal_bytes (J ++ new) ≤ 2 ^ 30
+  pub writers : (take_an_update new && ltb 4096 (length (foreign_leaves me (J ++ new)))) ≡ false
+
+-- where there is room, the limits are kept
+pub within_from_room : (me : ℕ) (J new : List Record) → HasRoom me J new → Within me J new
+unfolding full_with
+within_from_room me J new room =
+    let each : AllByRecursion (λ (o : Option Full). o ≡ None) (limits me J new) = each_is_none (limits me J new) room in
+    record {
+      records = ltb-false _ _ (when-none _ _ each.0);
+      bytes = ltb-false _ _ (when-none _ _ each.1.0);
+      writers = when-none _ _ each.1.1.0;
+    }
+
+-- and only there
+pub room_from_within : (me : ℕ) (J new : List Record) → Within me J new → HasRoom me J new
+unfolding full_with
+room_from_within me J new w = rw (le-ltb _ _ w.records, le-ltb _ _ w.bytes, w.writers) refl
+
+-- ---- two records in turn
+
+sum_front : (J new more : List Record) → journal_bytes (J ++ new) ≤ journal_bytes (J ++ (new ++ more))
+sum_front J new more =
+    let f : Record → ℕ = λ r. 5 + length (text_of_record r) in
+    omega (arith, sum_by-append f J new, sum_by-append f J (new ++ more), sum_by-append f new more)
+
+-- room for a conviction and more is room for the conviction
+pub room_front : (me : ℕ) (J : List Record) (p : Proof) (more : List Record) → HasRoom me J (Conviction p ∷ more) → HasRoom me J (Conviction p ∷ [])
+room_front me J p more room =
+    let w = within_from_room me J (Conviction p ∷ more) room in
+    room_from_within me J (Conviction p ∷ []) (record {
+      records = omega (arith, w.records, length-append J (Conviction p ∷ []), length-append J (Conviction p ∷ more));
+      bytes = omega (arith, w.bytes, sum_front J (Conviction p ∷ []) more);
+      writers = refl;
+    })
+
+-- and behind it for the others
+pub room_behind : (me : ℕ) (J : List Record) (p : Proof) (more : List Record) → HasRoom me J (Conviction p ∷ more) → HasRoom me (J ++ Conviction p ∷ []) more
+room_behind me J p more room =
+    let w = within_from_room me J (Conviction p ∷ more) room in
+    let same : (J ++ Conviction p ∷ []) ++ more ≡ J ++ Conviction p ∷ more = append_assoc J (Conviction p ∷ []) more in
+    room_from_within me (J ++ Conviction p ∷ []) more (record {
+      records = subst (λ (x : List Record). length x ≤ 131072) (sym same) w.records;
+      bytes = subst (λ (x : List Record). journal_bytes x ≤ 2 ^ 30) (sym same) w.bytes;
+      writers = subst (λ (x : List Record). (take_an_update more && ltb 4096 (length (foreign_leaves me x))) ≡ false) (sym same) w.writers;
+    })

@@ -1,0 +1,248 @@
+-- The next own update of a lawful journal has a text, and the journal with it is lawful.
+use Rattle.std.proofs.Common.{◌≡◌, ℕ, ◌+◌, ◌<◌, ◌≤◌, Bool, true, false, not, ◌&&◌, eqb, List, [], ◌∷◌, ◌++◌, map, length, None, refl, sym, ap, subst, ◌∙◌, arith, length-append, inl, inr}
+use Rattle.std.specs.List.{filter}
+use Rattle.std.specs.Int.{w8, w16, w32, w64}
+use Rattle.std.proofs.lemmas.Bool.{and_parts}
+use Rattle.sha2.specs.Sha256.{sha256}
+use Rattle.sha2.proofs.Facts256.{length-sha256}
+use Rattle.depot_base.specs.Zeros.{zeros}
+use Rattle.depot_base.specs.Format.{number, bytes_of, inner, list_of}
+use Rattle.depot_base.specs.Parts.{node_number, digest, dep, deps_of}
+use Rattle.depot_base.specs.Sized.{IsKey, IsValue}
+use Rattle.depot_base.specs.declared.update.Update.{Update}
+use Rattle.depot_base.specs.declared.statement.Statement.{Statement}
+use Rattle.depot_base.specs.declared.record.Record.{Record}
+use Rattle.depot_base.specs.declared.record.Record.TheVariants.{Birth, OwnPut, OwnVoucher, Foreign, Conviction, Held}
+use Rattle.depot_base.proofs.Numbers.{number_within}
+use Rattle.depot_model.specs.Lists.{IsIn}
+use Rattle.depot_model.specs.Texts.{update_fields, update_body, IsUpdate, IsStatement, text_of_update, id_of_update}
+use Rattle.depot_model.specs.Records.{own_put, birth, tagged, record_text, IsRecord}
+use Rattle.depot_model.specs.History.{history_hash, leaves_of, by_id, greatest_clock}
+use Rattle.depot_model.specs.Journal.{accepted, accepted_by, own, own_by, last_own}
+use Rattle.depot_model.specs.Own.{entry_of, precedes_named, next_entries, next_own, IsFresh, leaf_count}
+use Rattle.depot_model.specs.Checks.{Setting}
+use Rattle.depot_model.specs.Room.{full_by}
+use Rattle.depot_model.specs.Lawful.{IsAllowed, IsLawful, is_birth, is_empty}
+use Rattle.depot_model.proofs.BodyLaws.{IsUpdate-from_statement, IsStatement-from_signed}
+use Rattle.depot_model.proofs.TextLaws.{update_body_lawful}
+use Rattle.depot_laws.proofs.Splits.{given_by, lawful_push, lawful_from_end}
+use Rattle.depot_laws.proofs.Tests.{fails_from_not, from_filter, from_by_id}
+use Rattle.depot_laws.proofs.Limits.{within_from_room}
+use Rattle.depot_laws.proofs.Records.{IsSigned-from_record}
+use Rattle.depot_laws.proofs.Causes.{last_own_cases, update_in_is, leaf_is_on, lawful_is_causal}
+use Rattle.depot_laws.proofs.Clocks.{clocks_within}
+use Rattle.depot_laws.proofs.Sorted.{AreApart, apart_from_causal, apart_filter, rises_by_id, entries_follow}
+
+-- ---- the sizes of a lawful journal
+
+-- a lawful journal has at most 131,072 records
+pub lawful_is_short : (here : Setting) (J : List Record) → IsLawful here J → length J ≤ 131072
+lawful_is_short here J l = lawful_from_end here (λ (x : List Record). length x ≤ 131072) (omega arith) (λ x r front allowed before. (within_from_room here.me x (r ∷ []) allowed.room).records) J l
+
+one_own : (r : Record) → length (own_by r) ≤ 1
+one_own (Birth node h) = omega arith
+one_own (OwnPut u value) = omega arith
+one_own (OwnVoucher v) = omega arith
+one_own (Foreign s) = omega arith
+one_own (Conviction p) = omega arith
+one_own (Held value) = omega arith
+
+-- and no more own statements than records
+pub few_own : (J : List Record) → length (own J) ≤ length J
+few_own [] = omega arith
+few_own (r ∷ J) = let one = one_own r in let more = few_own J in omega (arith, length-append (own_by r) (own J))
+
+-- ---- the node of a lawful journal
+
+birth_node : (here : Setting) (r : Record) → is_birth r ≡ true → IsAllowed here [] r → node_number.fits here.me
+unfolding record_text tagged birth
+birth_node here (Birth node h) first allowed = subst (λ (n : ℕ). node_number.fits n) allowed.may.0 allowed.text.1.0
+birth_node here (OwnPut u value) first allowed = absurd cc
+birth_node here (OwnVoucher v) first allowed = absurd cc
+birth_node here (Foreign s) first allowed = absurd cc
+birth_node here (Conviction p) first allowed = absurd cc
+birth_node here (Held value) first allowed = absurd cc
+
+-- its number is in its range
+pub me_fits : (here : Setting) (J : List Record) → IsLawful here J → is_empty J ≡ false → node_number.fits here.me
+me_fits here [] l some = absurd cc
+me_fits here (r ∷ J) l some = let allowed = l.each [] r J refl in birth_node here r allowed.first allowed
+
+-- ---- accepted updates
+
+put_is_update : (u : Update) (value : List ℕ) → IsRecord (OwnPut u value) → IsUpdate u
+unfolding record_text tagged own_put inner
+put_is_update u value fits = fits.1.1.0.0
+
+accepted_is_update : (r : Record) (u : Update) → IsRecord r → IsIn u (accepted_by r) → IsUpdate u
+accepted_is_update (Birth node h) u fits never = absurd never
+accepted_is_update (OwnPut w value) u fits (inl same) = subst (λ (x : Update). IsUpdate x) same (put_is_update w value fits)
+accepted_is_update (OwnPut w value) u fits (inr never) = absurd never
+accepted_is_update (OwnVoucher v) u fits never = absurd never
+accepted_is_update (Foreign s) u fits on = IsUpdate-from_statement u (subst (λ (x : Statement). IsStatement x) (update_in_is s.statement u on) (IsStatement-from_signed s (IsSigned-from_record s fits)))
+accepted_is_update (Conviction p) u fits never = absurd never
+accepted_is_update (Held value) u fits never = absurd never
+
+-- each accepted update of a lawful journal has a text
+pub accepted_fit : (here : Setting) (J : List Record) (u : Update) → IsLawful here J → IsIn u (accepted J) → IsUpdate u
+accepted_fit here J u l on = let g = given_by accepted_by u J on in accepted_is_update g.by u (l.each g.before g.by g.after g.is).text g.given
+
+writer_fits : (u : Update) → IsUpdate u → node_number.fits u.writer
+unfolding update_body update_fields
+writer_fits u fits = fits.1.1.0
+
+clock_fits : (u : Update) → IsUpdate u → (number w64 0 18446744073709551615).fits u.clock
+unfolding update_body update_fields number
+clock_fits u fits = let c = number_within w64 1 18446744073709551615 u.clock fits.1.1.1.1.0 in (omega arith, c.1)
+
+-- ---- entries
+
+id_is_digest : (u : Update) → digest.fits (id_of_update u)
+unfolding id_of_update bytes_of
+id_is_digest u = length-sha256 (text_of_update u)
+
+-- the entry that names an update with a text fits
+pub entry_fits : (u : Update) → IsUpdate u → dep.fits (entry_of u)
+unfolding dep
+entry_fits u fits = (writer_fits u fits, (clock_fits u fits, (id_is_digest u, refl)))
+
+abbrev wanted : ℕ → List Update → List ℕ → Update → Bool
+wanted me us prev t = not (eqb t.writer me) && not (precedes_named us prev t)
+
+entries_apart : (here : Setting) (J : List Record) (prev : List ℕ) → IsLawful here J → AreApart (filter (wanted here.me (accepted J) prev) (leaves_of (accepted J)))
+unfolding leaves_of
+entries_apart here J prev l = apart_filter (wanted here.me (accepted J) prev) _ (apart_filter _ (accepted J) (apart_from_causal [] (accepted J) (lawful_is_causal here J l)))
+
+-- what an entry of the next own update names
+record IsWanted (me : ℕ) (us : List Update) (t : Update) : Type 0 where
+  pub on : IsIn t us
+  pub other : eqb t.writer me ≡ false
+
+is_wanted : (me : ℕ) (us : List Update) (prev : List ℕ) (t : Update) → IsIn t (next_entries me us prev) → IsWanted me us t
+unfolding next_entries
+is_wanted me us prev t on =
+    let f = from_filter (wanted me us prev) t (leaves_of us) (from_by_id t (filter (wanted me us prev) (leaves_of us)) on) in
+    record { on = leaf_is_on us t f.0; other = fails_from_not _ (and_parts (not (eqb t.writer me)) (not (precedes_named us prev t)) f.1).0 }
+
+-- the entries of the next own update have a text
+pub next_entries_fit : (here : Setting) (J : List Record) (prev : List ℕ) → IsLawful here J → (deps_of here.me (length (map entry_of (next_entries here.me (accepted J) prev)))).fits (map entry_of (next_entries here.me (accepted J) prev))
+unfolding list_of next_entries
+next_entries_fit here J prev l =
+    let us = accepted J in
+    let left = filter (wanted here.me us prev) (leaves_of us) in
+    let rise = rises_by_id left (entries_apart here J prev l) in
+    (entries_follow here.me [] (by_id left) rise (λ u on. refl) (λ u on. entry_fits u (accepted_fit here J u l (is_wanted here.me us prev u on).on)) (λ u on. (is_wanted here.me us prev u on).other), refl)
+
+-- ---- the next own update
+
+zeros_are_digest : digest.fits zeros
+unfolding bytes_of
+zeros_are_digest = refl
+
+last_own_is_digest : (J : List Record) → digest.fits (last_own J)
+last_own_is_digest J = elim (last_own_cases J) [
+  | inl none ↦ subst (λ (h : List ℕ). digest.fits h) (sym none) zeros_are_digest
+  | inr some ↦ subst (λ (h : List ℕ). digest.fits h) some.id (id_is_digest some.update)
+]
+
+value_is_digest : (value : List ℕ) → digest.fits (sha256 value)
+unfolding bytes_of
+value_is_digest value = length-sha256 value
+
+history_is_digest : (us : List Update) → digest.fits (history_hash us)
+unfolding history_hash bytes_of
+history_is_digest us = length-sha256 _
+
+itself : (bytes : List ℕ) → (bytes_of (length bytes)).fits bytes
+unfolding bytes_of
+itself bytes = refl
+
+in_range_8 : (n : ℕ) → 1 ≤ n → n ≤ 255 → (number w8 1 255).fits n
+unfolding number
+in_range_8 n low high = (low, high)
+
+in_range_16 : (n : ℕ) → n ≤ 1024 → (number w16 0 1024).fits n
+unfolding number
+in_range_16 n high = (omega arith, high)
+
+in_range_32 : (high n : ℕ) → n ≤ high → (number w32 0 high).fits n
+unfolding number
+in_range_32 high n le = (omega arith, le)
+
+in_range_64 : (n : ℕ) → 1 ≤ n → n ≤ 18446744073709551615 → (number w64 1 18446744073709551615).fits n
+unfolding number
+in_range_64 n low high = (low, high)
+
+ones : (number w8 1 1).fits 1
+unfolding number
+ones = (omega arith, omega arith)
+
+-- it has a text, where its entries aren't too many
+pub next_own_fits : (here : Setting) (J : List Record) (key value : List ℕ) → IsLawful here J → is_empty J ≡ false → IsKey key → IsValue value → length (next_own here.me J key value).deps ≤ 1024 → IsUpdate (next_own here.me J key value)
+unfolding update_body update_fields next_own
+next_own_fits here J key value l some is_key is_value few =
+    let clocks = clocks_within here J l in
+    let short = lawful_is_short here J l in
+    let owned = few_own J in (
+      ones,
+      (
+        ones,
+        (
+          me_fits here J l some,
+          (
+            in_range_32 4294967295 (length (own J)) (omega arith),
+            (
+              in_range_64 (greatest_clock (accepted J) + 1) (omega arith) (omega arith),
+              (
+                last_own_is_digest J,
+                (in_range_8 (length key) (omega (arith, is_key.0)) is_key.1, (itself key, (value_is_digest value, (in_range_32 65536 (length value) is_value, (in_range_16 _ few, (next_entries_fit here J (last_own J) l, (history_is_digest (accepted J), refl))))))),
+              ),
+            ),
+          ),
+        ),
+      ),
+    )
+
+-- ---- its record
+
+put_tag : (number w8 1 6).fits 2
+unfolding number
+put_tag = (omega arith, omega arith)
+
+-- an own update with its value has a text
+pub IsRecord-OwnPut : (u : Update) (value : List ℕ) → IsUpdate u → length value ≡ u.value_len → IsRecord (OwnPut u value)
+unfolding record_text tagged own_put inner bytes_of
+IsRecord-OwnPut u value fits long =
+    let short = update_body_lawful.short u fits in
+    (put_tag, (in_range_32 4294967295 (length (text_of_update u)) (omega arith), ((fits, refl), (long, refl))))
+
+next_key : (me : ℕ) (J : List Record) (key value : List ℕ) → (next_own me J key value).key ≡ key
+unfolding next_own
+next_key me J key value = refl
+
+next_value_len : (me : ℕ) (J : List Record) (key value : List ℕ) → (next_own me J key value).value_len ≡ length value
+unfolding next_own
+next_value_len me J key value = refl
+
+-- the next own update has a text
+pub own_fits : (here : Setting) (J : List Record) (u : Update) (key value : List ℕ) → IsLawful here J → is_empty J ≡ false → IsKey key → IsValue value → u ≡ next_own here.me J key value → length u.deps ≤ 1024 → IsUpdate u
+own_fits here J u key value l some is_key is_value next few =
+    subst (λ (x : Update). IsUpdate x) (sym next) (next_own_fits here J key value l some is_key is_value (subst (λ (x : Update). length x.deps ≤ 1024) next few))
+
+-- and so has its record
+pub own_record_fits : (here : Setting) (J : List Record) (u : Update) (key value : List ℕ) → IsLawful here J → is_empty J ≡ false → IsKey key → IsValue value → u ≡ next_own here.me J key value → length u.deps ≤ 1024 → IsRecord (OwnPut u value)
+own_record_fits here J u key value l some is_key is_value next few =
+    IsRecord-OwnPut u value (own_fits here J u key value l some is_key is_value next few) (sym (ap (λ (x : Update). x.value_len) next ∙ next_value_len here.me J key value))
+
+-- the journal with it is lawful
+pub own_put_is_lawful : (here : Setting) (J : List Record) (u : Update) (key value : List ℕ) → IsLawful here J → is_empty J ≡ false → IsKey key → IsValue value → u ≡ next_own here.me J key value
+    → IsFresh J (id_of_update u) → length u.deps ≤ 1024 → length (own J) < leaf_count here.listed here.me → full_by here.me J (OwnPut u value ∷ []) ≡ None → IsLawful here (J ++ OwnPut u value ∷ [])
+own_put_is_lawful here J u key value l some is_key is_value next fresh few leaf room =
+    let is : u.key ≡ key = ap (λ (x : Update). x.key) next ∙ next_key here.me J key value in
+    let same : u ≡ next_own here.me J u.key value = next ∙ ap (λ (k : List ℕ). next_own here.me J k value) (sym is) in
+    lawful_push here J (OwnPut u value) l (record {
+      first = sym some;
+      text = own_record_fits here J u key value l some is_key is_value next few;
+      may = record { next = same; fresh = fresh; tips = few; leaf = leaf };
+      room = room;
+    })

@@ -1,0 +1,5 @@
+use Rattle.depot_laws.proofs.ContraryConvict.{nobody_convicts_itself}
+use Rattle.depot_laws.proofs.journals.nobody_convicts_itself.Goals as goal
+
+pub returns : goal.returns
+returns c here J l = nobody_convicts_itself here J l
