@@ -1,0 +1,11 @@
+pub mod Firsts
+pub mod Seen
+pub mod Checks
+pub mod Parents
+pub mod Convicting
+pub mod StateLaws
+pub mod Contents
+pub mod Rows
+pub mod Dues
+pub mod Known
+pub mod Answering

@@ -1,0 +1,6 @@
+pub mod View
+pub mod Convicts
+pub mod OwnVouchers
+pub mod Content
+pub mod Answers
+pub mod Behind

@@ -1,0 +1,16 @@
+-- The node's own vouchers.
+use Rattle.std.specs.Prelude.{◌≡◌, ℕ, List, Bool}
+use Rattle.std.specs.List.{AllByRecursion}
+use Rattle.std.specs.Str.{bytes_eq}
+use Rattle.depot_base.specs.declared.voucher.Voucher.{Voucher}
+use Rattle.depot_base.specs.declared.statement.Statement.TheVariants as statements
+use Rattle.depot_model.specs.Texts.{IsStatement, text_of_statement}
+
+-- whether a voucher has the same body as this one
+abbrev pub has_body_of_voucher : Voucher → Voucher → Bool
+has_body_of_voucher v own = bytes_eq (text_of_statement (statements.Voucher own)) (text_of_statement (statements.Voucher v))
+
+-- Each has a text, and names this node.
+pub record AreVouchersOf (node : ℕ) (vs : List Voucher) : Type 0 where
+  pub texts : AllByRecursion (λ v. IsStatement (statements.Voucher v)) vs
+  pub nodes : AllByRecursion (λ v. v.node ≡ node) vs

@@ -1,0 +1,44 @@
+-- What is seen of a state, and of which journals it is the state.
+use Rattle.std.specs.Prelude.{◌≡◌, ℕ, List, [], ◌∷◌}
+use Rattle.std.specs.List.{flat_map}
+use Rattle.depot_base.specs.declared.update.Update.{Update}
+use Rattle.depot_base.specs.declared.voucher.Voucher.{Voucher}
+use Rattle.depot_base.specs.declared.statement.Signed.{Signed}
+use Rattle.depot_base.specs.declared.key.RosterEntry.{RosterEntry}
+use Rattle.depot_base.specs.declared.record.Record.{Record}
+use Rattle.depot_base.specs.declared.record.Record.TheVariants.{OwnVoucher}
+use Rattle.depot_model.specs.Lists.{is_among}
+use Rattle.depot_model.specs.Journal.{accepted, foreign, vouched, is_convicted}
+use Rattle.depot_model.specs.Checks.{Setting}
+use Rattle.depot_model.specs.Roster.{Verifies}
+use Rattle.depot_vouch.specs.Vouching.{is_one_of}
+
+-- What is seen: the node's own number, its roster and its scheme, and what the checks look at.
+pub record View (S : Type 0) : Type 0 where
+  pub me : ℕ
+  pub listed : List RosterEntry
+  pub scheme : S
+  -- the accepted updates, and the signed statements of others, in the order in which they came
+  pub accepted : List Update
+  pub foreign : List Signed
+  -- the node's own vouchers
+  pub own_vouchers : List Voucher
+  -- the ids that others vouched for, and the convicted nodes
+  pub vouched : List (List ℕ)
+  pub convicted : List ℕ
+
+-- where the node stands
+abbrev pub setting : {S : Type 0} → Verifies → View S → Setting
+setting verifies v = record { verifies = verifies; me = v.me; listed = v.listed }
+
+abbrev pub own_voucher_by : Record → List Voucher
+own_voucher_by (OwnVoucher v) = v ∷ []
+own_voucher_by r = []
+
+-- The state is that of these records.
+pub record IsStateOf {S : Type 0} (J : List Record) (v : View S) : Type 0 where
+  pub accepted : accepted J ≡ v.accepted
+  pub foreign : foreign J ≡ v.foreign
+  pub own_vouchers : flat_map own_voucher_by J ≡ v.own_vouchers
+  pub vouched : (h : List ℕ) → is_among h (vouched J) ≡ is_among h v.vouched
+  pub convicted : (n : ℕ) → is_convicted J n ≡ is_one_of n v.convicted
