@@ -35,6 +35,13 @@ impl<T> Sequence<T> {
         Sequence(items)
     }
 
+    /// The vector of its items, which gives its memory.
+    pub fn into_vec(self) -> Vec<T>
+        ensures { result.items ≡ self }
+    {
+        self.0
+    }
+
     /// The items.
     pub fn as_slice(&self) -> &[T]
         ensures { result.now ≡ self.now }

@@ -131,6 +131,7 @@ fn vouchers_are_copied(rt: HostRuntime) -> Result<(), Fail> {
         ids,
     };
     assert_eq!(rt; voucher.copy()?.ids.as_slice().len(), 1);
+    assert_eq!(rt; voucher.ids.into_vec().len(), 1);
     Ok(())
 }
 

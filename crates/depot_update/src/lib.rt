@@ -24,7 +24,9 @@ pub use laws::{
     updates_are_prefix_free,
 };
 pub use proof::{decode_proof, encode_proof};
-pub use record::{decode_record, encode_record};
+pub use record::{
+    decode_record, encode_conviction, encode_foreign, encode_held, encode_own_put, encode_record,
+};
 pub use signed::{decode_signed, encode_signed};
 pub use statement::{decode_statement, encode_statement};
 pub use update::{decode_update, encode_update, id_of};

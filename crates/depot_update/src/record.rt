@@ -3,6 +3,7 @@ ghost use Rattle.std.specs.Prelude.{◌≡◌, ◌++◌, ◌≤◌, length, OnOk
 ghost use Rattle.depot_base.specs.Format.{inner};
 ghost use Rattle.depot_base.specs.Closed.{rest_of};
 ghost use Rattle.depot_base.specs.Reading.{Reads, Gives, DecodesClosed};
+ghost use Rattle.depot_base.specs.declared.record.Record.TheVariants.{OwnPut, Foreign, Conviction, Held};
 ghost use Rattle.depot_model.specs.Texts.{update_body};
 ghost use Rattle.depot_model.specs.Records.{birth, own_put, tagged, record_text, IsRecord, text_of_record};
 
@@ -12,7 +13,9 @@ use crate::update::{encode_update, whole_update};
 use crate::voucher::{put_voucher, whole_voucher};
 use depot_base::fault::{Fault, answer};
 use depot_base::reading::{at_end, hash_in, node_in, u8_in, u32_in};
-use depot_base::{Bytes, DecodeError, Fields, Hash32, Memory, NodeId, Record, Update, Value};
+use depot_base::{
+    Bytes, DecodeError, Fields, Hash32, Memory, NodeId, Proof, Record, Signed, Update, Value,
+};
 use std::alloc::Global;
 
 /// An update body of so many bytes.
@@ -139,6 +142,51 @@ fn put_own_put(alloc: Global, out: &mut Bytes, update: &Update, value: &Value) -
     out.push_all(value.bytes())
 }
 
+/// Writes the record of an own update and its value.
+#[tactic(auto, using(depot_base::proofs::Writing::texts), unfolding(depot_model::specs::Records::record_text, depot_model::specs::Records::tagged, depot_model::specs::Records::birth, depot_base::specs::Format::number, depot_base::specs::Format::bytes_of, depot_base::specs::Closed::rest_of))]
+fn write_own_put(
+    alloc: Global,
+    out: &mut Bytes,
+    update: &Update,
+    value: &Value,
+) -> Result<(), Memory>
+    requires { IsRecord (OwnPut update.now value.now) }
+    ensures { OnOk result (out.new ≡ out.old ++ text_of_record (OwnPut update.now value.now)) }
+{
+    out.push_u8(2)?;
+    put_own_put(alloc, out, update, value)
+}
+
+/// Writes the record of another's statement.
+#[tactic(auto, using(depot_base::proofs::Writing::texts), unfolding(depot_model::specs::Records::record_text, depot_model::specs::Records::tagged, depot_model::specs::Records::birth, depot_base::specs::Format::number, depot_base::specs::Format::bytes_of, depot_base::specs::Closed::rest_of))]
+fn write_foreign(out: &mut Bytes, signed: &Signed) -> Result<(), Memory>
+    requires { IsRecord (Foreign signed.now) }
+    ensures { OnOk result (out.new ≡ out.old ++ text_of_record (Foreign signed.now)) }
+{
+    out.push_u8(4)?;
+    put_signed(out, signed)
+}
+
+/// Writes the record of a conviction.
+#[tactic(auto, using(depot_base::proofs::Writing::texts), unfolding(depot_model::specs::Records::record_text, depot_model::specs::Records::tagged, depot_model::specs::Records::birth, depot_base::specs::Format::number, depot_base::specs::Format::bytes_of, depot_base::specs::Closed::rest_of))]
+fn write_conviction(out: &mut Bytes, proof: &Proof) -> Result<(), Memory>
+    requires { IsRecord (Conviction proof.now) }
+    ensures { OnOk result (out.new ≡ out.old ++ text_of_record (Conviction proof.now)) }
+{
+    out.push_u8(5)?;
+    put_proof(out, proof)
+}
+
+/// Writes the record of a value of others.
+#[tactic(auto, using(depot_base::proofs::Writing::texts), unfolding(depot_model::specs::Records::record_text, depot_model::specs::Records::tagged, depot_model::specs::Records::birth, depot_base::specs::Format::number, depot_base::specs::Format::bytes_of, depot_base::specs::Closed::rest_of))]
+fn write_held(out: &mut Bytes, value: &Value) -> Result<(), Memory>
+    requires { IsRecord (Held value.now) }
+    ensures { OnOk result (out.new ≡ out.old ++ text_of_record (Held value.now)) }
+{
+    out.push_u8(6)?;
+    out.push_all(value.bytes())
+}
+
 /// Writes a record.
 #[tactic(auto, using(depot_base::proofs::Writing::texts), unfolding(depot_model::specs::Records::record_text, depot_model::specs::Records::tagged, depot_model::specs::Records::birth, depot_base::specs::Format::number, depot_base::specs::Format::bytes_of, depot_base::specs::Closed::rest_of))]
 fn put_record(alloc: Global, out: &mut Bytes, item: &Record) -> Result<(), Memory>
@@ -151,26 +199,14 @@ fn put_record(alloc: Global, out: &mut Bytes, item: &Record) -> Result<(), Memor
             out.push_u16(node.number())?;
             out.push_all(roster.bytes())
         }
-        Record::OwnPut { update, value } => {
-            out.push_u8(2)?;
-            put_own_put(alloc, out, update, value)
-        }
+        Record::OwnPut { update, value } => write_own_put(alloc, out, update, value),
         Record::OwnVoucher { voucher } => {
             out.push_u8(3)?;
             put_voucher(out, voucher)
         }
-        Record::Foreign { signed } => {
-            out.push_u8(4)?;
-            put_signed(out, signed)
-        }
-        Record::Conviction { proof } => {
-            out.push_u8(5)?;
-            put_proof(out, proof)
-        }
-        Record::Held { value } => {
-            out.push_u8(6)?;
-            out.push_all(value.bytes())
-        }
+        Record::Foreign { signed } => write_foreign(out, signed),
+        Record::Conviction { proof } => write_conviction(out, proof),
+        Record::Held { value } => write_held(out, value),
     }
 }
 
@@ -181,5 +217,45 @@ pub fn encode_record(alloc: Global, item: &Record) -> Result<Bytes, Memory>
 {
     let mut out = Bytes::new(alloc);
     put_record(alloc, &mut out, item)?;
+    Ok(out)
+}
+
+/// The text of the record of an own update and its value.
+pub fn encode_own_put(alloc: Global, update: &Update, value: &Value) -> Result<Bytes, Memory>
+    requires { IsRecord (OwnPut update.now value.now) }
+    ensures { IfOk result (λ text. text ≡ text_of_record (OwnPut update.now value.now)) }
+{
+    let mut out = Bytes::new(alloc);
+    write_own_put(alloc, &mut out, update, value)?;
+    Ok(out)
+}
+
+/// The text of the record of another's statement.
+pub fn encode_foreign(alloc: Global, signed: &Signed) -> Result<Bytes, Memory>
+    requires { IsRecord (Foreign signed.now) }
+    ensures { IfOk result (λ text. text ≡ text_of_record (Foreign signed.now)) }
+{
+    let mut out = Bytes::new(alloc);
+    write_foreign(&mut out, signed)?;
+    Ok(out)
+}
+
+/// The text of the record of a conviction.
+pub fn encode_conviction(alloc: Global, proof: &Proof) -> Result<Bytes, Memory>
+    requires { IsRecord (Conviction proof.now) }
+    ensures { IfOk result (λ text. text ≡ text_of_record (Conviction proof.now)) }
+{
+    let mut out = Bytes::new(alloc);
+    write_conviction(&mut out, proof)?;
+    Ok(out)
+}
+
+/// The text of the record of a value of others.
+pub fn encode_held(alloc: Global, value: &Value) -> Result<Bytes, Memory>
+    requires { IsRecord (Held value.now) }
+    ensures { IfOk result (λ text. text ≡ text_of_record (Held value.now)) }
+{
+    let mut out = Bytes::new(alloc);
+    write_held(&mut out, value)?;
     Ok(out)
 }

@@ -1,6 +1,8 @@
 //! Texts and offsets from outside: a worked body, and a table of faults for each format.
+ghost use Rattle.depot_model.specs.Records.{IsRecord};
+
 use crate::*;
-use depot_base::{Bytes, Hash32};
+use depot_base::{Bytes, Hash32, Memory, Record};
 use std::alloc::Global;
 use std::test::Fail;
 
@@ -267,12 +269,29 @@ fn records(alloc: Global) -> Result<Vec<Vec<u8>>, Fail> {
     Ok(all)
 }
 
+/// The text of a record, by the encoder of its kind where there is one.
+fn encode_by_kind(alloc: Global, item: &Record) -> Result<Bytes, Memory>
+    requires { IsRecord item.now }
+{
+    match item {
+        Record::OwnPut { update, value } => encode_own_put(alloc, update, value),
+        Record::Foreign { signed } => encode_foreign(alloc, signed),
+        Record::Conviction { proof } => encode_conviction(alloc, proof),
+        Record::Held { value } => encode_held(alloc, value),
+        _ => encode_record(alloc, item),
+    }
+}
+
 #[test]
 fn a_record_is_read_and_written(rt: HostRuntime) -> Result<(), Fail> {
     for text in &records(rt.alloc())? {
         let item = decode_record(rt.alloc(), text.as_slice()).map_err(|_| "a record")?;
         assert_eq!(rt;
             encode_record(rt.alloc(), &item)?.as_slice(),
+            text.as_slice()
+        );
+        assert_eq!(rt;
+            encode_by_kind(rt.alloc(), &item)?.as_slice(),
             text.as_slice()
         );
     }
