@@ -1,0 +1,77 @@
+-- How much a lawful journal can hold.
+use Rattle.std.proofs.Common.{◌≡◌, ℕ, ◌+◌, ◌<◌, ◌≤◌, ◌^◌, List, [], ◌∷◌, ◌++◌, length, ap, arith, length-append}
+use Rattle.depot_base.specs.declared.record.Record.{Record}
+use Rattle.depot_base.specs.declared.record.Record.TheVariants.{Birth, OwnPut, OwnVoucher, Foreign, Conviction, Held}
+use Rattle.depot_base.specs.declared.statement.Signed.{Signed}
+use Rattle.depot_base.specs.declared.update.Update.{Update}
+use Rattle.depot_model.specs.Checks.{Setting}
+use Rattle.depot_model.specs.Journal.{accepted, foreign, foreign_by, own}
+use Rattle.depot_model.specs.Lawful.{IsLawful}
+use Rattle.depot_model.specs.Records.{text_of_record, journal_bytes}
+use Rattle.depot_laws.proofs.Counts.{bytes_more}
+use Rattle.depot_laws.proofs.Limits.{within_from_room}
+use Rattle.depot_laws.proofs.OwnTexts.{few_own, lawful_is_short}
+use Rattle.depot_laws.proofs.Splits.{lawful_front, lawful_last}
+use Rattle.depot_store.specs.Told.{IsTextOf}
+use Rattle.depot_store.specs.Totals.{AreTotals}
+use Rattle.depot_store.specs.declared.totals.Totals.{Totals}
+use Rattle.depot_store.proofs.LeafLaws.{few_accepted}
+use Rattle.depot_store.proofs.TotalLaws.{bytes_push}
+
+one_foreign : (r : Record) → length (foreign_by r) ≤ 1
+one_foreign (Birth node h) = omega arith
+one_foreign (OwnPut u value) = omega arith
+one_foreign (OwnVoucher v) = omega arith
+one_foreign (Foreign s) = omega arith
+one_foreign (Conviction p) = omega arith
+one_foreign (Held value) = omega arith
+
+-- no more statements of others than records
+few_foreign : (J : List Record) → length (foreign J) ≤ length J
+few_foreign [] = omega arith
+few_foreign (r ∷ J) = let one = one_foreign r in let more = few_foreign J in omega (arith, length-append (foreign_by r) (foreign J))
+
+-- what a lawful journal holds in front of its last record
+record AreWithin (J : List Record) (r : Record) : Type 0 where
+  pub records : length J < 131072
+  pub accepted : length (accepted J) < 131072
+  pub foreign : length (foreign J) < 131072
+  pub own : length (own J) < 131072
+  pub bytes : journal_bytes J + (5 + length (text_of_record r)) ≤ 2 ^ 30
+
+within : (here : Setting) (J : List Record) (r : Record) → IsLawful here (J ++ r ∷ []) → AreWithin J r
+within here J r l =
+    let w = within_from_room here.me J (r ∷ []) (lawful_last here J r l).room in
+    let few : length J < 131072 = omega (arith, w.records, length-append J (r ∷ [])) in
+    record {
+      records = few;
+      accepted = omega (arith, few, few_accepted J);
+      foreign = omega (arith, few, few_foreign J);
+      own = omega (arith, few, few_own J);
+      bytes = omega (arith, w.bytes, bytes_more J (r ∷ []));
+    }
+
+-- few enough that one more can be counted
+pub few_updates : (here : Setting) (J : List Record) (r : Record) (us : List Update) → IsLawful here (J ++ r ∷ []) → accepted J ≡ us → length us < 4294967295
+few_updates here J r us l is = let w = within here J r l in omega (arith, w.accepted, ap length is)
+
+pub few_statements : (here : Setting) (J : List Record) (r : Record) (kept : List Signed) → IsLawful here (J ++ r ∷ []) → foreign J ≡ kept → length kept < 4294967295
+few_statements here J r kept l is = let w = within here J r l in omega (arith, w.foreign, ap length is)
+
+pub few_of_own : (here : Setting) (me : ℕ) (J : List Record) (r : Record) (t : Totals) → IsLawful here (J ++ r ∷ []) → AreTotals me J t → t.own < 131072
+few_of_own here me J r t l a = let w = within here J r l in omega (arith, w.own, a.own)
+
+-- the bytes with those of the record
+pub few_bytes : (here : Setting) (J : List Record) (r : Record) (text : List ℕ) (size bytes : ℕ) → IsLawful here (J ++ r ∷ []) → IsTextOf r text → size ≡ 5 + length text → bytes ≡ journal_bytes J → bytes + size ≤ 2 ^ 30
+few_bytes here J r text size bytes l told is counted = let w = within here J r l in omega (arith, w.bytes, counted, is, ap length told.is)
+
+-- and the records in front of it
+pub few_records : (here : Setting) (J mid more : List Record) → IsLawful here (J ++ more) → mid ≡ J → length mid ≤ 131072
+few_records here J mid more l same = omega (arith, lawful_is_short here J (lawful_front here J more l), ap length same)
+
+-- the bytes with those of two records
+pub few_bytes_both : (here : Setting) (J mid : List Record) (r q : Record) (text other : List ℕ) (size more : ℕ) → IsLawful here ((J ++ r ∷ []) ++ q ∷ []) → IsTextOf r text → size ≡ 5 + length text → IsTextOf q other → more ≡ 5 + length other → mid ≡ J
+    → journal_bytes mid + (size + more) ≤ 2 ^ 30
+few_bytes_both here J mid r q text other size more l told is other_told other_is same =
+    let w = within here (J ++ r ∷ []) q l in
+    omega (arith, w.bytes, bytes_push J r text size told is, other_is, ap length other_told.is, ap journal_bytes same)
