@@ -1,0 +1,16 @@
+pub mod OfRead
+pub mod Answered
+pub mod GrowthLaws
+pub mod LawfulLaws
+pub mod FreshIds
+pub mod NextOwn
+pub mod PutLaws
+pub mod Dues
+pub mod ProofAnswers
+pub mod Wanted
+pub mod ValueAnswers
+pub mod RecordParts
+pub mod Beginnings
+pub mod TextWalk
+pub mod Started
+pub mod ReadLaws

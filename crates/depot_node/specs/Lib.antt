@@ -1,0 +1,4 @@
+pub mod Putting
+pub mod Answering
+pub mod Starting
+pub mod Keyed

@@ -1,0 +1,27 @@
+//! The node: a replica that puts, reads, and takes what others give it.
+//!
+//! A `Node` has a journal, a list of records, which is lawful: each record is allowed where it stands. It grows by what the
+//! node puts, which is the next own update, and by what the node takes, which is what the checks say of it; a refusal leaves
+//! it as it is, but where a fork or a step back convicts its writer. Reads go over the accepted updates of the journal.
+//!
+//! `Replica` is what others see of a node and give it, with its laws: the journal is lawful and has its birth record, and the
+//! roster has the node. The journal is kept in memory, as the list of its record texts; a node is started from such a list, and gives it back.
+//!
+//! Puts, statements, proofs, values and starts each have a file of that name, with functions over the
+//! `Store` of `depot_store`; `lawful` says of the takes that lawful journals stay lawful, and `node` puts them together.
+#![tactic(auto)]
+
+mod answer;
+mod lawful;
+mod node;
+mod proof;
+mod put;
+mod replica;
+mod start;
+mod statement;
+mod value;
+
+pub use answer::{PutDone, PutError, StartError};
+pub use depot_model::{TakeError, Taken};
+pub use node::Node;
+pub use replica::Replica;
