@@ -5,7 +5,7 @@ use Rattle.depot_base.specs.declared.fault.Fault.TheVariants.{Memory, At}
 use Rattle.depot_base.specs.declared.fault.DecodeError.TheVariants as errors
 use Rattle.depot_base.specs.Format.{Format, whole, FirstFault}
 use Rattle.depot_base.specs.Closed.{Closed}
-use Rattle.depot_base.specs.Reading.{Gives, decoded, IsEarly, Decodes, DecodesClosed, IsReadInOneWay}
+use Rattle.depot_base.specs.Reading.{Gives, decoded, IsEarly, Decodes, DecodesClosed, IsReadInOneWay, IsClosedReadInOneWay}
 use Rattle.depot_base.proofs.Laws.{IsBytes, cursor, Lawful, ok_is, not_err, err_is}
 use Rattle.depot_base.proofs.ClosedLaws.{LawfulClosed}
 use Rattle.depot_base.proofs.Combined.{prefix_free, whole_takes, whole_again, whole_faults, whole_stops, whole_early}
@@ -93,4 +93,13 @@ in_one_way {V = V} f m l = record {
       (prefix_free f m l v w [] [] fv fw same).0;
   good = λ v at fits fault. absurd (not_err v (0 + at) (sym (whole_again f m l 0 v fits) ∙ whole_stops f m l 0 (f.text v) at fault));
   place = λ text a b at_a at_b. omega (arith, err_is {A = V} (0 + a) (0 + b) (sym (whole_stops f m l 0 text a at_a) ∙ whole_stops f m l 0 text b at_b));
+}
+
+pub closed_in_one_way : {V : Type 0} (f : Closed V) (m : ℕ) → LawfulClosed f m → IsClosedReadInOneWay f
+closed_in_one_way {V = V} f m l = record {
+  value = λ v w fv fw e.
+      let again : f.read (cursor 0 (f.text v)) ≡ Ok w = rw e (l.again 0 w fw) in
+      ok_is v w (sym (l.again 0 v fv) ∙ again);
+  good = λ v at fits fault. absurd (not_err v (0 + at) (sym (l.again 0 v fits) ∙ l.stops 0 (f.text v) at fault));
+  place = λ text a b at_a at_b. omega (arith, err_is {A = V} (0 + a) (0 + b) (sym (l.stops 0 text a at_a) ∙ l.stops 0 text b at_b));
 }

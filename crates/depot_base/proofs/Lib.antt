@@ -7,3 +7,4 @@ pub mod PartLaws
 pub mod ClosedLaws
 pub mod Decoding
 pub mod Writing
+pub mod Trees

@@ -6,3 +6,5 @@ pub mod Closed
 pub mod Parts
 pub mod Reading
 pub mod Statement
+pub mod Faults
+pub mod Facts

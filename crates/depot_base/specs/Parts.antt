@@ -4,6 +4,7 @@ use Rattle.std.specs.Ordering.{nat_cmp, is_lt}
 use Rattle.std.specs.Cmp.Lexicographic.{slice_cmp}
 use Rattle.std.specs.Int.{w8, w16, w64}
 use Rattle.depot_base.specs.Format.{Format, number, bytes_of, field, made, list_of}
+use Rattle.depot_base.specs.declared.limits.TheConstants.{LEAST_HEIGHT, GREATEST_HEIGHT}
 use Rattle.depot_base.specs.declared.update.Dep.{Dep}
 use Rattle.depot_base.specs.declared.key.RosterEntry.{RosterEntry}
 
@@ -58,7 +59,7 @@ deps_of own count = list_of count dep (dep_rises own)
 unfoldable pub roster_entry : Format RosterEntry
 roster_entry =
     field node_number (λ e. e.node) λ node.
-    field (number w8 2 12) (λ e. e.key.height) λ height.
+    field (number w8 LEAST_HEIGHT GREATEST_HEIGHT) (λ e. e.key.height) λ height.
     field digest (λ e. e.key.root) λ root.
     made (record { node = node; key = record { root = root; height = height } })
 

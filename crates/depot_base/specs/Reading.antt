@@ -1,5 +1,5 @@
 -- What a reader of a text answers.
-use Rattle.std.specs.Prelude.{◌≡◌, ℕ, ◌^◌, ◌<◌, ◌≤◌, ◌⊎◌, List, ◌++◌, length, take, Option, Some, None, Result, Ok, Err}
+use Rattle.std.specs.Prelude.{◌≡◌, ℕ, ◌+◌, ◌^◌, ◌<◌, ◌≤◌, ◌⊎◌, List, ◌++◌, length, take, Option, Some, None, Result, Ok, Err}
 use Rattle.std.specs.Int.{Width, byte_len, from_be_bytes}
 use Rattle.depot_base.specs.Cursor.{Cursor, advanced}
 use Rattle.depot_base.specs.Format.{Format, FirstFault}
@@ -23,6 +23,15 @@ TakesBytes n old None new = (length old.rest < n) × (new ≡ old)
 abbrev pub TakesPart : ℕ → Cursor → Option Cursor → Cursor → Type 0
 TakesPart n old (Some part) new = (n ≤ length old.rest) × (part ≡ record { at = old.at; rest = take n old.rest }) × (new ≡ advanced n old)
 TakesPart n old None new = (length old.rest < n) × (new ≡ old)
+
+-- The reader went on in its text, or stayed: no byte is lost at its end.
+pub record GoesOn (old new : Cursor) : Type 0 where
+  pub onward : old.at ≤ new.at
+  pub end : new.at + length new.rest ≡ old.at + length old.rest
+
+-- behind what stood, some first bytes of the text were written, maybe none or all
+abbrev pub AddsFrontOf : List ℕ → List ℕ → List ℕ → Type 0
+AddsFrontOf old text new = (n : ℕ) × (new ≡ old ++ take n text)
 
 -- What a function returned, as view sees it, is what reading gives, unless memory ran out.
 abbrev pub ReadsBy : {X V : Type 0} → (X → V) → Result X Fault → Cursor → Result (V × Cursor) ℕ → Type 0
@@ -85,3 +94,9 @@ pub record IsReadInOneWay {V : Type 0} (f : Format V) : Type 0 where
   pub value : (v w : V) → f.fits v → f.fits w → f.text v ≡ f.text w → v ≡ w
   pub good : (v : V) (at : ℕ) → f.fits v → FirstFault f (f.text v) at → ⊥
   pub place : (text : List ℕ) (a b : ℕ) → FirstFault f text a → FirstFault f text b → a ≡ b
+
+-- The same of a format whose last field may take all that is left.
+pub record IsClosedReadInOneWay {V : Type 0} (f : Closed V) : Type 0 where
+  pub value : (v w : V) → f.fits v → f.fits w → f.text v ≡ f.text w → v ≡ w
+  pub good : (v : V) (at : ℕ) → f.fits v → f.fault (f.text v) at → ⊥
+  pub place : (text : List ℕ) (a b : ℕ) → f.fault text a → f.fault text b → a ≡ b

@@ -39,6 +39,13 @@ impl Bytes {
         Bytes(bytes)
     }
 
+    /// The vector of the bytes, which gives its memory.
+    pub fn into_vec(self) -> Vec<u8>
+        ensures { result.items ≡ self }
+    {
+        self.0
+    }
+
     /// The bytes.
     pub fn as_slice(&self) -> &[u8]
         ensures { result.now ≡ self.now }

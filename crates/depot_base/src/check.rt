@@ -26,13 +26,18 @@ pub enum Check {
     ClockFar(u64),
     /// The history hash isn't that of the past.
     BadHistory {
+        /// The update's own.
         given: Hash32,
+        /// That of its past.
         right: Hash32,
     },
-    /// The statement contradicts one that is kept, the first in the journal, and nobody vouched for it.
+    /// The statement contradicts one that is kept, its writer isn't convicted, and nobody vouched for it.
     Forked {
+        /// The id of the kept statement, the first in the journal that it contradicts.
         kept: Hash32,
+        /// Its own id.
         came: Hash32,
+        /// How they contradict each other, the first kind that holds.
         kind: Kind,
     },
     /// This writer is convicted, and nobody vouched for the update.

@@ -3,11 +3,12 @@ ghost use Rattle.std.specs.Prelude.{◌≡◌, ◌++◌, ℕ, Option, Bool, List
 ghost use Rattle.std.specs.List.{flat_map};
 ghost use Rattle.std.specs.Option.{option_copied};
 ghost use Rattle.depot_base.specs.Cursor.{Cursor};
-ghost use Rattle.depot_base.specs.Reading.{Reads, ReadsBy};
+ghost use Rattle.depot_base.specs.Reading.{Reads, ReadsBy, GoesOn, AddsFrontOf};
 ghost use Rattle.depot_base.specs.Format.{read_entries};
 ghost use Rattle.depot_base.specs.Parts.{node_number, node_rises, digest, digest_rises, dep, dep_rises, roster_entry, roster_entry_rises};
 
 use crate::fault::Fault;
+use crate::limits::{GREATEST_HEIGHT, LEAST_HEIGHT};
 use crate::reading::{hash_in, node_in, u8_in, u64_in};
 use crate::{Bytes, Dep, Fields, Hash32, Memory, NodeId, PublicKey, RosterEntry};
 use std::alloc::Global;
@@ -25,11 +26,13 @@ pub trait Entry: Drop {
 
     /// Takes an entry from the front.
     fn read(fields: &mut Fields<'_>) -> Result<Self, Fault>
-        ensures { Reads result fields.new (read fields.old) };
+        ensures stays { GoesOn fields.old fields.new }
+        ensures reads { Reads result fields.new (read fields.old) };
 
-    /// Writes its text at the end.
+    /// Writes its text at the end. After Memory a front of it may stand there.
     fn put(&self, out: &mut Bytes) -> Result<(), Memory>
-        ensures { OnOk result (out.new ≡ out.old ++ text self.now) };
+        ensures ok { OnOk result (out.new ≡ out.old ++ text self.now) }
+        ensures err { OnErr result (AddsFrontOf out.old (text self.now) out.new) };
 
     /// Whether it may stand behind that entry, or first, in a list of the writer `own`.
     fn may_follow(&self, before: Option<&Self>, own: u16) -> bool
@@ -43,7 +46,8 @@ pub fn entries_in<E: Entry>(
     count: u16,
     own: u16,
 ) -> Result<Vec<E>, Fault>
-    ensures { ReadsBy (λ v. v.items) result fields.new (read_entries E.read (E.may_follow own) count [] fields.old) }
+    ensures stays { GoesOn fields.old fields.new }
+    ensures reads { ReadsBy (λ v. v.items) result fields.new (read_entries E.read (E.may_follow own) count [] fields.old) }
 {
     let mut list = Vec::new(alloc);
     for _ in 0..count {
@@ -57,9 +61,10 @@ pub fn entries_in<E: Entry>(
     Ok(list)
 }
 
-/// Writes the texts of entries at the end, in their order.
+/// Writes the texts of entries at the end, in their order. After Memory a front of them may stand there.
 pub fn put_entries<E: Entry>(out: &mut Bytes, list: &[E]) -> Result<(), Memory>
-    ensures { OnOk result (out.new ≡ out.old ++ flat_map E.text list.now) }
+    ensures ok { OnOk result (out.new ≡ out.old ++ flat_map E.text list.now) }
+    ensures err { OnErr result (AddsFrontOf out.old (flat_map E.text list.now) out.new) }
 {
     for item in list {
         item.put(out)?;
@@ -162,7 +167,7 @@ impl Entry for RosterEntry {
     #[tactic(auto, unfolding(crate::specs::Parts::roster_entry))]
     fn read(fields: &mut Fields<'_>) -> Result<RosterEntry, Fault> {
         let node = node_in(fields)?;
-        let height = u8_in(fields, 2, 12)?;
+        let height = u8_in(fields, LEAST_HEIGHT, GREATEST_HEIGHT)?;
         let root = hash_in(fields)?;
         Ok(RosterEntry {
             node,

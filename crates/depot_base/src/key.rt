@@ -1,4 +1,5 @@
 //! Public keys.
+ghost use Rattle.std.specs.Prelude.{◌≡◌, ◌^◌, nat_lt};
 
 use crate::{Hash32, NodeId};
 
@@ -9,6 +10,16 @@ pub struct PublicKey {
     pub root: Hash32,
     /// The height, 2 to 12 in a roster: the tree has `2^height` leaves.
     pub height: u8,
+}
+
+impl PublicKey {
+    /// Whether its tree has the leaf `seq`: a tree of height h has `2^h` leaves.
+    #[tactic(auto, using(crate::proofs::Trees::leaf_of_high_tree))]
+    pub fn has_leaf(&self, seq: u32) -> bool
+        ensures { result ≡ nat_lt seq (2 ^ self.now.height) }
+    {
+        self.height >= 32 || u64::from(seq) < 1u64 << self.height
+    }
 }
 
 /// A node and its public key, as a roster lists them.

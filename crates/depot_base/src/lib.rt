@@ -18,6 +18,7 @@ pub mod fault;
 mod fields;
 mod hash;
 mod key;
+pub mod limits;
 mod memory;
 mod node;
 mod proof;

@@ -1,9 +1,10 @@
 //! Readers of the fields that texts are made of. Each takes what its format's table says, or gives the offset of the
-//! field that is cut short or out of its range.
+//! field that is cut short or out of its range. After an error the field may have been passed; what is left of the text still
+//! ends where it did.
 ghost use Rattle.std.specs.Prelude.{◌≡◌, ◌≤◌, length, IfOk, Result, Ok, Err, ◌==◌, if◌then◌else◌};
 ghost use Rattle.std.specs.Int.{w8, w16, w32, w64};
 ghost use Rattle.depot_base.specs.declared.fault.Fault.TheVariants.{At};
-ghost use Rattle.depot_base.specs.Reading.{Reads};
+ghost use Rattle.depot_base.specs.Reading.{Reads, GoesOn};
 ghost use Rattle.depot_base.specs.Format.{number, bytes_of};
 ghost use Rattle.depot_base.specs.Parts.{node_number, digest};
 
@@ -14,6 +15,7 @@ use std::alloc::Global;
 /// A byte from low to high.
 #[tactic(auto, unfolding(crate::specs::Format::number))]
 pub fn u8_in(fields: &mut Fields<'_>, low: u8, high: u8) -> Result<u8, Fault>
+    ensures stays { GoesOn fields.old fields.new }
     ensures reads { Reads result fields.new ((number w8 low high).read fields.old) }
     ensures in_range { IfOk result (λ n. (low ≤ n) × (n ≤ high)) }
 {
@@ -27,6 +29,7 @@ pub fn u8_in(fields: &mut Fields<'_>, low: u8, high: u8) -> Result<u8, Fault>
 /// A number of two bytes from low to high.
 #[tactic(auto, unfolding(crate::specs::Format::number))]
 pub fn u16_in(fields: &mut Fields<'_>, low: u16, high: u16) -> Result<u16, Fault>
+    ensures stays { GoesOn fields.old fields.new }
     ensures reads { Reads result fields.new ((number w16 low high).read fields.old) }
     ensures in_range { IfOk result (λ n. (low ≤ n) × (n ≤ high)) }
 {
@@ -40,6 +43,7 @@ pub fn u16_in(fields: &mut Fields<'_>, low: u16, high: u16) -> Result<u16, Fault
 /// A number of four bytes from low to high.
 #[tactic(auto, unfolding(crate::specs::Format::number))]
 pub fn u32_in(fields: &mut Fields<'_>, low: u32, high: u32) -> Result<u32, Fault>
+    ensures stays { GoesOn fields.old fields.new }
     ensures reads { Reads result fields.new ((number w32 low high).read fields.old) }
     ensures in_range { IfOk result (λ n. (low ≤ n) × (n ≤ high)) }
 {
@@ -53,6 +57,7 @@ pub fn u32_in(fields: &mut Fields<'_>, low: u32, high: u32) -> Result<u32, Fault
 /// A number of eight bytes from low to high.
 #[tactic(auto, unfolding(crate::specs::Format::number))]
 pub fn u64_in(fields: &mut Fields<'_>, low: u64, high: u64) -> Result<u64, Fault>
+    ensures stays { GoesOn fields.old fields.new }
     ensures reads { Reads result fields.new ((number w64 low high).read fields.old) }
     ensures in_range { IfOk result (λ n. (low ≤ n) × (n ≤ high)) }
 {
@@ -66,6 +71,7 @@ pub fn u64_in(fields: &mut Fields<'_>, low: u64, high: u64) -> Result<u64, Fault
 /// So many bytes, copied.
 #[tactic(auto, unfolding(crate::specs::Format::bytes_of))]
 pub fn bytes_in(alloc: Global, fields: &mut Fields<'_>, count: usize) -> Result<Bytes, Fault>
+    ensures stays { GoesOn fields.old fields.new }
     ensures reads { Reads result fields.new ((bytes_of count).read fields.old) }
     ensures length { IfOk result (λ bytes. length bytes ≡ count) }
 {
@@ -78,7 +84,8 @@ pub fn bytes_in(alloc: Global, fields: &mut Fields<'_>, count: usize) -> Result<
 
 /// The number of a node.
 pub fn node_in(fields: &mut Fields<'_>) -> Result<NodeId, Fault>
-    ensures { Reads result fields.new (node_number.read fields.old) }
+    ensures stays { GoesOn fields.old fields.new }
+    ensures reads { Reads result fields.new (node_number.read fields.old) }
 {
     let at = fields.at();
     let number = u16_in(fields, 1, u16::MAX)?;
@@ -91,7 +98,8 @@ pub fn node_in(fields: &mut Fields<'_>) -> Result<NodeId, Fault>
 /// A digest.
 #[tactic(auto, unfolding(crate::specs::Format::bytes_of))]
 pub fn hash_in(fields: &mut Fields<'_>) -> Result<Hash32, Fault>
-    ensures { Reads result fields.new (digest.read fields.old) }
+    ensures stays { GoesOn fields.old fields.new }
+    ensures reads { Reads result fields.new (digest.read fields.old) }
 {
     let at = fields.at();
     fields.take_hash().ok_or(Fault::At(at))

@@ -70,6 +70,19 @@ impl<T: Copy> Sequence<T> {
     }
 }
 
+impl Sequence<Bytes> {
+    /// The same texts once more.
+    pub fn copy(&self) -> Result<Sequence<Bytes>, Memory>
+        ensures { IfOk result (λ l. l ≡ self.now) }
+    {
+        let mut texts = Vec::new(*self.0.allocator());
+        for text in self.as_slice() {
+            texts.push(text.copy()?)?;
+        }
+        Ok(Sequence(texts))
+    }
+}
+
 /// The entries of an update.
 pub type Deps = Sequence<Dep>;
 

@@ -2,6 +2,7 @@
 ghost use Rattle.std.specs.Prelude.{◌≡◌, ℕ, List, IfOk};
 ghost use Rattle.depot_base.specs.Sized.{IsKey, IsValue, GivesWithin};
 
+use crate::limits::{MOST_KEY, MOST_VALUE};
 use crate::{Bytes, LengthError, Memory};
 use std::alloc::Global;
 use std::marker::Model;
@@ -19,14 +20,11 @@ impl Model for Key {
 }
 
 impl Key {
-    /// The most bytes of a key.
-    pub const MOST: usize = 255;
-
     /// The key of these bytes, or their number where it is no key's.
     pub fn new(alloc: Global, bytes: &[u8]) -> Result<Key, LengthError>
         ensures { GivesWithin IsKey bytes.now result }
     {
-        if bytes.is_empty() || bytes.len() > Key::MOST {
+        if bytes.is_empty() || bytes.len() > MOST_KEY {
             return Err(LengthError::Length(bytes.len()));
         }
         Ok(Key(Bytes::from_slice(alloc, bytes)?))
@@ -69,17 +67,22 @@ impl Model for Value {
 }
 
 impl Value {
-    /// The most bytes of a value.
-    pub const MOST: usize = 65_536;
-
     /// The value of these bytes, or their number where it is no value's.
     pub fn new(alloc: Global, bytes: &[u8]) -> Result<Value, LengthError>
         ensures { GivesWithin IsValue bytes.now result }
     {
-        if bytes.len() > Value::MOST {
+        if bytes.len() > MOST_VALUE {
             return Err(LengthError::Length(bytes.len()));
         }
         Ok(Value(Bytes::from_slice(alloc, bytes)?))
+    }
+
+    /// The value of bytes whose number is known to be a value's. It takes no memory.
+    pub fn from_bytes(bytes: Bytes) -> Value
+        requires { IsValue bytes }
+        ensures { result ≡ bytes }
+    {
+        Value(bytes)
     }
 
     /// Its bytes.

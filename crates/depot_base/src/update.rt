@@ -1,5 +1,5 @@
 //! One write of a key.
-ghost use Rattle.std.specs.Prelude.{◌≡◌, IfOk};
+ghost use Rattle.std.specs.Prelude.{◌≡◌, ◌↔◌, IsTrue, IfOk};
 
 use crate::{Deps, Hash32, Key, Memory, NodeId};
 
@@ -54,4 +54,32 @@ impl Update {
             history: self.history,
         })
     }
+
+    /// Whether the two are one update.
+    pub fn is_same(&self, other: &Update) -> bool
+        ensures { IsTrue result ↔ (self.now ≡ other.now) }
+    {
+        self.has_same_place(other)
+            && self.key.bytes() == other.key.bytes()
+            && self.value_hash == other.value_hash
+            && self.value_len == other.value_len
+            && are_same_deps(self.deps.as_slice(), other.deps.as_slice())
+            && self.history == other.history
+    }
+
+    /// Whether the two stand at one place of one writer's updates.
+    fn has_same_place(&self, other: &Update) -> bool
+        ensures { IsTrue result ↔ record { writer : self.now.writer ≡ other.now.writer; seq : self.now.seq ≡ other.now.seq; clock : self.now.clock ≡ other.now.clock; prev : self.now.prev ≡ other.now.prev } }
+    {
+        self.writer == other.writer
+            && self.seq == other.seq
+            && self.clock == other.clock
+            && self.prev == other.prev
+    }
+}
+
+fn are_same_deps(some: &[Dep], others: &[Dep]) -> bool
+    ensures { IsTrue result ↔ (some.now ≡ others.now) }
+{
+    some == others
 }

@@ -1,9 +1,9 @@
 //! What a node vouches for.
-ghost use Rattle.std.specs.Prelude.{◌≡◌, IfOk};
+ghost use Rattle.std.specs.Prelude.{◌≡◌, ◌↔◌, IsTrue, IfOk};
 
-use crate::{Ids, Memory, NodeId};
+use crate::{Hash32, Ids, Memory, NodeId};
 
-/// A list of updates that a node has accepted and vouches for, as the node signs it.
+/// A list of updates that a node says it has accepted, as it signs it. A faulty node may name any ids.
 #[derive(Debug, Drop)]
 pub struct Voucher {
     /// Who vouches.
@@ -25,4 +25,19 @@ impl Voucher {
             ids: self.ids.copy()?,
         })
     }
+
+    /// Whether the two are one voucher.
+    pub fn is_same(&self, other: &Voucher) -> bool
+        ensures { IsTrue result ↔ (self.now ≡ other.now) }
+    {
+        self.node == other.node
+            && self.seq == other.seq
+            && are_same_ids(self.ids.as_slice(), other.ids.as_slice())
+    }
+}
+
+fn are_same_ids(some: &[Hash32], others: &[Hash32]) -> bool
+    ensures { IsTrue result ↔ (some.now ≡ others.now) }
+{
+    some == others
 }
