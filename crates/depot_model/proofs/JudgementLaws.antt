@@ -1,5 +1,5 @@
 -- What a judgement says, and that a proof which is made of a contradiction is good.
-use Rattle.std.proofs.Common.{◌≡◌, ℕ, Bool, true, false, not, cond, List, Option, Some, None, Err, refl, sym, ap, subst, ◌∙◌, arith}
+use Rattle.std.proofs.Common.{◌≡◌, ℕ, Bool, true, false, not, cond, List, Option, Some, None, IfOk, Err, refl, sym, ap, subst, ◌∙◌, arith}
 use Rattle.std.specs.List.{AllByRecursion}
 use Rattle.std.specs.Option.{option_map_or}
 use Rattle.std.specs.Int.{w8}
@@ -20,7 +20,7 @@ use Rattle.depot_model.specs.Lists.{when}
 use Rattle.depot_model.specs.Texts.{proof, number_of_kind, kind_of_number, IsSigned, IsProof}
 use Rattle.depot_model.specs.Roster.{Verifies, key_of, has_node, is_signed}
 use Rattle.depot_model.specs.Contradictions.{contradicts}
-use Rattle.depot_model.specs.Judgement.{points, first_failed_point, verdict_of, IsTextOfProof, IsJudgementOf}
+use Rattle.depot_model.specs.Judgement.{points, first_failed_point, verdict_of, judged_by, IsTextOfProof, IsJudgementOf}
 use Rattle.depot_model.specs.Conviction.{proof_of, IsGood, Convicts}
 use Rattle.depot_model.proofs.BodyLaws.{body_is_text}
 use Rattle.depot_model.proofs.FirstLaws.{each_is_none, first_is, when-none, when-some}
@@ -185,3 +185,13 @@ pub IsGood-proof_of : (k : Kind) (a b : Signed) → IsSigned a → IsSigned b �
 IsGood-proof_of k a b fits_a fits_b contradict =
     let h = proof_of_is_in_order k a b fits_a fits_b contradict in
     λ verifies r first_signed second_signed. no_point_fails verifies r (proof_of k a b) first_signed second_signed h.below h.contradict
+
+-- ---- the answer on a text, from that on its proof
+
+pub judgement_of : (verifies : Verifies) (r : List RosterEntry) (text : List ℕ) (p : Proof) (o : Option JudgeError) → IsTextOfProof text p → first_failed_point verifies r p ≡ o → IsJudgementOf verifies r text (judged_by o p)
+judgement_of verifies r text p (Some e) shown failed = judged verifies r text p e shown failed
+judgement_of verifies r text p None shown failed = (p, (shown, (failed, refl)))
+
+pub conviction_of : (verifies : Verifies) (r : List RosterEntry) (text : List ℕ) (p : Proof) (o : Option JudgeError) → IsTextOfProof text p → first_failed_point verifies r p ≡ o → IfOk (judged_by o p) (Convicts verifies r text)
+conviction_of verifies r text p (Some e) shown failed = tt
+conviction_of verifies r text p None shown failed = convicts verifies r text p shown failed

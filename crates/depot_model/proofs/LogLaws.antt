@@ -19,7 +19,7 @@ use Rattle.depot_model.proofs.Members.{in_left, in_last, in_pushed, among_from, 
 -- ---- the front of a log
 
 -- the bytes have this update at their front, behind its length, and then the rest
-pub record Begins (bytes : List ℕ) (u : Update) (rest : List ℕ) : Type 0 where
+pub record AddsFrontOf (bytes : List ℕ) (u : Update) (rest : List ℕ) : Type 0 where
   pub fits : IsUpdate u
   pub is : bytes ≡ numeral w32 (length (text_of_update u)) ++ (text_of_update u ++ rest)
 
@@ -27,11 +27,11 @@ pub record Begins (bytes : List ℕ) (u : Update) (rest : List ℕ) : Type 0 whe
 abbrev pub told : List ℕ → ℕ
 told bytes = from_be_bytes w32 (take 4 bytes)
 
-length-numeral : (n : ℕ) → length (numeral w32 n) ≡ 4
+pub length-numeral : (n : ℕ) → length (numeral w32 n) ≡ 4
 unfolding numeral
 length-numeral n = wide32.len n
 
-told-numeral : (n : ℕ) → n < 2 ^ 32 → from_be_bytes w32 (numeral w32 n) ≡ n
+pub told-numeral : (n : ℕ) → n < 2 ^ 32 → from_be_bytes w32 (numeral w32 n) ≡ n
 unfolding numeral
 told-numeral n lt = wide32.again n lt
 
@@ -46,7 +46,7 @@ pub record Front (bytes : List ℕ) (u : Update) (rest : List ℕ) : Type 0 wher
   pub there : told bytes ≤ length (drop 4 bytes)
   pub body : take (told bytes) (drop 4 bytes) ≡ text_of_update u
 
-pub front : (bytes : List ℕ) (u : Update) (rest : List ℕ) → Begins bytes u rest → Front bytes u rest
+pub front : (bytes : List ℕ) (u : Update) (rest : List ℕ) → AddsFrontOf bytes u rest → Front bytes u rest
 front bytes u rest b =
     let n : ℕ = length (text_of_update u) in
     let four = length-numeral n in
@@ -64,7 +64,7 @@ front bytes u rest b =
     }
 
 -- a body in front isn't bad
-pub not_bad : (bytes : List ℕ) (u : Update) (rest : List ℕ) (later : ℕ) → Begins bytes u rest → GoesWrong bytes later → ⊥
+pub not_bad : (bytes : List ℕ) (u : Update) (rest : List ℕ) (later : ℕ) → AddsFrontOf bytes u rest → GoesWrong bytes later → ⊥
 not_bad bytes u rest later b (inl bad) =
     let f = front bytes u rest b in
     elim bad.1 [ inl cut ↦ omega (arith, f.long, cut.1) | inr past ↦ omega (arith, f.there, past.1) ]
@@ -74,7 +74,7 @@ not_bad bytes u rest later b (inr bad) =
     not_err u (0 + bad.0) (sym good ∙ whole_stops update_body 43382 update_body_lawful 0 (take (told bytes) (drop 4 bytes)) bad.0 bad.1.1.fault)
 
 -- nothing is no body
-pub nothing_begins : (u : Update) (rest : List ℕ) → Begins [] u rest → ⊥
+pub nothing_begins : (u : Update) (rest : List ℕ) → AddsFrontOf [] u rest → ⊥
 nothing_begins u rest b = let f = front [] u rest b in omega (arith, f.long)
 
 -- nothing isn't bad
@@ -95,7 +95,7 @@ one_bad bytes i j (inr a) (inr b) =
     omega (arith, a.1.0, b.1.0, same)
 
 -- one body stands in front
-pub one_begins : (bytes : List ℕ) (u v : Update) (x y : List ℕ) → Begins bytes u x → Begins bytes v y → (u ≡ v) × (x ≡ y)
+pub one_begins : (bytes : List ℕ) (u v : Update) (x y : List ℕ) → AddsFrontOf bytes u x → AddsFrontOf bytes v y → (u ≡ v) × (x ≡ y)
 one_begins bytes u v x y a b =
     prefix_free update_body 43382 update_body_lawful u v x y a.fits b.fits (sym (front bytes u x a).behind ∙ (front bytes v y b).behind)
 
@@ -114,7 +114,7 @@ log-push (x ∷ us) u = rw (log-push us u) (simp append_assoc)
 
 -- no body stands in front
 abbrev pub Stops : List ℕ → Type 0
-Stops bytes = (u : Update) (rest : List ℕ) → Begins bytes u rest → ⊥
+Stops bytes = (u : Update) (rest : List ℕ) → AddsFrontOf bytes u rest → ⊥
 
 -- good bodies, as far as they go
 pub one_way : (xs ys : List Update) (r s : List ℕ) → AllByRecursion IsUpdate xs → AllByRecursion IsUpdate ys → Stops r → Stops s → text_of_log xs ++ r ≡ text_of_log ys ++ s → (xs ≡ ys) × (r ≡ s)
@@ -123,8 +123,8 @@ one_way [] [] r s fx fy stop_r stop_s e = (refl, e)
 one_way [] (y ∷ ys) r s fx fy stop_r stop_s e = absurd (stop_r y (text_of_log ys ++ s) (record { fits = fy.0; is = e ∙ log-cons y ys s }))
 one_way (x ∷ xs) [] r s fx fy stop_r stop_s e = absurd (stop_s x (text_of_log xs ++ r) (record { fits = fx.0; is = sym e ∙ log-cons x xs r }))
 one_way (x ∷ xs) (y ∷ ys) r s fx fy stop_r stop_s e =
-    let a : Begins (text_of_log (x ∷ xs) ++ r) x (text_of_log xs ++ r) = record { fits = fx.0; is = log-cons x xs r } in
-    let b : Begins (text_of_log (x ∷ xs) ++ r) y (text_of_log ys ++ s) = record { fits = fy.0; is = e ∙ log-cons y ys s } in
+    let a : AddsFrontOf (text_of_log (x ∷ xs) ++ r) x (text_of_log xs ++ r) = record { fits = fx.0; is = log-cons x xs r } in
+    let b : AddsFrontOf (text_of_log (x ∷ xs) ++ r) y (text_of_log ys ++ s) = record { fits = fy.0; is = e ∙ log-cons y ys s } in
     let heads = one_begins (text_of_log (x ∷ xs) ++ r) x y (text_of_log xs ++ r) (text_of_log ys ++ s) a b in
     let tails = one_way xs ys r s fx.1 fy.1 stop_r stop_s heads.1 in
     (cc, tails.1)

@@ -1,6 +1,6 @@
 -- Membership, and the tests that decide it.
 use Rattle.std.proofs.Common.{◌≡◌, ℕ, zero, suc, ◌<◌, List, [], ◌∷◌, ◌++◌, map, length, get_or, Bool, true, false, ◌||◌, ◌&&◌, cond, refl, sym, ap, subst, ◌∙◌, arith, inl, inr, ◌⊎◌}
-use Rattle.std.specs.List.{AllByRecursion, Contains, list_any, list_all}
+use Rattle.std.specs.List.{AllByRecursion, Contains, filter, list_any, list_all}
 use Rattle.std.specs.List.Sorted.{IsPermutation}
 use Rattle.std.specs.Str.{bytes_eq}
 use Rattle.std.proofs.lemmas.List.Sorted.{Contains-permutation}
@@ -168,3 +168,19 @@ in_at x (y ∷ ys) (suc k) lt e = inr (in_at x ys k (omega arith) e)
 -- a list in another order has the same members
 pub in_permuted : {X : Type 0} (x : X) (xs ys : List X) → IsPermutation xs ys → IsIn x xs → IsIn x ys
 in_permuted x xs ys p on = let c = Contains-permutation xs ys x p (contains_from x xs on) in in_at x ys c.0 c.1 c.2
+
+-- ---- lists that are filtered
+
+-- what is left passed the test
+pub from_filter : {X : Type 0} (test : X → Bool) (x : X) (xs : List X) → IsIn x (filter test xs) → IsIn x xs × (test x ≡ true)
+from_filter test x [] never = absurd never
+from_filter test x (y ∷ ys) on = elim (chosen_cases (test y) x y (filter test ys) on) [
+  | inl here ↦ (inl here.1, sym (ap test here.1) ∙ here.0)
+  | inr there ↦ let rest = from_filter test x ys there in (inr rest.0, rest.1)
+]
+
+-- what passes the test is left
+pub in_filter : {X : Type 0} (test : X → Bool) (x : X) (xs : List X) → IsIn x xs → test x ≡ true → IsIn x (filter test xs)
+in_filter test x [] never e = absurd never
+in_filter test x (y ∷ ys) (inl here) e = chosen_front (test y) x y (filter test ys) (ap test here ∙ e) here
+in_filter test x (y ∷ ys) (inr there) e = chosen_behind (test y) x y (filter test ys) (in_filter test x ys there e)

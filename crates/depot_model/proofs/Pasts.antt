@@ -7,10 +7,11 @@ use Rattle.depot_model.specs.Order.{IsPath, IsParent, Precedes, parents, is_name
 use Rattle.depot_model.proofs.Members.{in_left, in_pushed, in_last, any_from, any_to, among_from, among_to, chosen_cases, chosen_behind, chosen_front}
 use Rattle.depot_model.proofs.Orders.{parent_precedes, leads_more, first_names_none, causal_behind, precedes_from}
 
-named_by : (t : Update) (ws : List Update) → is_named t ws ≡ true → (w : Update) × (IsIn w ws × IsIn (id_of_update t) (parents w))
+-- what is named by one of some updates, and back
+pub named_by : (t : Update) (ws : List Update) → is_named t ws ≡ true → (w : Update) × (IsIn w ws × IsIn (id_of_update t) (parents w))
 named_by t ws e = let r = any_to (λ (w : Update). is_among (id_of_update t) (parents w)) ws e in (r.0, (r.1.0, among_to (id_of_update t) (parents r.0) r.1.1))
 
-is_named_by : (t w : Update) (ws : List Update) → IsIn w ws → IsIn (id_of_update t) (parents w) → is_named t ws ≡ true
+pub is_named_by : (t w : Update) (ws : List Update) → IsIn w ws → IsIn (id_of_update t) (parents w) → is_named t ws ≡ true
 is_named_by t w ws on named = any_from (λ (w : Update). is_among (id_of_update t) (parents w)) w ws on (among_from (id_of_update t) (parents w) named)
 
 -- the past is a part of the list

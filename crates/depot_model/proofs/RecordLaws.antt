@@ -1,11 +1,14 @@
 -- The text of a record is lawful.
-use Rattle.std.proofs.Common.{◌≡◌, ℕ, zero, suc, ◌≤◌, eqb, Some, List, refl, ap, arith}
-use Rattle.std.specs.Int.{w8, w32}
-use Rattle.depot_base.specs.Format.{number, inner, HasPart}
+use Rattle.std.proofs.Common.{◌≡◌, ℕ, zero, suc, ◌+◌, ◌≤◌, eqb, Some, List, ◌∷◌, ◌++◌, length, take, drop, refl, ap, ◌∙◌, arith}
+use Rattle.std.specs.Int.{w8, w32, from_be_bytes}
+use Rattle.std.proofs.lemmas.List.{take_at, drop_at, append-nil, length-append}
+use Rattle.depot_base.specs.Cursor.{numeral}
+use Rattle.depot_base.specs.Format.{number, bytes_of, inner, HasPart}
 use Rattle.depot_base.specs.Closed.{closing, rest_of}
 use Rattle.depot_base.specs.declared.update.Update.{Update}
 use Rattle.depot_base.specs.declared.voucher.Voucher.{Voucher}
 use Rattle.depot_base.specs.declared.statement.Signed.{Signed}
+use Rattle.depot_base.specs.declared.statement.Statement.TheVariants as statements
 use Rattle.depot_base.specs.declared.proof.Proof.{Proof}
 use Rattle.depot_base.specs.declared.record.Record.{Record}
 use Rattle.depot_base.specs.declared.record.Record.TheVariants.{Birth, OwnPut, OwnVoucher, Foreign, Conviction, Held}
@@ -14,9 +17,10 @@ use Rattle.depot_base.proofs.Numbers.{number_within}
 use Rattle.depot_base.proofs.Combined.{bytes_lawful, inner_lawful, inner_count, made_lawful, field_lawful}
 use Rattle.depot_base.proofs.PartLaws.{u8_lawful, u32_lawful, node_lawful, digest_lawful}
 use Rattle.depot_base.proofs.ClosedLaws.{LawfulClosed, closing_lawful, rest_lawful, before_lawful, closed_variant_lawful, closed_choose_lawful, weaken_closed}
-use Rattle.depot_model.specs.Texts.{update_fields, update_body, voucher_body, signed, proof, IsUpdate}
-use Rattle.depot_model.specs.Records.{as_birth, as_own_put, as_own_voucher, as_foreign, as_conviction, as_held, birth, own_put, tag_of, tagged, record_text}
-use Rattle.depot_model.proofs.TextLaws.{update_body_lawful, voucher_body_lawful, signed_lawful, proof_lawful}
+use Rattle.depot_model.specs.Texts.{update_fields, update_body, voucher_body, statement, signed, proof, IsUpdate, text_of_update, text_of_statement}
+use Rattle.depot_model.specs.Records.{as_birth, as_own_put, as_own_voucher, as_foreign, as_conviction, as_held, birth, own_put, tag_of, tagged, record_text, IsRecord, text_of_record}
+use Rattle.depot_model.proofs.LogLaws.{length-numeral, told-numeral}
+use Rattle.depot_model.proofs.TextLaws.{update_is_short, update_body_lawful, voucher_body_lawful, signed_lawful, proof_lawful}
 
 -- ---- what stands behind a tag
 
@@ -119,3 +123,43 @@ pub record_text_lawful : LawfulClosed record_text 108923
 unfolding record_text
 record_text_lawful =
     before_lawful (number w8 1 6) tag_of tagged 1 108922 (u8_lawful 1 6 (omega arith)) (λ a r f h. let w = number_within w8 1 6 a f in tag_is a r w.0 w.1 h) λ tag _. tagged_lawful tag
+
+-- ---- what stands in the text of an own record
+
+-- its update fits
+pub update_of_own_put : (u : Update) (value : List ℕ) → IsRecord (OwnPut u value) → IsUpdate u
+unfolding record_text tagged own_put inner
+update_of_own_put u value fits = fits.1.1.0.0
+
+-- the tag, the length of the body, the body and the value
+pub own_put_text : (u : Update) (value : List ℕ) → text_of_record (OwnPut u value) ≡ 2 ∷ (numeral w32 (length (text_of_update u)) ++ (text_of_update u ++ value))
+unfolding record_text tagged own_put number bytes_of inner numeral
+own_put_text u value = rw (append-nil value) refl
+
+-- the length is read back
+pub length_in_own_put : (text : List ℕ) (u : Update) (value : List ℕ) → IsRecord (OwnPut u value) → text ≡ text_of_record (OwnPut u value) → from_be_bytes w32 (take 4 (drop 1 text)) ≡ length (text_of_update u)
+length_in_own_put text u value fits is =
+    let n = length (text_of_update u) in
+    let written : take 4 (drop 1 text) ≡ numeral w32 n = ap (λ (l : List ℕ). take 4 (drop 1 l)) (is ∙ own_put_text u value) ∙ take_at (numeral w32 n) (text_of_update u ++ value) 4 (length-numeral n) in
+    ap (from_be_bytes w32) written ∙ told-numeral n (omega (arith, update_is_short u (update_of_own_put u value fits)))
+
+-- so the body is found behind it
+pub body_in_own_put : (text : List ℕ) (u : Update) (value : List ℕ) → IsRecord (OwnPut u value) → text ≡ text_of_record (OwnPut u value)
+    → take (from_be_bytes w32 (take 4 (drop 1 text))) (drop 5 text) ≡ text_of_update u
+body_in_own_put text u value fits is =
+    let body = text_of_update u in
+    let n = length body in
+    let count : from_be_bytes w32 (take 4 (drop 1 text)) ≡ n = length_in_own_put text u value fits is in
+    let behind : drop 5 text ≡ body ++ value = ap (λ (l : List ℕ). drop 5 l) (is ∙ own_put_text u value) ∙ drop_at (numeral w32 n) (body ++ value) 4 (length-numeral n) in
+    ap (λ (k : ℕ). take k (drop 5 text)) count ∙ ap (λ (l : List ℕ). take n l) behind ∙ take_at body value n refl
+
+-- an own update's record is long enough
+pub long_own_put : (text : List ℕ) (u : Update) (value : List ℕ) → text ≡ text_of_record (OwnPut u value) → length text ≡ 5 + length (text_of_update u) + length value
+long_own_put text u value is =
+    let n = length (text_of_update u) in
+    omega (arith, ap length (is ∙ own_put_text u value), length-append (numeral w32 n) (text_of_update u ++ value), length-append (text_of_update u) value, length-numeral n)
+
+-- an own voucher's record is a tag, and then its body
+pub own_voucher_text : (v : Voucher) → text_of_record (OwnVoucher v) ≡ 3 ∷ text_of_statement (statements.Voucher v)
+unfolding record_text tagged voucher_body statement number numeral
+own_voucher_text v = refl

@@ -121,3 +121,21 @@ roster_lawful =
     field_lawful _ _ _ 2 _ (u16_lawful 1 256 (omega arith)) (λ a r f h. list_count a roster_entry roster_entry_rises r h.0) λ count c.
     field_lawful _ _ _ 8960 0 (weaken _ (count * 35) 8960 (let r = number_within w16 1 256 count c in omega arith) (list_lawful count roster_entry roster_entry_rises 35 roster_entry_lawful)) (λ a r f h. cc) λ listed _.
     made_lawful _
+
+-- ---- lengths
+
+-- a body of an update has at most 43,382 bytes
+pub update_is_short : (u : Update) → update_body.fits u → length (update_body.text u) ≤ 43382
+update_is_short u fits = update_body_lawful.short u fits
+
+-- and so has that of any statement
+pub statement_is_short : (s : Statement) → statement.fits s → length (statement.text s) ≤ 43382
+statement_is_short s fits = statement_lawful.short s fits
+
+-- a signed statement's text has at most 51,582
+pub signed_is_short : (s : Signed) → signed.fits s → length (signed.text s) ≤ 51582
+signed_is_short s fits = signed_lawful.short s fits
+
+-- a proof's at most 103,166
+pub proof_is_short : (p : Proof) → proof.fits p → length (proof.text p) ≤ 103166
+proof_is_short p fits = proof_lawful.short p fits

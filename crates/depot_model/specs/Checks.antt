@@ -3,7 +3,7 @@ use Rattle.std.specs.Prelude.{ℕ, suc, ◌+◌, List, [], ◌∷◌, ◌++◌, 
 use Rattle.std.specs.List.{flat_map, list_any}
 use Rattle.std.specs.Str.{bytes_eq}
 use Rattle.sha2.specs.Sha256.{sha256}
-use Rattle.depot_base.specs.Parts.{is_below}
+use Rattle.depot_base.specs.declared.limits.TheConstants.{MOST_AHEAD}
 use Rattle.depot_base.specs.Statement.{writer_of}
 use Rattle.depot_base.specs.declared.update.Update.{Update}
 use Rattle.depot_base.specs.declared.update.Dep.{Dep}
@@ -23,7 +23,10 @@ use Rattle.depot_model.specs.Lists.{when, first}
 use Rattle.depot_model.specs.Texts.{text_of_statement, id_of_update, id_of_statement}
 use Rattle.depot_model.specs.Order.{prevs, past}
 use Rattle.depot_model.specs.History.{history_hash}
-use Rattle.depot_model.specs.Contradictions.{contradicts, kind_of}
+use Rattle.depot_model.specs.declared.judgement.JudgeError.{JudgeError}
+use Rattle.depot_model.specs.declared.judgement.JudgeError.TheVariants as point
+use Rattle.depot_model.specs.Contradictions.{kind_of}
+use Rattle.depot_model.specs.Judgement.{half_of, first_failed_point}
 use Rattle.depot_model.specs.Conviction.{proof_of}
 use Rattle.depot_model.specs.Roster.{Verifies, has_node, is_signed}
 use Rattle.depot_model.specs.Journal.{accepted, foreign, accused, update_in, voucher_by, has_id, named, is_convicted, is_vouched, holds_hash, is_wanted}
@@ -109,7 +112,7 @@ greatest_of (o ∷ os) = max (clock_of o) (greatest_of os)
 abbrev pub clock_far : Update → Sight → Option Check
 clock_far u seen =
     let greatest = greatest_of (seen.before ++ map (λ e. e.1) seen.entries) in
-    when (nat_lt (greatest + 65536) u.clock) (check.ClockFar greatest)
+    when (nat_lt (greatest + MOST_AHEAD) u.clock) (check.ClockFar greatest)
 
 -- the history hash isn't the right one
 abbrev pub bad_history : Update → Sight → Option Check
@@ -154,17 +157,16 @@ statement_checks here J s =
     when (not (is_signed here.verifies here.listed s)) (check.BadSignature (writer_of s.statement)) ∷
     (content_of J s.statement ++ (forked J s.statement ∷ refused_as_convicted J s.statement ∷ []))
 
--- the halves are of one writer, the smaller body first, and contradict each other in the stated kind
-abbrev pub is_contradiction : Proof → Bool
-is_contradiction p = is_below p.first.body p.second.body && contradicts p.kind p.first.statement p.second.statement
+-- the check that a proof fails where it fails a point of the judge
+abbrev pub check_of_point : Proof → JudgeError → Check
+check_of_point p (point.UnknownWriter n) = check.UnknownWriter n
+check_of_point p (point.BadSignature half) = check.BadSignature (writer_of (half_of half p).statement)
+check_of_point p other = check.NotContradictory
 
+-- what a judge asks of it, and then that it isn't against the node itself
 unfoldable pub proof_checks : Setting → Proof → List (Option Check)
 proof_checks here p =
-    when (not (has_node here.listed (writer_of p.first.statement))) (check.UnknownWriter (writer_of p.first.statement)) ∷
-    when (not (has_node here.listed (writer_of p.second.statement))) (check.UnknownWriter (writer_of p.second.statement)) ∷
-    when (not (is_signed here.verifies here.listed p.first)) (check.BadSignature (writer_of p.first.statement)) ∷
-    when (not (is_signed here.verifies here.listed p.second)) (check.BadSignature (writer_of p.second.statement)) ∷
-    when (not (is_contradiction p)) check.NotContradictory ∷
+    option_map (check_of_point p) (first_failed_point here.verifies here.listed p) ∷
     when (accused p == here.me) check.AgainstMe ∷ []
 
 -- the first check that fails, or none

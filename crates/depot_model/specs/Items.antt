@@ -1,6 +1,7 @@
 -- Updates by their places in a list, from 0.
-use Rattle.std.specs.Prelude.{◌≡◌, ℕ, ◌+◌, List, [], ◌∷◌, Bool, not, Option, Some, None, IfSome, slice_get, position, if◌then◌else◌}
-use Rattle.std.specs.List.{AllByRecursion}
+use Rattle.std.specs.Prelude.{◌≡◌, ℕ, ◌+◌, List, [], ◌∷◌, Bool, not, Option, Some, None, slice_get, position, if◌then◌else◌}
+use Rattle.std.specs.List.{AllByRecursion, flat_map}
+use Rattle.std.specs.Option.{option_to_list}
 use Rattle.std.specs.Str.{bytes_eq}
 use Rattle.depot_base.specs.Zeros.{zeros}
 use Rattle.depot_base.specs.declared.update.Update.{Update}
@@ -9,9 +10,13 @@ use Rattle.depot_model.specs.Texts.{id_of_update}
 use Rattle.depot_model.specs.Order.{Precedes, prevs}
 use Rattle.depot_model.specs.History.{is_prev_in}
 
--- of the update at a place, if there is one, this holds
+-- an update stands at this place, and this holds of it
 abbrev pub at : List Update → ℕ → (Update → Type 0) → Type 0
-at us place P = IfSome (slice_get us place) P
+at us place P = (u : Update) × ((slice_get us place ≡ Some u) × P u)
+
+-- the updates at these places
+abbrev pub updates_at : List Update → List ℕ → List Update
+updates_at us places = flat_map (λ place. option_to_list (slice_get us place)) places
 
 -- the place of the first update with this id
 abbrev pub place_of_id : List ℕ → List Update → Option ℕ

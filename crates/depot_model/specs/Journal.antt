@@ -1,10 +1,9 @@
 -- The readings of a journal: what its records tell.
-use Rattle.std.specs.Prelude.{ℕ, List, [], ◌∷◌, ◌++◌, length, map, Bool, ◌&&◌, ◌==◌, Option, Some, None, option_and_then, if◌then◌else◌}
+use Rattle.std.specs.Prelude.{ℕ, List, [], ◌∷◌, ◌++◌, length, map, Bool, not, ◌&&◌, ◌==◌, Option, Some, None, option_and_then, if◌then◌else◌}
 use Rattle.std.specs.List.{flat_map, list_any}
 use Rattle.std.specs.Str.{bytes_eq}
 use Rattle.sha2.specs.Sha256.{sha256}
 use Rattle.depot_base.specs.Zeros.{zeros}
-use Rattle.depot_base.specs.Statement.{writer_of}
 use Rattle.depot_base.specs.declared.update.Update.{Update}
 use Rattle.depot_base.specs.declared.voucher.Voucher.{Voucher}
 use Rattle.depot_base.specs.declared.statement.Statement.{Statement}
@@ -13,7 +12,9 @@ use Rattle.depot_base.specs.declared.statement.Signed.{Signed}
 use Rattle.depot_base.specs.declared.proof.Proof.{Proof}
 use Rattle.depot_base.specs.declared.record.Record.{Record}
 use Rattle.depot_base.specs.declared.record.Record.TheVariants.{OwnPut, OwnVoucher, Foreign, Conviction, Held}
-use Rattle.depot_model.specs.Lists.{is_among, when}
+use Rattle.depot_model.specs.Lists.{is_among, is_one_of, when}
+use Rattle.depot_model.specs.Contents.{NamedValue, value_named, names_value}
+pub use Rattle.depot_model.specs.Contents.{accused}
 use Rattle.depot_model.specs.Texts.{id_of_update}
 
 -- ---- what one record tells
@@ -69,13 +70,12 @@ own J = flat_map own_by J
 abbrev pub foreign : List Record → List Signed
 foreign J = flat_map foreign_by J
 
--- the node that a proof names
-abbrev pub accused : Proof → ℕ
-accused p = writer_of p.first.statement
+-- the proofs that are kept, against the nodes that they accuse
+abbrev pub proofs : List Record → List Proof
+proofs J = flat_map proof_by J
 
--- the nodes that conviction records name
 abbrev pub convicted : List Record → List ℕ
-convicted J = map accused (flat_map proof_by J)
+convicted J = map accused (proofs J)
 
 -- the ids that vouchers of others name
 abbrev pub vouched : List Record → List (List ℕ)
@@ -105,18 +105,21 @@ named (t ∷ ts) h = if bytes_eq (id_of_update t) h then Some t else named ts h
 unfoldable pub prev_of : List Update → List ℕ → Option Update
 prev_of us h = if bytes_eq h zeros then None else named us h
 
--- the id of the last own update, or 32 zero bytes; h where no update follows
+-- the id of the last update of these, or h where there is none
 abbrev pub last_own_behind : List ℕ → List Statement → List ℕ
 last_own_behind h [] = h
 last_own_behind h (statement.Update u ∷ ss) = last_own_behind (id_of_update u) ss
 last_own_behind h (statement.Voucher v ∷ ss) = last_own_behind h ss
 
+-- the id of the last own update, or 32 zero bytes
 abbrev pub last_own : List Record → List ℕ
 last_own J = last_own_behind zeros (own J)
 
+-- the node is convicted
 unfoldable pub is_convicted : List Record → ℕ → Bool
-is_convicted J n = list_any (λ m. m == n) (convicted J)
+is_convicted J n = is_one_of n (convicted J)
 
+-- another node vouched for the update; of a voucher it is false
 unfoldable pub is_vouched : List Record → Statement → Bool
 is_vouched J s = list_any (λ u. is_among (id_of_update u) (vouched J)) (update_in s)
 
@@ -133,10 +136,18 @@ abbrev pub value_with : List ℕ → List (List ℕ) → Option (List ℕ)
 value_with h [] = None
 value_with h (v ∷ vs) = if bytes_eq (sha256 v) h then Some v else value_with h vs
 
--- the held value of an update: that of its hash, where it has its length too
+-- the held value of this hash, where it has this length
+abbrev pub held_as : List Record → NamedValue → Option (List ℕ)
+held_as J n = option_and_then (λ v. when (length v == n.size) v) (value_with n.hash (held J))
+
+-- the held value that an update's write names
 unfoldable pub value_of : List Record → Update → Option (List ℕ)
-value_of J u = option_and_then (λ v. when (length v == u.value_len) v) (value_with u.value_hash (held J))
+value_of J u = held_as J (value_named u)
 
 -- an accepted update names this hash and this length
 unfoldable pub is_wanted : List Update → List ℕ → ℕ → Bool
-is_wanted us h len = list_any (λ u. bytes_eq u.value_hash h && (u.value_len == len)) us
+is_wanted us h len = list_any (λ u. names_value u h len) us
+
+-- an accepted update of another writer has this id
+abbrev pub is_foreign : ℕ → List Update → List ℕ → Bool
+is_foreign me us h = list_any (λ t. bytes_eq (id_of_update t) h && not (t.writer == me)) us

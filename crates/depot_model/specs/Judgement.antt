@@ -4,9 +4,11 @@ use Rattle.std.specs.Str.{bytes_eq}
 use Rattle.depot_base.specs.Format.{FirstFault}
 use Rattle.depot_base.specs.Parts.{is_below}
 use Rattle.depot_base.specs.Statement.{writer_of}
+use Rattle.depot_base.specs.declared.statement.Signed.{Signed}
 use Rattle.depot_base.specs.declared.proof.Proof.{Proof}
 use Rattle.depot_base.specs.declared.key.RosterEntry.{RosterEntry}
 use Rattle.depot_model.specs.declared.judgement.Verdict.{Verdict}
+use Rattle.depot_model.specs.declared.judgement.Half.{Half}
 use Rattle.depot_model.specs.declared.judgement.Half.TheVariants.{First, Second}
 use Rattle.depot_model.specs.declared.judgement.JudgeError.{JudgeError}
 use Rattle.depot_model.specs.declared.judgement.JudgeError.TheVariants as point
@@ -14,6 +16,11 @@ use Rattle.depot_model.specs.Lists.{when, first}
 use Rattle.depot_model.specs.Texts.{IsProof, text_of_proof, proof}
 use Rattle.depot_model.specs.Contradictions.{contradicts}
 use Rattle.depot_model.specs.Roster.{Verifies, has_node, is_signed}
+
+-- the half of a proof
+abbrev pub half_of : Half → Proof → Signed
+half_of First p = p.first
+half_of Second p = p.second
 
 -- the points of a proof in their order, each with what it carries where it fails
 unfoldable pub points : Verifies → List RosterEntry → Proof → List (Option JudgeError)
@@ -36,6 +43,11 @@ first_failed_point verifies r p = first (points verifies r p)
 -- the verdict of a proof that fails no point
 abbrev pub verdict_of : Proof → Verdict
 verdict_of p = record { node = writer_of p.first.statement; kind = p.kind }
+
+-- the first point that fails, and where none does the verdict
+abbrev pub judged_by : Option JudgeError → Proof → Result Verdict JudgeError
+judged_by (Some failed) p = Err failed
+judged_by None p = Ok (verdict_of p)
 
 -- the text is that of a proof
 pub record IsTextOfProof (text : List ℕ) (p : Proof) : Type 0 where

@@ -1,5 +1,6 @@
 -- Which journals a correct node may have.
 use Rattle.std.specs.Prelude.{◌≡◌, ℕ, ◌<◌, ◌≤◌, List, [], ◌∷◌, ◌++◌, length, Bool, true, false, Ok}
+use Rattle.depot_base.specs.declared.limits.TheConstants.{MOST_ENTRIES}
 use Rattle.depot_base.specs.declared.update.Update.{Update}
 use Rattle.depot_base.specs.declared.voucher.Voucher.{Voucher}
 use Rattle.depot_base.specs.declared.record.Record.{Record}
@@ -8,29 +9,25 @@ use Rattle.depot_model.specs.declared.taken.Taken.TheVariants.{New}
 use Rattle.depot_model.specs.Lists.{IsIn}
 use Rattle.depot_model.specs.Texts.{id_of_update, hash_of_roster}
 use Rattle.depot_model.specs.Records.{IsRecord}
-use Rattle.depot_model.specs.Journal.{accepted, own}
+use Rattle.depot_model.specs.Journal.{accepted, own, is_foreign}
+use Rattle.depot_model.specs.Contents.{key_written}
 use Rattle.depot_model.specs.Checks.{Setting, given_statement, given_proof, given_value, answer_to, growth}
 use Rattle.depot_model.specs.Own.{next_own, IsFresh, leaf_count}
 use Rattle.depot_model.specs.Room.{HasRoom}
 
--- the id is that of an accepted update of another writer
-pub record IsForeign (me : ℕ) (us : List Update) (h : List ℕ) : Type 0 where
-  pub update : Update
-  pub accepted : IsIn update us
-  pub id : id_of_update update ≡ h
-  pub other : update.writer ≡ me → ⊥
-
+-- an own put: the next own update with this value, of a fresh id, with room for its entries, signed by a leaf that is left
 pub record MayPut (here : Setting) (J : List Record) (u : Update) (value : List ℕ) : Type 0 where
-  pub next : u ≡ next_own here.me J u.key value
+  pub next : u ≡ next_own here.me J (key_written u) value
   pub fresh : IsFresh J (id_of_update u)
-  pub tips : length u.deps ≤ 1024
+  pub tips : length u.deps ≤ MOST_ENTRIES
   pub leaf : length (own J) < leaf_count here.listed here.me
 
+-- an own voucher: the node's next statement, for accepted updates of others, signed by a leaf that is left
 pub record MayVouch (here : Setting) (J : List Record) (v : Voucher) : Type 0 where
   pub node : v.node ≡ here.me
   pub seq : v.seq ≡ length (own J)
   pub leaf : length (own J) < leaf_count here.listed here.me
-  pub ids : (h : List ℕ) → IsIn h v.ids → IsForeign here.me (accepted J) h
+  pub ids : (h : List ℕ) → IsIn h v.ids → is_foreign here.me (accepted J) h ≡ true
 
 -- what is asked of a record of each kind behind these
 abbrev pub MayFollow : Setting → List Record → Record → Type 0

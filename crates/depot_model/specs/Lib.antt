@@ -1,4 +1,5 @@
 pub mod Lists
+pub mod Contents
 pub mod Texts
 pub mod Order
 pub mod Contradictions
@@ -19,3 +20,16 @@ pub mod Room
 pub mod Taking
 pub mod Own
 pub mod Lawful
+pub mod Chains
+pub mod Limits
+pub mod Vouching
+pub mod Hello
+pub mod Frames
+pub mod Bundle
+pub mod Feeding
+pub mod World
+pub mod Causality
+pub mod Codes
+pub mod TextFacts
+pub mod LawfulFacts
+pub mod Replicas

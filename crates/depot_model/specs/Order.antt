@@ -8,6 +8,7 @@ use Rattle.std.specs.Cmp.Lexicographic.{slice_cmp}
 use Rattle.depot_base.specs.Zeros.{zeros}
 use Rattle.depot_base.specs.declared.update.Update.{Update}
 use Rattle.depot_model.specs.Lists.{IsIn, is_among}
+use Rattle.depot_model.specs.Contents.{Writes}
 use Rattle.depot_model.specs.Texts.{id_of_update}
 
 -- ---- paths
@@ -67,11 +68,11 @@ abbrev pub RisesStrictly : List Update → Type 0
 RisesStrictly [] = Unit {0}
 RisesStrictly (t ∷ ts) = AllByRecursion (λ u. is_lt (listed t u) ≡ true) ts × RisesStrictly ts
 
--- u is one of the set, writes the key, and precedes no other write of the key in the set
+-- u is one of the set, writes the key, and precedes no write of the key in the set; where nothing precedes itself, that is: no other
 pub record IsLatest (wanted : List ℕ) (among : Update → Type 0) (order : Update → Update → Type 0) (u : Update) : Type 0 where
   pub known : among u
-  pub writes : u.key ≡ wanted
-  pub last : (v : Update) → among v → v.key ≡ wanted → order u v → ⊥
+  pub writes : Writes wanted u
+  pub last : (v : Update) → among v → Writes wanted v → order u v → ⊥
 
 -- These are the latest writes of a key in a set, in the listed order.
 pub record AreLatest (wanted : List ℕ) (among : Update → Type 0) (order : Update → Update → Type 0) (us : List Update) : Type 0 where

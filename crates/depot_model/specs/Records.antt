@@ -1,6 +1,7 @@
 -- The one text of each record, and the bytes of a journal.
 use Rattle.std.specs.Prelude.{ℕ, ◌+◌, List, length, sum_by, Option, Some, None, ◌==◌}
 use Rattle.std.specs.Int.{w8, w32}
+use Rattle.depot_base.specs.declared.limits.TheConstants.{MOST_VALUE}
 use Rattle.depot_base.specs.Format.{number, bytes_of, field, made, inner}
 use Rattle.depot_base.specs.Closed.{Closed, closing, rest_of, before, closed_variant, closed_choose}
 use Rattle.depot_base.specs.Parts.{node_number, digest}
@@ -70,7 +71,7 @@ tagged tag =
     (closed_choose (tag == 3) (closed_variant (λ v. OwnVoucher v) as_own_voucher (closing voucher_body))
     (closed_choose (tag == 4) (closed_variant (λ s. Foreign s) as_foreign (closing signed))
     (closed_choose (tag == 5) (closed_variant (λ p. Conviction p) as_conviction (closing proof))
-    (closed_variant (λ value. Held value) as_held (rest_of 65536))))))
+    (closed_variant (λ value. Held value) as_held (rest_of MOST_VALUE))))))
 
 -- a tag, and what stands behind it
 unfoldable pub record_text : Closed Record

@@ -1,6 +1,7 @@
 -- How much a journal takes.
-use Rattle.std.specs.Prelude.{◌≡◌, ℕ, ◌^◌, List, [], ◌∷◌, ◌++◌, length, filter, Bool, not, ◌&&◌, ◌==◌, nat_lt, Option, None}
+use Rattle.std.specs.Prelude.{◌≡◌, ℕ, List, [], ◌∷◌, ◌++◌, length, filter, Bool, not, ◌&&◌, ◌==◌, nat_lt, Option, None}
 use Rattle.std.specs.List.{flat_map}
+use Rattle.depot_base.specs.declared.limits.TheConstants.{MOST_RECORDS, MOST_JOURNAL, MOST_FOREIGN_LEAVES}
 use Rattle.depot_base.specs.declared.update.Update.{Update}
 use Rattle.depot_base.specs.declared.record.Record.{Record}
 use Rattle.depot_base.specs.declared.record.Record.TheVariants.{Foreign}
@@ -27,9 +28,9 @@ take_an_update new = nat_lt 0 (length (flat_map takes_update new))
 -- number now; none where there is room.
 unfoldable pub full_with : ℕ → List Record → List Record → Option Full
 full_with me J new = first (
-    when (nat_lt 131072 (length (J ++ new))) (record { what = full_of.Records; number = length J }) ∷
-    when (nat_lt (2 ^ 30) (journal_bytes (J ++ new))) (record { what = full_of.Bytes; number = journal_bytes J }) ∷
-    when (take_an_update new && nat_lt 4096 (length (foreign_leaves me (J ++ new)))) (record { what = full_of.Writers; number = length (foreign_leaves me J) }) ∷ [])
+    when (nat_lt MOST_RECORDS (length (J ++ new))) (record { what = full_of.Records; number = length J }) ∷
+    when (nat_lt MOST_JOURNAL (journal_bytes (J ++ new))) (record { what = full_of.Bytes; number = journal_bytes J }) ∷
+    when (take_an_update new && nat_lt MOST_FOREIGN_LEAVES (length (foreign_leaves me (J ++ new)))) (record { what = full_of.Writers; number = length (foreign_leaves me J) }) ∷ [])
 
 -- the same for what a call appends: where that is nothing, no limit is passed
 abbrev pub full_by : ℕ → List Record → List Record → Option Full

@@ -1,35 +1,62 @@
--- What the parser of a roster answers.
-use Rattle.std.specs.Prelude.{◌≡◌, ℕ, ◌+◌, ◌-◌, ◌*◌, ◌%◌, List, length, take, drop, Bool, ◌&&◌, ◌==◌, nat_le, nat_lt, Result, Ok, Err, ◌⊎◌, if◌then◌else◌}
-use Rattle.std.specs.Int.{w16, from_be_bytes}
-use Rattle.depot_base.specs.Format.{FirstFault}
+-- Why a text is no roster's, and what the parser of a roster answers.
+use Rattle.std.specs.Prelude.{◌≡◌, ℕ, ◌<◌, ◌≤◌, ◌⊎◌, List, [], ◌∷◌, ◌++◌, length, Result, Ok, Err}
+use Rattle.std.specs.Int.{w16}
+use Rattle.std.specs.List.{flat_map}
+use Rattle.depot_base.specs.Cursor.{numeral}
+use Rattle.depot_base.specs.Format.{Follows, FirstFault}
+use Rattle.depot_base.specs.Parts.{roster_entry, roster_entry_rises}
+use Rattle.depot_base.specs.declared.limits.TheConstants.{MOST_NODES}
 use Rattle.depot_base.specs.declared.key.RosterEntry.{RosterEntry}
 use Rattle.depot_model.specs.declared.roster.RosterError.{RosterError}
 use Rattle.depot_model.specs.declared.roster.RosterError.TheVariants as error
 use Rattle.depot_model.specs.Texts.{IsRoster, text_of_roster, roster}
 
--- the number of two bytes that stands at an offset
-abbrev pub number_at : List ℕ → ℕ → ℕ
-number_at text at = from_be_bytes w16 (take 2 (drop at text))
+-- the version and the kind are a roster's, and a count over 256 stands behind them
+pub record HasGreatCount (text : List ℕ) (count : ℕ) : Type 0 where
+  pub rest : List ℕ
+  pub parts : text ≡ 1 ∷ 4 ∷ (numeral w16 count ++ rest)
+  pub fits : count < 65536
+  pub great : MOST_NODES < count
 
--- the fault is at the count, which is there and over 256
-abbrev pub has_great_count : List ℕ → ℕ → Bool
-has_great_count text at = (at == 2) && nat_le 4 (length text) && nat_lt 256 (number_at text 2)
+-- Good entries stand in front, fewer than are counted, and behind them a whole entry with good fields, which names the node of the last of them.
+pub record RepeatsNode (text : List ℕ) (node : ℕ) : Type 0 where
+  pub count : ℕ
+  pub front : List RosterEntry
+  pub before : RosterEntry
+  pub again : RosterEntry
+  pub rest : List ℕ
+  pub parts : text ≡ 1 ∷ 4 ∷ (numeral w16 count ++ (flat_map roster_entry.text (front ++ before ∷ []) ++ (roster_entry.text again ++ rest)))
+  pub limit : count ≤ MOST_NODES
+  pub fewer : length (front ++ before ∷ []) < count
+  pub follow : Follows roster_entry roster_entry_rises [] (front ++ before ∷ [])
+  pub fits : roster_entry.fits again
+  pub first : before.node ≡ node
+  pub second : again.node ≡ node
 
--- the fault is at the start of an entry other than the first, which names the node of the entry before
-abbrev pub repeats_node : List ℕ → ℕ → Bool
-repeats_node text at = nat_le 39 at && nat_le (at + 2) (length text) && nat_lt at (4 + 35 * number_at text 2) && ((at - 4) % 35 == 0) && (number_at text at == number_at text (at - 35))
+-- The text goes wrong at this offset, and not by a count over 256 or by a node that stands in it twice.
+pub record GoesWrongAt (text : List ℕ) (at : ℕ) : Type 0 where
+  pub fault : FirstFault roster text at
+  pub no_count : (count : ℕ) → HasGreatCount text count → ⊥
+  pub no_node : (node : ℕ) → RepeatsNode text node → ⊥
 
--- the error of a text whose first fault is at an offset
-unfoldable pub roster_error : List ℕ → ℕ → RosterError
-roster_error text at =
-    if has_great_count text at then error.TooMany (number_at text 2) else
-    if repeats_node text at then error.TwiceNode (number_at text at) else error.IllFormed at
+-- why a text is no roster's
+abbrev pub IsRefusedFor : List ℕ → RosterError → Type 0
+IsRefusedFor text error.Memory = ⊥
+IsRefusedFor text (error.IllFormed at) = GoesWrongAt text at
+IsRefusedFor text (error.TwiceNode node) = RepeatsNode text node
+IsRefusedFor text (error.TooMany count) = HasGreatCount text count
 
 -- What parsing a roster answers. Memory may run out in place of each answer.
 pub record ParsesRoster (text : List ℕ) (result : Result (List RosterEntry) RosterError) : Type 0 where
   -- what is given is the roster with this text, and a roster with this text is given
   pub found : (r : List RosterEntry) → result ≡ Ok r → IsRoster r × (text ≡ text_of_roster r)
   pub only : (r : List RosterEntry) → IsRoster r → text ≡ text_of_roster r → (result ≡ Err error.Memory) ⊎ (result ≡ Ok r)
-  -- an error is that of the first fault, and a fault is told
-  pub refused : (e : RosterError) → result ≡ Err e → (e ≡ error.Memory) ⊎ ((at : ℕ) × (FirstFault roster text at × (e ≡ roster_error text at)))
-  pub first : (at : ℕ) → FirstFault roster text at → (result ≡ Err error.Memory) ⊎ (result ≡ Err (roster_error text at))
+  -- an error is why the text is no roster's, and where it is none the error is told
+  pub refused : (e : RosterError) → result ≡ Err e → (e ≡ error.Memory) ⊎ IsRefusedFor text e
+  pub told : (e : RosterError) → IsRefusedFor text e → (result ≡ Err error.Memory) ⊎ (result ≡ Err e)
+
+-- A text is that of one roster, or it is refused for one cause.
+pub record AreReadInOneWay : Type 0 where
+  pub value : (r s : List RosterEntry) → IsRoster r → IsRoster s → text_of_roster r ≡ text_of_roster s → r ≡ s
+  pub good : (r : List RosterEntry) (e : RosterError) → IsRoster r → IsRefusedFor (text_of_roster r) e → ⊥
+  pub cause : (text : List ℕ) (e f : RosterError) → IsRefusedFor text e → IsRefusedFor text f → e ≡ f

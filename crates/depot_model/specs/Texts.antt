@@ -2,6 +2,7 @@
 use Rattle.std.specs.Prelude.{ℕ, zero, suc, List, length, Option, Some, None, ◌==◌}
 use Rattle.std.specs.Int.{w8, w16, w32, w64}
 use Rattle.sha2.specs.Sha256.{sha256}
+use Rattle.depot_base.specs.declared.limits.TheConstants.{MOST_KEY, MOST_VALUE, MOST_ENTRIES, MOST_IDS, MOST_BODY, MOST_SIGNATURE, MOST_NODES}
 use Rattle.depot_base.specs.Format.{Format, number, constant, bytes_of, field, made, kept, variant, choose, list_of}
 use Rattle.depot_base.specs.Parts.{node_number, digest, digests, deps_of, roster_entry, roster_entry_rises}
 use Rattle.depot_base.specs.declared.update.Update.{Update}
@@ -23,11 +24,11 @@ update_fields =
     field (number w32 0 4294967295) (λ u. u.seq) λ seq.
     field (number w64 1 18446744073709551615) (λ u. u.clock) λ clock.
     field digest (λ u. u.prev) λ prev.
-    field (number w8 1 255) (λ u. length u.key) λ key_length.
+    field (number w8 1 MOST_KEY) (λ u. length u.key) λ key_length.
     field (bytes_of key_length) (λ u. u.key) λ key.
     field digest (λ u. u.value_hash) λ value_hash.
-    field (number w32 0 65536) (λ u. u.value_len) λ value_len.
-    field (number w16 0 1024) (λ u. length u.deps) λ count.
+    field (number w32 0 MOST_VALUE) (λ u. u.value_len) λ value_len.
+    field (number w16 0 MOST_ENTRIES) (λ u. length u.deps) λ count.
     field (deps_of writer count) (λ u. u.deps) λ deps.
     field digest (λ u. u.history) λ history.
     made (record { writer = writer; seq = seq; clock = clock; prev = prev; key = key; value_hash = value_hash; value_len = value_len; deps = deps; history = history })
@@ -37,7 +38,7 @@ unfoldable pub voucher_fields : Format Voucher
 voucher_fields =
     field node_number (λ v. v.node) λ node.
     field (number w32 0 4294967295) (λ v. v.seq) λ seq.
-    field (number w16 1 256) (λ v. length v.ids) λ count.
+    field (number w16 1 MOST_IDS) (λ v. length v.ids) λ count.
     field (digests count) (λ v. v.ids) λ ids.
     made (record { node = node; seq = seq; ids = ids })
 
@@ -77,9 +78,9 @@ statement =
 -- a statement with its signature; the body is kept as it was read
 unfoldable pub signed : Format Signed
 signed =
-    field (number w32 0 43382) (λ s. length s.body) λ body_length.
+    field (number w32 0 MOST_BODY) (λ s. length s.body) λ body_length.
     field (kept body_length statement) (λ s. (s.body, s.statement)) λ body.
-    field (number w32 0 8192) (λ s. length s.signature) λ signature_length.
+    field (number w32 0 MOST_SIGNATURE) (λ s. length s.signature) λ signature_length.
     field (bytes_of signature_length) (λ s. s.signature) λ signature.
     made (record { statement = body.1; body = body.0; signature = signature })
 
@@ -112,7 +113,7 @@ unfoldable pub roster : Format (List RosterEntry)
 roster =
     field (constant 1) (λ r. 1) λ version.
     field (constant 4) (λ r. 4) λ kind_byte.
-    field (number w16 1 256) (λ r. length r) λ count.
+    field (number w16 1 MOST_NODES) (λ r. length r) λ count.
     field (list_of count roster_entry roster_entry_rises) (λ r. r) λ listed.
     made listed
 

@@ -1,25 +1,40 @@
 //! The definitions that all other crates cite, the traits that stand between them, and the laws over definitions alone.
 //!
-//! Each definition stands once, in `specs/`, over plain lists and numbers: the texts of values (`Texts`, `Records`), the order of
-//! updates and their latest writes (`Order`, `Items`, `History`), contradictions and judgement (`Contradictions`, `Judgement`,
-//! `Conviction`), signatures (`Plain`, `Winternitz`), rosters (`Roster`, `RosterText`), what a journal tells and which journals
-//! are lawful (`Journal`, `Checks`, `Room`, `Taking`, `Own`, `Lawful`), the log of `scan` (`Log`) and printed texts (`Lines`).
+//! Each definition stands once, in `specs/`, over plain lists and numbers: the texts of values (`Texts`, `Records`), what an update
+//! writes and a proof shows (`Contents`), the order of updates and their latest writes (`Order`, `Items`, `History`), contradictions
+//! and judgement (`Contradictions`, `Judgement`, `Conviction`), signatures (`Plain`, `Winternitz`), rosters (`Roster`, `RosterText`),
+//! what a journal tells and which journals are lawful (`Journal`, `Checks`, `Room`, `Limits`, `Taking`, `Own`, `Vouching`, `Lawful`),
+//! what nodes send one another (`Hello`, `Frames`, `Bundle`, `Feeding`), runs of many nodes and what is observed in them (`World`,
+//! `Chains`, `Causality`), the log of `scan` (`Log`) and printed texts (`Lines`). `Codes`, `TextFacts` and `LawfulFacts` show that
+//! having a text and being lawful are facts with one proof at most, so that types can keep them.
 //!
-//! A law is a public function with an empty body, whose contract is the law. This crate computes nothing.
+//! A law is a public function with an empty body, whose contract is the law. All that this crate computes is a digest (`hash_of`).
 #![tactic(auto)]
 
+mod bundle;
+mod hash;
+mod hello;
 mod judgement;
 mod log;
 mod order;
 mod past;
+mod peer;
+mod replica;
 mod roster;
 mod signature;
 mod taken;
+mod taking;
 
+pub use bundle::{Counts, Ending, Refusal, Refusals, Report, VoucherError};
+pub use hash::hash_of;
+pub use hello::{Hello, HelloLeaf, HelloLeaves};
 pub use judgement::{Half, JudgeError, Verdict};
 pub use log::{firsts_keep_parents_before_children, logs_are_read_in_one_way};
 pub use order::{latest_writes_are_one_list, past_is_what_precedes};
 pub use past::Past;
+pub use peer::Peer;
+pub use replica::Replica;
 pub use roster::RosterError;
 pub use signature::{Scheme, Signer};
 pub use taken::{TakeError, Taken};
+pub use taking::texts_have_one_answer;

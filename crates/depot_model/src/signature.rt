@@ -1,6 +1,7 @@
 //! Schemes of one-time signatures, and signers.
 ghost use Rattle.std.specs.Prelude.{◌≡◌, ◌<◌, ◌≤◌, ◌^◌, ℕ, List, Bool, true, IfOk, length};
 ghost use Rattle.depot_base.specs.declared.key.PublicKey.{PublicKey};
+ghost use Rattle.depot_base.specs.declared.limits.TheConstants.{MOST_SIGNATURE};
 
 use depot_base::{Bytes, Memory, PublicKey};
 
@@ -47,5 +48,5 @@ pub trait Signer: Drop {
     ghost verifies_under_key: { (s : Self) (seq : ℕ) (body : List ℕ) → seq < 2 ^ (key_of s).height → Self.Of.verifies (key_of s) seq body (signature_of s seq body) ≡ true };
 
     /// A signature has at most 8,192 bytes.
-    ghost is_short: { (s : Self) (seq : ℕ) (body : List ℕ) → length (signature_of s seq body) ≤ 8192 };
+    ghost is_short: { (s : Self) (seq : ℕ) (body : List ℕ) → length (signature_of s seq body) ≤ MOST_SIGNATURE };
 }

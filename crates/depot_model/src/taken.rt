@@ -1,5 +1,8 @@
 //! What a node answers to what it takes.
-use depot_base::{Check, Full};
+ghost use Rattle.std.specs.Prelude.{◌≡◌};
+ghost use Rattle.depot_model.specs.declared.taken.TakeError.TheVariants as refused;
+
+use depot_base::{Check, Full, Memory};
 
 /// What was taken is new, or was here before.
 #[derive(Clone, Copy, Debug, PartialEq, Eq)]
@@ -23,4 +26,12 @@ pub enum TakeError {
     Full(Full),
     /// The first check that fails. The node is as before, but where a fork or a step back convicts its writer.
     Refused(Check),
+}
+
+impl From<Memory> for TakeError {
+    ghost from_gives = { λ _ e. e ≡ refused.Memory };
+
+    fn from(_e: Memory) -> TakeError {
+        TakeError::Memory
+    }
 }

@@ -1,0 +1,131 @@
+-- What a node answers to the payload of a frame is what the feed says of that frame.
+use Rattle.std.proofs.Common.{◌≡◌, ℕ, List, [], ◌∷◌, ◌++◌, length, Bool, true, false, cond, ltb, ◌==◌, Option, Some, None, Result, Ok, Err, refl, sym, ap, ◌∙◌, arith}
+use Rattle.std.proofs.lemmas.Bool.{lt-ltb}
+use Rattle.std.proofs.lemmas.List.{append-nil, length-append}
+use Rattle.depot_base.specs.Format.{◌>>=◌}
+use Rattle.depot_base.specs.Closed.{Closed, closing, rest_of}
+use Rattle.depot_base.proofs.ClosedLaws.{LawfulClosed, closing_lawful, rest_lawful}
+use Rattle.depot_base.specs.declared.check.Check.{Check}
+use Rattle.depot_base.specs.declared.check.Check.TheVariants as check
+use Rattle.depot_base.specs.declared.check.Full.{Full}
+use Rattle.depot_base.specs.declared.record.Record.{Record}
+use Rattle.depot_model.specs.declared.taken.Taken.{Taken}
+use Rattle.depot_model.specs.declared.taken.TakeError.{TakeError}
+use Rattle.depot_model.specs.declared.taken.TakeError.TheVariants as refused
+use Rattle.depot_model.specs.Texts.{signed, proof}
+use Rattle.depot_model.specs.Checks.{Setting, Given, given_statement, given_proof, given_value, answer_to, growth}
+use Rattle.depot_base.specs.declared.check.FullOf.TheVariants as full_of
+use Rattle.depot_model.specs.Room.{full_with, full_by}
+use Rattle.depot_model.specs.Limits.{IsCutShort}
+use Rattle.depot_base.specs.declared.limits.TheConstants.{MOST_VALUE}
+use Rattle.depot_model.specs.Taking.{Form, as_statement, as_proof, as_value, TakesAs, IsSettled, answer_of, appended_by, answer_to_text, growth_of_text, Takes, TakesStatement, TakesProof, TakesValue, Outcome, no_room, answered, outcome_within, outcome_of, at_start, given_as}
+use Rattle.depot_model.specs.Frames.{Frame}
+use Rattle.depot_model.specs.Feeding.{given_by, take_frame, Feeding, out_of_room, after_outcome, passed, says_more, fed_frame}
+use Rattle.depot_model.proofs.TextLaws.{signed_lawful, proof_lawful}
+
+-- the answer is that of the outcome, and the journal has grown by what it says
+pub record IsTold (o : Outcome) (J : List Record) (answer : Result Taken Check) (then : List Record) : Type 0 where
+  pub new : List Record
+  pub is : o ≡ answered answer new
+  pub grown : then ≡ J ++ new
+
+-- the outcome is an answer, and the disk cut its records short
+pub record IsBrokenOff (o : Outcome) (J then : List Record) : Type 0 where
+  pub answer : Result Taken Check
+  pub new : List Record
+  pub is : o ≡ answered answer new
+  pub cut : IsCutShort J new then
+
+-- what a node answers where this is the outcome
+abbrev pub Tells : Outcome → List Record → Result Taken TakeError → List Record → Type 0
+Tells o J (Ok taken) then = IsTold o J (Ok taken) then
+Tells o J (Err refused.Memory) then = then ≡ J
+Tells o J (Err refused.Disk) then = IsBrokenOff o J then
+Tells o J (Err refused.Stopped) then = then ≡ J
+Tells o J (Err (refused.Full full)) then = (o ≡ no_room full) × (then ≡ J)
+Tells o J (Err (refused.Refused c)) then = IsTold o J (Err c) then
+
+-- what a text of a form gives
+abbrev read_by : {V : Type 0} → Closed V → (V → Given) → List ℕ → Result Given ℕ
+read_by f give text = f.read (at_start text) >>= λ v. Ok (give v)
+
+-- a value's text gives the value
+gives_value : {V : Type 0} (f : Closed V) (m : ℕ) → LawfulClosed f m → (give : V → Given) (text : List ℕ) (v : V) → f.fits v → text ≡ f.text v → read_by f give text ≡ Ok (give v)
+gives_value f m l give text v fits is = ap (read_by f give) is ∙ ap (λ r. r >>= λ x. Ok (give x)) (l.again 0 v fits)
+
+gives_fault : {V : Type 0} (f : Closed V) (m : ℕ) → LawfulClosed f m → (give : V → Given) (text : List ℕ) (at : ℕ) → f.fault text at → read_by f give text ≡ Err at
+gives_fault f m l give text at fault = ap (λ r. r >>= λ x. Ok (give x)) (l.stops 0 text at fault) ∙ ap (λ n. Err n) (omega arith)
+
+-- the outcome for what is given, with room and without
+with_room : (here : Setting) (J : List Record) (x : Given) (answer : Result Taken Check) → answer_to here J x ≡ answer → full_by here.me J (growth here J x) ≡ None → outcome_of here J (Ok x) ≡ answered answer (growth here J x)
+with_room here J x answer is room = ap (λ (o : Option Full). outcome_within o (answer_to here J x) (growth here J x)) room ∙ ap (λ (a : Result Taken Check). answered a (growth here J x)) is
+
+without_room : (here : Setting) (J : List Record) (x : Given) (full : Full) → full_by here.me J (growth here J x) ≡ Some full → outcome_of here J (Ok x) ≡ no_room full
+without_room here J x full is = ap (λ (o : Option Full). outcome_within o (answer_to here J x) (growth here J x)) is
+
+-- what is answered to a text is what the outcome for it tells
+pub takes_tells : {V : Type 0} (f : Closed V) (m : ℕ) → LawfulClosed f m → (give : V → Given) (here : Setting) (J : List Record) (text : List ℕ) (result : Result Taken TakeError) (then : List Record)
+    → Takes f give here J text result then → Tells (outcome_of here J (read_by f give text)) J result then
+takes_tells f m l give here J text (Ok taken) then t = record { new = growth here J (give t.0); is = ap (outcome_of here J) (gives_value f m l give text t.0 t.1.0 t.1.1.0) ∙ with_room here J (give t.0) (Ok taken) t.1.1.1.is t.1.1.1.room; grown = t.1.1.1.grown }
+takes_tells f m l give here J text (Err refused.Memory) then t = t
+takes_tells f m l give here J text (Err refused.Disk) then t = record { answer = answer_to here J (give t.0); new = growth here J (give t.0); is = ap (outcome_of here J) (gives_value f m l give text t.0 t.1.0 t.1.1.0) ∙ with_room here J (give t.0) (answer_to here J (give t.0)) refl t.1.1.1.room; cut = t.1.1.1.cut }
+takes_tells f m l give here J text (Err refused.Stopped) then t = t
+takes_tells f m l give here J text (Err (refused.Full full)) then t = (ap (outcome_of here J) (gives_value f m l give text t.0 t.1.0 t.1.1.0) ∙ without_room here J (give t.0) full t.1.1.1.is, t.1.1.1.same)
+takes_tells f m l give here J text (Err (refused.Refused (check.IllFormed at))) then t = record { new = []; is = ap (outcome_of here J) (gives_fault f m l give text at t.0); grown = t.1 ∙ sym (append-nil J) }
+takes_tells f m l give here J text (Err (refused.Refused c)) then t = record { new = growth here J (give t.0); is = ap (outcome_of here J) (gives_value f m l give text t.0 t.1.0 t.1.1.0) ∙ with_room here J (give t.0) (Err c) t.1.1.1.is t.1.1.1.room; grown = t.1.1.1.grown }
+
+-- ---- the three sorts of frames
+
+pub proof_frame_tells : (here : Setting) (J : List Record) (payload : List ℕ) (result : Result Taken TakeError) (then : List Record) → TakesProof here J payload result then → Tells (take_frame here J (record { tag = 1; payload = payload })) J result then
+unfolding take_frame given_by given_as
+proof_frame_tells here J payload result then t = takes_tells (closing proof) _ (closing_lawful proof _ proof_lawful) (λ p. given_proof p) here J payload result then t
+
+pub statement_frame_tells : (here : Setting) (J : List Record) (payload : List ℕ) (result : Result Taken TakeError) (then : List Record) → TakesStatement here J payload result then → Tells (take_frame here J (record { tag = 2; payload = payload })) J result then
+unfolding take_frame given_by given_as
+statement_frame_tells here J payload result then t = takes_tells (closing signed) _ (closing_lawful signed _ signed_lawful) (λ s. given_statement s) here J payload result then t
+
+pub value_frame_tells : (here : Setting) (J : List Record) (payload : List ℕ) (result : Result Taken TakeError) (then : List Record) → TakesValue here J payload result then → Tells (take_frame here J (record { tag = 3; payload = payload })) J result then
+unfolding take_frame given_by given_as
+value_frame_tells here J payload result then t = takes_tells (rest_of 65536) _ (rest_lawful 65536) (λ v. given_value v) here J payload result then t
+
+-- ---- no room
+
+full_at_most : (me : ℕ) (J : List Record) (r : Record) (rs : List Record) → length J ≡ 131072 → full_by me J (r ∷ rs) ≡ Some (record { what = full_of.Records; number = 131072 })
+unfolding full_with
+full_at_most me J r rs e =
+    let long : ltb 131072 (length (J ++ r ∷ rs)) ≡ true = lt-ltb _ _ (omega (arith, length-append J (r ∷ rs), e)) in
+    rw (long, e) refl
+
+-- Where a journal has 131,072 records, a frame that would add to it isn't taken.
+pub full_is_told : (here : Setting) (J : List Record) (f : Frame) (x : Given) (r : Record) (rs : List Record)
+    → given_by f ≡ Ok x → growth here J x ≡ r ∷ rs → length J ≡ 131072 → take_frame here J f ≡ no_room (record { what = full_of.Records; number = 131072 })
+unfolding take_frame
+full_is_told here J f x r rs given grows e =
+    ap (outcome_of here J) given ∙ without_room here J x (record { what = full_of.Records; number = 131072 }) (ap (full_by here.me J) grows ∙ full_at_most here.me J r rs e)
+
+-- and it closes the feed, with the journal as it was
+pub full_closes : (here : Setting) (s : Feeding) (n : ℕ) (f : Frame) (what : Full) → take_frame here s.journal f ≡ no_room what → (f.tag == 4) ≡ false → fed_frame here n f s ≡ record s { begun = []; closed = Some (out_of_room what) }
+unfolding fed_frame
+full_closes here s n f what is other = by_test (f.tag == 4) other where
+  by_test : (b : Bool) → b ≡ false → cond b (passed n (record s { ended = Some (says_more f.payload) })) (after_outcome n s (take_frame here s.journal f)) ≡ record s { begun = []; closed = Some (out_of_room what) }
+  by_test true e = absurd cc
+  by_test false e = ap (after_outcome n s) is
+
+-- ---- the answer as a function
+
+-- what an outcome tells is its answer, and what it appends
+told_is_answer : (o : Outcome) (J : List Record) (result : Result Taken TakeError) (then : List Record) → Tells o J result then → IsSettled result → (result ≡ answer_of o) × (then ≡ J ++ appended_by o)
+told_is_answer o J (Ok taken) then t s = (ap answer_of (sym t.is), t.grown ∙ ap (λ (o : Outcome). J ++ appended_by o) (sym t.is))
+told_is_answer o J (Err refused.Memory) then t s = absurd s
+told_is_answer o J (Err refused.Disk) then t s = absurd s
+told_is_answer o J (Err refused.Stopped) then t s = absurd s
+told_is_answer o J (Err (refused.Full full)) then t s = (ap answer_of (sym t.0), t.1 ∙ sym (append-nil J) ∙ ap (λ (o : Outcome). J ++ appended_by o) (sym t.0))
+told_is_answer o J (Err (refused.Refused c)) then t s = (ap answer_of (sym t.is), t.grown ∙ ap (λ (o : Outcome). J ++ appended_by o) (sym t.is))
+
+-- what a node answers to a text is the function's answer
+pub one_answer : (form : Form) (here : Setting) (J : List Record) (text : List ℕ) (result : Result Taken TakeError) (then : List Record)
+    → TakesAs form here J text result then → IsSettled result → (result ≡ answer_to_text here J form text) × (then ≡ J ++ growth_of_text here J form text)
+unfolding answer_to_text growth_of_text given_as
+one_answer as_statement here J text result then t s = told_is_answer _ J result then (takes_tells (closing signed) _ (closing_lawful signed _ signed_lawful) (λ s. given_statement s) here J text result then t) s
+one_answer as_proof here J text result then t s = told_is_answer _ J result then (takes_tells (closing proof) _ (closing_lawful proof _ proof_lawful) (λ p. given_proof p) here J text result then t) s
+one_answer as_value here J text result then t s = told_is_answer _ J result then (takes_tells (rest_of MOST_VALUE) _ (rest_lawful MOST_VALUE) (λ v. given_value v) here J text result then t) s

@@ -1,0 +1,112 @@
+-- How values are made of numbers and lists, so that two of them are equal in one way at most.
+use Rattle.std.specs.Prelude.{◌≡◌, ℕ, List, ◌⊎◌}
+use Rattle.std.specs.Coded.{Coded, code_by, coded×, coded⊎, coded_ℕ, coded_list}
+use Rattle.std.proofs.Common.{refl, inl, inr}
+use Rattle.depot_base.specs.declared.update.Dep.{Dep}
+use Rattle.depot_base.specs.declared.update.Update.{Update}
+use Rattle.depot_base.specs.declared.voucher.Voucher.{Voucher}
+use Rattle.depot_base.specs.declared.statement.Statement.{Statement}
+use Rattle.depot_base.specs.declared.statement.Statement.TheVariants as statements
+use Rattle.depot_base.specs.declared.statement.Signed.{Signed}
+use Rattle.depot_base.specs.declared.proof.Kind.{Kind}
+use Rattle.depot_base.specs.declared.proof.Kind.TheVariants.{SameNumber, SamePrev, Backward}
+use Rattle.depot_base.specs.declared.proof.Proof.{Proof}
+use Rattle.depot_base.specs.declared.key.PublicKey.{PublicKey}
+use Rattle.depot_base.specs.declared.key.RosterEntry.{RosterEntry}
+use Rattle.depot_base.specs.declared.record.Record.{Record}
+use Rattle.depot_base.specs.declared.record.Record.TheVariants.{Birth, OwnPut, OwnVoucher, Foreign, Conviction, Held}
+use Rattle.depot_model.specs.Texts.{number_of_kind, kind_of_number}
+
+pub coded_bytes : Coded (List ℕ)
+coded_bytes = coded_list coded_ℕ
+
+-- ---- updates and vouchers
+
+pub coded_dep : Coded Dep
+coded_dep = code_by (ℕ × (ℕ × List ℕ)) (coded× coded_ℕ (coded× coded_ℕ coded_bytes)) (λ d. (d.writer, (d.clock, d.id))) (λ p. record { writer = p.0; clock = p.1.0; id = p.1.1 }) (λ d. refl)
+
+pub coded_update : Coded Update
+coded_update =
+    code_by (ℕ × (ℕ × (ℕ × (List ℕ × (List ℕ × (List ℕ × (ℕ × (List Dep × List ℕ))))))))
+    (coded× coded_ℕ (coded× coded_ℕ (coded× coded_ℕ (coded× coded_bytes (coded× coded_bytes (coded× coded_bytes (coded× coded_ℕ (coded× (coded_list coded_dep) coded_bytes))))))))
+    (λ u. (u.writer, (u.seq, (u.clock, (u.prev, (u.key, (u.value_hash, (u.value_len, (u.deps, u.history)))))))))
+    (λ p. record { writer = p.0; seq = p.1.0; clock = p.1.1.0; prev = p.1.1.1.0; key = p.1.1.1.1.0; value_hash = p.1.1.1.1.1.0; value_len = p.1.1.1.1.1.1.0; deps = p.1.1.1.1.1.1.1.0; history = p.1.1.1.1.1.1.1.1 })
+    (λ u. refl)
+
+pub coded_voucher : Coded Voucher
+coded_voucher = code_by (ℕ × (ℕ × List (List ℕ))) (coded× coded_ℕ (coded× coded_ℕ (coded_list coded_bytes))) (λ v. (v.node, (v.seq, v.ids))) (λ p. record { node = p.0; seq = p.1.0; ids = p.1.1 }) (λ v. refl)
+
+-- ---- statements
+
+abbrev statement_part : Statement → Update ⊎ Voucher
+statement_part (statements.Update u) = inl u
+statement_part (statements.Voucher v) = inr v
+
+abbrev statement_of : Update ⊎ Voucher → Statement
+statement_of (inl u) = statements.Update u
+statement_of (inr v) = statements.Voucher v
+
+statement_back : (s : Statement) → statement_of (statement_part s) ≡ s
+statement_back (statements.Update u) = refl
+statement_back (statements.Voucher v) = refl
+
+pub coded_statement : Coded Statement
+coded_statement = code_by (Update ⊎ Voucher) (coded⊎ coded_update coded_voucher) statement_part statement_of statement_back
+
+pub coded_signed : Coded Signed
+coded_signed = code_by (Statement × (List ℕ × List ℕ)) (coded× coded_statement (coded× coded_bytes coded_bytes)) (λ s. (s.statement, (s.body, s.signature))) (λ p. record { statement = p.0; body = p.1.0; signature = p.1.1 }) (λ s. refl)
+
+-- ---- proofs
+
+kind_back : (k : Kind) → kind_of_number (number_of_kind k) ≡ k
+kind_back SameNumber = refl
+kind_back SamePrev = refl
+kind_back Backward = refl
+
+pub coded_kind : Coded Kind
+coded_kind = code_by ℕ coded_ℕ number_of_kind kind_of_number kind_back
+
+pub coded_proof : Coded Proof
+coded_proof = code_by (Kind × (Signed × Signed)) (coded× coded_kind (coded× coded_signed coded_signed)) (λ p. (p.kind, (p.first, p.second))) (λ p. record { kind = p.0; first = p.1.0; second = p.1.1 }) (λ p. refl)
+
+-- ---- rosters
+
+pub coded_public_key : Coded PublicKey
+coded_public_key = code_by (List ℕ × ℕ) (coded× coded_bytes coded_ℕ) (λ k. (k.root, k.height)) (λ p. record { root = p.0; height = p.1 }) (λ k. refl)
+
+pub coded_roster_entry : Coded RosterEntry
+coded_roster_entry = code_by (ℕ × PublicKey) (coded× coded_ℕ coded_public_key) (λ e. (e.node, e.key)) (λ p. record { node = p.0; key = p.1 }) (λ e. refl)
+
+-- ---- records
+
+abbrev RecordPart : Type 0
+RecordPart = (ℕ × List ℕ) ⊎ ((Update × List ℕ) ⊎ (Voucher ⊎ (Signed ⊎ (Proof ⊎ List ℕ))))
+
+abbrev record_part : Record → RecordPart
+record_part (Birth node roster) = inl (node, roster)
+record_part (OwnPut u value) = inr (inl (u, value))
+record_part (OwnVoucher v) = inr (inr (inl v))
+record_part (Foreign s) = inr (inr (inr (inl s)))
+record_part (Conviction p) = inr (inr (inr (inr (inl p))))
+record_part (Held value) = inr (inr (inr (inr (inr value))))
+
+abbrev record_of : RecordPart → Record
+record_of (inl b) = Birth b.0 b.1
+record_of (inr (inl p)) = OwnPut p.0 p.1
+record_of (inr (inr (inl v))) = OwnVoucher v
+record_of (inr (inr (inr (inl s)))) = Foreign s
+record_of (inr (inr (inr (inr (inl p))))) = Conviction p
+record_of (inr (inr (inr (inr (inr value))))) = Held value
+
+record_back : (r : Record) → record_of (record_part r) ≡ r
+record_back (Birth node roster) = refl
+record_back (OwnPut u value) = refl
+record_back (OwnVoucher v) = refl
+record_back (Foreign s) = refl
+record_back (Conviction p) = refl
+record_back (Held value) = refl
+
+pub coded_record : Coded Record
+coded_record =
+    code_by RecordPart (coded⊎ (coded× coded_ℕ coded_bytes) (coded⊎ (coded× coded_update coded_bytes) (coded⊎ coded_voucher (coded⊎ coded_signed (coded⊎ coded_proof coded_bytes)))))
+    record_part record_of record_back

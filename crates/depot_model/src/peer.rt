@@ -1,0 +1,70 @@
+//! What a node tells others of what it has.
+ghost use Rattle.std.specs.Prelude.{◌≡◌, List, [], ◌∷◌, true, false, length, map, Some, IfOk, IsErrOf, option_copied, slice_get};
+ghost use Rattle.std.specs.List.{AllByRecursion};
+ghost use Rattle.depot_base.specs.declared.record.Record.{Record};
+ghost use Rattle.depot_model.specs.Bundle.{signed_by, candidate_places};
+ghost use Rattle.depot_model.specs.Hello.{convicted_nodes, wanted_of, AreLeafPlaces};
+ghost use Rattle.depot_model.specs.Journal.{accepted, held, value_with, is_foreign};
+ghost use Rattle.depot_model.specs.Lists.{AreApart};
+ghost use Rattle.depot_model.specs.Replicas.{IsSameNode, StopsBy, KeepsDisk};
+ghost use Rattle.depot_model.specs.Texts.{text_of_signed};
+ghost use Rattle.depot_model.specs.Vouching.{Vouches, is_mine_vouched};
+
+use crate::{Replica, VoucherError};
+use depot_base::{Bytes, Hash32, Ids, Items, Memory, NodeId, Nodes};
+
+/// A replica that tells others what it has, and vouches for what it took. Of what it has accepted a node that is stopped tells no
+/// more than the texts of its records and of its signed statements.
+pub trait Peer: Replica {
+    /// The convicted nodes, in rising order.
+    fn convicted(&self) -> Result<Nodes, Memory>
+        requires { Self.stopped self.now ≡ false }
+        ensures { IfOk result (λ nodes. nodes ≡ convicted_nodes (Self.stands self.now) (Self.records self.now)) };
+
+    /// The places of the records that accepted the leaves, in rising order of the leaves' (writer, id).
+    fn leaf_places(&self) -> Result<Items, Memory>
+        requires { Self.stopped self.now ≡ false }
+        ensures { IfOk result (λ places. AreLeafPlaces (Self.records self.now) places) };
+
+    /// The hashes of values that it lacks, the first 1,024 in rising order.
+    fn wanted(&self) -> Result<Ids, Memory>
+        requires { Self.stopped self.now ≡ false }
+        ensures { IfOk result (λ hashes. hashes ≡ wanted_of (Self.records self.now)) };
+
+    /// The places of the records whose updates a reader with these leaves lacks, rising.
+    fn candidates(&self, leaves: &Ids, reader: NodeId) -> Result<Items, Memory>
+        requires { Self.stopped self.now ≡ false }
+        ensures { IfOk result (λ places. places ≡ candidate_places (Self.records self.now) leaves.now reader) };
+
+    /// The text of the signed statement of a place, from 0, that holds one: another's as it came, its own signed now.
+    fn signed_text(&self, place: u32) -> Result<Bytes, Memory>
+        requires { (r : Record) × ((slice_get (Self.records self.now) place ≡ Some r) × (length (signed_by (Self.signature_of self.now) r) ≡ 1)) }
+        ensures { IfOk result (λ text. (r : Record) → slice_get (Self.records self.now) place ≡ Some r → map text_of_signed (signed_by (Self.signature_of self.now) r) ≡ text ∷ []) };
+
+    /// The held value with a hash. None exactly where none is held.
+    fn held(&self, hash: &Hash32) -> Option<&[u8]>
+        requires { Self.stopped self.now ≡ false }
+        ensures { option_copied result ≡ value_with hash.now (held (Self.records self.now)) };
+
+    /// Whether an accepted update of another node has this id.
+    fn is_foreign(&self, id: &Hash32) -> bool
+        requires { Self.stopped self.now ≡ false }
+        ensures { result ≡ is_foreign (Self.stands self.now).me (accepted (Self.records self.now)) id.now };
+
+    /// Whether one of its own vouchers names this id.
+    fn is_mine_vouched(&self, id: &Hash32) -> bool
+        requires { Self.stopped self.now ≡ false }
+        ensures { result ≡ is_mine_vouched (Self.records self.now) id.now };
+
+    /// Vouches for accepted updates of others that it hasn't vouched for: one own voucher for each 256 ids in the order given. All
+    /// are appended or none; but after Disk those before the failing one stand, and the node is stopped. `Spent` comes exactly where the vouchers would pass the leaves of its tree, with the number of its statements, and
+    /// else `Full` exactly where there is no room for them.
+    fn own_vouchers(&mut self, ids: &Ids) -> Result<(), VoucherError>
+        requires apart { AreApart ids.now }
+        requires foreign { AllByRecursion (λ h. is_foreign (Self.stands self.old).me (accepted (Self.records self.old)) h ≡ true) ids.now }
+        requires fresh { AllByRecursion (λ h. is_mine_vouched (Self.records self.old) h ≡ false) ids.now }
+        ensures vouches { Vouches (Self.stands self.old) (Self.records self.old) ids.now result (Self.records self.new) }
+        ensures stays { IsSameNode (Self.stands self.old) (Self.stands self.new) (Self.key self.old) (Self.key self.new) (Self.signature_of self.old) (Self.signature_of self.new) }
+        ensures stops { StopsBy (Self.stopped self.old) (Self.stopped self.new) (IsErrOf result VoucherError.Stopped) (IsErrOf result VoucherError.Disk) }
+        ensures disk { KeepsDisk (Self.handle self.old) (Self.handle self.new) (Self.faults self.old) (Self.faults self.new) (Self.is_faultless self.old) (Self.is_faultless self.new) (IsErrOf result VoucherError.Disk) };
+}
