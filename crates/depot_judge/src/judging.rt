@@ -1,7 +1,7 @@
 //! What a proof shows.
 ghost use Rattle.std.specs.Prelude.{◌≡◌, IfOk};
 ghost use Rattle.depot_model.specs.Texts.{IsProof};
-ghost use Rattle.depot_model.specs.Judgement.{first_failed_point, IsJudgementOf};
+ghost use Rattle.depot_model.specs.Judgement.{first_failed_point, judged_by, IsJudgementOf};
 ghost use Rattle.depot_model.specs.Conviction.{Convicts};
 
 use crate::contradiction::contradicts;
@@ -11,9 +11,14 @@ use depot_sign::{Roster, verify_signed};
 use depot_update::decode_proof;
 use std::alloc::Global;
 
-/// The first point in which a proof fails, or None. No point is looked at behind one that fails.
+/// The first of the points of [`JudgeError`], in their order, in which a proof fails, and None exactly where it fails in
+/// none. No point is looked at after one that fails, so each signature is verified once at most. It takes no memory.
 #[tactic(auto, using(depot_model::proofs::BodyLaws::first_is_signed, depot_model::proofs::BodyLaws::second_is_signed), unfolding(depot_model::specs::Judgement::points))]
-fn first_failed_point<S: Scheme>(roster: &Roster, scheme: &S, proof: &Proof) -> Option<JudgeError>
+pub fn first_failed_point<S: Scheme>(
+    roster: &Roster,
+    scheme: &S,
+    proof: &Proof,
+) -> Option<JudgeError>
     requires { IsProof proof.now }
     ensures { result ≡ first_failed_point S.verifies roster.now proof.now }
 {
@@ -65,7 +70,20 @@ pub fn judge<S: Scheme>(
         Err(DecodeError::Memory) => return Err(JudgeError::Memory),
         Err(DecodeError::IllFormed(at)) => return Err(JudgeError::IllFormed(at)),
     };
-    match first_failed_point(roster, scheme, &proof) {
+    judge_proof(roster, scheme, &proof)
+}
+
+/// Judges a proof under a roster: the first point that fails, and where none does the node that is convicted and the
+/// kind. It takes no memory.
+pub fn judge_proof<S: Scheme>(
+    roster: &Roster,
+    scheme: &S,
+    proof: &Proof,
+) -> Result<Verdict, JudgeError>
+    requires { IsProof proof.now }
+    ensures { result ≡ judged_by (first_failed_point S.verifies roster.now proof.now) proof.now }
+{
+    match first_failed_point(roster, scheme, proof) {
         Some(point) => Err(point),
         None => Ok(Verdict {
             node: proof.first.statement.writer(),

@@ -17,5 +17,5 @@ mod tests;
 
 pub use contradiction::{contradicts, kind_of};
 pub use depot_model::{Half, JudgeError, Verdict};
-pub use judging::judge;
+pub use judging::{first_failed_point, judge, judge_proof};
 pub use making::make_proof;

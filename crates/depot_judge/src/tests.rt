@@ -59,6 +59,16 @@ const Z: Write = Write {
     signer: 9,
 };
 
+/// A write of it that names the first as its prev, and goes back to its clock.
+const BACK: Write = Write {
+    node: 9,
+    seq: 3,
+    clock: 1,
+    prev: X_ID,
+    value: 0x64,
+    signer: 9,
+};
+
 /// The fork once more, signed by another key.
 const FORGED: Write = Write {
     node: 9,
@@ -167,13 +177,16 @@ fn node(number: u16) -> Result<NodeId, Fail> {
 
 #[test]
 fn a_fork_convicts(rt: HostRuntime) -> Result<(), Fail> {
-    let verdict = Verdict {
-        node: node(9)?,
-        kind: Kind::SamePrev,
-    };
+    for (byte, second, kind) in [(2, Y, Kind::SamePrev), (3, BACK, Kind::Backward)] {
+        let text = proof(rt.alloc(), byte, &X, &second)?;
+        let node = node(9)?;
+        assert_eq!(rt;
+            judged(rt.alloc(), text.as_slice())?,
+            Ok(Verdict { node, kind })
+        );
+    }
     let mut text = proof(rt.alloc(), 2, &X, &Y)?;
     assert_eq!(rt; text.len(), 322);
-    assert_eq!(rt; judged(rt.alloc(), text.as_slice())?, Ok(verdict));
     for n in 0..322 {
         let cut = text.get(..n).ok_or("a shorter text")?;
         let told = judged(rt.alloc(), cut)?;

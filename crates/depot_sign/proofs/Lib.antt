@@ -1,6 +1,8 @@
 pub mod Leaves
 pub mod Keys
 pub mod Entries
-pub mod Faults
-pub mod Refusals
+pub mod Agreeing
+pub mod Stops
+pub mod Causes
+pub mod EntryLoop
 pub mod Parsing

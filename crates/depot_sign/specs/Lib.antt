@@ -1,3 +1,3 @@
 pub mod Kept
-pub mod Refusals
+pub mod Reading
 pub mod PlainLaws

@@ -3,9 +3,8 @@ ghost use Rattle.std.specs.Prelude.{◌≡◌, ◌^◌, ℕ, List, nat_lt};
 ghost use Rattle.depot_model.specs.Plain.{plain_root, plain_signature, plain_verifies};
 ghost use Rattle.depot_sign.specs.PlainLaws.{signed_by_plain_verifies, length-plain_signature};
 
-use crate::text::hash_of;
 use depot_base::{Bytes, Hash32, Memory, PublicKey};
-use depot_model::{Scheme, Signer};
+use depot_model::{Scheme, Signer, hash_of};
 use sha2::{Digest, Sha256};
 use std::alloc::Global;
 

@@ -1,15 +1,13 @@
 //! The nodes that take part, and their public keys.
-ghost use Rattle.std.specs.Prelude.{◌≡◌, ◌≤◌, ℕ, length, IfOk};
+ghost use Rattle.std.specs.Prelude.{◌≡◌, ◌≤◌, length, IfOk};
 ghost use Rattle.depot_base.specs.Reading.{IsPrefixFree, IsReadInOneWay};
 ghost use Rattle.depot_model.specs.Roster.{key_of, has_node};
-ghost use Rattle.depot_model.specs.RosterText.{ParsesRoster};
+ghost use Rattle.depot_model.specs.RosterText.{ParsesRoster, AreReadInOneWay};
 ghost use Rattle.depot_model.specs.Texts.{IsRoster, roster, text_of_roster, hash_of_roster};
-ghost use Rattle.depot_sign.specs.Refusals.{HasGreatCount, RepeatsNode, IsToldWhere};
 
-use crate::text::{error_at, hash_of, text_of, whole_roster};
-use depot_base::fault::Fault;
+use crate::text::{error_of, text_of, whole_roster};
 use depot_base::{Bytes, Hash32, Memory, NodeId, PublicKey, RosterEntry, Sequence};
-use depot_model::RosterError;
+use depot_model::{RosterError, hash_of};
 use std::alloc::Global;
 use std::marker::Model;
 
@@ -46,11 +44,7 @@ impl Roster {
     /// fields names the node of the entry before, and else `IllFormed`: a field that is cut short or out of its range, an
     /// entry whose node is smaller than the one before, or bytes behind the last entry.
     pub fn parse(alloc: Global, text: &[u8]) -> Result<Roster, RosterError>
-        ensures parses { ParsesRoster text.now result }
-        ensures too_many { (count : ℕ) →
-            IsToldWhere result (RosterError.TooMany count) (HasGreatCount text.now count) }
-        ensures twice_node { (node : ℕ) →
-            IsToldWhere result (RosterError.TwiceNode node) (RepeatsNode text.now node) }
+        ensures { ParsesRoster text.now result }
     {
         match whole_roster(alloc, text) {
             Ok(entries) => Ok(Roster {
@@ -58,8 +52,7 @@ impl Roster {
                 entries,
                 hash: hash_of(text),
             }),
-            Err(Fault::Memory) => Err(RosterError::Memory),
-            Err(Fault::At(at)) => Err(error_at(text, at)),
+            Err(stop) => Err(error_of(stop)),
         }
     }
 
@@ -143,7 +136,8 @@ pub fn rosters_are_prefix_free()
     ensures { IsPrefixFree roster }
 {}
 
-/// A text is that of one roster, or it is no roster's and its first fault is at one place.
+/// A text is that of one roster, or it is no roster's, its first fault is at one place, and it is refused for one cause.
 pub fn rosters_are_read_in_one_way()
-    ensures { IsReadInOneWay roster }
+    ensures place { IsReadInOneWay roster }
+    ensures cause { AreReadInOneWay }
 {}

@@ -136,6 +136,13 @@ fn a_roster_tells_its_keys(rt: HostRuntime) -> Result<(), Fail> {
     tells(&rt, &roster, node(7)?, Some((12, 0x22)));
     tells(&rt, &roster, node(8)?, None);
     tells(&rt, &roster, node(65535)?, Some((4, 0x33)));
+    let mut text = Bytes::new(rt.alloc());
+    text.push_all(&[1, 4, 1, 0])?;
+    for n in 1..257 {
+        text.push_u16(n)?;
+        text.push_all(&[2; 33])?;
+    }
+    assert_eq!(rt; Roster::parse(rt.alloc(), text.as_slice())?.count(), 256);
     Ok(())
 }
 

@@ -1,20 +1,20 @@
 //! Reading and writing the text of a roster.
-ghost use Rattle.std.specs.Prelude.{◌≡◌, ◌+◌, ◌^◌, ◌<◌, ◌≤◌, length, IfOk};
-ghost use Rattle.sha2.specs.Sha256.{sha256};
+ghost use Rattle.std.specs.Prelude.{◌≡◌, List, [], Result, IfOk};
+ghost use Rattle.std.specs.Option.{option_copied};
+ghost use Rattle.depot_base.specs.declared.key.RosterEntry.{RosterEntry};
 ghost use Rattle.depot_base.specs.Cursor.{Cursor};
-ghost use Rattle.depot_base.specs.Format.{whole, FirstFault};
-ghost use Rattle.depot_base.specs.Reading.{Reads, Gives};
-ghost use Rattle.depot_model.specs.RosterText.{number_at, has_great_count, repeats_node, roster_error};
-ghost use Rattle.depot_model.specs.Texts.{IsRoster, roster, text_of_roster};
+ghost use Rattle.depot_sign.specs.Reading.{stop_of, error_of, IsEarlyStop, count_or_stop, placed, unless_stopped, entries_or_stop, roster_or_stop, whole_or_stop, ReadsOrStops, GivesOrStops};
+ghost use Rattle.depot_sign.specs.declared.text.Stop.{Stop};
+ghost use Rattle.depot_sign.specs.declared.text.Stop.TheVariants as stop;
+ghost use Rattle.depot_model.specs.Texts.{IsRoster, text_of_roster};
 
 use crate::Roster;
-use depot_base::entry::{entries_in, put_entries};
+use depot_base::entry::{Entry, put_entries};
 use depot_base::fault::Fault;
-use depot_base::reading::{at_end, u8_in, u16_in};
-use depot_base::{Bytes, Fields, Hash32, Memory, NodeId, RosterEntry, Sequence};
+use depot_base::reading::{u8_in, u16_in};
+use depot_base::{Bytes, Fields, Memory, NodeId, RosterEntry, Sequence};
 use depot_model::RosterError;
-use sha2::{Digest, Sha256};
-use std::alloc::Global;
+use std::alloc::{AllocFailed, Global};
 
 /// The version of the text of a roster.
 const VERSION: u8 = 1;
@@ -22,84 +22,123 @@ const VERSION: u8 = 1;
 /// The kind of the text of a roster.
 const KIND: u8 = 4;
 
-/// Where the count stands, in bytes from the start of the text.
-const COUNT_AT: usize = 2;
+/// Why the reader of a roster stops.
+#[derive(Clone, Copy, Debug, PartialEq, Eq)]
+pub enum Stop {
+    /// No memory was found.
+    Memory,
+    /// A field that is cut short or out of its range, an entry that is out of order, or a byte too many, at this offset.
+    At(usize),
+    /// The count is this, over 256.
+    TooMany(u16),
+    /// A whole entry names this node, as the entry before it does.
+    Twice(NodeId),
+}
 
-/// Where the entries begin.
-const ENTRIES_AT: usize = 4;
+impl From<Fault> for Stop {
+    ghost from_gives = { λ f s. s ≡ stop_of f };
 
-/// How many bytes an entry has: node, height and root.
-const ENTRY_LEN: usize = 35;
+    fn from(fault: Fault) -> Stop {
+        match fault {
+            Fault::Memory => Stop::Memory,
+            Fault::At(at) => Stop::At(at),
+        }
+    }
+}
 
-/// SHA-256 of these bytes.
-pub fn hash_of(bytes: &[u8]) -> Hash32
-    ensures { result ≡ sha256 bytes.now }
+impl<T: Drop> From<AllocFailed<T>> for Stop {
+    ghost from_gives = { λ _ s. s ≡ stop.Memory };
+
+    fn from(_e: AllocFailed<T>) -> Stop {
+        Stop::Memory
+    }
+}
+
+/// What the caller is told of a stop.
+pub fn error_of(stop: Stop) -> RosterError
+    requires { IsEarlyStop stop }
+    ensures { result ≡ error_of stop }
 {
-    Hash32::new(Sha256::digest(bytes))
+    match stop {
+        Stop::Memory => RosterError::Memory,
+        Stop::At(at) => RosterError::IllFormed(at as u32),
+        Stop::TooMany(count) => RosterError::TooMany(u32::from(count)),
+        Stop::Twice(node) => RosterError::TwiceNode(node),
+    }
+}
+
+/// The number of entries, 1 to 256.
+#[tactic(auto, unfolding(crate::specs::Reading::count_or_stop))]
+fn count_in(fields: &mut Fields<'_>) -> Result<u16, Stop>
+    ensures { ReadsOrStops result fields.new (count_or_stop fields.old) }
+{
+    let at = fields.at();
+    let count = u16_in(fields, 0, u16::MAX)?;
+    if count > Roster::MOST {
+        return Err(Stop::TooMany(count));
+    }
+    if count == 0 {
+        return Err(Stop::At(at));
+    }
+    Ok(count)
+}
+
+/// Why an entry at an offset may not stand behind another, if it may not.
+fn misplaced(before: Option<&RosterEntry>, entry: &RosterEntry, at: usize) -> Option<Stop>
+    ensures { (next : Result (List RosterEntry × Cursor) Stop) → placed (option_copied before.entry) entry.now at next ≡ unless_stopped result next }
+{
+    let before = before?.node.number();
+    let node = entry.node.number();
+    if before == node {
+        Some(Stop::Twice(entry.node))
+    } else if before < node {
+        None
+    } else {
+        Some(Stop::At(at))
+    }
+}
+
+/// So many entries.
+fn entries_in(
+    alloc: Global,
+    fields: &mut Fields<'_>,
+    count: u16,
+) -> Result<Sequence<RosterEntry>, Stop>
+    ensures { ReadsOrStops result fields.new (entries_or_stop count [] fields.old) }
+{
+    let mut list = Vec::new(alloc);
+    for _ in 0..count {
+        let at = fields.at();
+        let entry = RosterEntry::read(fields)?;
+        if let Some(stop) = misplaced(list.as_slice().last(), &entry, at) {
+            return Err(stop);
+        }
+        list.push(entry)?;
+    }
+    Ok(Sequence::from_vec(list))
 }
 
 /// Takes the text of a roster from the front, and gives the roster's entries.
-#[tactic(auto, unfolding(depot_model::specs::Texts::roster, depot_base::specs::Format::list_of))]
-fn roster_in(alloc: Global, fields: &mut Fields<'_>) -> Result<Sequence<RosterEntry>, Fault>
-    ensures { Reads result fields.new (roster.read fields.old) }
+#[tactic(auto, unfolding(crate::specs::Reading::roster_or_stop))]
+fn roster_in(alloc: Global, fields: &mut Fields<'_>) -> Result<Sequence<RosterEntry>, Stop>
+    ensures { ReadsOrStops result fields.new (roster_or_stop fields.old) }
 {
     u8_in(fields, VERSION, VERSION)?;
     u8_in(fields, KIND, KIND)?;
-    let count = u16_in(fields, 1, Roster::MOST)?;
-    let entries = entries_in(alloc, fields, count, 0)?;
-    Ok(Sequence::from_vec(entries))
+    let count = count_in(fields)?;
+    entries_in(alloc, fields, count)
 }
 
 /// The entries of the roster that this whole text is of.
-pub fn whole_roster(alloc: Global, text: &[u8]) -> Result<Sequence<RosterEntry>, Fault>
-    ensures { Gives result (whole roster (record { at = 0; rest = text.now })) }
+pub fn whole_roster(alloc: Global, text: &[u8]) -> Result<Sequence<RosterEntry>, Stop>
+    ensures { GivesOrStops result (whole_or_stop (record { at = 0; rest = text.now })) }
 {
     let mut fields = Fields::new(text);
     let entries = roster_in(alloc, &mut fields)?;
-    at_end(&fields, entries)
-}
-
-/// The number of two bytes that stands at an offset.
-fn number_at(text: &[u8], at: usize) -> u16
-    requires { at + 2 ≤ length text.now }
-    ensures { result ≡ number_at text.now at }
-{
-    u16::from_be_bytes([text[at], text[at + 1]])
-}
-
-/// Whether a fault at this offset is a count over 256.
-fn has_great_count(text: &[u8], at: usize) -> bool
-    ensures { result ≡ has_great_count text.now at }
-{
-    at == COUNT_AT && text.len() >= ENTRIES_AT && number_at(text, COUNT_AT) > Roster::MOST
-}
-
-/// Whether a fault at this offset is an entry that names the node of the entry before.
-fn repeats_node(text: &[u8], at: usize) -> bool
-    requires { at < 2 ^ 32 }
-    ensures { result ≡ repeats_node text.now at }
-{
-    at >= ENTRIES_AT + ENTRY_LEN
-        && at + 2 <= text.len()
-        && at < ENTRIES_AT + ENTRY_LEN * usize::from(number_at(text, COUNT_AT))
-        && (at - ENTRIES_AT) % ENTRY_LEN == 0
-        && number_at(text, at) == number_at(text, at - ENTRY_LEN)
-}
-
-/// The error of a text whose first fault starts at this offset: TooMany for a count over 256, TwiceNode for an entry that
-/// names the node of the entry before, and IllFormed for each other fault.
-#[tactic(auto, unfolding(depot_model::specs::RosterText::roster_error))]
-pub fn error_at(text: &[u8], at: usize) -> RosterError
-    requires { FirstFault roster text.now at }
-    ensures { result ≡ roster_error text.now at }
-{
-    if has_great_count(text, at) {
-        return RosterError::TooMany(u32::from(number_at(text, COUNT_AT)));
+    if !fields.is_at_end() {
+        return Err(Stop::At(fields.at()));
     }
-    if repeats_node(text, at) {
-        return RosterError::TwiceNode(NodeId::new(number_at(text, at)).unwrap());
-    }
-    RosterError::IllFormed(at as u32)
+    Ok(entries)
 }
 
 /// The text of the roster of these entries.

@@ -1,9 +1,10 @@
 //! What holds of all texts of a kind. Each law is a function that does nothing; its contract is the law.
 ghost use Rattle.std.specs.Prelude.{◌≡◌, ◌↔◌};
-ghost use Rattle.depot_base.specs.Reading.{IsPrefixFree, IsReadInOneWay};
+ghost use Rattle.depot_base.specs.Reading.{IsPrefixFree, IsReadInOneWay, IsClosedReadInOneWay};
 ghost use Rattle.depot_base.specs.declared.update.Update.{Update};
 ghost use Rattle.depot_base.specs.declared.statement.Statement.TheVariants as statements;
 ghost use Rattle.depot_model.specs.Texts.{update_body, statement, signed, proof, IsUpdate, IsStatement, text_of_update, text_of_statement};
+ghost use Rattle.depot_model.specs.Records.{record_text};
 
 /// No body of an update begins the body of another.
 pub fn updates_are_prefix_free()
@@ -23,6 +24,26 @@ pub fn signed_are_prefix_free()
 /// No text of a proof begins the text of another.
 pub fn proofs_are_prefix_free()
     ensures { IsPrefixFree proof }
+{}
+
+/// A text is the body of one update, or it is no update's body and its first fault is at one place.
+pub fn updates_are_read_in_one_way()
+    ensures { IsReadInOneWay update_body }
+{}
+
+/// A text is the body of one statement, or it is no statement's body and its first fault is at one place.
+pub fn statements_are_read_in_one_way()
+    ensures { IsReadInOneWay statement }
+{}
+
+/// A text is that of one signed statement, or it is no signed statement's and its first fault is at one place.
+pub fn signed_are_read_in_one_way()
+    ensures { IsReadInOneWay signed }
+{}
+
+/// A text is that of one record, or it is no record's and its first fault is at one place.
+pub fn records_are_read_in_one_way()
+    ensures { IsClosedReadInOneWay record_text }
 {}
 
 /// A text is that of one proof, or it is no proof's and its first fault is at one place.

@@ -20,12 +20,15 @@ mod voucher;
 
 pub use depot_base::DecodeError;
 pub use laws::{
-    proofs_are_prefix_free, signed_are_prefix_free, statements_are_prefix_free, update_texts_agree,
-    updates_are_prefix_free,
+    proofs_are_prefix_free, proofs_are_read_in_one_way, records_are_read_in_one_way,
+    signed_are_prefix_free, signed_are_read_in_one_way, statements_are_prefix_free,
+    statements_are_read_in_one_way, update_texts_agree, updates_are_prefix_free,
+    updates_are_read_in_one_way,
 };
 pub use proof::{decode_proof, encode_proof};
 pub use record::{
-    decode_record, encode_conviction, encode_foreign, encode_held, encode_own_put, encode_record,
+    OwnRecord, conviction_of_text, decode_record, encode_conviction, encode_foreign, encode_held,
+    encode_own_put, encode_record, foreign_of_text, id_in_own_put, id_in_own_voucher,
 };
 pub use signed::{decode_signed, encode_signed};
 pub use statement::{decode_statement, encode_statement};

@@ -1,5 +1,5 @@
 //! Texts of proofs.
-ghost use Rattle.std.specs.Prelude.{◌≡◌, ◌++◌, OnOk, IfOk};
+ghost use Rattle.std.specs.Prelude.{◌≡◌, ◌++◌, ◌≤◌, length, OnOk, IfOk};
 ghost use Rattle.depot_base.specs.Format.{whole};
 ghost use Rattle.depot_base.specs.Reading.{Reads, Gives, Decodes};
 ghost use Rattle.depot_model.specs.Texts.{proof, kind_of_number, number_of_kind, IsProof, text_of_proof};
@@ -78,9 +78,11 @@ pub(crate) fn put_proof(out: &mut Bytes, proof: &Proof) -> Result<(), Memory>
 }
 
 /// The proof's one text, of at most 103,166 bytes (docs/FORMATS.md).
+#[tactic(auto, using(depot_model::proofs::TextLaws::proof_is_short))]
 pub fn encode_proof(alloc: Global, proof: &Proof) -> Result<Bytes, Memory>
     requires { IsProof proof.now }
-    ensures { IfOk result (λ text. text ≡ text_of_proof proof.now) }
+    ensures text { IfOk result (λ text. text ≡ text_of_proof proof.now) }
+    ensures short { IfOk result (λ text. length text ≤ 103166) }
 {
     let mut out = Bytes::new(alloc);
     put_proof(&mut out, proof)?;

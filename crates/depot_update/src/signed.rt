@@ -1,11 +1,12 @@
 //! Texts of signed statements.
-ghost use Rattle.std.specs.Prelude.{◌≡◌, ◌++◌, OnOk, IfOk};
+ghost use Rattle.std.specs.Prelude.{◌≡◌, ◌++◌, ◌≤◌, length, OnOk, IfOk};
 ghost use Rattle.depot_base.specs.Format.{whole, kept};
 ghost use Rattle.depot_base.specs.Reading.{Reads, Gives, Decodes};
 ghost use Rattle.depot_model.specs.Texts.{statement, signed, IsSigned, text_of_signed};
 
 use crate::statement::whole_statement;
 use depot_base::fault::{Fault, answer};
+use depot_base::limits::{MOST_BODY, MOST_SIGNATURE};
 use depot_base::reading::{at_end, bytes_in, u32_in};
 use depot_base::{Bytes, DecodeError, Fields, Memory, Signed, Statement};
 use std::alloc::Global;
@@ -33,9 +34,9 @@ fn body_in(
 pub(crate) fn signed_in(alloc: Global, fields: &mut Fields<'_>) -> Result<Signed, Fault>
     ensures { Reads result fields.new (signed.read fields.old) }
 {
-    let body_length = u32_in(fields, 0, 43_382)?;
+    let body_length = u32_in(fields, 0, MOST_BODY)?;
     let (body, statement) = body_in(alloc, fields, body_length as usize)?;
-    let signature_length = u32_in(fields, 0, 8192)?;
+    let signature_length = u32_in(fields, 0, MOST_SIGNATURE)?;
     let signature = bytes_in(alloc, fields, signature_length as usize)?;
     Ok(Signed {
         statement,
@@ -76,9 +77,11 @@ pub(crate) fn put_signed(out: &mut Bytes, signed: &Signed) -> Result<(), Memory>
 }
 
 /// The signed statement's one text, of at most 51,582 bytes (docs/FORMATS.md).
+#[tactic(auto, using(depot_model::proofs::TextLaws::signed_is_short))]
 pub fn encode_signed(alloc: Global, signed: &Signed) -> Result<Bytes, Memory>
     requires { IsSigned signed.now }
-    ensures { IfOk result (λ text. text ≡ text_of_signed signed.now) }
+    ensures text { IfOk result (λ text. text ≡ text_of_signed signed.now) }
+    ensures short { IfOk result (λ text. length text ≤ 51582) }
 {
     let mut out = Bytes::new(alloc);
     put_signed(&mut out, signed)?;

@@ -1,5 +1,6 @@
 //! Bodies of statements.
-ghost use Rattle.std.specs.Prelude.{◌≡◌, ◌++◌, OnOk, IfOk};
+ghost use Rattle.std.specs.Prelude.{◌≡◌, ◌++◌, ◌≤◌, length, OnOk, IfOk};
+ghost use Rattle.depot_base.specs.declared.limits.TheConstants.{MOST_BODY};
 ghost use Rattle.depot_base.specs.Format.{whole};
 ghost use Rattle.depot_base.specs.Reading.{Reads, Gives, Decodes};
 ghost use Rattle.depot_model.specs.Texts.{statement, IsStatement, text_of_statement};
@@ -61,9 +62,11 @@ fn put_statement(out: &mut Bytes, statement: &Statement) -> Result<(), Memory>
 }
 
 /// The statement's one body, of at most 43,382 bytes (docs/FORMATS.md).
+#[tactic(auto, using(depot_model::proofs::TextLaws::statement_is_short))]
 pub fn encode_statement(alloc: Global, statement: &Statement) -> Result<Bytes, Memory>
     requires { IsStatement statement.now }
-    ensures { IfOk result (λ text. text ≡ text_of_statement statement.now) }
+    ensures text { IfOk result (λ text. text ≡ text_of_statement statement.now) }
+    ensures short { IfOk result (λ text. length text ≤ MOST_BODY) }
 {
     let mut out = Bytes::new(alloc);
     put_statement(&mut out, statement)?;

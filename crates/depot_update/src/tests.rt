@@ -31,6 +31,9 @@ const VOUCHER: &str = "0102 0007 00000005 0002 \
     3333333333333333333333333333333333333333333333333333333333333333 \
     3333333333333333333333333333333333333333333333333333333333333334";
 
+/// SHA-256 of it, by Python's hashlib.
+const VOUCHER_ID: &str = "bcc1d46936765fa898808ba360b0729dd6b8c68b9dd51807126b2f673057eae8";
+
 /// A signed voucher: its body stands from offset 4, its signature from 50.
 const SIGNED: &str = "0000002a 0102 0007 00000005 0001 \
     3333333333333333333333333333333333333333333333333333333333333333 00000002 aabb";
@@ -228,6 +231,33 @@ fn a_text_is_read_and_written(rt: HostRuntime) -> Result<(), Fail> {
     Ok(())
 }
 
+/// The longest body of an update: a key of 255 bytes and 1,024 entries of writer 2, whose ids rise.
+fn longest(alloc: Global) -> Result<Bytes, Memory> {
+    let mut text = Bytes::new(alloc);
+    text.push_all(&[1, 1, 0, 1, 0, 0, 0, 0, 0, 0, 0, 0, 0, 0, 0, 1])?;
+    text.push_all(&[0; 32])?;
+    text.push_all(&[255; 256])?;
+    text.push_all(&[7; 32])?;
+    text.push_all(&[0, 1, 0, 0, 4, 0])?;
+    for n in 0..1024 {
+        text.push_all(&[0, 2, 255, 255, 255, 255, 255, 255, 255, 255])?;
+        text.push_u16(n)?;
+        text.push_all(&[0; 30])?;
+    }
+    text.push_all(&[9; 32])?;
+    Ok(text)
+}
+
+#[test]
+fn the_longest_body_is_read_and_written(rt: HostRuntime) -> Result<(), Fail> {
+    let text = longest(rt.alloc())?;
+    let update = decode_update(rt.alloc(), text.as_slice())?;
+    let again = encode_update(rt.alloc(), &update)?;
+    assert_eq!(rt; again.as_slice().len(), 43_382);
+    assert_eq!(rt; again.as_slice(), text.as_slice());
+    Ok(())
+}
+
 #[test]
 fn an_id_is_the_hash_of_the_body(rt: HostRuntime) -> Result<(), Fail> {
     for (hex, id) in [(UPDATE, UPDATE_ID), (JOINING, JOINING_ID)] {
@@ -241,6 +271,13 @@ fn an_id_is_the_hash_of_the_body(rt: HostRuntime) -> Result<(), Fail> {
             right.as_slice()
         );
     }
+    let all = records(rt.alloc())?;
+    let voucher = all.get(2).ok_or("a voucher")?.as_slice();
+    let right = bytes(rt.alloc(), VOUCHER_ID)?;
+    assert_eq!(rt;
+        id_in_own_voucher(voucher).bytes().as_slice(),
+        right.as_slice()
+    );
     Ok(())
 }
 
@@ -269,12 +306,21 @@ fn records(alloc: Global) -> Result<Vec<Vec<u8>>, Fail> {
     Ok(all)
 }
 
+/// The text of a record from its parts' text, where a call takes that.
+fn record_of_text(alloc: Global, text: &[u8]) -> Result<Bytes, Memory> {
+    match text {
+        [4, rest @ ..] => foreign_of_text(alloc, rest),
+        [5, rest @ ..] => conviction_of_text(alloc, rest),
+        _ => Bytes::from_slice(alloc, text),
+    }
+}
+
 /// The text of a record, by the encoder of its kind where there is one.
 fn encode_by_kind(alloc: Global, item: &Record) -> Result<Bytes, Memory>
     requires { IsRecord item.now }
 {
     match item {
-        Record::OwnPut { update, value } => encode_own_put(alloc, update, value),
+        Record::OwnPut { update, value } => Ok(encode_own_put(alloc, update, value)?.text),
         Record::Foreign { signed } => encode_foreign(alloc, signed),
         Record::Conviction { proof } => encode_conviction(alloc, proof),
         Record::Held { value } => encode_held(alloc, value),
@@ -294,6 +340,8 @@ fn a_record_is_read_and_written(rt: HostRuntime) -> Result<(), Fail> {
             encode_by_kind(rt.alloc(), &item)?.as_slice(),
             text.as_slice()
         );
+        let again = record_of_text(rt.alloc(), text.as_slice())?;
+        assert_eq!(rt; again.as_slice(), text.as_slice());
     }
     Ok(())
 }

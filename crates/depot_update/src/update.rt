@@ -1,5 +1,6 @@
 //! Bodies of updates.
-ghost use Rattle.std.specs.Prelude.{◌≡◌, ◌≤◌, ◌++◌, OnOk, IfOk};
+ghost use Rattle.std.specs.Prelude.{◌≡◌, ◌≤◌, ◌++◌, length, OnOk, IfOk};
+ghost use Rattle.depot_base.specs.declared.limits.TheConstants.{MOST_BODY, MOST_VALUE};
 ghost use Rattle.depot_base.specs.Format.{whole};
 ghost use Rattle.depot_base.specs.Parts.{deps_of};
 ghost use Rattle.depot_base.specs.Reading.{Reads, Gives, Decodes};
@@ -7,9 +8,10 @@ ghost use Rattle.depot_model.specs.Texts.{update_fields, update_body, IsUpdate, 
 
 use depot_base::entry::{entries_in, put_entries};
 use depot_base::fault::{Fault, answer};
+use depot_base::limits::{MOST_ENTRIES, MOST_VALUE};
 use depot_base::reading::{at_end, bytes_in, hash_in, node_in, u8_in, u16_in, u32_in, u64_in};
 use depot_base::{Bytes, DecodeError, Deps, Fields, Hash32, Key, Memory, Update};
-use sha2::{Digest, Sha256};
+use depot_model::hash_of;
 use std::alloc::Global;
 
 /// The entries of an update of the writer `own`.
@@ -25,7 +27,7 @@ fn deps_in(alloc: Global, fields: &mut Fields<'_>, own: u16, count: u16) -> Resu
 #[tactic(auto, unfolding(depot_model::specs::Texts::update_fields))]
 pub(crate) fn update_fields_in(alloc: Global, fields: &mut Fields<'_>) -> Result<Update, Fault>
     ensures reads { Reads result fields.new (update_fields.read fields.old) }
-    ensures sized { IfOk result (λ update. update.value_len ≤ 65536) }
+    ensures sized { IfOk result (λ update. update.value_len ≤ MOST_VALUE) }
 {
     let writer = node_in(fields)?;
     let seq = u32_in(fields, 0, u32::MAX)?;
@@ -34,8 +36,8 @@ pub(crate) fn update_fields_in(alloc: Global, fields: &mut Fields<'_>) -> Result
     let key_length = u8_in(fields, 1, 255)?;
     let key = Key::from_bytes(bytes_in(alloc, fields, key_length as usize)?);
     let value_hash = hash_in(fields)?;
-    let value_len = u32_in(fields, 0, 65_536)?;
-    let count = u16_in(fields, 0, 1024)?;
+    let value_len = u32_in(fields, 0, MOST_VALUE as u32)?;
+    let count = u16_in(fields, 0, MOST_ENTRIES)?;
     let deps = deps_in(alloc, fields, writer.number(), count)?;
     let history = hash_in(fields)?;
     Ok(Update {
@@ -55,7 +57,7 @@ pub(crate) fn update_fields_in(alloc: Global, fields: &mut Fields<'_>) -> Result
 #[tactic(auto, unfolding(depot_model::specs::Texts::update_body))]
 fn update_in(alloc: Global, fields: &mut Fields<'_>) -> Result<Update, Fault>
     ensures reads { Reads result fields.new (update_body.read fields.old) }
-    ensures sized { IfOk result (λ update. update.value_len ≤ 65536) }
+    ensures sized { IfOk result (λ update. update.value_len ≤ MOST_VALUE) }
 {
     u8_in(fields, 1, 1)?;
     u8_in(fields, 1, 1)?;
@@ -65,7 +67,7 @@ fn update_in(alloc: Global, fields: &mut Fields<'_>) -> Result<Update, Fault>
 /// The same, of all the bytes that are left.
 pub(crate) fn whole_update(alloc: Global, fields: &mut Fields<'_>) -> Result<Update, Fault>
     ensures gives { Gives result (whole update_body fields.old) }
-    ensures sized { IfOk result (λ update. update.value_len ≤ 65536) }
+    ensures sized { IfOk result (λ update. update.value_len ≤ MOST_VALUE) }
 {
     let update = update_in(alloc, fields)?;
     at_end(fields, update)
@@ -112,9 +114,11 @@ pub(crate) fn put_update(out: &mut Bytes, update: &Update) -> Result<(), Memory>
 }
 
 /// The update's one body, of 120 to 43,382 bytes (docs/FORMATS.md).
+#[tactic(auto, using(depot_model::proofs::TextLaws::update_is_short))]
 pub fn encode_update(alloc: Global, update: &Update) -> Result<Bytes, Memory>
     requires { IsUpdate update.now }
-    ensures { IfOk result (λ text. text ≡ text_of_update update.now) }
+    ensures text { IfOk result (λ text. text ≡ text_of_update update.now) }
+    ensures short { IfOk result (λ text. length text ≤ MOST_BODY) }
 {
     let mut out = Bytes::new(alloc);
     put_update(&mut out, update)?;
@@ -128,5 +132,5 @@ pub fn id_of(alloc: Global, update: &Update) -> Result<Hash32, Memory>
     ensures { IfOk result (λ id. id ≡ id_of_update update.now) }
 {
     let body = encode_update(alloc, update)?;
-    Ok(Hash32::new(Sha256::digest(body.as_slice())))
+    Ok(hash_of(body.as_slice()))
 }

@@ -3,6 +3,7 @@ ghost use Rattle.std.specs.Prelude.{◌≡◌, ◌-◌};
 ghost use Rattle.depot_model.specs.Winternitz.{secret, step, value_at, walk};
 
 use depot_base::Hash32;
+use depot_model::hash_of;
 use sha2::{Digest, Sha256};
 
 // The last position of a chain, at its end.
@@ -33,12 +34,13 @@ impl Chain {
     fn step(self, position: u8, value: &Hash32) -> Hash32
         ensures { result ≡ step self.leaf self.number position value.now }
     {
-        let hasher = Sha256::new_with_prefix(&[2])
-            .chain_update(&self.leaf.to_be_bytes())
-            .chain_update(&self.number.to_be_bytes())
-            .chain_update(&[position])
-            .chain_update(value.bytes());
-        Hash32::new(hasher.finalize())
+        let mut block = [0; 40];
+        block[0] = 2;
+        block[1..5].copy_from_slice(&self.leaf.to_be_bytes());
+        block[5..7].copy_from_slice(&self.number.to_be_bytes());
+        block[7] = position;
+        block[8..].copy_from_slice(value.bytes());
+        hash_of(&block)
     }
 
     // The value at position `to`, from that at position `from`; the same value where `to` isn't past `from`.
