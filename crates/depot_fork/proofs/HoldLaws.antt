@@ -1,6 +1,7 @@
 -- Whether a statement with the same body is held among the kept ones.
-use Rattle.std.proofs.Common.{append_assoc, ◌≡◌, ℕ, zero, suc, ◌<◌, List, [], ◌∷◌, ◌++◌, length, map, get_or, Bool, true, false, ◌||◌, Some, refl, sym, ap, subst, ◌∙◌, inl, inr}
+use Rattle.std.proofs.Common.{◌≡◌, ℕ, zero, suc, ◌<◌, List, [], ◌∷◌, ◌++◌, length, map, get_or, Bool, true, false, ◌||◌, Some, refl, sym, ap, subst, ◌∙◌, inl, inr}
 use Rattle.std.specs.List.{slice_get, list_any}
+use Rattle.std.proofs.lemmas.Bool.{eq-eqb}
 use Rattle.std.proofs.lemmas.Option.{slice_get_read}
 use Rattle.std.proofs.lemmas.List.{append-nil}
 use Rattle.std.proofs.lemmas.Slice.Eq.{bytes_eq-Decides}
@@ -15,10 +16,11 @@ use Rattle.depot_fork.specs.declared.marks.Mark.{Mark}
 use Rattle.depot_fork.specs.declared.marks.Mark.TheVariants as marks
 use Rattle.depot_fork.specs.declared.table.Table.{Table}
 use Rattle.depot_fork.specs.Table.{listed}
-use Rattle.depot_fork.specs.Marks.{has_mark}
+use Rattle.depot_fork.specs.StatementMarks.{has_mark}
 use Rattle.depot_fork.specs.Keeping.{IsEntry, AreEntries, IsKeeping, is_under}
 use Rattle.depot_fork.specs.Opponents.{has_body_of}
-use Rattle.depot_fork.proofs.KindLaws.{eqb_is, same_from_text}
+use Rattle.depot_fork.proofs.KindLaws.{same_from_text}
+use Rattle.depot_fork.proofs.ListedPlaces.{is_next}
 use Rattle.depot_fork.proofs.KeepLaws.{signed_statement, entry_of, met, place_low, number_of, is_number}
 use Rattle.depot_model.proofs.Members.{in_parts}
 
@@ -27,18 +29,6 @@ use Rattle.depot_model.proofs.Members.{in_parts}
 -- an entry that was read, by its place
 pub entry_at : (es : List Entry) (i : ℕ) (e : Entry) → AreEntries es → i < length es → e ≡ get_or es i e → IsEntry e
 entry_at es i e all low is = entry_of es i e all (slice_get_read es (length es) i e refl low is)
-
--- ---- what an iterator gave, and what it has left
-
-pub is_next : (before rest later all : List ℕ) (place : ℕ) → before ++ rest ≡ all → rest ≡ place ∷ later → IsIn place all
-is_next before rest later all place whole next = subst (λ (l : List ℕ). IsIn place l) whole (behind before)
-  where
-    behind : (front : List ℕ) → IsIn place (front ++ rest)
-    behind [] = rw next (inl refl)
-    behind (x ∷ xs) = inr (behind xs)
-
-pub whole_next : (before rest later all : List ℕ) (place : ℕ) → before ++ rest ≡ all → rest ≡ place ∷ later → (before ++ place ∷ []) ++ later ≡ all
-whole_next before rest later all place whole next = rw append_assoc (ap (λ (l : List ℕ). before ++ l) (sym next) ∙ whole)
 
 -- ---- at some places
 
@@ -94,8 +84,8 @@ none_any (y ∷ ys) s all =
 -- a statement has the mark of its number
 has_number : (s : Statement) (id : List ℕ) → has_mark s id (number_of s) ≡ true
 unfolding has_mark
-has_number (statements.Update u) id = rw (eqb_is u.writer u.writer refl, eqb_is u.seq u.seq refl) refl
-has_number (statements.Voucher v) id = rw (eqb_is v.node v.node refl, eqb_is v.seq v.seq refl) refl
+has_number (statements.Update u) id = rw (eq-eqb u.writer u.writer refl, eq-eqb u.seq u.seq refl) refl
+has_number (statements.Voucher v) id = rw (eq-eqb v.node v.node refl, eq-eqb v.seq v.seq refl) refl
 
 -- so an entry with the statement's body has that mark, since the two are one statement
 number_of_body : (e : Entry) (s : Statement) → IsEntry e → IsStatement s → has_body_of s e.signed ≡ true → is_under (number_of s) e ≡ true

@@ -1,6 +1,6 @@
 -- What is kept, and what is listed of it.
-use Rattle.std.proofs.Common.{◌≡◌, ℕ, zero, suc, ◌+◌, ◌<◌, List, [], ◌∷◌, ◌++◌, length, Bool, true, false, ◌||◌, refl, sym, ap, subst, ◌∙◌, arith, inl, inr, Some, if◌then◌else◌}
-use Rattle.std.specs.List.{slice_get, AllByRecursion}
+use Rattle.std.proofs.Common.{◌≡◌, ℕ, ◌+◌, ◌<◌, List, [], ◌∷◌, ◌++◌, length, Bool, true, false, ◌||◌, refl, sym, ap, subst, ◌∙◌, arith, inl, inr, Some, if◌then◌else◌}
+use Rattle.std.specs.List.{slice_get}
 use Rattle.depot_base.specs.Format.{inner}
 use Rattle.depot_base.specs.Statement.{writer_of, seq_of}
 use Rattle.depot_base.specs.declared.statement.Statement.{Statement}
@@ -10,15 +10,17 @@ use Rattle.depot_base.specs.declared.update.Update.{Update}
 use Rattle.depot_base.specs.declared.voucher.Voucher.{Voucher}
 use Rattle.depot_model.specs.Lists.{IsIn}
 use Rattle.depot_model.specs.Texts.{IsSigned, IsStatement, signed, id_of_statement}
+use Rattle.depot_model.proofs.Elements.{each_at}
+use Rattle.depot_model.proofs.Members.{all_push}
 use Rattle.depot_fork.specs.declared.entry.Entry.{Entry}
 use Rattle.depot_fork.specs.declared.marks.Mark.{Mark}
 use Rattle.depot_fork.specs.declared.marks.Mark.TheVariants as marks
 use Rattle.depot_fork.specs.declared.table.Table.{Table}
 use Rattle.depot_fork.specs.Links.{same_mark}
 use Rattle.depot_fork.specs.Table.{listed}
-use Rattle.depot_fork.specs.Marks.{has_mark}
+use Rattle.depot_fork.specs.StatementMarks.{has_mark}
 use Rattle.depot_fork.specs.Keeping.{IsEntry, AreEntries, IsKeeping, places_before, places_under, is_under}
-use Rattle.depot_fork.proofs.PlaceLaws.{one_more_place, is_listed, is_within}
+use Rattle.depot_fork.proofs.ListedPlaces.{one_more_place, is_listed, is_within}
 
 -- ---- signed statements
 
@@ -26,19 +28,6 @@ use Rattle.depot_fork.proofs.PlaceLaws.{one_more_place, is_listed, is_within}
 pub signed_statement : (s : Signed) → IsSigned s → IsStatement s.statement
 unfolding signed inner
 signed_statement s h = h.1.0.0.0
-
--- ---- each of a list
-
--- what holds of each holds of the one at a place
-each_at : {X : Type 0} (P : X → Type 0) (xs : List X) (i : ℕ) (x : X) → AllByRecursion P xs → slice_get xs i ≡ Some x → P x
-each_at P [] i x all e = absurd cc
-each_at P (y ∷ ys) zero x all e = let same : y ≡ x = cc in subst P same all.0
-each_at P (y ∷ ys) (suc i) x all e = each_at P ys i x all.1 e
-
--- and of each with one more of which it holds
-each_pushed : {X : Type 0} (P : X → Type 0) (xs : List X) (x : X) → AllByRecursion P xs → P x → AllByRecursion P (xs ++ x ∷ [])
-each_pushed P [] x all one = (one, tt)
-each_pushed P (y ∷ ys) x all one = (all.0, each_pushed P ys x all.1 one)
 
 -- ---- entries
 
@@ -60,7 +49,7 @@ unfolding places_under
 kept_more es old between new s id place keeping text is last same more =
     let last_place : place ≡ 0 + length es = omega arith in
     record {
-      entries = each_pushed IsEntry es (record { signed = s; id = id }) keeping.entries (record { signed = text; id = is });
+      entries = all_push IsEntry es (record { signed = s; id = id }) keeping.entries (record { signed = text; id = is });
       listed = λ mark.
           more mark
           ∙ ap (λ (k : ℕ). if has_mark s.statement id mark then k ∷ listed between mark else listed between mark) last_place

@@ -1,8 +1,8 @@
 -- The kind of a contradiction, by what tells the two statements apart.
-use Rattle.std.proofs.Common.{◌≡◌, ℕ, Bool, true, false, eqb, Some, None, List, [], ◌++◌, refl, sym, ap, ◌∙◌, arith}
+use Rattle.std.proofs.Common.{◌≡◌, ℕ, Bool, true, false, eqb, Some, None, List, [], ◌++◌, refl, sym, ap, ◌∙◌}
 use Rattle.std.specs.Str.{bytes_eq}
 use Rattle.std.specs.Bool.{Decides}
-use Rattle.std.proofs.lemmas.Bool.Decides.{nat_tests}
+use Rattle.std.proofs.lemmas.Bool.{eq-eqb, ne_eqb}
 use Rattle.std.proofs.lemmas.Slice.Eq.{bytes_eq-Decides}
 use Rattle.depot_base.specs.Format.{number}
 use Rattle.depot_base.specs.Statement.{writer_of, seq_of}
@@ -17,16 +17,10 @@ use Rattle.depot_model.specs.Contradictions.{is_of_kind, contradicts, kind_of}
 use Rattle.depot_model.proofs.TextLaws.{statement_lawful}
 use Rattle.depot_fork.specs.Kinds.{kind_by_prev}
 
-pub eqb_is : (a b : ℕ) → a ≡ b → eqb a b ≡ true
-eqb_is a b e = grind (arith, nat_tests)
-
-eqb_isnt : (a b : ℕ) → (a ≡ b → ⊥) → eqb a b ≡ false
-eqb_isnt a b e = grind (arith, nat_tests)
-
 -- two writers
 pub other_writer : (a b : Statement) → (writer_of a ≡ writer_of b → ⊥) → kind_of a b ≡ None
 unfolding kind_of contradicts is_of_kind
-other_writer a b differ = rw (eqb_isnt (writer_of a) (writer_of b) differ) refl
+other_writer a b differ = rw (ne_eqb (writer_of a) (writer_of b) differ) refl
 
 one_body_by : (a b : Statement) (w : Bool) → eqb (writer_of a) (writer_of b) ≡ w → bytes_eq (text_of_statement a) (text_of_statement b) ≡ true → kind_of a b ≡ None
 unfolding kind_of contradicts is_of_kind
@@ -40,20 +34,20 @@ one_body a b same = one_body_by a b (eqb (writer_of a) (writer_of b)) refl same
 -- one writer, different bodies, one number
 pub one_number : (a b : Statement) → writer_of a ≡ writer_of b → bytes_eq (text_of_statement a) (text_of_statement b) ≡ false → seq_of a ≡ seq_of b → kind_of a b ≡ Some SameNumber
 unfolding kind_of contradicts is_of_kind
-one_number a b writer body seq = rw (eqb_is (writer_of a) (writer_of b) writer, body, eqb_is (seq_of a) (seq_of b) seq) refl
+one_number a b writer body seq = rw (eq-eqb (writer_of a) (writer_of b) writer, body, eq-eqb (seq_of a) (seq_of b) seq) refl
 
 -- one writer, different bodies and numbers
 pub by_prev : (t u : Update) → t.writer ≡ u.writer → bytes_eq (text_of_statement (statements.Update t)) (text_of_statement (statements.Update u)) ≡ false → (t.seq ≡ u.seq → ⊥) → kind_of (statements.Update t) (statements.Update u) ≡ kind_by_prev t u
 unfolding kind_of contradicts is_of_kind
-by_prev t u writer body seq = rw (eqb_is t.writer u.writer writer, body, eqb_isnt t.seq u.seq seq) refl
+by_prev t u writer body seq = rw (eq-eqb t.writer u.writer writer, body, ne_eqb t.seq u.seq seq) refl
 
 pub kept_voucher : (v : Voucher) (b : Statement) → v.node ≡ writer_of b → bytes_eq (text_of_statement (statements.Voucher v)) (text_of_statement b) ≡ false → (v.seq ≡ seq_of b → ⊥) → kind_of (statements.Voucher v) b ≡ None
 unfolding kind_of contradicts is_of_kind
-kept_voucher v b writer body seq = rw (eqb_is v.node (writer_of b) writer, body, eqb_isnt v.seq (seq_of b) seq) refl
+kept_voucher v b writer body seq = rw (eq-eqb v.node (writer_of b) writer, body, ne_eqb v.seq (seq_of b) seq) refl
 
 pub came_voucher : (t : Update) (v : Voucher) → t.writer ≡ v.node → bytes_eq (text_of_statement (statements.Update t)) (text_of_statement (statements.Voucher v)) ≡ false → (t.seq ≡ v.seq → ⊥) → kind_of (statements.Update t) (statements.Voucher v) ≡ None
 unfolding kind_of contradicts is_of_kind
-came_voucher t v writer body seq = rw (eqb_is t.writer v.node writer, body, eqb_isnt t.seq v.seq seq) refl
+came_voucher t v writer body seq = rw (eq-eqb t.writer v.node writer, body, ne_eqb t.seq v.seq seq) refl
 
 -- the same, of statements that are known to be an update or a voucher
 pub kept_is_voucher : (a b : Statement) (v : Voucher) → a ≡ statements.Voucher v → writer_of a ≡ writer_of b → bytes_eq (text_of_statement a) (text_of_statement b) ≡ false → (seq_of a ≡ seq_of b → ⊥) → None ≡ kind_of a b

@@ -1,7 +1,8 @@
 pub mod KindLaws
+pub mod HeadLaws
 pub mod LinkLaws
 pub mod MarkLaws
-pub mod PlaceLaws
+pub mod ListedPlaces
 pub mod KeepLaws
 pub mod FirstLaws
 pub mod OpponentLaws

@@ -1,15 +1,16 @@
 -- The links between places under one mark.
-use Rattle.std.proofs.Common.{◌≡◌, ℕ, zero, suc, ◌<◌, ◌≤◌, List, [], ◌∷◌, ◌++◌, length, get_or, Bool, true, false, cond, eqb, ◌&&◌, Result, Ok, Err, IsOk, OnOk, rules, Option, Some, None, refl, sym, ap, subst, ◌∙◌, arith, inl, inr, ◌⊎◌, length-append, if◌then◌else◌}
+use Rattle.std.proofs.Common.{◌≡◌, ℕ, zero, suc, ◌<◌, ◌≤◌, List, [], ◌∷◌, ◌++◌, length, get_or, Bool, true, false, cond, eqb, Option, Some, None, refl, sym, ap, subst, ◌∙◌, arith, inl, inr, ◌⊎◌, length-append, if◌then◌else◌}
 use Rattle.std.specs.List.{slice_get}
-use Rattle.std.specs.HashMap.{get, IsUnchanged, Updates}
 use Rattle.std.specs.Str.{bytes_eq}
 use Rattle.std.proofs.lemmas.Option.{slice_get_within, slice_get-get_or}
+use Rattle.std.proofs.lemmas.Bool.{and_parts}
 use Rattle.std.proofs.lemmas.Bool.Decides.{nat_tests}
 use Rattle.std.proofs.lemmas.Slice.Eq.{bytes_eq-Decides}
+use Rattle.depot_model.proofs.Elements.{get_front, get_last}
 use Rattle.depot_fork.specs.declared.marks.Mark.{Mark}
 use Rattle.depot_fork.specs.declared.marks.Mark.TheVariants as marks
 use Rattle.depot_fork.specs.declared.table.Link.{Link}
-use Rattle.depot_fork.specs.Links.{same_mark, Newest, LeadsBelow, LeadBack, AreLinked, IsLinkedFrom, is_link, with_place, places_from}
+use Rattle.depot_fork.specs.Links.{same_mark, LeadsBelow, LeadBack, AreLinked, IsLinkedFrom, is_link, with_place, places_from}
 
 -- ---- marks
 
@@ -17,15 +18,10 @@ use Rattle.depot_fork.specs.Links.{same_mark, Newest, LeadsBelow, LeadBack, AreL
 eqb_one : (a b : ℕ) → eqb a b ≡ true → a ≡ b
 eqb_one a b e = grind (arith, nat_tests)
 
--- two tests that hold
-both : (a b : Bool) → (a && b) ≡ true → (a ≡ true) × (b ≡ true)
-both true b e = (refl, e)
-both false b e = absurd cc
-
 -- marks that are found equal are one
 pub one_mark : (m k : Mark) → same_mark m k ≡ true → m ≡ k
 one_mark (marks.Number w n) (marks.Number v l) e =
-    let parts = both (eqb w v) (eqb n l) e in
+    let parts = and_parts (eqb w v) (eqb n l) e in
     let writers : w ≡ v = eqb_one w v parts.0 in
     let seqs : n ≡ l = eqb_one n l parts.1 in
     cc
@@ -33,7 +29,7 @@ one_mark (marks.Number w n) (marks.Prev v h) e = absurd cc
 one_mark (marks.Number w n) (marks.Id h) e = absurd cc
 one_mark (marks.Prev w g) (marks.Number v l) e = absurd cc
 one_mark (marks.Prev w g) (marks.Prev v h) e =
-    let parts = both (eqb w v) (bytes_eq g h) e in
+    let parts = and_parts (eqb w v) (bytes_eq g h) e in
     let writers : w ≡ v = eqb_one w v parts.0 in
     let prevs : g ≡ h = (bytes_eq-Decides g h).0 parts.1 in
     cc
@@ -110,16 +106,6 @@ next_linked links next i d linked is =
 below_or_last : (i n : ℕ) → i < suc n → (i < n) ⊎ (i ≡ n)
 below_or_last i n low = grind arith
 
--- what is pushed changes nothing before it, and is the last
-get_front : {X : Type 0} (xs ys : List X) (n : ℕ) → n < length xs → slice_get (xs ++ ys) n ≡ slice_get xs n
-get_front [] ys n low = absurd (omega arith)
-get_front (x ∷ xs) ys zero low = refl
-get_front (x ∷ xs) ys (suc n) low = get_front xs ys n (omega arith)
-
-get_last : {X : Type 0} (xs : List X) (y : X) → slice_get (xs ++ y ∷ []) (length xs) ≡ Some y
-get_last [] y = refl
-get_last (x ∷ xs) y = get_last xs y
-
 -- by what the links behind give
 with_same : (o : Option Link) (f g : Option ℕ → List ℕ) → ((x : Option ℕ) → f x ≡ g x) → with_place o f ≡ with_place o g
 with_same None f g same = refl
@@ -151,36 +137,40 @@ from_old links l link low = from_lower (links ++ l ∷ []) (suc (length links)) 
 one_longer : (links : List Link) (l : Link) → length (links ++ l ∷ []) ≡ suc (length links)
 one_longer links l = simp length-append (omega arith)
 
+-- a link becomes the newest of a mark, and the others stay
+abbrev Puts : (Mark → Option ℕ) → (Mark → Option ℕ) → Mark → ℕ → Type 0
+Puts newest new mark n = (other : Mark) → new other ≡ (if same_mark mark other then Some n else newest other)
+
 -- what is listed after one more under a mark
-pub listed_more : (newest new : Newest) (links : List Link) (mark : Mark) (l : Link) → AreLinked newest links → l.before ≡ get same_mark newest mark → Updates same_mark newest new mark (Some (length links)) → (other : Mark) →
-    places_from (links ++ l ∷ []) (length (links ++ l ∷ [])) (get same_mark new other)
-    ≡ (if same_mark mark other then l.place ∷ places_from links (length links) (get same_mark newest other) else places_from links (length links) (get same_mark newest other))
+pub listed_more : (newest new : Mark → Option ℕ) (links : List Link) (mark : Mark) (l : Link) → AreLinked newest links → l.before ≡ newest mark → Puts newest new mark (length links) → (other : Mark) →
+    places_from (links ++ l ∷ []) (length (links ++ l ∷ [])) (new other)
+    ≡ (if same_mark mark other then l.place ∷ places_from links (length links) (newest other) else places_from links (length links) (newest other))
 listed_more newest new links mark l linked before updates other =
-    ap (λ (n : ℕ). places_from (links ++ l ∷ []) n (get same_mark new other)) (one_longer links l)
-    ∙ ap (places_from (links ++ l ∷ []) (suc (length links))) (updates.0 other)
+    ap (λ (n : ℕ). places_from (links ++ l ∷ []) n (new other)) (one_longer links l)
+    ∙ ap (places_from (links ++ l ∷ []) (suc (length links))) (updates other)
     ∙ by_test (same_mark mark other) refl
   where
     by_test : (b : Bool) → same_mark mark other ≡ b →
-        places_from (links ++ l ∷ []) (suc (length links)) (cond b (Some (length links)) (get same_mark newest other))
-        ≡ cond b (l.place ∷ places_from links (length links) (get same_mark newest other)) (places_from links (length links) (get same_mark newest other))
+        places_from (links ++ l ∷ []) (suc (length links)) (cond b (Some (length links)) (newest other))
+        ≡ cond b (l.place ∷ places_from links (length links) (newest other)) (places_from links (length links) (newest other))
     by_test true e =
         let one : mark ≡ other = one_mark mark other e in
-        let leads : l.before ≡ get same_mark newest other = before ∙ ap (get same_mark newest) one in
+        let leads : l.before ≡ newest other = before ∙ ap newest one in
         from_new links l (subst (LeadsBelow (length links)) (sym before) (linked.heads mark)) ∙ ap (λ (o : Option ℕ). l.place ∷ places_from links (length links) o) leads
-    by_test false e = from_old links l (get same_mark newest other) (linked.heads other)
+    by_test false e = from_old links l (newest other) (linked.heads other)
 
 -- the links are in order after one more
-pub linked_more : (newest new : Newest) (links : List Link) (mark : Mark) (l : Link) → AreLinked newest links → l.before ≡ get same_mark newest mark → Updates same_mark newest new mark (Some (length links)) → AreLinked new (links ++ l ∷ [])
+pub linked_more : (newest new : Mark → Option ℕ) (links : List Link) (mark : Mark) (l : Link) → AreLinked newest links → l.before ≡ newest mark → Puts newest new mark (length links) → AreLinked new (links ++ l ∷ [])
 linked_more newest new links mark l linked before updates = record { heads = heads; back = back }
   where
     by_test : (b : Bool) (old : Option ℕ) → LeadsBelow (length links) old → LeadsBelow (suc (length links)) (cond b (Some (length links)) old)
     by_test true old low = itself_below (length links)
     by_test false old low = λ i e. let less : i < length links = low i e in omega arith
 
-    heads : (other : Mark) → LeadsBelow (length (links ++ l ∷ [])) (get same_mark new other)
+    heads : (other : Mark) → LeadsBelow (length (links ++ l ∷ [])) (new other)
     heads = λ other.
-        let P : ℕ → Type 0 = λ (n : ℕ). LeadsBelow n (get same_mark new other) in
-        subst P (sym (one_longer links l)) (subst (LeadsBelow (suc (length links))) (sym (updates.0 other)) (by_test (same_mark mark other) (get same_mark newest other) (linked.heads other)))
+        let P : ℕ → Type 0 = λ (n : ℕ). LeadsBelow n (new other) in
+        subst P (sym (one_longer links l)) (subst (LeadsBelow (suc (length links))) (sym (updates other)) (by_test (same_mark mark other) (newest other) (linked.heads other)))
 
     by_place : (i : ℕ) (k : Link) → slice_get (links ++ l ∷ []) i ≡ Some k → (i < length links) ⊎ (i ≡ length links) → LeadsBelow i k.before
     by_place i k at (inl low) = linked.back i k (sym (get_front links (l ∷ []) i low) ∙ at)
@@ -192,28 +182,27 @@ linked_more newest new links mark l linked before updates = record { heads = hea
     back : LeadBack (links ++ l ∷ [])
     back = λ i k at. let within : i < length (links ++ l ∷ []) = slice_get_within (links ++ l ∷ []) i k at in let size = one_longer links l in by_place i k at (below_or_last i (length links) (omega arith))
 
--- what is said of a good answer holds where the answer is good
-pub where_ok : {A E : Type 0} (P : Type 0) (r : Result A E) → IsOk r → OnOk r P → P
-where_ok P (Ok x) ok h = h
-where_ok P (Err e) ok h = absurd (search rules)
-
 -- the newest link of a mark is the one that was pushed
-pub points_to : {A E : Type 0} (newest new : Newest) (mark : Mark) (place : ℕ) (links : List Link) (r : Result A E) → place ≡ length links → IsOk r → OnOk r (Updates same_mark newest new mark (Some place)) → Updates same_mark newest new mark (Some (length links))
-points_to newest new mark place links r same ok updates = subst (λ (n : ℕ). Updates same_mark newest new mark (Some n)) same (where_ok (Updates same_mark newest new mark (Some place)) r ok updates)
+pub points_to : (newest new : Mark → Option ℕ) (mark : Mark) (place : ℕ) (links : List Link) → place ≡ length links → Puts newest new mark place → Puts newest new mark (length links)
+points_to newest new mark place links same puts = subst (λ (n : ℕ). Puts newest new mark n) same puts
 
 -- ---- the same entries and links
 
 -- list the same places
-pub listed_same : (newest new : Newest) (links more : List Link) → IsUnchanged newest new → more ≡ links → (mark : Mark) → places_from more (length more) (get same_mark new mark) ≡ places_from links (length links) (get same_mark newest mark)
-listed_same newest new links more same also mark = rw (same, also) refl
+pub listed_same : (newest new : Mark → Option ℕ) (links more : List Link) → ((mark : Mark) → new mark ≡ newest mark) → more ≡ links → (mark : Mark) → places_from more (length more) (new mark) ≡ places_from links (length links) (newest mark)
+listed_same newest new links more same also mark = rw (same mark, also) refl
 
 -- are in order
-pub linked_same : (newest new : Newest) (links more : List Link) → AreLinked newest links → IsUnchanged newest new → more ≡ links → AreLinked new more
-linked_same newest new links more linked same also = rw also (record { heads = λ mark. rw same (linked.heads mark); back = linked.back })
+pub linked_same : (newest new : Mark → Option ℕ) (links more : List Link) → AreLinked newest links → ((mark : Mark) → new mark ≡ newest mark) → more ≡ links → AreLinked new more
+linked_same newest new links more linked same also = rw also (record { heads = λ mark. rw (same mark) (linked.heads mark); back = linked.back })
 
 -- none are listed where there is no link
-pub none_listed : (newest : Newest) (links : List Link) → links ≡ [] → (mark : Mark) → places_from links (length links) (get same_mark newest mark) ≡ []
+pub none_listed : (newest : Mark → Option ℕ) (links : List Link) → ((mark : Mark) → newest mark ≡ None) → links ≡ [] → (mark : Mark) → places_from links (length links) (newest mark) ≡ []
 unfolding places_from
-none_listed newest links none mark = rw none refl
+none_listed newest links empty none mark = rw none refl
 
-pub ruleset link_laws = (listed_same, linked_same, none_listed)
+-- nothing is in order
+pub none_linked : (newest : Mark → Option ℕ) (links : List Link) → ((mark : Mark) → newest mark ≡ None) → links ≡ [] → AreLinked newest links
+none_linked newest links empty none = rw none (record { heads = λ mark. rw (empty mark) (λ i e. absurd cc); back = λ i l at. absurd cc })
+
+pub ruleset link_laws = (listed_same, linked_same, none_listed, none_linked)

@@ -14,7 +14,7 @@ use Rattle.depot_model.specs.Contradictions.{goes_back, is_of_kind, contradicts,
 use Rattle.depot_model.specs.Checks.{is_update_with}
 use Rattle.depot_fork.specs.declared.entry.Entry.{Entry}
 use Rattle.depot_fork.specs.declared.marks.Mark.TheVariants as marks
-use Rattle.depot_fork.specs.Marks.{has_mark, asked_of}
+use Rattle.depot_fork.specs.StatementMarks.{has_mark, asked_of}
 use Rattle.depot_fork.specs.Keeping.{IsEntry, is_under}
 use Rattle.depot_fork.proofs.KindLaws.{update_id}
 

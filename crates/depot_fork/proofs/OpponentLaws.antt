@@ -16,6 +16,7 @@ use Rattle.depot_model.specs.Lists.{IsIn}
 use Rattle.depot_model.specs.Texts.{id_of_statement}
 use Rattle.depot_model.specs.Contradictions.{kind_of}
 use Rattle.depot_model.specs.Checks.{opponent, is_update_with}
+use Rattle.depot_model.proofs.Members.{in_left, in_right}
 use Rattle.depot_fork.specs.declared.Found.{Found}
 use Rattle.depot_fork.specs.declared.entry.Entry.{Entry}
 use Rattle.depot_fork.specs.declared.marks.Mark.{Mark}
@@ -23,12 +24,12 @@ use Rattle.depot_fork.specs.declared.marks.Mark.TheVariants as marks
 use Rattle.depot_fork.specs.declared.table.Table.{Table}
 use Rattle.depot_fork.specs.declared.table.Places.{Places}
 use Rattle.depot_fork.specs.Table.{listed}
-use Rattle.depot_fork.specs.Places.{left}
+use Rattle.depot_fork.specs.PlacesLeft.{left}
 use Rattle.depot_fork.specs.Keeping.{IsEntry, IsKeeping, is_under, places_under}
 use Rattle.depot_fork.specs.Firsts.{IsAt, IsBefore, IsFirstOf, earlier_of}
 use Rattle.depot_fork.specs.Opponents.{IsContradiction}
 use Rattle.depot_fork.proofs.MarkLaws.{asked_alone, under_id}
-use Rattle.depot_fork.proofs.PlaceLaws.{last_place, drained}
+use Rattle.depot_fork.proofs.ListedPlaces.{last_place, drained}
 use Rattle.depot_fork.proofs.KeepLaws.{entry_of, met, is_number}
 use Rattle.depot_fork.proofs.FirstLaws.{first_of_both}
 
@@ -88,16 +89,6 @@ first_answered es s places found first all = answered es s found first.here befo
     ]
 
 -- ---- by the marks that are asked for
-
--- a member of the first list, and of the second, is one of both together
-in_left : {X : Type 0} (x : X) (xs ys : List X) → IsIn x xs → IsIn x (xs ++ ys)
-in_left x [] ys known = absurd known
-in_left x (z ∷ zs) ys (inl here) = inl here
-in_left x (z ∷ zs) ys (inr there) = inr (in_left x zs ys there)
-
-in_right : {X : Type 0} (x : X) (xs ys : List X) → IsIn x ys → IsIn x (xs ++ ys)
-in_right x [] ys known = known
-in_right x (z ∷ zs) ys known = inr (in_right x zs ys known)
 
 -- an entry is listed under a mark, or hasn't got it
 listed_or : (es : List Entry) (table : Table) (mark : Mark) (place : ℕ) (e : Entry) → IsKeeping es table → slice_get es place ≡ Some e → IsIn place (listed table mark) ⊎ (is_under mark e ≡ false)

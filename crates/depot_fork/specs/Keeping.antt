@@ -4,7 +4,7 @@ use Rattle.std.specs.List.{AllByRecursion}
 use Rattle.depot_fork.specs.declared.entry.Entry.{Entry}
 use Rattle.depot_fork.specs.declared.marks.Mark.{Mark}
 use Rattle.depot_fork.specs.declared.table.Table.{Table}
-use Rattle.depot_fork.specs.Marks.{has_mark}
+use Rattle.depot_fork.specs.StatementMarks.{has_mark}
 use Rattle.depot_fork.specs.Table.{listed}
 use Rattle.depot_model.specs.Texts.{IsSigned, id_of_statement}
 

@@ -2,7 +2,8 @@ pub mod Kinds
 pub mod Opponents
 pub mod Links
 pub mod Table
-pub mod Places
-pub mod Marks
+pub mod PlacesLeft
+pub mod StatementMarks
+pub mod Heads
 pub mod Keeping
 pub mod Firsts

@@ -1,9 +1,6 @@
 -- Links between the places under one mark.
 use Rattle.std.specs.Prelude.{◌≡◌, ℕ, zero, suc, ◌<◌, ◌==◌, List, [], ◌∷◌, length, Bool, false, Option, Some, None, if◌then◌else◌}
 use Rattle.std.specs.List.{slice_get}
-use Rattle.std.specs.HashMap.{HashMap, get}
-use Rattle.std.specs.declared.hash.FoldHasher.{FoldHasher}
-use Rattle.std.specs.declared.hash.BuildHasherDefault.{BuildHasherDefault}
 use Rattle.depot_fork.specs.declared.marks.Mark.{Mark}
 use Rattle.depot_fork.specs.declared.table.Link.{Link}
 use Rattle.depot_fork.specs.contracts.marks.MarkPartialEq.TheImpl as comparison
@@ -11,10 +8,6 @@ use Rattle.depot_fork.specs.contracts.marks.MarkPartialEq.TheImpl as comparison
 -- whether two marks are one
 abbrev pub same_mark : Mark → Mark → Bool
 same_mark = (comparison.ghosts).eq
-
--- the newest link of each mark
-abbrev pub Newest : Type 0
-Newest = HashMap Mark ℕ (BuildHasherDefault FoldHasher)
 
 -- what there is leads to a link of a number below this one
 abbrev pub LeadsBelow : ℕ → Option ℕ → Type 0
@@ -25,8 +18,8 @@ abbrev pub LeadBack : List Link → Type 0
 LeadBack links = (i : ℕ) (l : Link) → slice_get links i ≡ Some l → LeadsBelow i l.before
 
 -- the newest links are there, and each link leads back
-pub record AreLinked (newest : Newest) (links : List Link) : Type 0 where
-  pub heads : (mark : Mark) → LeadsBelow (length links) (get same_mark newest mark)
+pub record AreLinked (newest : Mark → Option ℕ) (links : List Link) : Type 0 where
+  pub heads : (mark : Mark) → LeadsBelow (length links) (newest mark)
   pub back : LeadBack links
 
 -- the link is there, and each link leads back

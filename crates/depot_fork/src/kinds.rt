@@ -6,7 +6,7 @@ ghost use Rattle.depot_model.specs.Texts.{IsStatement, text_of_statement, id_of_
 ghost use Rattle.depot_model.specs.Contradictions.{kind_of, goes_back};
 ghost use Rattle.depot_fork.specs.Kinds.{kind_by_prev};
 
-use depot_base::{Dep, Hash32, Kind, Statement, Update, Voucher};
+use depot_base::{Hash32, Kind, Statement, Update};
 
 /// The first kind in which two statements, with these ids, contradict each other.
 #[tactic(auto, using(crate::proofs::KindLaws::kinds))]
@@ -104,48 +104,12 @@ fn is_same(a: &Statement, b: &Statement) -> bool
 {
     match a {
         Statement::Update(first) => match b {
-            Statement::Update(second) => is_same_update(first, second),
+            Statement::Update(second) => first.is_same(second),
             Statement::Voucher(_) => false,
         },
         Statement::Voucher(first) => match b {
             Statement::Update(_) => false,
-            Statement::Voucher(second) => is_same_voucher(first, second),
+            Statement::Voucher(second) => first.is_same(second),
         },
     }
-}
-
-fn is_same_update(a: &Update, b: &Update) -> bool
-    ensures { IsTrue result ↔ (a.now ≡ b.now) }
-{
-    is_same_place(a, b)
-        && a.key.bytes() == b.key.bytes()
-        && a.value_hash == b.value_hash
-        && a.value_len == b.value_len
-        && are_same_deps(a.deps.as_slice(), b.deps.as_slice())
-        && a.history == b.history
-}
-
-/// Whether two updates stand at one place of one writer's updates.
-fn is_same_place(a: &Update, b: &Update) -> bool
-    ensures { IsTrue result ↔ record { writer : a.now.writer ≡ b.now.writer; seq : a.now.seq ≡ b.now.seq; clock : a.now.clock ≡ b.now.clock; prev : a.now.prev ≡ b.now.prev } }
-{
-    a.writer == b.writer && a.seq == b.seq && a.clock == b.clock && a.prev == b.prev
-}
-
-fn are_same_deps(a: &[Dep], b: &[Dep]) -> bool
-    ensures { IsTrue result ↔ (a.now ≡ b.now) }
-{
-    a == b
-}
-
-fn is_same_voucher(a: &Voucher, b: &Voucher) -> bool
-    ensures { IsTrue result ↔ (a.now ≡ b.now) }
-{
-    a.node == b.node && a.seq == b.seq && are_same_ids(a.ids.as_slice(), b.ids.as_slice())
-}
-
-fn are_same_ids(a: &[Hash32], b: &[Hash32]) -> bool
-    ensures { IsTrue result ↔ (a.now ≡ b.now) }
-{
-    a == b
 }

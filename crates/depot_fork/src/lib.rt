@@ -12,6 +12,7 @@
 
 mod entry;
 mod firsts;
+mod heads;
 mod kinds;
 mod marks;
 mod table;
@@ -23,7 +24,7 @@ ghost use Rattle.depot_model.specs.Contradictions.{kind_of};
 ghost use Rattle.depot_model.specs.Checks.{is_update_with};
 ghost use Rattle.depot_base.specs.declared.statement.Signed.{Signed};
 ghost use Rattle.depot_fork.specs.declared.marks.Mark.{Mark};
-ghost use Rattle.depot_fork.specs.Marks.{has_mark};
+ghost use Rattle.depot_fork.specs.StatementMarks.{has_mark};
 ghost use Rattle.depot_fork.specs.Table.{listed, spare_places};
 ghost use Rattle.depot_fork.specs.Opponents.{IsContradiction, has_body_of};
 

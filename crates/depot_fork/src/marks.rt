@@ -2,7 +2,7 @@
 use depot_base::{Hash32, NodeId};
 
 /// What a kept statement is listed under.
-#[derive(Clone, Copy, Debug, PartialEq, Eq, Hash)]
+#[derive(Clone, Copy, Debug, PartialEq, Eq, PartialOrd, Ord)]
 pub(crate) enum Mark {
     /// The writer of a statement, and its seq.
     Number(NodeId, u32),

@@ -3,19 +3,20 @@ ghost use Rattle.std.specs.Prelude.{◌≡◌, ℕ, ◌<◌, ◌≤◌, ◌+◌,
 ghost use Rattle.std.specs.Iterator.{YieldsFirst, item_count};
 ghost use Rattle.depot_fork.specs.declared.marks.Mark.{Mark};
 ghost use Rattle.depot_fork.specs.Links.{same_mark, AreLinked, IsLinkedFrom};
+ghost use Rattle.depot_fork.specs.Heads.{head};
 
+use crate::heads::Heads;
 use crate::marks::Mark;
 use depot_base::Memory;
-use indexmap::IndexMap;
 use std::alloc::Global;
 
 /// The places of kept statements under each of their marks, the newest first.
 #[derive(Drop)]
 pub(crate) struct Table {
     // The newest link of each mark.
-    newest: IndexMap<Mark, usize>,
+    newest: Heads,
     links: Vec<Link>,
-    ghost linked: { AreLinked newest links.items },
+    ghost linked: { AreLinked (head newest) links.items },
 }
 
 /// A place under a mark, and the link of the one before it under the same mark.
@@ -27,7 +28,7 @@ struct Link {
 
 impl Table {
     ghost use Rattle.depot_fork.specs.Table.{listed, spare_places};
-    ghost use Rattle.depot_fork.specs.Places.{left};
+    ghost use Rattle.depot_fork.specs.PlacesLeft.{left};
 
     /// Nothing under any mark. It takes no memory.
     #[tactic(auto, using(crate::proofs::LinkLaws::link_laws), unfolding(crate::specs::Table::listed, crate::specs::Table::spare_places))]
@@ -35,7 +36,7 @@ impl Table {
         ensures { (mark : Mark) → listed result mark ≡ [] }
     {
         Table {
-            newest: IndexMap::new(alloc),
+            newest: Heads::new(alloc),
             links: Vec::new(alloc),
         }
     }
@@ -59,20 +60,20 @@ impl Table {
         ensures listed { (other : Mark) → listed self.new other ≡ (if same_mark mark other then place ∷ listed self.old other else listed self.old other) }
         ensures room { spare_places self.old ≤ spare_places self.new + 1 }
     {
-        let before = self.newest.get(&mark).copied();
+        let before = self.newest.get(&mark);
         let link = self.links.len();
         self.links.push_reserved(Link { place, before });
-        let _ = self.newest.insert(mark, link);
+        self.newest.add(mark, link);
     }
 
     /// The places under a mark, the newest first.
-    #[tactic(auto, unfolding(crate::specs::Table::listed, crate::specs::Places::left))]
+    #[tactic(auto, unfolding(crate::specs::Table::listed, crate::specs::PlacesLeft::left))]
     pub(crate) fn places(&self, mark: &Mark) -> Places<'_>
         ensures { left result ≡ listed self.now mark.now }
     {
         Places {
             links: self.links.as_slice(),
-            next: self.newest.get(mark).copied(),
+            next: self.newest.get(mark),
         }
     }
 }
@@ -88,7 +89,7 @@ pub(crate) struct Places<'a> {
 impl Iterator for Places<'_> {
     type Item = u32;
 
-    ghost use Rattle.depot_fork.specs.Places.{left};
+    ghost use Rattle.depot_fork.specs.PlacesLeft.{left};
 
     ghost next_gives = { YieldsFirst left };
 

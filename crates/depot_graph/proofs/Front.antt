@@ -35,12 +35,6 @@ in_drop (y ∷ ys) zero (suc a) x e le = inr (in_drop ys zero a x e (omega arith
 in_drop (y ∷ ys) (suc n) zero x e le = absurd (omega arith)
 in_drop (y ∷ ys) (suc n) (suc a) x e le = in_drop ys n a x e (omega arith)
 
--- the element at a place is one of the list
-pub in_at : {X : Type 0} (xs : List X) (a : ℕ) (x : X) → slice_get xs a ≡ Some x → IsIn x xs
-in_at [] a x e = absurd cc
-in_at (y ∷ ys) zero x e = let same : y ≡ x = cc in inl same
-in_at (y ∷ ys) (suc a) x e = inr (in_at ys a x e)
-
 -- ---- what stands in front
 
 -- no id stands in front and behind

@@ -1,5 +1,5 @@
 -- Ids, children and leaves by their places.
-use Rattle.std.proofs.Common.{◌≡◌, ℕ, ◌<◌, ◌≤◌, ◌+◌, List, [], ◌∷◌, length, map, get_or, Option, Some, None, option_map, Bool, true, false, cond, not, refl, sym, ap, subst, ◌∙◌, inl, inr, arith, slice_get, position, nat_lt, IfSome}
+use Rattle.std.proofs.Common.{◌≡◌, ℕ, ◌<◌, ◌≤◌, ◌+◌, List, [], ◌∷◌, length, map, get_or, Option, Some, None, option_map, Bool, true, false, cond, not, refl, sym, ap, subst, ◌∙◌, inl, inr, arith, slice_get, position, nat_lt}
 use Rattle.std.specs.List.{position_or_len}
 use Rattle.std.specs.Map.{keys_of}
 use Rattle.std.specs.Str.{bytes_eq}
@@ -46,7 +46,7 @@ key_is_id es n key item ids e =
     cc
 
 pub id_at : (es : List (List ℕ × Item)) (n : ℕ) (key : List ℕ) (item : Item) → keys_of es ≡ map id_of_update (updates_in es) → slice_get es n ≡ Some (key, item) → at (updates_in es) n (λ u. id_of_update u ≡ key)
-id_at es n key item ids e = subst (λ (o : Option Update). IfSome o (λ u. id_of_update u ≡ key)) (sym (update_at es n key item e)) (sym (key_is_id es n key item ids e))
+id_at es n key item ids e = (item.update, (update_at es n key item e, sym (key_is_id es n key item ids e)))
 
 -- ---- leaves
 

@@ -13,7 +13,7 @@ use Rattle.depot_model.specs.Order.{prevs, IsCausal}
 use Rattle.depot_model.specs.Items.{place_of_id}
 use Rattle.depot_model.proofs.Members.{in_map, from_map, in_parts}
 use Rattle.depot_model.proofs.Orders.{causal_push}
-use Rattle.depot_graph.proofs.Front.{in_at}
+use Rattle.depot_model.proofs.Elements.{in_at}
 use Rattle.depot_graph.proofs.PastLaws.{none_has, mapped_more}
 
 -- an id that is found is one of the ids

@@ -6,11 +6,11 @@ use Rattle.depot_model.specs.Lists.{IsIn}
 use Rattle.depot_model.specs.Texts.{id_of_update}
 use Rattle.depot_model.specs.Order.{Precedes, past, IsCausal, IsLatest, AreLatestIn}
 use Rattle.depot_model.specs.Journal.{has_id}
-use Rattle.depot_model.proofs.Members.{in_left, in_pushed, in_last}
+use Rattle.depot_model.proofs.Members.{in_left, in_pushed, in_last, in_filter, from_filter}
 use Rattle.depot_model.proofs.Orders.{causal_front, precedes_wider, precedes_irreflexive}
 use Rattle.depot_model.proofs.Pasts.{past_of_next}
 use Rattle.depot_graph.proofs.Front.{apart, has_past, is_past, precedes_in_front, last_precedes_none}
-use Rattle.depot_graph.proofs.RisingLaws.{put_listed, rises_put, in_put, put_here, put_keeps, rises_filtered, in_filtered, filtered_in}
+use Rattle.depot_graph.proofs.RisingLaws.{put_listed, rises_put, in_put, put_here, put_keeps, rises_filtered}
 
 -- what isn't in the past of u
 abbrev pub is_free : List Update → Update → Update → Bool
@@ -76,16 +76,16 @@ module _ (key : List ℕ) (us : List Update) (u : Update) (c : IsCausal [] (us +
     all = λ v l. elim (in_pushed v us u l.known) [
       | inl before ↦
           let kept = old.all v (latest_before v before l) in
-          put_keeps v u (filter (is_free us u) ts) (filtered_in (is_free us u) v ts kept (latest_is_free v before (λ p. l.last u (in_last us u) writes p)))
+          put_keeps v u (filter (is_free us u) ts) (in_filter (is_free us u) v ts kept (latest_is_free v before (λ p. l.last u (in_last us u) writes p)))
       | inr is_u ↦ subst (λ (x : Update). IsIn x (put_listed u (filter (is_free us u) ts))) is_u (put_here u (filter (is_free us u) ts))
     ];
     only = λ v on. elim (in_put v u (filter (is_free us u) ts) on) [
       | inl is_u ↦ subst (IsLatest key (λ w. IsIn w (us ++ u ∷ [])) (Precedes (us ++ u ∷ []))) is_u (last_is_latest writes)
       | inr old_one ↦
-          let kept = in_filtered (is_free us u) v ts old_one in
+          let kept = from_filter (is_free us u) v ts old_one in
           let l = old.only v kept.0 in
           latest_still v l (λ same p. free_precedes_none v l.known kept.1 p)
     ];
     rising = rises_put u (filter (is_free us u) ts) (rises_filtered (is_free us u) ts old.rising)
-        (λ t on same. apart [] us (u ∷ []) t u c (old.only t (in_filtered (is_free us u) t ts on).0).known (inl refl) same);
+        (λ t on same. apart [] us (u ∷ []) t u c (old.only t (from_filter (is_free us u) t ts on).0).known (inl refl) same);
   }

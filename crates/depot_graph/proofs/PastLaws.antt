@@ -18,7 +18,8 @@ use Rattle.depot_model.proofs.Orders.{one_of_id, causal_front, parents_of_last, 
 use Rattle.depot_model.proofs.Pasts.{past_of_next}
 use Rattle.depot_graph.specs.Kept.{past_row}
 use Rattle.depot_graph.specs.Fills.{Follows, Fills}
-use Rattle.depot_graph.proofs.Front.{apart, in_at, in_take, in_drop, has_past, is_past, precedes_in_front, past_to_precedes, past_from_precedes, not_before}
+use Rattle.depot_model.proofs.Elements.{in_at}
+use Rattle.depot_graph.proofs.Front.{apart, in_take, in_drop, has_past, is_past, precedes_in_front, past_to_precedes, past_from_precedes, not_before}
 use Rattle.depot_graph.proofs.RowLaws.{IsItem, row_entry}
 
 -- ---- what an update follows, by its parents

@@ -10,11 +10,12 @@ use Rattle.std.proofs.lemmas.List.{length_push, take_more, drop_all}
 use Rattle.depot_base.specs.declared.update.Update.{Update}
 use Rattle.depot_model.specs.Texts.{id_of_update}
 use Rattle.depot_model.specs.Order.{listed, past, IsCausal, AreLatestIn}
+use Rattle.depot_model.specs.Items.{updates_at}
 use Rattle.depot_model.specs.Journal.{has_id}
+use Rattle.depot_model.proofs.Elements.{get_front, get_last}
 use Rattle.depot_model.proofs.Orders.{causal_front}
 use Rattle.depot_graph.specs.Kept.{past_row}
 use Rattle.depot_graph.specs.Latest.{stands_before, put_place, is_apart, mended, latest_behind, latest_places}
-use Rattle.depot_graph.specs.Reads.{updates_at}
 use Rattle.depot_graph.proofs.RisingLaws.{put_listed}
 use Rattle.depot_graph.proofs.LatestLaws.{is_free, others_stay, mended_are_latest}
 
@@ -28,15 +29,6 @@ below_at n (m ∷ ns) below zero d lt = below.0
 below_at n (m ∷ ns) below (suc k) d lt = below_at n ns below.1 k d (omega arith)
 
 -- ---- places in a longer list
-
-get_front : {X : Type 0} (xs ys : List X) (n : ℕ) → n < length xs → slice_get (xs ++ ys) n ≡ slice_get xs n
-get_front [] ys n lt = absurd (omega arith)
-get_front (x ∷ xs) ys zero lt = refl
-get_front (x ∷ xs) ys (suc n) lt = get_front xs ys n (omega arith)
-
-get_last : {X : Type 0} (xs : List X) (x : X) → slice_get (xs ++ x ∷ []) (length xs) ≡ Some x
-get_last [] x = refl
-get_last (y ∷ ys) x = get_last ys x
 
 updates_at-front : (us vs : List Update) (ns : List ℕ) → AreBelow (length us) ns → updates_at (us ++ vs) ns ≡ updates_at us ns
 updates_at-front us vs [] below = refl

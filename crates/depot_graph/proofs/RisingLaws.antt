@@ -12,7 +12,6 @@ use Rattle.depot_model.specs.Lists.{IsIn}
 use Rattle.depot_model.specs.Texts.{id_of_update}
 use Rattle.depot_model.specs.Order.{listed, RisesStrictly}
 use Rattle.depot_model.proofs.LatestLaws.{rank}
-use Rattle.depot_model.proofs.Members.{chosen_cases, chosen_behind, chosen_front}
 
 -- u put in front of the first before which it stands
 unfoldable pub put_listed : Update → List Update → List Update
@@ -115,15 +114,3 @@ rises_filtered test (t ∷ ts) r = elim (test t) as (λ b. RisesStrictly (cond b
   | true ↦ (all_filtered (λ v. IsBelow t v) test ts r.0, rises_filtered test ts r.1)
   | false ↦ rises_filtered test ts r.1
 ]
-
-pub in_filtered : {X : Type 0} (test : X → Bool) (x : X) (xs : List X) → IsIn x (filter test xs) → IsIn x xs × (test x ≡ true)
-in_filtered test x [] never = absurd never
-in_filtered test x (y ∷ ys) on = elim (chosen_cases (test y) x y (filter test ys) on) [
-  | inl here ↦ (inl here.1, sym (ap test here.1) ∙ here.0)
-  | inr there ↦ let rest = in_filtered test x ys there in (inr rest.0, rest.1)
-]
-
-pub filtered_in : {X : Type 0} (test : X → Bool) (x : X) (xs : List X) → IsIn x xs → test x ≡ true → IsIn x (filter test xs)
-filtered_in test x [] never e = absurd never
-filtered_in test x (y ∷ ys) (inl here) e = chosen_front (test y) x y (filter test ys) (ap test here ∙ e) here
-filtered_in test x (y ∷ ys) (inr there) e = chosen_behind (test y) x y (filter test ys) (filtered_in test x ys there e)

@@ -1,5 +1,5 @@
 -- The rows of a graph: of each item, what it is behind.
-use Rattle.std.proofs.Common.{◌≡◌, ℕ, zero, suc, ◌<◌, ◌≤◌, ◌+◌, List, [], ◌∷◌, ◌++◌, length, map, take, get_or, Option, Some, option_map, IsTrue, Bool, true, false, refl, sym, ap, subst, ◌∙◌, arith, slice_get, append_assoc, append-nil, IfSome, true≢false}
+use Rattle.std.proofs.Common.{◌≡◌, ℕ, zero, suc, ◌<◌, ◌≤◌, ◌+◌, List, [], ◌∷◌, ◌++◌, length, map, take, get_or, Some, option_map, IsTrue, Bool, true, false, refl, sym, ap, subst, ◌∙◌, arith, slice_get, append_assoc, append-nil, true≢false}
 use Rattle.std.proofs.lemmas.Option.{slice_get-map, slice_get_within, get_or_from_slice_get, slice_get-get_or}
 use Rattle.depot_base.specs.declared.update.Update.{Update}
 use Rattle.depot_model.specs.Texts.{id_of_update}
@@ -52,10 +52,13 @@ row_entry f (x ∷ xs) (suc a) (suc b) t more e lt = row_entry f xs a b t more e
 
 -- what is said of two places, where they are known
 pub at_both : (us : List Update) (a b : ℕ) (t u : Update) → slice_get us a ≡ Some t → slice_get us b ≡ Some u → (PrecedesAt us a b → Precedes us t u) × (Precedes us t u → PrecedesAt us a b)
-at_both us a b t u at_a at_b =
-    let said : PrecedesAt us a b ≡ Precedes us t u =
-    ap (λ (o : Option Update). IfSome o (λ x. IfSome (slice_get us b) (λ y. Precedes us x y))) at_a ∙ ap (λ (o : Option Update). IfSome o (λ y. Precedes us t y)) at_b in
-    (subst (λ (P : Type 0). P) said, subst (λ (P : Type 0). P) (sym said))
+at_both us a b t u at_a at_b = (
+  (λ p.
+      let first : p.0 ≡ t = some_same _ _ (sym p.1.0 ∙ at_a) in
+      let second : p.1.1.0 ≡ u = some_same _ _ (sym p.1.1.1.0 ∙ at_b) in
+      subst (λ (x : Update). Precedes us x u) first (subst (Precedes us p.0) second p.1.1.1.1)),
+  (λ p. (t, (at_a, (u, (at_b, p))))),
+)
 
 -- whether an earlier item precedes is told by the row
 pub row_tells : (es : List (List ℕ × Item)) (a b : ℕ) (key : List ℕ) (item : Item) (told : Bool) → IsCausal [] (updates_in es) → rows_in es ≡ rows_behind [] (updates_in es) → slice_get es b ≡ Some (key, item) → a < b

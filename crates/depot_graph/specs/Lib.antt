@@ -4,4 +4,3 @@ pub mod Fills
 pub mod Kept
 pub mod Kin
 pub mod Latest
-pub mod Reads

@@ -1,17 +1,16 @@
 //! The graph, and what it keeps of each item.
-ghost use Rattle.std.specs.Prelude.{◌≡◌, ◌<◌, ◌≤◌, ◌+◌, ◌^◌, ℕ, List, [], ◌∷◌, ◌++◌, ◌||◌, length, map, take, drop, filter, not, true, false, IfOk, OnOk, OnErr, Some, slice_get, All, vec_len, vec_capacity};
+ghost use Rattle.std.specs.Prelude.{◌≡◌, ◌<◌, ◌≤◌, ◌+◌, ◌^◌, ℕ, List, [], ◌∷◌, ◌++◌, ◌||◌, length, map, take, drop, filter, not, true, false, IsTrue, IfOk, OnOk, OnErr, Some, slice_get, All, vec_len, vec_capacity};
 ghost use Rattle.std.specs.Map.{keys_of};
 ghost use Rattle.std.specs.Option.{ForSome};
 ghost use Rattle.std.specs.HashMap.{spare};
 ghost use Rattle.std.specs.List.{slice_index_or};
 ghost use Rattle.depot_model.specs.Order.{IsCausal, AreLatestIn, prevs, listed};
 ghost use Rattle.depot_model.specs.Texts.{id_of_update};
-ghost use Rattle.depot_model.specs.Items.{place_of_prev};
+ghost use Rattle.depot_model.specs.Items.{place_of_prev, updates_at};
 ghost use Rattle.depot_virtual.specs.Spots.{number_of_chains};
 ghost use Rattle.depot_graph.specs.Causal.{is_causal, causal_from_test};
 ghost use Rattle.depot_graph.specs.Fills.{Fills};
-ghost use Rattle.depot_graph.specs.Latest.{list_of, latest_places, is_apart, stands_before, put_place, mended};
-ghost use Rattle.depot_graph.specs.Reads.{updates_at};
+ghost use Rattle.depot_graph.specs.Latest.{list_of, has_list, latest_places, is_apart, stands_before, put_place, mended};
 ghost use Rattle.depot_graph.specs.Change.{IsChangeBy};
 ghost use Rattle.depot_graph.specs.Kin.{is_place, siblings_of, with_siblings};
 ghost use Rattle.depot_graph.specs.Kept.{updates_in, rows_in, rows_behind, past_row, child_lists, leaf_places, prev_places};
@@ -25,7 +24,8 @@ use depot_virtual::Chains;
 use indexmap::IndexMap;
 use std::alloc::Global;
 use std::cmp::Ordering;
-use std::sync::ledger::Ledger;
+use std::marker::Brand;
+use std::sync::ledger::{Blank, Ledger};
 
 /// Accepted updates in the order in which they came, and which of them precedes which. Its items are numbered from 0.
 ///
@@ -87,10 +87,43 @@ impl Graph {
         ensures err { OnErr result (⟦<Graph as Past>⟧.updates self.new ≡ ⟦<Graph as Past>⟧.updates self.old) }
     {
         let number = self.count();
-        self.reserve()?;
+        self.reserve(&update.key)?;
         let change = self.change_by(&update, &id, steps)?;
         self.commit(update, id, change);
         Ok(number)
+    }
+
+    /// Adds an update as `add` does, with the same conditions; its steps are counted for nobody.
+    pub fn add_uncounted(&mut self, update: Update, id: Hash32) -> Result<u32, Memory>
+        requires id { id ≡ id_of_update update }
+        requires fits { IsCausal [] (⟦<Graph as Past>⟧.updates self.old ++ update ∷ []) }
+        requires room { length (⟦<Graph as Past>⟧.updates self.old) < 4294967295 }
+        ensures ok { IfOk result (λ item. item ≡ length (⟦<Graph as Past>⟧.updates self.old)) }
+        ensures added { OnOk result (⟦<Graph as Past>⟧.updates self.new ≡ ⟦<Graph as Past>⟧.updates self.old ++ update ∷ []) }
+        ensures err { OnErr result (⟦<Graph as Past>⟧.updates self.new ≡ ⟦<Graph as Past>⟧.updates self.old) }
+    {
+        self.add_with::<Brand>(update, id, Blank::new(1))
+    }
+
+    /// The same, where the steps go into a ledger that is still blank.
+    fn add_with<L: Ledger>(
+        &mut self,
+        update: Update,
+        id: Hash32,
+        blank: Blank,
+    ) -> Result<u32, Memory>
+        requires name { blank.name ≡ L.name }
+        requires parts { blank.parts ≡ L.parts }
+        requires some { 0 < blank.parts }
+        requires id { id ≡ id_of_update update }
+        requires fits { IsCausal [] (⟦<Graph as Past>⟧.updates self.old ++ update ∷ []) }
+        requires room { length (⟦<Graph as Past>⟧.updates self.old) < 4294967295 }
+        ensures ok { IfOk result (λ item. item ≡ length (⟦<Graph as Past>⟧.updates self.old)) }
+        ensures added { OnOk result (⟦<Graph as Past>⟧.updates self.new ≡ ⟦<Graph as Past>⟧.updates self.old ++ update ∷ []) }
+        ensures err { OnErr result (⟦<Graph as Past>⟧.updates self.new ≡ ⟦<Graph as Past>⟧.updates self.old) }
+    {
+        let mut steps = Steps::<L>::new(blank);
+        self.add(update, id, &mut steps)
     }
 
     /// The items of the latest writes of a key, in rising order of clock, writer, seq and id, and none for a key that no
@@ -182,17 +215,17 @@ impl Graph {
         Ok(list)
     }
 
-    /// Room for one item more, in all that is kept. The updates stay.
-    fn reserve(&mut self) -> Result<(), Memory>
+    /// Room for one item more that writes this key, in all that is kept. The updates stay.
+    fn reserve(&mut self, key: &Key) -> Result<(), Memory>
         ensures same { updates_in self.new.items.entries ≡ updates_in self.old.items.entries }
         ensures items { OnOk result (0 < spare self.new.items) }
         ensures children { OnOk result (vec_len self.new.children < vec_capacity self.new.children) }
-        ensures latest { OnOk result (0 < spare self.new.latest.map) }
+        ensures latest { OnOk result (IsTrue (has_list key.now self.new.latest.map.entries)) }
         ensures chains { OnOk result (0 < self.new.chains.room) }
     {
         self.items.reserve(1)?;
         self.children.reserve(1)?;
-        self.latest.reserve()?;
+        self.latest.reserve(*self.leaves.allocator(), key.bytes())?;
         self.chains.reserve()
     }
 
@@ -204,7 +237,7 @@ impl Graph {
         requires change { IsChangeBy update (updates_in self.old.items.entries) change }
         requires items { 0 < spare self.old.items }
         requires children { vec_len self.old.children < vec_capacity self.old.children }
-        requires latest { 0 < spare self.old.latest.map }
+        requires latest { IsTrue (has_list update.key self.old.latest.map.entries) }
         requires chains { 0 < self.old.chains.room }
         ensures { updates_in self.new.items.entries ≡ updates_in self.old.items.entries ++ update ∷ [] }
     {

@@ -1,18 +1,18 @@
 //! A list of items for each key.
-ghost use Rattle.std.specs.Prelude.{◌≡◌, ◌<◌, List, ℕ, [], OnOk, if◌then◌else◌};
+ghost use Rattle.std.specs.Prelude.{◌≡◌, List, ℕ, [], OnOk, IsTrue, if◌then◌else◌};
 ghost use Rattle.std.specs.Str.{bytes_eq};
-ghost use Rattle.std.specs.HashMap.{spare};
-ghost use Rattle.depot_graph.specs.Latest.{list_of};
+ghost use Rattle.depot_graph.specs.Latest.{list_of, has_list};
 
 use depot_base::Memory;
-use indexmap::IndexMap;
 use std::alloc::Global;
+use std::collections::BTreeMap;
 
-/// A list of items for each key, in a map that hashes the key's bytes.
+/// A list of items for each key, in a map that keeps the keys in order. A stranger picks the keys, so none is hashed: a
+/// look-up takes logarithmic time, whatever they are. A key whose list is empty is one that room was found for.
 #[derive(Drop)]
 pub struct ListsByKey {
     /// The lists.
-    pub map: IndexMap<Vec<u8>, Vec<u32>>,
+    pub map: BTreeMap<Vec<u8>, Vec<u32>>,
 }
 
 impl ListsByKey {
@@ -21,7 +21,7 @@ impl ListsByKey {
         ensures { result.map.entries ≡ [] }
     {
         ListsByKey {
-            map: IndexMap::new(alloc),
+            map: BTreeMap::new(alloc),
         }
     }
 
@@ -35,18 +35,22 @@ impl ListsByKey {
         }
     }
 
-    /// Room for the list of one key more.
-    pub fn reserve(&mut self) -> Result<(), Memory>
-        ensures room { OnOk result (0 < spare self.new.map) }
-        ensures same { self.new.map.entries ≡ self.old.map.entries }
+    /// Room for the list of this key.
+    pub fn reserve(&mut self, alloc: Global, key: &[u8]) -> Result<(), Memory>
+        ensures room { OnOk result (IsTrue (has_list key.now self.new.map.entries)) }
+        ensures same { (other : List ℕ) → list_of other self.new.map.entries ≡ list_of other self.old.map.entries }
     {
-        self.map.reserve(1)?;
+        if self.map.contains_key(key) {
+            return Ok(());
+        }
+        self.map
+            .insert(Vec::from_slice(alloc, key)?, Vec::new(alloc))?;
         Ok(())
     }
 
-    /// Puts a list in place of that of a key. It takes no memory but what was reserved.
+    /// Puts a list in place of that of a key, for which room was found. It takes no memory.
     pub fn put(&mut self, key: Vec<u8>, list: Vec<u32>)
-        requires { 0 < spare self.old.map }
+        requires { IsTrue (has_list key.items self.old.map.entries) }
         ensures { (other : List ℕ) → list_of other self.new.map.entries ≡ (if bytes_eq other key.items then list.items else list_of other self.old.map.entries) }
     {
         let _ = self.map.insert(key, list);

@@ -1,14 +1,14 @@
 //! A writer forks, and another node joins the two branches.
 ghost use Rattle.std.specs.Prelude.{◌≡◌, ◌<◌, ◌∷◌, [], ◌++◌, ◌+◌, ℕ, List, map, length, IsTrue, IfOk, OnOk};
 ghost use Rattle.depot_model.specs.Lists.{IsIn};
-ghost use Rattle.depot_model.specs.Texts.{IsUpdate, id_of_update};
+ghost use Rattle.depot_model.specs.Texts.{update_fields, id_of_update};
 ghost use Rattle.depot_model.specs.Order.{IsCausal, prevs};
 
 use crate::Graph;
 use depot_base::entry::put_entries;
-use depot_base::{Bytes, Dep, Hash32, Key, NodeId, Steps, Update};
+use depot_base::{Bytes, Dep, Deps, Hash32, Key, NodeId, Steps, Update};
 use depot_model::Past;
-use depot_update::{decode_update, id_of};
+use sha2::{Digest, Sha256};
 use std::alloc::Global;
 use std::marker::Brand;
 use std::process::Abort;
@@ -21,23 +21,56 @@ fn update(
     writer: u16,
     clock: u64,
     prev: &Hash32,
-    deps: &[Dep],
-) -> Result<Update, Fail>
-    ensures { IfOk result IsUpdate }
+    entry: Option<Dep>,
+) -> Result<Update, Fail> {
+    let mut deps = Deps::new(alloc);
+    if let Some(entry) = entry {
+        deps.push(entry)?;
+    }
+    Ok(Update {
+        writer: NodeId::new(writer).ok_or("0 is no node")?,
+        seq: 0,
+        clock,
+        prev: *prev,
+        key: Key::new(alloc, b"k")?,
+        value_hash: Hash32::new([7; 32]),
+        value_len: 3,
+        deps,
+        history: Hash32::new([8; 32]),
+    })
+}
+
+/// Writes the fields of an update behind its version and kind, made apart from the crate of the codecs.
+#[tactic(auto, using(depot_base::proofs::Writing::texts), unfolding(depot_model::specs::Texts::update_fields, depot_base::specs::Format::number, depot_base::specs::Format::bytes_of, depot_base::specs::Format::list_of))]
+fn put_fields(out: &mut Bytes, update: &Update) -> Result<(), Fail>
+    ensures { OnOk result (out.new ≡ out.old ++ update_fields.text update.now) }
 {
-    let mut text = Bytes::new(alloc);
-    text.push_u16(0x0101)?;
-    text.push_u16(writer)?;
-    text.push_u32(0)?;
-    text.push_u64(clock)?;
-    text.push_all(prev.bytes())?;
-    text.push_all(b"\x01k")?;
-    text.push_all(&[7; 32])?;
-    text.push_u32(3)?;
-    text.push_u16(u16::try_from(deps.len())?)?;
-    put_entries(&mut text, deps)?;
-    text.push_all(&[8; 32])?;
-    Ok(decode_update(alloc, text.as_slice())?)
+    out.push_u16(update.writer.number())?;
+    out.push_u32(update.seq)?;
+    out.push_u64(update.clock)?;
+    out.push_all(update.prev.bytes())?;
+    let key = update.key.bytes();
+    out.push_u8(u8::try_from(key.len())?)?;
+    out.push_all(key)?;
+    out.push_all(update.value_hash.bytes())?;
+    out.push_u32(update.value_len)?;
+    let deps = update.deps.as_slice();
+    out.push_u16(u16::try_from(deps.len())?)?;
+    put_entries(out, deps)?;
+    out.push_all(update.history.bytes())?;
+    Ok(())
+}
+
+/// The id of an update.
+#[tactic(auto, using(depot_base::proofs::Writing::texts), unfolding(depot_model::specs::Texts::update_body, depot_model::specs::Texts::id_of_update, depot_base::specs::Format::number))]
+fn id_of(alloc: Global, update: &Update) -> Result<Hash32, Fail>
+    ensures { IfOk result (λ id. id ≡ id_of_update update.now) }
+{
+    let mut body = Bytes::new(alloc);
+    body.push_u8(1)?;
+    body.push_u8(1)?;
+    put_fields(&mut body, update)?;
+    Ok(Hash32::new(Sha256::digest(body.as_slice())))
 }
 
 /// Whether an item of the graph has this id.
@@ -84,43 +117,36 @@ fn fits(graph: &Graph, update: &Update, id: &Hash32) -> bool
 }
 
 /// Adds an update that fits, and gives its id.
-fn add<L: Ledger>(
-    alloc: Global,
-    graph: &mut Graph,
-    update: Update,
-    steps: &mut Steps<L>,
-) -> Result<Hash32, Fail>
-    requires { IsUpdate update }
+fn add(alloc: Global, graph: &mut Graph, update: Update) -> Result<Hash32, Fail>
     ensures { OnOk result (length (⟦<Graph as Past>⟧.updates graph.new) ≡ length (⟦<Graph as Past>⟧.updates graph.old) + 1) }
 {
     let id = id_of(alloc, &update)?;
     if graph.count() == u32::MAX || !fits(graph, &update, &id) {
         return Err(Fail::from("it doesn't fit"));
     }
-    graph.add(update, id, steps)?;
+    graph.add_uncounted(update, id)?;
     Ok(id)
 }
 
 /// A write of node 2, and two that have it as their prev. The later of the two has the lower clock.
-fn forked<L: Ledger>(alloc: Global, steps: &mut Steps<L>) -> Result<Graph, Fail>
+fn forked(alloc: Global) -> Result<Graph, Fail>
     ensures { IfOk result (λ graph. length (⟦<Graph as Past>⟧.updates graph) ≡ 3) }
 {
     let mut graph = Graph::new(alloc);
     let zeros = Hash32::zeros();
-    let first = add(alloc, &mut graph, update(alloc, 2, 1, &zeros, &[])?, steps)?;
-    add(alloc, &mut graph, update(alloc, 2, 3, &first, &[])?, steps)?;
-    add(alloc, &mut graph, update(alloc, 2, 2, &first, &[])?, steps)?;
+    let first = add(alloc, &mut graph, update(alloc, 2, 1, &zeros, None)?)?;
+    add(alloc, &mut graph, update(alloc, 2, 3, &first, None)?)?;
+    add(alloc, &mut graph, update(alloc, 2, 2, &first, None)?)?;
     Ok(graph)
 }
 
 /// Adds a write of node 1 that depends on an item of node 2, and gives its id.
-fn follow<L: Ledger>(
+fn follow(
     alloc: Global,
     graph: &mut Graph,
     clock: u64,
     prev: &Hash32,
     item: u32,
-    steps: &mut Steps<L>,
 ) -> Result<Hash32, Fail>
     requires { item < length (⟦<Graph as Past>⟧.updates graph.old) }
     ensures { OnOk result (length (⟦<Graph as Past>⟧.updates graph.new) ≡ length (⟦<Graph as Past>⟧.updates graph.old) + 1) }
@@ -130,21 +156,16 @@ fn follow<L: Ledger>(
         clock: 1,
         id: *graph.id(item),
     };
-    add(
-        alloc,
-        graph,
-        update(alloc, 1, clock, prev, &[entry])?,
-        steps,
-    )
+    add(alloc, graph, update(alloc, 1, clock, prev, Some(entry))?)
 }
 
 /// The two branches, and two writes of node 1: one behind the first branch, and one behind that and the second branch.
-fn joined<L: Ledger>(alloc: Global, steps: &mut Steps<L>) -> Result<Graph, Fail>
+fn joined(alloc: Global) -> Result<Graph, Fail>
     ensures { IfOk result (λ graph. length (⟦<Graph as Past>⟧.updates graph) ≡ 5) }
 {
-    let mut graph = forked(alloc, steps)?;
-    let one = follow(alloc, &mut graph, 4, &Hash32::zeros(), 1, steps)?;
-    follow(alloc, &mut graph, 5, &one, 2, steps)?;
+    let mut graph = forked(alloc)?;
+    let one = follow(alloc, &mut graph, 4, &Hash32::zeros(), 1)?;
+    follow(alloc, &mut graph, 5, &one, 2)?;
     Ok(graph)
 }
 
@@ -206,9 +227,9 @@ fn forked_and_joined<L: Ledger>(rt: &impl Abort, alloc: Global, blank: Blank) ->
     requires some { 0 < blank.parts }
 {
     let mut steps = Steps::<L>::new(blank);
-    let fork = forked(alloc, &mut steps)?;
+    let fork = forked(alloc)?;
     reads(rt, alloc, &fork, [2, 1].as_slice())?;
-    let graph = joined(alloc, &mut steps)?;
+    let graph = joined(alloc)?;
     reads(rt, alloc, &graph, [4].as_slice())?;
     has_three_chains(rt, &graph);
     finds_its_items(rt, &graph);

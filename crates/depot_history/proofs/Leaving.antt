@@ -14,19 +14,19 @@ use Rattle.depot_model.specs.Lists.{IsIn, is_among}
 use Rattle.depot_model.specs.Texts.{id_of_update}
 use Rattle.depot_model.specs.Order.{prevs, parents, past, is_named, IsCausal}
 use Rattle.depot_model.specs.History.{is_prev_in, leaves_of, by_id, leaf_text, history_text, history_hash}
-use Rattle.depot_model.specs.Items.{place_of_id}
+use Rattle.depot_model.specs.Items.{place_of_id, place_of_prev, updates_at}
 use Rattle.depot_model.specs.Journal.{has_id, named}
 use Rattle.depot_model.specs.Own.{precedes_named, next_entries}
 use Rattle.depot_base.specs.Zeros.{zeros}
 use Rattle.depot_model.specs.Journal.{prev_of}
-use Rattle.depot_model.specs.Items.{place_of_prev}
 use Rattle.depot_model.proofs.Members.{any_from, any_to, same_test, chosen_cases, chosen_front, chosen_behind}
 use Rattle.depot_model.proofs.Orders.{one_of_id, causal_behind}
-use Rattle.depot_history.specs.Closure.{updates_at, reached}
+use Rattle.depot_history.specs.Closure.{reached}
 use Rattle.depot_history.specs.Leaves.{row_of, leaf_in}
 use Rattle.depot_history.specs.Marks.{marked, chosen, chosen_but, with_parents, parents_at}
 use Rattle.depot_history.specs.declared.leaf.Leaf.{Leaf}
-use Rattle.depot_history.proofs.Places.{in_at, has_place, has_no_place, own_place}
+use Rattle.depot_model.proofs.Elements.{in_at}
+use Rattle.depot_history.proofs.ItemPlaces.{has_place, has_no_place, own_place}
 use Rattle.depot_history.proofs.Markings.{among_reached, walk_reaches, past_is_reached}
 use Rattle.depot_history.proofs.Sorting.{in_by_id, in_chosen_but}
 

@@ -1,5 +1,6 @@
 pub mod Rows
-pub mod Places
+pub mod ItemPlaces
 pub mod Markings
 pub mod Sorting
 pub mod Leaving
+pub mod Reaching

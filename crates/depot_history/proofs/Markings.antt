@@ -14,12 +14,13 @@ use Rattle.depot_base.specs.declared.update.Update.{Update}
 use Rattle.depot_model.specs.Lists.{IsIn, is_among}
 use Rattle.depot_model.specs.Texts.{id_of_update}
 use Rattle.depot_model.specs.Order.{prevs, parents, is_named, past, IsCausal}
-use Rattle.depot_model.specs.Items.{place_of_id}
+use Rattle.depot_model.specs.Items.{place_of_id, updates_at}
 use Rattle.depot_model.proofs.Members.{among_to}
 use Rattle.depot_model.proofs.Orders.{fresh, causal_behind, first_names_none}
-use Rattle.depot_history.specs.Closure.{updates_at, reached}
+use Rattle.depot_history.specs.Closure.{reached}
 use Rattle.depot_history.specs.Marks.{marked, chosen, with_parents}
-use Rattle.depot_history.proofs.Places.{at_place, in_at, mapped_at, from_place, has_place, has_no_place}
+use Rattle.depot_model.proofs.Elements.{at_place, in_at, mapped_at, from_place}
+use Rattle.depot_history.proofs.ItemPlaces.{has_place, has_no_place}
 
 -- ---- which ids are given
 

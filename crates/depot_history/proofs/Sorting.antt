@@ -1,6 +1,6 @@
 -- Leaves in order by writer and id, one put in after the other.
 use Rattle.std.proofs.Common.{◌≡◌, ℕ, zero, suc, ◌+◌, ◌-◌, ◌<◌, ◌≤◌, Bool, true, false, cond, not, ◌&&◌, List, [], ◌∷◌, length, map, drop, get_or, Option, Some, unwrap_or, refl, sym, ap, subst, ◌∙◌, arith, inl, inr}
-use Rattle.std.specs.Prelude.{slice_get, IfSome}
+use Rattle.std.specs.Prelude.{slice_get}
 use Rattle.std.specs.declared.cmp.Ordering.{Ordering}
 use Rattle.std.specs.declared.cmp.Ordering.TheVariants.{Less, Equal, Greater}
 use Rattle.std.specs.Ordering.{nat_cmp, is_lt, is_eq, ordering_then, ordering_reverse, match_ordering}
@@ -21,7 +21,8 @@ use Rattle.depot_model.proofs.Orders.{fresh, causal_behind}
 use Rattle.depot_history.specs.declared.leaf.Leaf.{Leaf}
 use Rattle.depot_history.specs.Leaves.{leaf_in}
 use Rattle.depot_history.specs.Marks.{chosen_but}
-use Rattle.depot_history.proofs.Places.{at_place, from_place, own_place}
+use Rattle.depot_model.proofs.Elements.{at_place, from_place}
+use Rattle.depot_history.proofs.ItemPlaces.{own_place}
 use Rattle.depot_history.proofs.Markings.{nothing_left}
 
 -- the order of leaves
@@ -147,10 +148,10 @@ made_at us n t id c at same =
 
 -- what holds at a place holds of the update there
 pub at_gives : (us : List Update) (n : ℕ) (t : Update) (P : Update → Type 0) → slice_get us n ≡ Some t → at us n P → P t
-at_gives us n t P e here = subst (λ (o : Option Update). IfSome o P) e here
+at_gives us n t P e here = let there : slice_get us n ≡ Some here.0 = here.1.0 in let same : here.0 ≡ t = cc in subst P same here.1.1
 
 pub at_is : (us : List Update) (n : ℕ) (t : Update) (P : Update → Type 0) → slice_get us n ≡ Some t → P t → at us n P
-at_is us n t P e here = subst (λ (o : Option Update). IfSome o P) (sym e) here
+at_is us n t P e here = (t, (e, here))
 
 pub not_first : (a b : Bool) → a ≡ false → (a && not b) ≡ false
 not_first true b e = absurd cc

@@ -1,15 +1,10 @@
 -- Some updates of a list with all that precedes them.
-use Rattle.std.specs.Prelude.{ℕ, List, [], ◌∷◌, ◌||◌, map, slice_get, if◌then◌else◌}
-use Rattle.std.specs.List.{flat_map}
-use Rattle.std.specs.Option.{option_to_list}
+use Rattle.std.specs.Prelude.{ℕ, List, [], ◌∷◌, ◌||◌, map, if◌then◌else◌}
 use Rattle.depot_base.specs.declared.update.Update.{Update}
 use Rattle.depot_model.specs.Lists.{is_among}
 use Rattle.depot_model.specs.Texts.{id_of_update}
 use Rattle.depot_model.specs.Order.{is_named}
-
--- the updates at these places
-abbrev pub updates_at : List Update → List ℕ → List Update
-updates_at us places = flat_map (λ place. option_to_list (slice_get us place)) places
+use Rattle.depot_model.specs.Items.{updates_at}
 
 -- what these ids name in a list, in which each parent stands before its children, and what that names in turn
 unfoldable pub reached : List (List ℕ) → List Update → List Update

@@ -5,7 +5,7 @@ use Rattle.depot_base.specs.declared.update.Update.{Update}
 use Rattle.depot_model.specs.Lists.{is_among}
 use Rattle.depot_model.specs.Texts.{id_of_update}
 use Rattle.depot_model.specs.Order.{parents}
-use Rattle.depot_history.specs.Closure.{updates_at}
+use Rattle.depot_model.specs.Items.{updates_at}
 
 -- the updates with one of these ids are marked
 abbrev pub marked : List (List ℕ) → List Update → List Bool

@@ -3,9 +3,9 @@ ghost use Rattle.std.specs.Prelude.{◌≡◌, ◌<◌, ◌+◌, ℕ, List, Opti
 ghost use Rattle.std.specs.Option.{ForSome};
 ghost use Rattle.std.specs.List.{AllByRecursion};
 ghost use Rattle.depot_model.specs.History.{leaves_of, by_id, history_hash as hash_of_history};
-ghost use Rattle.depot_model.specs.Items.{at, place_of_prev};
+ghost use Rattle.depot_model.specs.Items.{at, place_of_prev, updates_at};
 ghost use Rattle.depot_model.specs.Own.{next_entries};
-ghost use Rattle.depot_history.specs.Closure.{updates_at, closure_of};
+ghost use Rattle.depot_history.specs.Closure.{closure_of};
 ghost use Rattle.depot_history.specs.Leaves.{leaf_in};
 ghost use Rattle.depot_history.specs.Marks.{chosen, chosen_but};
 

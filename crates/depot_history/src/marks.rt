@@ -5,7 +5,8 @@ ghost use Rattle.std.specs.List.{flat_map, AllByRecursion};
 ghost use Rattle.depot_model.specs.Texts.{id_of_update};
 ghost use Rattle.depot_model.specs.Order.{prevs, parents};
 ghost use Rattle.depot_history.specs.Marks.{marked, chosen, with_parents, parents_at};
-ghost use Rattle.depot_history.specs.Closure.{updates_at, closure_of};
+ghost use Rattle.depot_model.specs.Items.{updates_at};
+ghost use Rattle.depot_history.specs.Closure.{closure_of};
 
 use depot_base::{Dep, Hash32, Memory, NodeId, Update};
 use depot_model::Past;

@@ -1,7 +1,6 @@
 -- Two sets that grow: the ids that others vouched for, and the convicted nodes.
-use Rattle.std.specs.Prelude.{◌≡◌, ℕ, ◌≤◌, ◌+◌, List, [], ◌∷◌, ◌++◌, Bool, ◌||◌, ◌==◌, if◌then◌else◌}
-use Rattle.std.specs.List.{list_any}
-use Rattle.depot_model.specs.Lists.{is_among}
+use Rattle.std.specs.Prelude.{◌≡◌, ℕ, ◌≤◌, ◌+◌, List, [], ◌∷◌, ◌++◌, true, ◌||◌, if◌then◌else◌}
+use Rattle.depot_model.specs.Lists.{is_among, is_one_of}
 
 -- What is seen: the ids, the nodes in the order of their conviction, each once, and how many nodes may be convicted.
 pub record Vouching : Type 0 where
@@ -9,13 +8,18 @@ pub record Vouching : Type 0 where
   pub convicted : List ℕ
   pub nodes : ℕ
 
--- whether a node is one of these
-abbrev pub is_one_of : ℕ → List ℕ → Bool
-is_one_of n ns = list_any (λ m. m == n) ns
+-- What is seen of a set of ids: the ids, and those for which there is room.
+pub record IdsWithRoom : Type 0 where
+  pub ids : List (List ℕ)
+  pub room : List (List ℕ)
 
 -- just the ids of the first list and of the second are among those of the third
 abbrev pub AreTogether : List (List ℕ) → List (List ℕ) → List (List ℕ) → Type 0
 AreTogether old more new = (h : List ℕ) → is_among h new ≡ (is_among h old || is_among h more)
+
+-- each id of the first list is one of the second
+abbrev pub AreWithin : List (List ℕ) → List (List ℕ) → Type 0
+AreWithin some all = (h : List ℕ) → is_among h some ≡ true → is_among h all ≡ true
 
 -- these nodes, with one that may be among them already
 abbrev pub with_node : List ℕ → ℕ → List ℕ

@@ -4,13 +4,18 @@
 //! is convicted. A convicted node stays convicted. They are seen as the list of the vouched ids and that of the convicted
 //! nodes, each once; room for the convictions of all nodes is found at the start. Whether a voucher or a proof is to be
 //! believed, this crate doesn't know.
+//!
+//! `VouchedIds` is the set of ids alone, as a node keeps it of its own vouchers.
 #![tactic(auto)]
+
+mod ids;
 
 ghost use Rattle.std.specs.Prelude.{◌≡◌, ◌<◌, ◌≤◌, ◌+◌, ◌⊎◌, [], ◌∷◌, ◌++◌, length, true, false, OnOk, OnErr, IfOk};
 ghost use Rattle.indexmap.specs.IndexSet.{spare};
-ghost use Rattle.depot_model.specs.Lists.{is_among};
-ghost use Rattle.depot_vouch.specs.Vouching.{is_one_of, AreTogether, with_node};
+ghost use Rattle.depot_model.specs.Lists.{is_among, is_one_of};
+ghost use Rattle.depot_vouch.specs.Vouching.{AreTogether, with_node};
 
+pub use crate::ids::VouchedIds;
 use depot_base::{Hash32, Ids, Memory, NodeId};
 use indexmap::IndexSet;
 use std::alloc::Global;
@@ -19,7 +24,7 @@ use std::marker::Model;
 /// The ids that others vouched for, and the convicted nodes of a roster.
 #[derive(Drop)]
 pub struct Vouched {
-    ids: IndexSet<Hash32>,
+    ids: VouchedIds,
     convicted: IndexSet<NodeId>,
     nodes: u32,
 }
@@ -31,7 +36,7 @@ impl Model for Vouched {
 
     ghost Value = { Vouching };
 
-    ghost view = { λ v. record { ids = v.ids.keys; convicted = v.convicted.keys; nodes = v.nodes } };
+    ghost view = { λ v. record { ids = v.ids.ids; convicted = v.convicted.keys; nodes = v.nodes } };
 
     ghost invariant = { λ v. HasRoom v.nodes (length v.convicted.keys) (spare v.convicted) };
 }
@@ -44,7 +49,7 @@ impl Vouched {
         ensures nodes { IfOk result (λ v. v.nodes ≡ nodes) }
     {
         Ok(Vouched {
-            ids: IndexSet::new(alloc),
+            ids: VouchedIds::new(alloc),
             convicted: IndexSet::with_capacity(alloc, nodes as usize)?,
             nodes,
         })
@@ -57,9 +62,7 @@ impl Vouched {
         ensures convicted { self.new.convicted ≡ self.old.convicted }
         ensures nodes { self.new.nodes ≡ self.old.nodes }
     {
-        self.ids.reserve(ids.as_slice().len())?;
-        insert_ids(&mut self.ids, ids.as_slice());
-        Ok(())
+        self.ids.add(ids)
     }
 
     /// Whether someone vouched for the update with this id. It takes no memory.
@@ -88,25 +91,6 @@ impl Vouched {
     {
         self.convicted.contains(&node)
     }
-}
-
-/// Adds ids to a set that has room for them.
-fn insert_ids(known: &mut IndexSet<Hash32>, more: &[Hash32])
-    requires { length more.now ≤ spare known.old }
-    ensures { AreTogether known.old.keys more.now known.new.keys }
-{
-    for id in more {
-        insert_id(known, *id);
-    }
-}
-
-/// Adds an id to a set that has room for it.
-fn insert_id(known: &mut IndexSet<Hash32>, id: Hash32)
-    requires { 0 < spare known.old }
-    ensures together { AreTogether known.old.keys (id ∷ []) known.new.keys }
-    ensures room { spare known.old ≤ spare known.new + 1 }
-{
-    let _ = known.insert(id);
 }
 
 /// Adds a node to a set that has room for it, and hasn't got it.

@@ -1,4 +1,4 @@
-use Rattle.depot_vouch.proofs.Sets.{node_last, where_ok}
+use Rattle.depot_vouch.proofs.ConvictedNodes.{node_last, where_ok}
 use Rattle.depot_vouch.proofs.insert_node.Goals as goal
 
 pub returns-clause-last : goal.returns-clause-last

@@ -1,7 +1,8 @@
 use Rattle.std.proofs.Common.{◌<◌, length, ap, sym, ◌∙◌, arith}
 use Rattle.depot_fork.specs.Opponents.{Kept}
-use Rattle.depot_fork.specs.Places.{left}
-use Rattle.depot_fork.proofs.HoldLaws.{entry_at, whole_next, none_at_none, none_at_more, all_left, next_low, held_here, held_nowhere}
+use Rattle.depot_fork.specs.PlacesLeft.{left}
+use Rattle.depot_fork.proofs.ListedPlaces.{whole_next}
+use Rattle.depot_fork.proofs.HoldLaws.{entry_at, none_at_none, none_at_more, all_left, next_low, held_here, held_nowhere}
 use Rattle.depot_fork.proofs.Seen.holds.Goals as goal
 
 pub loop-place-init : goal.loop-place-init

@@ -1,5 +1,5 @@
 use Rattle.std.proofs.Common.{[], ◌∷◌}
-use Rattle.depot_fork.proofs.PlaceLaws.{is_next, whole_next}
+use Rattle.depot_fork.proofs.ListedPlaces.{is_next, whole_next}
 use Rattle.depot_fork.proofs.KeepLaws.{place_low}
 use Rattle.depot_fork.proofs.FirstLaws.{first_of_both}
 use Rattle.depot_fork.proofs.firsts.first_under.Goals as goal

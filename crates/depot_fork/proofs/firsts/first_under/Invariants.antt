@@ -1,6 +1,6 @@
 use Rattle.std.proofs.Common.{◌≡◌, ◌++◌}
 use Rattle.depot_fork.specs.Table.{listed}
-use Rattle.depot_fork.specs.Places.{left}
+use Rattle.depot_fork.specs.PlacesLeft.{left}
 use Rattle.depot_fork.specs.Firsts.{IsFirstOf}
 use Rattle.depot_fork.proofs.firsts.first_under.Given as goal
 

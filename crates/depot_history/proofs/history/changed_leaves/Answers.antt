@@ -1,9 +1,8 @@
 use Rattle.std.proofs.Common.{◌≡◌, ◌∙◌, ap, sym, subst, List, ℕ, Bool, map, length, ◌<◌, not, eqb}
 use Rattle.std.specs.List.{AllByRecursion}
 use Rattle.depot_model.specs.History.{by_id}
-use Rattle.depot_model.specs.Items.{place_of_prev}
+use Rattle.depot_model.specs.Items.{place_of_prev, updates_at}
 use Rattle.depot_model.specs.Own.{next_entries}
-use Rattle.depot_history.specs.Closure.{updates_at}
 use Rattle.depot_history.specs.declared.leaf.Leaf.{Leaf}
 use Rattle.depot_history.specs.Marks.{chosen_but}
 use Rattle.depot_history.proofs.Leaving.{if_ok, updates_back, items_within, sorted_within, entries_are}

@@ -3,7 +3,7 @@ use Rattle.std.specs.BTreeSet.{insert_key}
 use Rattle.depot_base.specs.declared.update.Update.{Update}
 use Rattle.depot_history.specs.declared.leaf.Leaf.{Leaf}
 use Rattle.depot_history.specs.Leaves.{leaf_in}
-use Rattle.depot_history.proofs.Places.{at_place}
+use Rattle.depot_model.proofs.Elements.{at_place}
 use Rattle.depot_history.proofs.Sorting.{leaf_cmp, sort_begins, sort_more, sort_same, sort_ends, at_gives, not_first, but_second}
 use Rattle.depot_history.proofs.history.sorted.Goals as goal
 use Rattle.depot_history.proofs.history.sorted.Goals.{else-among-item-via-then-among-item+else-not-left_out-item, else-among-item-via-else-among-item}

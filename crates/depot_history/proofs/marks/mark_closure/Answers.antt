@@ -2,7 +2,8 @@ use Rattle.std.proofs.Common.{◌∙◌, ap, Bool, List, ℕ, [], map}
 use Rattle.std.proofs.lemmas.List.{append-nil}
 use Rattle.depot_model.specs.Texts.{id_of_update}
 use Rattle.depot_history.specs.Marks.{marked, chosen}
-use Rattle.depot_history.specs.Closure.{closure_of, updates_at}
+use Rattle.depot_model.specs.Items.{updates_at}
+use Rattle.depot_history.specs.Closure.{closure_of}
 use Rattle.depot_history.proofs.Markings.{walk_reaches}
 use Rattle.depot_history.proofs.marks.mark_closure.Goals as goal
 

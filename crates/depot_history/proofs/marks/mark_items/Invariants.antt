@@ -1,6 +1,6 @@
 use Rattle.std.proofs.Common.{◌≡◌, List, ℕ, take, ◌++◌, map}
 use Rattle.depot_model.specs.Texts.{id_of_update}
-use Rattle.depot_history.specs.Closure.{updates_at}
+use Rattle.depot_model.specs.Items.{updates_at}
 use Rattle.depot_history.specs.Marks.{marked}
 use Rattle.depot_history.proofs.marks.mark_items.Given as goal
 

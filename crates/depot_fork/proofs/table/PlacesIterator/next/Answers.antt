@@ -1,5 +1,5 @@
 use Rattle.std.proofs.Common.{None, ap, length, arith}
-use Rattle.depot_fork.specs.Places.{left}
+use Rattle.depot_fork.specs.PlacesLeft.{left}
 use Rattle.depot_fork.proofs.LinkLaws.{from_none, next_place, next_linked}
 use Rattle.depot_fork.proofs.table.PlacesIterator.next.Goals as goal
 

@@ -1,7 +1,7 @@
-use Rattle.std.proofs.Common.{◌∙◌, sym, map, arith}
+use Rattle.std.proofs.Common.{◌∙◌, ℕ, List, IsTrue, sym, map, subst, arith}
 use Rattle.depot_graph.specs.declared.item.Item.{Item}
 use Rattle.depot_graph.specs.Kept.{updates_in}
-use Rattle.depot_graph.specs.Latest.{list_of}
+use Rattle.depot_graph.specs.Latest.{list_of, has_list}
 use Rattle.depot_graph.proofs.KinLaws.{as_many_lists}
 use Rattle.depot_graph.proofs.MapLaws.{said_of_ok}
 use Rattle.depot_graph.proofs.AddLaws.{prev_inside, earlier_item, as_many_prevs, entries_then, updates_kept, count_kept, ids_kept, causal_kept, rows_kept, kin_kept, ends_kept, reads_kept, chained_kept}
@@ -17,7 +17,7 @@ place_children-requires-clause-prev c = λ place e.
     omega (arith, inside, many)
 
 pub put-requires : goal.put-requires
-put-requires c = c.requires.latest
+put-requires c = subst (λ (key : List ℕ). IsTrue (has_list key c.args.self.now.latest.map.entries)) (sym c.requires.change.key) c.requires.latest
 
 pub add-requires-clause-earlier : goal.add-requires-clause-earlier
 add-requires-clause-earlier c =

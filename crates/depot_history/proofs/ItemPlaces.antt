@@ -1,0 +1,66 @@
+-- Updates by their places in a list.
+use Rattle.std.proofs.Common.{◌≡◌, ℕ, zero, suc, ◌+◌, ◌<◌, Bool, true, false, cond, not, List, [], ◌∷◌, length, get_or, Some, None, refl, sym, ap, ◌∙◌, arith, inl, inr}
+use Rattle.std.specs.Prelude.{slice_get, position}
+use Rattle.std.specs.List.{position_or_len}
+use Rattle.std.specs.Str.{bytes_eq}
+use Rattle.std.proofs.lemmas.Bool.{lt-ltb}
+use Rattle.std.proofs.lemmas.Option.{slice_get-get_or}
+use Rattle.std.proofs.lemmas.List.Quantifiers.{position-Some}
+use Rattle.std.proofs.lemmas.Slice.Eq.{bytes_eq-Decides}
+use Rattle.depot_base.specs.declared.update.Update.{Update}
+use Rattle.depot_model.specs.Lists.{IsIn}
+use Rattle.depot_model.specs.Texts.{id_of_update}
+use Rattle.depot_model.specs.Order.{IsCausal}
+use Rattle.depot_model.specs.Items.{place_of_id}
+use Rattle.depot_model.proofs.Elements.{in_at}
+use Rattle.depot_model.proofs.Orders.{fresh, causal_behind}
+
+-- ---- the first that passes a test
+
+found_at : {X : Type 0} (test : X → Bool) (xs : List X) (n : ℕ) → position test xs ≡ Some n → (x : X) × ((slice_get xs n ≡ Some x) × (test x ≡ true))
+found_at test [] n e = absurd cc
+found_at test (y ∷ ys) n e = let p = position-Some test (y ∷ ys) n y e in (get_or (y ∷ ys) n y, (slice_get-get_or (y ∷ ys) n y p.0, p.1))
+
+passes_within : {X : Type 0} (test : X → Bool) (xs : List X) (x : X) → IsIn x xs → test x ≡ true → position_or_len test xs < length xs
+passes_within test [] x never e = absurd never
+passes_within test (y ∷ ys) x on e = by_test (test y) refl (λ there. passes_within test ys x there e) where
+  by_test : (b : Bool) → test y ≡ b → (IsIn x ys → position_or_len test ys < length ys) → cond (not b) (1 + position_or_len test ys) 0 < suc (length ys)
+  by_test true is later = omega arith
+  by_test false is later = elim on [
+    | inl here ↦ let passes : test y ≡ true = ap test here ∙ e in absurd cc
+    | inr there ↦ omega (arith, later there)
+  ]
+
+first_place : {X : Type 0} (test : X → Bool) (xs : List X) (x : X) → IsIn x xs → test x ≡ true → position test xs ≡ Some (position_or_len test xs)
+first_place test xs x on e = let lt = passes_within test xs x on e in rw (lt-ltb _ _ lt) refl
+
+-- ---- the place of an id
+
+-- what stands at the place of an id has it
+pub has_place : (h : List ℕ) (us : List Update) (n : ℕ) → place_of_id h us ≡ Some n → (t : Update) × ((slice_get us n ≡ Some t) × (id_of_update t ≡ h))
+has_place h us n e = let f = found_at (λ u. bytes_eq (id_of_update u) h) us n e in (f.0, (f.1.0, (bytes_eq-Decides (id_of_update f.0) h).0 f.1.1))
+
+-- an id without a place is that of none
+pub has_no_place : (h : List ℕ) (us : List Update) (u : Update) → place_of_id h us ≡ None → IsIn u us → id_of_update u ≡ h → ⊥
+has_no_place h us u e on same =
+    let there = first_place (λ u. bytes_eq (id_of_update u) h) us u on ((bytes_eq-Decides (id_of_update u) h).1 same) in
+    absurd cc
+
+-- no id stands at two places
+pub one_place : (ids : List (List ℕ)) (us : List Update) (i j : ℕ) (t u : Update) → IsCausal ids us → slice_get us i ≡ Some t → slice_get us j ≡ Some u → id_of_update t ≡ id_of_update u → i ≡ j
+one_place ids [] i j t u c at also same = absurd cc
+one_place ids (x ∷ xs) zero zero t u c at also same = refl
+one_place ids (x ∷ xs) zero (suc j) t u c at also same =
+    let first : x ≡ t = cc in
+    absurd (fresh (id_of_update x ∷ ids) xs u (causal_behind ids x xs c) (in_at xs j u also) (inl (ap id_of_update first ∙ same)))
+one_place ids (x ∷ xs) (suc i) zero t u c at also same =
+    let first : x ≡ u = cc in
+    absurd (fresh (id_of_update x ∷ ids) xs t (causal_behind ids x xs c) (in_at xs i t at) (inl (ap id_of_update first ∙ sym same)))
+one_place ids (x ∷ xs) (suc i) (suc j) t u c at also same = ap suc (one_place (id_of_update x ∷ ids) xs i j t u (causal_behind ids x xs c) at also same)
+
+-- the place of an update's own id is where it stands
+pub own_place : (us : List Update) (n : ℕ) (t : Update) → IsCausal [] us → slice_get us n ≡ Some t → place_of_id (id_of_update t) us ≡ Some n
+own_place us n t c at =
+    let place = first_place (λ u. bytes_eq (id_of_update u) (id_of_update t)) us t (in_at us n t at) ((bytes_eq-Decides (id_of_update t) (id_of_update t)).1 refl) in
+    let f = has_place (id_of_update t) us (position_or_len (λ u. bytes_eq (id_of_update u) (id_of_update t)) us) place in
+    place ∙ ap (λ (k : ℕ). Some k) (one_place [] us (position_or_len (λ u. bytes_eq (id_of_update u) (id_of_update t)) us) n f.0 t c f.1.0 at f.1.1)

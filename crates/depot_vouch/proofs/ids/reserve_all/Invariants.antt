@@ -1,0 +1,12 @@
+use Rattle.std.proofs.Common.{◌≡◌, take}
+use Rattle.std.specs.Map.{keys_of}
+use Rattle.depot_vouch.specs.Vouching.{AreTogether}
+use Rattle.depot_vouch.specs.Slots.{vouched_in, DoAscend}
+use Rattle.depot_vouch.proofs.ids.reserve_all.Given as goal
+
+abbrev pub invariant-loop-id : goal.invariant-loop-id
+invariant-loop-id l = record {
+  together : AreTogether (keys_of l.initial.slots.entries) (take l.id-index l.ids) (keys_of l.slots.entries);
+  ids : vouched_in l.slots.entries ≡ vouched_in l.initial.slots.entries;
+  ascending : DoAscend (keys_of l.initial.slots.entries) → DoAscend (keys_of l.slots.entries);
+}
