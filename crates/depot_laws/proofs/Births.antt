@@ -25,11 +25,11 @@ short_birth : (node : ℕ) (h : List ℕ) → length h ≡ 32 → length (text_o
 unfolding record_text tagged birth number bytes_of numeral
 short_birth node h long = omega (arith, long, length-append h [])
 
-roster_hash_is_digest : (listed : List RosterEntry) → length (hash_of_roster listed) ≡ 32
+pub roster_hash_is_digest : (listed : List RosterEntry) → length (hash_of_roster listed) ≡ 32
 unfolding hash_of_roster
 roster_hash_is_digest listed = length-sha256 (text_of_roster listed)
 
-digest_from_length : (h : List ℕ) → length h ≡ 32 → digest.fits h
+pub digest_from_length : (h : List ℕ) → length h ≡ 32 → digest.fits h
 unfolding bytes_of
 digest_from_length h long = long
 

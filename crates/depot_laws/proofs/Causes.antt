@@ -153,7 +153,7 @@ joined_is_causal us u c j = causal_push [] us u c
     (λ h on. let t = j.there h on in inr (subst (λ (k : List ℕ). IsIn k (map id_of_update us)) t.id (in_map id_of_update t.update us t.on)))
     (λ never. never) (new_id us (id_of_update u) j.new)
 
-none_or_one : (r : Record) → (accepted_by r ≡ []) ⊎ ((u : Update) × (accepted_by r ≡ u ∷ []))
+pub none_or_one : (r : Record) → (accepted_by r ≡ []) ⊎ ((u : Update) × (accepted_by r ≡ u ∷ []))
 none_or_one (Birth node h) = inl refl
 none_or_one (OwnPut u value) = inr (u, refl)
 none_or_one (OwnVoucher v) = inl refl

@@ -22,7 +22,7 @@ use Rattle.depot_model.specs.Checks.{Setting}
 use Rattle.depot_model.specs.Lawful.{MayFollow, IsAllowed, IsLawful}
 use Rattle.depot_model.proofs.Members.{in_last, all_at, all_push}
 use Rattle.depot_model.proofs.BodyLaws.{text_of_statement-Update}
-use Rattle.depot_laws.specs.Chains.{IsChain, IsEarlierStep, RisesInSteps, HasPrev}
+use Rattle.depot_model.specs.Chains.{IsChain, IsEarlierStep, RisesInSteps, HasPrev}
 use Rattle.depot_laws.proofs.Splits.{given_by, given_too, flat_left, flat_gives, place_of, none_splits, lawful_push, lawful_from_end}
 use Rattle.depot_laws.proofs.Tests.{from_filter, in_filter, has_id_from}
 use Rattle.depot_laws.proofs.Causes.{Joins, record_joins, update_in_is, accepts}
@@ -124,7 +124,7 @@ steps_push us u steps (inr p) free =
 -- ---- no two updates of a writer who isn't convicted have one prev
 
 -- bodies that are equal have one id
-id_of_body : (t u : Update) → text_of_statement (statement.Update t) ≡ text_of_statement (statement.Update u) → id_of_update t ≡ id_of_update u
+pub id_of_body : (t u : Update) → text_of_statement (statement.Update t) ≡ text_of_statement (statement.Update u) → id_of_update t ≡ id_of_update u
 unfolding id_of_update
 id_of_body t u e = let same : text_of_update t ≡ text_of_update u = sym (text_of_statement-Update t) ∙ e ∙ text_of_statement-Update u in rw same refl
 
@@ -136,7 +136,7 @@ same_prev t u writer prev differ =
     and_from _ _ (and_from _ _ (eq-eqb t.writer u.writer writer) (ap not other)) ((bytes_eq-Decides t.prev u.prev).1 prev)
 
 -- the statement of an accepted update is the node's own, or one that it took
-abbrev IsBrought : List Statement → List Signed → Update → Type 0
+abbrev pub IsBrought : List Statement → List Signed → Update → Type 0
 IsBrought ss fs u = IsIn (statement.Update u) ss ⊎ ((s : Signed) × (IsIn s fs × (s.statement ≡ statement.Update u)))
 
 brought_by : (r : Record) (u : Update) → IsIn u (accepted_by r) → IsBrought (own_by r) (foreign_by r) u
@@ -148,7 +148,7 @@ brought_by (OwnVoucher v) u never = absurd never
 brought_by (Conviction p) u never = absurd never
 brought_by (Held value) u never = absurd never
 
-brought : (J : List Record) (u : Update) → IsIn u (accepted J) → IsBrought (own J) (foreign J) u
+pub brought : (J : List Record) (u : Update) → IsIn u (accepted J) → IsBrought (own J) (foreign J) u
 brought J u on =
     let g = given_by accepted_by u J on in
     elim (brought_by g.by u g.given) [
@@ -157,7 +157,7 @@ brought J u on =
     ]
 
 -- statements of others are not the node's
-foreign_writer : (here : Setting) (J : List Record) (s : Signed) → IsLawful here J → IsIn s (foreign J) → writer_of s.statement ≡ here.me → ⊥
+pub foreign_writer : (here : Setting) (J : List Record) (s : Signed) → IsLawful here J → IsIn s (foreign J) → writer_of s.statement ≡ here.me → ⊥
 foreign_writer here J s l on same = eqb-false _ _ (kept_is_genuine here J s l on).other same
 
 -- Two accepted updates of a writer who isn't convicted have two prevs, if they have two ids.

@@ -16,16 +16,15 @@ use Rattle.depot_model.specs.Lists.{IsIn, when, first}
 use Rattle.depot_model.specs.Texts.{IsSigned}
 use Rattle.depot_model.specs.Roster.{has_node, is_signed}
 use Rattle.depot_model.specs.Contradictions.{contradicts, kind_of}
-use Rattle.depot_model.specs.Judgement.{points, first_failed_point}
+use Rattle.depot_model.specs.Judgement.{first_failed_point}
 use Rattle.depot_model.specs.Conviction.{proof_of}
 use Rattle.depot_model.specs.Journal.{foreign, foreign_by, accused}
 use Rattle.depot_model.specs.Checks.{Setting, given_statement, answer_to, opponent, is_update_with, named_opponent, proof_checks}
 use Rattle.depot_model.specs.Lawful.{IsAllowed, IsLawful}
-use Rattle.depot_model.proofs.FirstLaws.{each_is_none, first_is, when-none}
+use Rattle.depot_model.proofs.FirstLaws.{first_is}
 use Rattle.depot_model.proofs.ContradictionLaws.{same_writer}
-use Rattle.depot_model.proofs.JudgementLaws.{IsGood-proof_of, has_node_from_is_signed}
+use Rattle.depot_model.proofs.JudgementLaws.{IsGood-proof_of}
 use Rattle.depot_laws.proofs.Splits.{given_by}
-use Rattle.depot_laws.proofs.Tests.{holds_from_not}
 use Rattle.depot_laws.proofs.Taken.{new_is}
 use Rattle.depot_laws.proofs.Records.{IsSigned-from_record}
 
@@ -144,18 +143,13 @@ pub accused_is : (k : Kind) (a b : Signed) → contradicts k a.statement b.state
 accused_is k a b contradict = of_proof_of (λ (p : Proof). accused p ≡ writer_of b.statement) k a b (eqb-true _ _ (same_writer k a.statement b.statement contradict)) refl
 
 -- the checks of a proof that fails no point of a judge, and names another node
-checks_of_good : (here : Setting) (p : Proof) → is_signed here.verifies here.listed p.first ≡ true → is_signed here.verifies here.listed p.second ≡ true
-    → eqb (accused p) here.me ≡ false → first_failed_point here.verifies here.listed p ≡ None → first (proof_checks here p) ≡ None
-unfolding points proof_checks
-checks_of_good here p one two other good =
-    let each = each_is_none (points here.verifies here.listed p) good in
-    let below : is_below p.first.body p.second.body ≡ true = holds_from_not _ (when-none _ _ each.1.1.1.1.1.1.0) in
-    let contradict : contradicts p.kind p.first.statement p.second.statement ≡ true = holds_from_not _ (when-none _ _ each.1.1.1.1.1.1.1.0) in
-    rw (has_node_from_is_signed here.verifies here.listed p.first one, has_node_from_is_signed here.verifies here.listed p.second two, one, two, below, contradict, other) refl
+pub checks_of_good : (here : Setting) (p : Proof) → eqb (accused p) here.me ≡ false → first_failed_point here.verifies here.listed p ≡ None → first (proof_checks here p) ≡ None
+unfolding proof_checks
+checks_of_good here p other good = rw (good, other) refl
 
 -- the proof of two genuine statements passes the checks
 pub made_passes : (here : Setting) (k : Kind) (a b : Signed) → IsSigned a → IsSigned b → IsGenuine here a → IsGenuine here b → contradicts k a.statement b.statement ≡ true → first (proof_checks here (proof_of k a b)) ≡ None
 made_passes here k a b fits_a fits_b true_a true_b contradict =
     let both = of_proof_of (λ (p : Proof). (is_signed here.verifies here.listed p.first ≡ true) × (is_signed here.verifies here.listed p.second ≡ true)) k a b (true_a.signed, true_b.signed) (true_b.signed, true_a.signed) in
     let other : eqb (accused (proof_of k a b)) here.me ≡ false = rw (accused_is k a b contradict) true_b.other in
-    checks_of_good here (proof_of k a b) both.0 both.1 other (IsGood-proof_of k a b fits_a fits_b contradict here.verifies here.listed both.0 both.1)
+    checks_of_good here (proof_of k a b) other (IsGood-proof_of k a b fits_a fits_b contradict here.verifies here.listed both.0 both.1)

@@ -32,7 +32,7 @@ no_kind_of SamePrev a b each = when-none _ _ each.1.0
 no_kind_of Backward a b each = when-none _ _ each.1.1.0
 
 -- without a kind the two don't contradict each other
-no_kind : (k : Kind) (a b : Statement) → kind_of a b ≡ None → contradicts k a b ≡ false
+pub no_kind : (k : Kind) (a b : Statement) → kind_of a b ≡ None → contradicts k a b ≡ false
 unfolding kind_of
 no_kind k a b e = no_kind_of k a b (each_is_none (kinds a b) e)
 
@@ -106,7 +106,7 @@ unfolding answer_to first_failed_check proof_checks
 accepted_proof here J p e same =
     let q = new_from_answer (is_known here J (given_proof p)) (first_failed_check here J (given_proof p)) e in
     let each : AllNone (proof_checks here p) = each_is_none (proof_checks here p) q.1 in
-    eqb-false _ _ (when-none _ _ each.1.1.1.1.1.0) same
+    eqb-false _ _ (when-none _ _ each.1.0) same
 
 not_mine : (here : Setting) (J : List Record) (r : Record) (p : Proof) → MayFollow here J r → IsIn p (proof_by r) → accused p ≡ here.me → ⊥
 not_mine here J (Conviction q) p may (inl e) same = accepted_proof here J q may (ap accused e ∙ same)

@@ -1,5 +1,5 @@
 -- What a lawful journal grows by leaves it lawful.
-use Rattle.std.proofs.Common.{◌≡◌, ℕ, Bool, true, false, not, eqb, cond, List, [], ◌∷◌, ◌++◌, Option, Some, None, Result, Ok, Err, refl, sym, ap, subst, ◌∙◌, append_assoc, inl, inr, ◌⊎◌}
+use Rattle.std.proofs.Common.{◌≡◌, ℕ, Bool, true, false, not, cond, List, [], ◌∷◌, ◌++◌, Option, Some, None, Result, Ok, Err, refl, sym, ap, subst, ◌∙◌, append_assoc, inl, inr, ◌⊎◌}
 use Rattle.std.specs.List.{flat_map}
 use Rattle.std.proofs.lemmas.Bool.{or_right, and_right, not_from_true}
 use Rattle.std.proofs.lemmas.List.{append-nil}
@@ -15,12 +15,11 @@ use Rattle.depot_base.specs.declared.check.Check.{Check}
 use Rattle.depot_base.specs.declared.check.Check.TheVariants as check
 use Rattle.depot_model.specs.declared.taken.Taken.{Taken}
 use Rattle.depot_model.specs.declared.taken.Taken.TheVariants.{New, Known}
-use Rattle.depot_model.specs.Lists.{when, first}
-use Rattle.depot_model.specs.Texts.{IsSigned, id_of_statement}
-use Rattle.depot_model.specs.Roster.{has_node, is_signed}
+use Rattle.depot_model.specs.Lists.{first}
+use Rattle.depot_model.specs.Texts.{IsSigned}
 use Rattle.depot_model.specs.Conviction.{proof_of}
 use Rattle.depot_model.specs.Journal.{accepted, accepted_by, foreign, foreign_by, proof_by, voucher_by, accused, vouched, is_convicted, is_vouched}
-use Rattle.depot_model.specs.Checks.{Setting, Given, given_statement, given_proof, given_value, opponent, named_opponent, forked, refused_as_convicted, content_of, statement_checks, proof_checks, first_failed_check, is_kept, is_known, answer_by, answer_to, due, added, exposed, growth_by, growth}
+use Rattle.depot_model.specs.Checks.{Setting, Given, given_statement, given_proof, given_value, opponent, named_opponent, forked, refused_as_convicted, content_of, proof_checks, first_failed_check, is_kept, is_known, answer_to, due, added, exposed, growth_by, growth}
 use Rattle.depot_model.specs.Room.{full_by, HasRoom}
 use Rattle.depot_model.specs.Lawful.{IsLawful, is_empty}
 use Rattle.depot_model.proofs.JudgementLaws.{IsProof-proof_of}
@@ -29,10 +28,10 @@ use Rattle.depot_laws.specs.Given.{HasText}
 pub use Rattle.depot_laws.proofs.Splits.{silent}
 use Rattle.depot_laws.proofs.Splits.{flat_gives, lawful_push}
 use Rattle.depot_laws.proofs.Convictions.{convicts_accused}
-use Rattle.depot_laws.proofs.Tests.{holds_from_not}
 use Rattle.depot_laws.proofs.Limits.{room_front, room_behind}
 use Rattle.depot_laws.proofs.Records.{IsRecord-Foreign, IsRecord-Conviction, IsRecord-Held}
 use Rattle.depot_laws.proofs.Taken.{AllNone, new_is, is_new}
+use Rattle.depot_laws.proofs.LateChecks.{refused_late}
 use Rattle.depot_laws.proofs.Contrary.{IsOpponent, opponent_is, named_opponent_is, IsGenuine, new_is_genuine, kept_is_signed, kept_is_genuine, accused_is, made_passes}
 
 -- ---- readings with a conviction behind
@@ -91,13 +90,13 @@ convict here J s o l some fits genuine opposed free room =
 -- ---- a conviction that may be due
 
 -- it is, against the writer of s, by this opponent
-record IsDue (J : List Record) (s : Signed) (o : Option (Signed × Kind)) : Type 0 where
+pub record IsDue (J : List Record) (s : Signed) (o : Option (Signed × Kind)) : Type 0 where
   pub by : Signed × Kind
   pub there : o ≡ Some by
   pub free : is_convicted J (writer_of s.statement) ≡ false
   pub is : due J s o ≡ Conviction (proof_of by.1 by.0 s) ∷ []
 
-due_cases : (J : List Record) (s : Signed) (o : Option (Signed × Kind)) → (due J s o ≡ []) ⊎ IsDue J s o
+pub due_cases : (J : List Record) (s : Signed) (o : Option (Signed × Kind)) → (due J s o ≡ []) ⊎ IsDue J s o
 unfolding due
 due_cases J s None = inl refl
 due_cases J s (Some by) = choice (is_convicted J (writer_of s.statement)) refl where
@@ -123,56 +122,24 @@ due_grows here J s o l some fits genuine opposed room = elim (due_cases J s o) [
       subst (λ (new : List Record). IsLawful here (J ++ new)) (sym d.is) grown
 ]
 
--- a check behind those of the writer and the signature
-abbrev IsLate : Check → Type 0
-IsLate (check.UnknownWriter n) = ⊥
-IsLate (check.NotMine h) = ⊥
-IsLate (check.BadSignature n) = ⊥
-IsLate c = Unit {0}
-
-skipped : (test : Bool) (e c : Check) (os : List (Option Check)) → (IsLate e → ⊥) → IsLate c → first (when test e ∷ os) ≡ Some c → (test ≡ false) × (first os ≡ Some c)
-skipped true e c os early late shown = let same : e ≡ c = cc in absurd (early (subst IsLate (sym same) late))
-skipped false e c os early late shown = (refl, shown)
-
--- a statement that is refused by a later check is genuine
-genuine_from_late : (here : Setting) (J : List Record) (s : Signed) (c : Check) → IsLate c → first (statement_checks here J s) ≡ Some c → IsGenuine here s
-unfolding statement_checks
-genuine_from_late here J s c late e =
-    let rest = content_of J s.statement ++ (forked J s.statement ∷ refused_as_convicted J s.statement ∷ []) in
-    let signature = when (not (is_signed here.verifies here.listed s)) (check.BadSignature (writer_of s.statement)) in
-    let mine = when (eqb (writer_of s.statement) here.me) (check.NotMine (id_of_statement s.statement)) in
-    let one = skipped (not (has_node here.listed (writer_of s.statement))) (check.UnknownWriter (writer_of s.statement)) c (mine ∷ signature ∷ rest) (λ h. h) late e in
-    let two = skipped (eqb (writer_of s.statement) here.me) (check.NotMine (id_of_statement s.statement)) c (signature ∷ rest) (λ h. h) late one.1 in
-    let three = skipped (not (is_signed here.verifies here.listed s)) (check.BadSignature (writer_of s.statement)) c rest (λ h. h) late two.1 in
-    record { known = holds_from_not _ one.0; other = two.0; signed = holds_from_not _ three.0 }
-
-failed_from_answer : (known : Bool) (failed : Option Check) (c : Check) → answer_by known failed ≡ Err c → failed ≡ Some c
-failed_from_answer true failed c e = absurd cc
-failed_from_answer false None c e = absurd cc
-failed_from_answer false (Some d) c e = let same : d ≡ c = cc in ap (λ (x : Check). Some x) same
-
-refused_is_genuine : (here : Setting) (J : List Record) (s : Signed) (c : Check) → IsLate c → answer_to here J (given_statement s) ≡ Err c → IsGenuine here s
-unfolding answer_to first_failed_check
-refused_is_genuine here J s c late e = genuine_from_late here J s c late (failed_from_answer (is_known here J (given_statement s)) (first_failed_check here J (given_statement s)) c e)
-
 refused : (here : Setting) (J : List Record) (s : Signed) (c : Check) → IsLawful here J → is_empty J ≡ false → IsSigned s → answer_to here J (given_statement s) ≡ Err c → full_by here.me J (exposed J (given_statement s) c) ≡ None → IsLawful here (J ++ exposed J (given_statement s) c)
 refused here J s (check.Forked kept came kind) l some fits e room =
-    due_grows here J s (opponent (foreign J) s.statement) l some fits (refused_is_genuine here J s (check.Forked kept came kind) tt e) (λ by is. opponent_is (foreign J) s.statement by is) room
+    due_grows here J s (opponent (foreign J) s.statement) l some fits (refused_late here J s (check.Forked kept came kind) tt e).genuine (λ by is. opponent_is (foreign J) s.statement by is) room
 refused here J s (check.Backward h) l some fits e room =
-    due_grows here J s (named_opponent (foreign J) h s.statement) l some fits (refused_is_genuine here J s (check.Backward h) tt e) (λ by is. named_opponent_is (foreign J) h s.statement by is) room
+    due_grows here J s (named_opponent (foreign J) h s.statement) l some fits (refused_late here J s (check.Backward h) tt e).genuine (λ by is. named_opponent_is (foreign J) h s.statement by is) room
 refused here J s c l some fits e room = same_journal here J [] l refl
 
 -- ---- a statement that is new
 
 -- the conviction in front of it
-abbrev front_of : List Record → Signed → List Record
+abbrev pub front_of : List Record → Signed → List Record
 front_of J s = cond (is_vouched J s.statement) (due J s (opponent (foreign J) s.statement)) []
 
-record Convicts (J : List Record) (s : Signed) : Type 0 where
+pub record Convicts (J : List Record) (s : Signed) : Type 0 where
   pub vouched : is_vouched J s.statement ≡ true
   pub due : IsDue J s (opponent (foreign J) s.statement)
 
-front_cases : (J : List Record) (s : Signed) → (front_of J s ≡ []) ⊎ Convicts J s
+pub front_cases : (J : List Record) (s : Signed) → (front_of J s ≡ []) ⊎ Convicts J s
 front_cases J s = choice (is_vouched J s.statement) refl where
   choice : (b : Bool) → is_vouched J s.statement ≡ b → (front_of J s ≡ []) ⊎ Convicts J s
   choice true is = elim (due_cases J s (opponent (foreign J) s.statement)) [
@@ -181,15 +148,15 @@ front_cases J s = choice (is_vouched J s.statement) refl where
   ]
   choice false is = inl (rw is refl)
 
-added_is : (J : List Record) (s : Signed) → added J (given_statement s) ≡ front_of J s ++ Foreign s ∷ []
+pub added_is : (J : List Record) (s : Signed) → added J (given_statement s) ≡ front_of J s ++ Foreign s ∷ []
 unfolding added
 added_is J s = refl
 
-not_forked : (J : List Record) (s : Statement) → is_vouched J s ≡ true → forked J s ≡ None
+pub not_forked : (J : List Record) (s : Statement) → is_vouched J s ≡ true → forked J s ≡ None
 unfolding forked
 not_forked J s e = rw (or_right (is_convicted J (writer_of s)) (is_vouched J s) e) refl
 
-not_refused : (J : List Record) (s : Statement) → is_vouched J s ≡ true → refused_as_convicted J s ≡ None
+pub not_refused : (J : List Record) (s : Statement) → is_vouched J s ≡ true → refused_as_convicted J s ≡ None
 unfolding refused_as_convicted is_vouched
 not_refused J (statement.Update u) e = rw (and_right (is_convicted J u.writer) (not (is_vouched J (statement.Update u))) (not_from_true (is_vouched J (statement.Update u)) e)) refl
 not_refused J (statement.Voucher v) e = absurd cc

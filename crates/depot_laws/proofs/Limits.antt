@@ -44,8 +44,9 @@ room_from_within me J new w = rw (le-ltb _ _ w.records, le-ltb _ _ w.bytes, w.wr
 
 -- ---- two records in turn
 
-sum_front : (J new more : List Record) → journal_bytes (J ++ new) ≤ journal_bytes (J ++ (new ++ more))
-sum_front J new more =
+-- records in front of others bring no more bytes than all of them
+pub bytes_front : (J new more : List Record) → journal_bytes (J ++ new) ≤ journal_bytes (J ++ (new ++ more))
+bytes_front J new more =
     let f : Record → ℕ = λ r. 5 + length (text_of_record r) in
     omega (arith, sum_by-append f J new, sum_by-append f J (new ++ more), sum_by-append f new more)
 
@@ -55,7 +56,7 @@ room_front me J p more room =
     let w = within_from_room me J (Conviction p ∷ more) room in
     room_from_within me J (Conviction p ∷ []) (record {
       records = omega (arith, w.records, length-append J (Conviction p ∷ []), length-append J (Conviction p ∷ more));
-      bytes = omega (arith, w.bytes, sum_front J (Conviction p ∷ []) more);
+      bytes = omega (arith, w.bytes, bytes_front J (Conviction p ∷ []) more);
       writers = refl;
     })
 

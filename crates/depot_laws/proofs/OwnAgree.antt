@@ -22,7 +22,7 @@ use Rattle.depot_model.specs.Own.{next_own, IsFresh}
 use Rattle.depot_model.specs.Lawful.{MayPut, MayVouch, MayFollow, IsLawful}
 use Rattle.depot_model.proofs.Members.{among_to}
 use Rattle.depot_model.proofs.ContradictionLaws.{contradicts_comm, other_body}
-use Rattle.depot_laws.specs.Chains.{IsEarlierStep}
+use Rattle.depot_model.specs.Chains.{IsEarlierStep}
 use Rattle.depot_laws.proofs.Splits.{flat_push, flat_cases, lawful_from_end}
 use Rattle.depot_laws.proofs.Tests.{has_id_from}
 use Rattle.depot_laws.proofs.Causes.{own_in_accepted, prevs_is}
@@ -41,7 +41,7 @@ last_own-append h [] ts = refl
 last_own-append h (statement.Update u ∷ ss) ts = last_own-append (id_of_update u) ss ts
 last_own-append h (statement.Voucher v ∷ ss) ts = last_own-append h ss ts
 
-last_own-pushed : (J : List Record) (r : Record) → last_own (J ++ r ∷ []) ≡ last_own_behind (last_own J) (own_by r)
+pub last_own-pushed : (J : List Record) (r : Record) → last_own (J ++ r ∷ []) ≡ last_own_behind (last_own J) (own_by r)
 last_own-pushed J r = ap (last_own_behind zeros) (flat_push own_by J r) ∙ last_own-append zeros (own J) (own_by r)
 
 -- no own update has the last one as its prev

@@ -1,5 +1,5 @@
 -- The next own update of a lawful journal has a text, and the journal with it is lawful.
-use Rattle.std.proofs.Common.{◌≡◌, ℕ, ◌+◌, ◌<◌, ◌≤◌, Bool, true, false, not, ◌&&◌, eqb, List, [], ◌∷◌, ◌++◌, map, length, None, refl, sym, ap, subst, ◌∙◌, arith, length-append, inl, inr}
+use Rattle.std.proofs.Common.{◌≡◌, ℕ, ◌+◌, ◌^◌, ◌<◌, ◌≤◌, Bool, true, false, not, ◌&&◌, eqb, List, [], ◌∷◌, ◌++◌, map, length, None, refl, sym, ap, subst, ◌∙◌, arith, length-append, inl, inr}
 use Rattle.std.specs.List.{filter}
 use Rattle.std.specs.Int.{w8, w16, w32, w64}
 use Rattle.std.proofs.lemmas.Bool.{and_parts}
@@ -16,19 +16,19 @@ use Rattle.depot_base.specs.declared.record.Record.TheVariants.{Birth, OwnPut, O
 use Rattle.depot_base.proofs.Numbers.{number_within}
 use Rattle.depot_model.specs.Lists.{IsIn}
 use Rattle.depot_model.specs.Texts.{update_fields, update_body, IsUpdate, IsStatement, text_of_update, id_of_update}
-use Rattle.depot_model.specs.Records.{own_put, birth, tagged, record_text, IsRecord}
+use Rattle.depot_model.specs.Records.{own_put, birth, tagged, record_text, IsRecord, journal_bytes}
 use Rattle.depot_model.specs.History.{history_hash, leaves_of, by_id, greatest_clock}
 use Rattle.depot_model.specs.Journal.{accepted, accepted_by, own, own_by, last_own}
 use Rattle.depot_model.specs.Own.{entry_of, precedes_named, next_entries, next_own, IsFresh, leaf_count}
 use Rattle.depot_model.specs.Checks.{Setting}
 use Rattle.depot_model.specs.Room.{full_by}
 use Rattle.depot_model.specs.Lawful.{IsAllowed, IsLawful, is_birth, is_empty}
-use Rattle.depot_model.proofs.BodyLaws.{IsUpdate-from_statement, IsStatement-from_signed}
+use Rattle.depot_model.proofs.BodyLaws.{IsUpdate-from_statement, IsStatement-from_update, IsStatement-from_signed}
 use Rattle.depot_model.proofs.TextLaws.{update_body_lawful}
 use Rattle.depot_laws.proofs.Splits.{given_by, lawful_push, lawful_from_end}
 use Rattle.depot_laws.proofs.Tests.{fails_from_not, from_filter, from_by_id}
 use Rattle.depot_laws.proofs.Limits.{within_from_room}
-use Rattle.depot_laws.proofs.Records.{IsSigned-from_record}
+use Rattle.depot_laws.proofs.Records.{IsSigned-from_record, IsStatement-from_own_voucher}
 use Rattle.depot_laws.proofs.Causes.{last_own_cases, update_in_is, leaf_is_on, lawful_is_causal}
 use Rattle.depot_laws.proofs.Clocks.{clocks_within}
 use Rattle.depot_laws.proofs.Sorted.{AreApart, apart_from_causal, apart_filter, rises_by_id, entries_follow}
@@ -38,6 +38,10 @@ use Rattle.depot_laws.proofs.Sorted.{AreApart, apart_from_causal, apart_filter, 
 -- a lawful journal has at most 131,072 records
 pub lawful_is_short : (here : Setting) (J : List Record) → IsLawful here J → length J ≤ 131072
 lawful_is_short here J l = lawful_from_end here (λ (x : List Record). length x ≤ 131072) (omega arith) (λ x r front allowed before. (within_from_room here.me x (r ∷ []) allowed.room).records) J l
+
+-- and at most 1 GiB
+pub lawful_is_light : (here : Setting) (J : List Record) → IsLawful here J → journal_bytes J ≤ 2 ^ 30
+lawful_is_light here J l = lawful_from_end here (λ (x : List Record). journal_bytes x ≤ 2 ^ 30) (omega arith) (λ x r front allowed before. (within_from_room here.me x (r ∷ []) allowed.room).bytes) J l
 
 one_own : (r : Record) → length (own_by r) ≤ 1
 one_own (Birth node h) = omega arith
@@ -70,7 +74,7 @@ me_fits here (r ∷ J) l some = let allowed = l.each [] r J refl in birth_node h
 
 -- ---- accepted updates
 
-put_is_update : (u : Update) (value : List ℕ) → IsRecord (OwnPut u value) → IsUpdate u
+pub put_is_update : (u : Update) (value : List ℕ) → IsRecord (OwnPut u value) → IsUpdate u
 unfolding record_text tagged own_put inner
 put_is_update u value fits = fits.1.1.0.0
 
@@ -87,7 +91,21 @@ accepted_is_update (Held value) u fits never = absurd never
 pub accepted_fit : (here : Setting) (J : List Record) (u : Update) → IsLawful here J → IsIn u (accepted J) → IsUpdate u
 accepted_fit here J u l on = let g = given_by accepted_by u J on in accepted_is_update g.by u (l.each g.before g.by g.after g.is).text g.given
 
-writer_fits : (u : Update) → IsUpdate u → node_number.fits u.writer
+own_is_statement : (r : Record) (s : Statement) → IsRecord r → IsIn s (own_by r) → IsStatement s
+own_is_statement (OwnPut u value) s fits (inl same) = subst (λ (x : Statement). IsStatement x) same (IsStatement-from_update u (put_is_update u value fits))
+own_is_statement (OwnPut u value) s fits (inr never) = absurd never
+own_is_statement (OwnVoucher v) s fits (inl same) = subst (λ (x : Statement). IsStatement x) same (IsStatement-from_own_voucher v fits)
+own_is_statement (OwnVoucher v) s fits (inr never) = absurd never
+own_is_statement (Birth node h) s fits never = absurd never
+own_is_statement (Foreign f) s fits never = absurd never
+own_is_statement (Conviction p) s fits never = absurd never
+own_is_statement (Held value) s fits never = absurd never
+
+-- and so has each own statement
+pub own_statement_fits : (here : Setting) (J : List Record) (s : Statement) → IsLawful here J → IsIn s (own J) → IsStatement s
+own_statement_fits here J s l on = let g = given_by own_by s J on in own_is_statement g.by s (l.each g.before g.by g.after g.is).text g.given
+
+pub writer_fits : (u : Update) → IsUpdate u → node_number.fits u.writer
 unfolding update_body update_fields
 writer_fits u fits = fits.1.1.0
 
@@ -97,7 +115,7 @@ clock_fits u fits = let c = number_within w64 1 18446744073709551615 u.clock fit
 
 -- ---- entries
 
-id_is_digest : (u : Update) → digest.fits (id_of_update u)
+pub id_is_digest : (u : Update) → digest.fits (id_of_update u)
 unfolding id_of_update bytes_of
 id_is_digest u = length-sha256 (text_of_update u)
 
@@ -145,7 +163,7 @@ last_own_is_digest J = elim (last_own_cases J) [
   | inr some ↦ subst (λ (h : List ℕ). digest.fits h) some.id (id_is_digest some.update)
 ]
 
-value_is_digest : (value : List ℕ) → digest.fits (sha256 value)
+pub value_is_digest : (value : List ℕ) → digest.fits (sha256 value)
 unfolding bytes_of
 value_is_digest value = length-sha256 value
 

@@ -18,7 +18,7 @@ use Rattle.depot_model.specs.Own.{next_own}
 use Rattle.depot_model.specs.Lawful.{MayFollow, IsLawful}
 use Rattle.depot_model.proofs.FirstLaws.{each_is_none, when-none}
 use Rattle.depot_model.proofs.Orders.{one_of_id}
-use Rattle.depot_laws.specs.Chains.{HasPrev}
+use Rattle.depot_model.specs.Chains.{HasPrev}
 use Rattle.depot_laws.proofs.Splits.{given_by, flat_left, lawful_before}
 use Rattle.depot_laws.proofs.Tests.{all_left, named_is}
 use Rattle.depot_laws.proofs.Taken.{AllNone, HasContent, new_is}

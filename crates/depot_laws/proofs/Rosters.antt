@@ -17,7 +17,7 @@ pub follows_fit : {E : Type 0} (entry : Format E) (may_follow : Option E → E �
 follows_fit entry may_follow front [] follows = tt
 follows_fit entry may_follow front (e ∷ es) follows = (follows.0, follows_fit entry may_follow (front ++ e ∷ []) es follows.2)
 
-entries_fit : (listed : List RosterEntry) → IsRoster listed → AllByRecursion roster_entry.fits listed
+pub entries_fit : (listed : List RosterEntry) → IsRoster listed → AllByRecursion roster_entry.fits listed
 unfolding roster list_of
 entries_fit listed fits = follows_fit roster_entry roster_entry_rises [] listed fits.1.1.1.0.0
 

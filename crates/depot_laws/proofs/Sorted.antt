@@ -1,13 +1,11 @@
 -- Updates in rising order of (writer, id), and the entries that name them.
-use Rattle.std.proofs.Common.{◌≡◌, ℕ, ◌-◌, ◌<◌, Bool, true, false, ◌&&◌, ◌||◌, cond, eqb, List, [], ◌∷◌, ◌++◌, map, length, Some, refl, sym, ap, subst, arith, inl, inr}
+use Rattle.std.proofs.Common.{◌≡◌, ℕ, Bool, true, false, ◌&&◌, ◌||◌, cond, eqb, List, [], ◌∷◌, ◌++◌, map, Some, refl, sym, ap, subst, inl, inr}
 use Rattle.std.specs.List.{AllByRecursion, filter}
 use Rattle.std.specs.Str.{bytes_eq}
 use Rattle.std.specs.Ordering.{is_lt, ordering_then}
 use Rattle.std.specs.declared.cmp.Ordering.{Ordering}
 use Rattle.std.specs.declared.cmp.Ordering.TheVariants.{Less, Equal, Greater}
 use Rattle.std.proofs.lemmas.Cmp.{nat_list_cmp_total}
-use Rattle.std.proofs.lemmas.Option.{slice_get-get_or}
-use Rattle.std.proofs.lemmas.List.{length_push, get_or_push}
 use Rattle.std.proofs.lemmas.Bool.{false_from_ne_true}
 use Rattle.std.proofs.lemmas.Slice.Eq.{bytes_eq-Decides}
 use Rattle.depot_base.specs.Format.{Follows, last_of}
@@ -22,6 +20,8 @@ use Rattle.depot_model.specs.Own.{entry_of}
 use Rattle.depot_model.proofs.Members.{all_at, all_from}
 use Rattle.depot_model.proofs.Orders.{fresh, causal_behind}
 use Rattle.depot_model.proofs.ContradictionLaws.{below_or_above}
+use Rattle.depot_model.proofs.RisingLists.{RisesBy}
+use Rattle.depot_laws.proofs.RisingBytes.{last_pushed}
 use Rattle.depot_laws.proofs.Tests.{from_filter, from_put_by_id, from_by_id}
 
 -- ---- one lower than another
@@ -65,8 +65,7 @@ apart_filter test (x ∷ xs) apart = choice (test x) (apart_filter test xs apart
 
 -- each is lower than all that come after it
 abbrev pub Rises : List Update → Type 0
-Rises [] = Unit {0}
-Rises (t ∷ ts) = AllByRecursion (λ u. is_lower t u ≡ true) ts × Rises ts
+Rises us = RisesBy is_lower us
 
 rises_put : (t : Update) (us : List Update) → Rises us → AllByRecursion (λ (u : Update). id_of_update u ≡ id_of_update t → ⊥) us → Rises (put_by_id t us)
 unfolding put_by_id
@@ -92,20 +91,13 @@ rises_by_id (t ∷ ts) apart = rises_put t (by_id ts) (rises_by_id ts apart.1) (
 
 -- ---- entries
 
-then_lower : (less same : Bool) (o : Ordering) → is_lt (ordering_then (cond less Less (cond same Equal Greater)) o) ≡ true → (less || (same && is_lt o)) ≡ true
+pub then_lower : (less same : Bool) (o : Ordering) → is_lt (ordering_then (cond less Less (cond same Equal Greater)) o) ≡ true → (less || (same && is_lt o)) ≡ true
 then_lower true same o e = refl
 then_lower false true o e = e
 then_lower false false o e = absurd cc
 
 entry_above : (t u : Update) → is_lower t u ≡ true → dep_above (Some (entry_of t)) (entry_of u) ≡ true
 entry_above t u e = then_lower _ _ _ e
-
-last_pushed : (front : List Dep) (d : Dep) → last_of (front ++ d ∷ []) ≡ Some d
-last_pushed front d =
-    let long = length_push front d in
-    let at : length (front ++ d ∷ []) - 1 ≡ length front = omega arith in
-    let here : length front < length (front ++ d ∷ []) = omega arith in
-    rw (at, slice_get-get_or (front ++ d ∷ []) (length front) d here, get_or_push front d d (length front) refl) refl
 
 -- The entries that name rising updates follow one another, where each fits and is another writer's.
 pub entries_follow : (me : ℕ) (front : List Dep) (us : List Update) → Rises us → ((u : Update) → IsIn u us → dep_above (last_of front) (entry_of u) ≡ true) → ((u : Update) → IsIn u us → dep.fits (entry_of u)) → ((u : Update) → IsIn u us → eqb u.writer me ≡ false)

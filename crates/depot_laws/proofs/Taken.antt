@@ -1,5 +1,5 @@
 -- What it says of a statement that it is new to a journal.
-use Rattle.std.proofs.Common.{◌≡◌, ℕ, Bool, true, false, eqb, List, [], ◌∷◌, ◌++◌, map, Option, Some, None, Ok, refl, subst, inl, inr}
+use Rattle.std.proofs.Common.{◌≡◌, ℕ, Bool, true, false, eqb, List, [], ◌∷◌, ◌++◌, map, Option, Some, None, Ok, Err, refl, ap, subst, inl, inr}
 use Rattle.std.specs.List.{AllByRecursion}
 use Rattle.std.proofs.lemmas.Bool.{and_cases, both_ways}
 use Rattle.depot_base.specs.Statement.{writer_of}
@@ -30,6 +30,12 @@ pub new_from_answer : (known : Bool) (failed : Option Check) → answer_by known
 new_from_answer true failed e = absurd cc
 new_from_answer false None e = (refl, refl)
 new_from_answer false (Some c) e = absurd cc
+
+-- what is refused isn't known, and this check fails
+pub refused_from_answer : (known : Bool) (failed : Option Check) (c : Check) → answer_by known failed ≡ Err c → (known ≡ false) × (failed ≡ Some c)
+refused_from_answer true failed c e = absurd cc
+refused_from_answer false None c e = absurd cc
+refused_from_answer false (Some d) c e = let same : d ≡ c = cc in (refl, ap (λ (x : Check). Some x) same)
 
 -- and the other way
 pub answer_from_new : (known : Bool) (failed : Option Check) → known ≡ false → failed ≡ None → answer_by known failed ≡ Ok New

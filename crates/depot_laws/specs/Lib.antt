@@ -1,3 +1,6 @@
 pub mod Given
 pub mod Leaves
-pub mod Chains
+pub mod Parents
+pub mod Verdicts
+pub mod Streams
+pub mod Rejoin

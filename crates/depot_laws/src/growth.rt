@@ -1,5 +1,6 @@
 //! How lawful journals grow.
 ghost use Rattle.std.specs.Prelude.{◌≡◌, ℕ, ◌+◌, ◌*◌, ◌<◌, ◌≤◌, List, [], ◌∷◌, ◌++◌, length, sum_by, true, false, None, Ok, if◌then◌else◌};
+ghost use Rattle.depot_base.specs.declared.limits.TheConstants.{MOST_AHEAD, MOST_ENTRIES, MOST_LEAVES, MOST_FOREIGN_LEAVES};
 ghost use Rattle.depot_base.specs.Sized.{IsKey, IsValue};
 ghost use Rattle.depot_base.specs.declared.update.Update.{Update};
 ghost use Rattle.depot_base.specs.declared.statement.Statement.TheVariants as statement;
@@ -7,17 +8,19 @@ ghost use Rattle.depot_base.specs.declared.statement.Signed.{Signed};
 ghost use Rattle.depot_base.specs.declared.proof.Proof.{Proof};
 ghost use Rattle.depot_base.specs.declared.record.Record.{Record};
 ghost use Rattle.depot_base.specs.declared.record.Record.TheVariants.{Birth, OwnPut, Foreign, Conviction};
+ghost use Rattle.depot_model.specs.Contents.{key_written};
 ghost use Rattle.depot_model.specs.declared.taken.Taken.TheVariants.{New};
 ghost use Rattle.depot_model.specs.Texts.{IsRoster, IsUpdate, hash_of_roster, id_of_update};
 ghost use Rattle.depot_model.specs.Lists.{IsIn};
 ghost use Rattle.depot_model.specs.Records.{IsRecord, text_of_record, journal_bytes};
-ghost use Rattle.depot_model.specs.History.{greatest_clock};
+ghost use Rattle.depot_model.specs.History.{leaves_of, greatest_clock};
 ghost use Rattle.depot_model.specs.Order.{IsCausal};
 ghost use Rattle.depot_model.specs.Roster.{has_node};
 ghost use Rattle.depot_model.specs.Journal.{accepted, accepted_by, own};
 ghost use Rattle.depot_model.specs.Checks.{Setting, Given, given_statement, answer_to, growth};
 ghost use Rattle.depot_model.specs.Own.{next_own, IsFresh, leaf_count};
 ghost use Rattle.depot_model.specs.Room.{full_by, foreign_leaves};
+ghost use Rattle.depot_model.specs.Vouching.{is_foreign, new_vouchers, records_of, limit_of_vouchers};
 ghost use Rattle.depot_model.specs.Lawful.{IsAllowed, IsLawful, is_empty};
 ghost use Rattle.depot_laws.specs.Leaves.{follows_leaf};
 ghost use Rattle.depot_laws.specs.Given.{HasText};
@@ -32,7 +35,7 @@ pub fn a_birth_is_lawful()
 pub fn lawful_journals_are_causal()
     ensures all { (here : Setting) (J : List Record) → IsLawful here J → IsCausal [] (accepted J) }
     ensures added { (here : Setting) (J : List Record) (r : Record) (u : Update) → IsLawful here (J ++ r ∷ []) → accepted_by r ≡ u ∷ [] → IsCausal [] (accepted J ++ u ∷ []) }
-    ensures put { (here : Setting) (J : List Record) (u : Update) (value : List ℕ) → IsLawful here J → u ≡ next_own here.me J u.key value → IsFresh J (id_of_update u) → IsCausal [] (accepted J ++ u ∷ []) }
+    ensures put { (here : Setting) (J : List Record) (u : Update) (value : List ℕ) → IsLawful here J → u ≡ next_own here.me J (key_written u) value → IsFresh J (id_of_update u) → IsCausal [] (accepted J ++ u ∷ []) }
     ensures taken { (here : Setting) (J : List Record) (s : Signed) (u : Update) → IsLawful here J → s.statement ≡ statement.Update u → answer_to here J (given_statement s) ≡ Ok New → IsCausal [] (accepted J ++ u ∷ []) }
 {}
 
@@ -55,21 +58,21 @@ pub fn growth_keeps_journals_lawful()
 
 /// The clocks of a lawful journal rise by at most 65,536 a record.
 pub fn clocks_are_bounded()
-    ensures { (here : Setting) (J : List Record) → IsLawful here J → greatest_clock (accepted J) ≤ 65536 * length J }
+    ensures { (here : Setting) (J : List Record) → IsLawful here J → greatest_clock (accepted J) ≤ MOST_AHEAD * length J }
 {}
 
 /// The next own update of a lawful journal has a text, wherever its key and its value are in their bounds and it has at most
 /// 1,024 entries: its number and its clock aren't too great, and its entries rise strictly and name no update of its own
 /// writer. Its record has a text too.
 pub fn own_puts_have_a_text()
-    ensures update { (here : Setting) (J : List Record) (u : Update) (key value : List ℕ) → IsLawful here J → is_empty J ≡ false → IsKey key → IsValue value → u ≡ next_own here.me J key value → length u.deps ≤ 1024 → IsUpdate u }
-    ensures whole { (here : Setting) (J : List Record) (u : Update) (key value : List ℕ) → IsLawful here J → is_empty J ≡ false → IsKey key → IsValue value → u ≡ next_own here.me J key value → length u.deps ≤ 1024 → IsRecord (OwnPut u value) }
+    ensures update { (here : Setting) (J : List Record) (u : Update) (key value : List ℕ) → IsLawful here J → is_empty J ≡ false → IsKey key → IsValue value → u ≡ next_own here.me J key value → length u.deps ≤ MOST_ENTRIES → IsUpdate u }
+    ensures whole { (here : Setting) (J : List Record) (u : Update) (key value : List ℕ) → IsLawful here J → is_empty J ≡ false → IsKey key → IsValue value → u ≡ next_own here.me J key value → length u.deps ≤ MOST_ENTRIES → IsRecord (OwnPut u value) }
 {}
 
 /// A lawful journal with the next own update behind it is lawful, where its id is fresh, it has at most 1,024 entries, the
 /// node has a leaf left to sign it, and there is room for its record.
 pub fn own_puts_are_lawful()
-    ensures { (here : Setting) (J : List Record) (u : Update) (key value : List ℕ) → IsLawful here J → is_empty J ≡ false → IsKey key → IsValue value → u ≡ next_own here.me J key value → IsFresh J (id_of_update u) → length u.deps ≤ 1024 → length (own J) < leaf_count here.listed here.me → full_by here.me J (OwnPut u value ∷ []) ≡ None → IsLawful here (J ++ OwnPut u value ∷ []) }
+    ensures { (here : Setting) (J : List Record) (u : Update) (key value : List ℕ) → IsLawful here J → is_empty J ≡ false → IsKey key → IsValue value → u ≡ next_own here.me J key value → IsFresh J (id_of_update u) → length u.deps ≤ MOST_ENTRIES → length (own J) < leaf_count here.listed here.me → full_by here.me J (OwnPut u value ∷ []) ≡ None → IsLawful here (J ++ OwnPut u value ∷ []) }
 {}
 
 /// What the room for a record depends on, counted. A journal grows by the bytes of its new records. A new update of another
@@ -82,4 +85,16 @@ pub fn rooms()
     ensures put { (here : Setting) (J : List Record) (u : Update) (key value : List ℕ) → IsLawful here J → u ≡ next_own here.me J key value → IsFresh J (id_of_update u) → length (foreign_leaves here.me (J ++ OwnPut u value ∷ [])) ≡ length (foreign_leaves here.me J) }
     ensures silent { (me : ℕ) (J : List Record) (r : Record) → accepted_by r ≡ [] → foreign_leaves me (J ++ r ∷ []) ≡ foreign_leaves me J }
     ensures convicted { (me : ℕ) (J : List Record) (p : Proof) (more : List Record) → foreign_leaves me (J ++ Conviction p ∷ more) ≡ foreign_leaves me (J ++ more) }
+{}
+
+/// A lawful journal with the vouchers that a node makes for some ids behind it is lawful, where each is the id of an accepted
+/// update of another writer, and the vouchers meet no limit: a leaf is left to sign each of them, and there is room for all.
+pub fn own_vouchers_are_lawful()
+    ensures { (here : Setting) (J : List Record) (ids : List (List ℕ)) → IsLawful here J → is_empty J ≡ false → ((h : List ℕ) → IsIn h ids → is_foreign here.me (accepted J) h ≡ true) → limit_of_vouchers here J ids ≡ None → IsLawful here (J ++ records_of (new_vouchers here.me J ids)) }
+{}
+
+/// A lawful journal has at most 4,097 leaves: 4,096 of other writers, and one of its own. So its hello has room for them.
+pub fn leaves_are_few()
+    ensures all { (here : Setting) (J : List Record) → IsLawful here J → length (leaves_of (accepted J)) ≤ MOST_LEAVES }
+    ensures others { (here : Setting) (J : List Record) → IsLawful here J → length (foreign_leaves here.me J) ≤ MOST_FOREIGN_LEAVES }
 {}

@@ -13,11 +13,11 @@ ghost use Rattle.depot_model.specs.Contradictions.{contradicts};
 ghost use Rattle.depot_model.specs.Journal.{accepted, own, foreign, is_convicted};
 ghost use Rattle.depot_model.specs.Checks.{Setting};
 ghost use Rattle.depot_model.specs.Lawful.{IsLawful};
-ghost use Rattle.depot_laws.specs.Chains.{IsChain, RisesInSteps, HasPrev};
+ghost use Rattle.depot_model.specs.Chains.{IsChain, RisesInSteps, HasPrev};
 
 /// A correct node's own statements never contradict each other in any kind, whatever it took. So no proof against it can
 /// be made of them. Nothing is assumed of hashes or of signatures.
-pub fn own_statements_agree()
+pub fn no_conviction_law()
     ensures { (here : Setting) (J : List Record) → IsLawful here J → (a b : Statement) → IsIn a (own J) → IsIn b (own J) → (k : Kind) → contradicts k a b ≡ false }
 {}
 

@@ -1,21 +1,34 @@
-//! Laws of the journals that a correct node may have.
+//! Laws of the journals that a correct node may have, and of worlds of correct nodes.
 //!
 //! `growth` says how a lawful journal grows: by a birth, by the next own update, and by what a node is given, so a node that
 //! appends what the definitions say keeps its journal lawful. `journals` says what holds of every lawful journal: its own
 //! statements agree with each other, whoever contradicts himself in it is convicted, and nobody else's updates fork.
+//! `causality` says what holds of all correct nodes together: an update has one past everywhere, and what they observe is
+//! fork-join-causal.
 //!
 //! A law is a public function with an empty body, whose contract is the law. This crate computes nothing.
 #![tactic(auto)]
 
+mod causality;
+mod gossip;
 mod growth;
 mod journals;
+mod verdicts;
 
+pub use causality::{
+    fjc_law, own_puts_follow_all, own_puts_pass_everywhere, own_puts_stand_once, pasts_agree,
+};
+pub use gossip::{
+    bundles_are_closed, feeds_keep_journals_lawful, feeds_take_frames, hellos_have_a_text,
+    rejoin_law,
+};
 pub use growth::{
     a_birth_is_lawful, clocks_are_bounded, growth_keeps_journals_lawful,
-    lawful_journals_are_causal, lawful_journals_go_by_records, own_puts_are_lawful,
-    own_puts_have_a_text, rooms,
+    lawful_journals_are_causal, lawful_journals_go_by_records, leaves_are_few, own_puts_are_lawful,
+    own_puts_have_a_text, own_vouchers_are_lawful, rooms,
 };
 pub use journals::{
-    contrary_statements_convict, nobody_convicts_itself, own_statements_agree,
+    contrary_statements_convict, no_conviction_law, nobody_convicts_itself,
     unconvicted_writers_make_one_chain, writers_make_forests,
 };
+pub use verdicts::{convictions_are_verdicts, forks_and_steps_back_convict};

@@ -1,0 +1,122 @@
+-- A newcomer rejoins, computed: the first node sends it an update and the value behind it. So the law of histories that rejoin
+-- asks for nothing that can't be.
+use Rattle.std.proofs.Common.{◌≡◌, ℕ, List, [], ◌∷◌, ◌++◌, length, false, None, Some, refl, sym, ap, subst, ◌∙◌, inl, inr, arith}
+use Rattle.std.proofs.lemmas.List.{append-nil}
+use Rattle.sha2.specs.Sha256.{sha256, first_words, schedule, rounds, compress, hash_after, digest_bytes}
+use Rattle.depot_base.specs.Closed.{rest_of}
+use Rattle.depot_base.specs.Cursor.{numeral}
+use Rattle.depot_base.specs.Format.{number, bytes_of, inner, list_of}
+use Rattle.depot_base.specs.Parts.{dep, roster_entry}
+use Rattle.depot_base.specs.Zeros.{zeros}
+use Rattle.depot_base.specs.declared.update.Update.{Update}
+use Rattle.depot_base.specs.declared.voucher.Voucher.{Voucher}
+use Rattle.depot_base.specs.declared.statement.Statement.{Statement}
+use Rattle.depot_model.specs.Bundle.{signed_with, is_covered, candidates, values_behind, candidate_parcels, parcels, fitting, sent_for, sent_foreign, unvouched, bundle_frames, bundle_of, bundle_answer, Signs, bytes_of_bundle, with_vouchers}
+use Rattle.depot_model.specs.Judgement.{points}
+use Rattle.depot_model.specs.Checks.{sight, content_checks, opponent, forked, refused_as_convicted, statement_checks, proof_checks, first_failed_check, is_known, answer_to, due, named_opponent, added, growth}
+use Rattle.depot_model.specs.Contradictions.{is_of_kind, contradicts, kind_of}
+use Rattle.depot_model.specs.Conviction.{proof_of}
+use Rattle.depot_model.specs.Feeding.{given_by, take_frame, fed_frame, fed_byte, fed, ending_of, report_of, feeding_from, Closing, out_of_room}
+use Rattle.depot_model.specs.Frames.{frame_at}
+use Rattle.depot_model.specs.Hello.{hello_leaf, hello, convicted_nodes, lacking, hello_of}
+use Rattle.depot_model.specs.History.{leaves_of, put_by_id, by_id, history_text, history_hash}
+use Rattle.depot_model.specs.Journal.{accepted, own, first_values, has_id, named, prev_of, is_convicted, is_vouched, holds_hash, holds, value_of, is_wanted}
+use Rattle.depot_model.specs.Limits.{spent_by, tips_of, collides_by, limit_of_own, limit_of_put}
+use Rattle.depot_model.specs.Lists.{IsIn}
+use Rattle.depot_model.specs.Order.{past}
+use Rattle.depot_model.specs.Own.{precedes_named, next_entries, next_own, leaf_count}
+use Rattle.depot_model.specs.Plain.{plain_root, plain_signature, plain_verifies}
+use Rattle.depot_model.specs.Records.{birth, own_put, tagged, record_text}
+use Rattle.depot_model.specs.Room.{foreign_leaves, full_with}
+use Rattle.depot_model.specs.Roster.{key_of, is_signed}
+use Rattle.depot_model.specs.Texts.{update_fields, voucher_fields, update_body, voucher_body, statement, signed, proof, roster, id_of_update, id_of_statement, hash_of_roster}
+use Rattle.depot_model.specs.Taking.{given_as}
+use Rattle.depot_model.specs.Vouching.{put_rising, rising, groups_behind, groups_of, new_vouchers, limit_of_new, limit_of_vouchers}
+use Rattle.depot_model.specs.World.{Correct, World, writes_of, IsCorrect, IsWorld, hashed_texts, IsAuthentic, IsCollisionFree, setting_of}
+use Rattle.depot_laws.specs.Streams.{fed_pieces}
+use Rattle.depot_laws.specs.Rejoin.{bundle_at, IsWellSigned, Meet, HasRejoined}
+use Rattle.depot_laws.proofs.RejoinLaw.{rejoins}
+use Rattle.depot_laws.proofs.TwoNodes.{all_verify, two_nodes, newborn, u, first_journal, first_lawful, second_born, first_node, not_zeros, IsHashed, one_text}
+
+-- a node that has its birth record alone
+abbrev newcomer : Correct
+newcomer = record { node = 2; journal = newborn 2; reads = [] }
+
+abbrev two_meet : World
+two_meet = record { verifies = all_verify; listed = two_nodes; nodes = first_node ∷ newcomer ∷ []; judged = [] }
+
+-- a scheme of empty signatures, each of which verifies
+abbrev sign : Signs
+sign seq body = []
+
+-- ---- the world
+
+nodes_are : (c : Correct) → IsIn c two_meet.nodes → IsCorrect two_meet c
+unfolding key_of
+nodes_are c (inl first) = subst (λ (x : Correct). IsCorrect two_meet x) first (record { member = refl; lawful = first_lawful; begun = refl; reads = λ r never. absurd never; in_order = tt })
+nodes_are c (inr (inl second)) = subst (λ (x : Correct). IsCorrect two_meet x) second (record { member = refl; lawful = second_born; begun = refl; reads = λ r never. absurd never; in_order = tt })
+nodes_are c (inr (inr never)) = absurd never
+
+is_world : IsWorld two_meet
+is_world = record {
+  distinct = (((λ e. omega arith), tt), (tt, tt));
+  correct = nodes_are;
+  formed = λ p never. absurd never;
+  judged = λ p never. absurd never;
+}
+
+is_authentic : IsAuthentic two_meet
+is_authentic = record { made = λ s c never. absurd never }
+
+hashed_cases : (b : List ℕ) → IsIn b (hashed_texts two_meet) → IsHashed b
+hashed_cases b (inl one) = inl one
+hashed_cases b (inr (inl two)) = inr two
+hashed_cases b (inr (inr never)) = absurd never
+
+none_zeros : (w : Update) → IsIn w (writes_of two_meet) → id_of_update w ≡ zeros → ⊥
+none_zeros w (inl one) = not_zeros w one
+none_zeros w (inr never) = absurd never
+
+is_collision_free : IsCollisionFree two_meet
+is_collision_free = record { one = λ a b a_on b_on e. one_text a b (hashed_cases a a_on) (hashed_cases b b_on) e; named = none_zeros }
+
+-- ---- the bundle
+
+-- it makes no voucher, leaves nothing out, and is taken without meeting a limit
+record IsSentWhole : Type 0 where
+  pub vouchers : (bundle_at two_meet newcomer first_node sign (newborn 2) first_journal).vouchers ≡ []
+  pub more : (bundle_at two_meet newcomer first_node sign (newborn 2) first_journal).more ≡ false
+  pub sent : length (bundle_at two_meet newcomer first_node sign (newborn 2) first_journal).frames ≡ 3
+  pub closed : (fed_pieces (setting_of two_meet newcomer) (feeding_from newcomer.journal) (bytes_of_bundle (bundle_at two_meet newcomer first_node sign (newborn 2) first_journal) ∷ [])).closed ≡ None
+
+is_sent_whole : IsSentWhole
+unfolding rest_of given_as numeral number bytes_of inner list_of dep roster_entry signed_with is_covered candidates values_behind candidate_parcels parcels fitting sent_for sent_foreign unvouched bundle_frames bundle_of bundle_answer sight content_checks opponent forked refused_as_convicted statement_checks proof_checks points first_failed_check is_known answer_to due named_opponent added growth is_of_kind contradicts kind_of proof_of given_by take_frame fed_frame fed_byte fed ending_of report_of frame_at hello_leaf hello convicted_nodes lacking hello_of leaves_of put_by_id by_id history_text history_hash first_values has_id named prev_of is_convicted is_vouched holds_hash holds value_of is_wanted spent_by tips_of collides_by limit_of_own limit_of_put past precedes_named next_entries next_own leaf_count plain_root plain_signature plain_verifies birth own_put tagged record_text foreign_leaves full_with key_of is_signed update_fields voucher_fields update_body voucher_body statement signed proof roster id_of_update id_of_statement hash_of_roster put_rising rising groups_behind groups_of new_vouchers limit_of_new limit_of_vouchers sha256 first_words schedule rounds compress hash_after digest_bytes u all_verify
+is_sent_whole = record { vouchers = refl; more = refl; sent = refl; closed = refl }
+
+well_signed : (s : Statement) → IsIn s (own first_journal) → IsWellSigned two_meet (signed_with sign s)
+unfolding signed_with is_signed key_of all_verify u next_own
+well_signed s (inl same) = subst (λ (x : Statement). IsWellSigned two_meet (signed_with sign x)) same (record { short = omega arith; verified = refl })
+well_signed s (inr never) = absurd never
+
+meet : Meet two_meet newcomer first_node sign (newborn 2) first_journal
+meet = record {
+  reader = inr (inl refl);
+  sender = inl refl;
+  distinct = λ e. omega arith;
+  later = [];
+  hello_was = refl;
+  since = [];
+  bundle_was = ap (λ (vs : List Voucher). with_vouchers first_journal vs ++ []) (sym is_sent_whole.vouchers);
+  signs = λ s on framed. well_signed s (subst (λ (vs : List Voucher). IsIn s (own (with_vouchers first_journal vs))) is_sent_whole.vouchers on);
+}
+
+not_some : (o : Closing) → None ≡ Some o → ⊥
+not_some o e = cc
+
+-- so the newcomer has rejoined
+has_rejoined : HasRejoined two_meet newcomer first_node sign (newborn 2) first_journal (fed_pieces (setting_of two_meet newcomer) (feeding_from newcomer.journal) (bytes_of_bundle (bundle_at two_meet newcomer first_node sign (newborn 2) first_journal) ∷ []))
+has_rejoined = rejoins two_meet is_world is_authentic is_collision_free newcomer first_node sign (newborn 2) first_journal meet is_sent_whole.more (bytes_of_bundle (bundle_at two_meet newcomer first_node sign (newborn 2) first_journal) ∷ []) (append-nil _) (λ what e. not_some (out_of_room what) (sym is_sent_whole.closed ∙ e))
+
+-- and has the update
+has_update : IsIn u (accepted (fed_pieces (setting_of two_meet newcomer) (feeding_from newcomer.journal) (bytes_of_bundle (bundle_at two_meet newcomer first_node sign (newborn 2) first_journal) ∷ [])).journal)
+has_update = (has_rejoined.union u).1 (inr (inl refl))

@@ -1,0 +1,55 @@
+//! What holds of each world of correct nodes.
+ghost use Rattle.std.specs.Prelude.{◌≡◌, ℕ, List, [], ◌∷◌, ◌++◌, take, None, ◌↔◌};
+ghost use Rattle.depot_base.specs.declared.update.Update.{Update};
+ghost use Rattle.depot_base.specs.declared.statement.Statement.TheVariants as statement;
+ghost use Rattle.depot_base.specs.declared.record.Record.{Record};
+ghost use Rattle.depot_base.specs.declared.record.Record.TheVariants.{OwnPut};
+ghost use Rattle.depot_model.specs.Contents.{key_written};
+ghost use Rattle.depot_model.specs.Lists.{IsIn, first};
+ghost use Rattle.depot_model.specs.Texts.{id_of_update};
+ghost use Rattle.depot_model.specs.Order.{Precedes, past};
+ghost use Rattle.depot_model.specs.Journal.{accepted};
+ghost use Rattle.depot_model.specs.Own.{next_own, IsFresh};
+ghost use Rattle.depot_model.specs.Checks.{Setting, sight, content_of};
+ghost use Rattle.depot_model.specs.Lawful.{IsLawful};
+ghost use Rattle.depot_model.specs.World.{Correct, World, IsWorld, IsAuthentic, IsCollisionFree};
+ghost use Rattle.depot_model.specs.Causality.{puts_of, IsForkJoinCausal, ConvictsNoCorrectNode};
+ghost use Rattle.depot_laws.specs.Parents.{HasParents};
+
+/// All that a correct node accepted precedes its next own update, whose past it is: each leaf is the last own update, an
+/// entry, or precedes the last own update. So in a lawful journal an own update has in its past all that was accepted
+/// before it. With a fresh id, the next own update passes the checks of its content where it is put.
+pub fn own_puts_follow_all()
+    ensures precedes { (here : Setting) (J : List Record) (u t : Update) (value : List ℕ) → IsLawful here J → u ≡ next_own here.me J (key_written u) value → IsIn t (accepted J) → Precedes (accepted J ++ u ∷ []) t u }
+    ensures recorded { (here : Setting) (J after : List Record) (u t : Update) (value : List ℕ) → IsLawful here (J ++ OwnPut u value ∷ after) → IsIn t (accepted J) → Precedes (accepted (J ++ OwnPut u value ∷ after)) t u }
+    ensures past { (here : Setting) (J : List Record) (u : Update) (value : List ℕ) → IsLawful here J → u ≡ next_own here.me J (key_written u) value → past u (accepted J) ≡ accepted J }
+    ensures content { (here : Setting) (J : List Record) (u : Update) (value : List ℕ) → IsLawful here J → u ≡ next_own here.me J (key_written u) value → IsFresh J (id_of_update u) → first (content_of J (statement.Update u)) ≡ None }
+{}
+
+/// Of the records of a lawful journal one alone puts an update.
+pub fn own_puts_stand_once()
+    ensures { (here : Setting) (before after : List Record) (u : Update) (value : List ℕ) → IsLawful here (before ++ OwnPut u value ∷ after) → IsIn u (puts_of (before ++ after)) → ⊥ }
+{}
+
+/// Where no two hashed texts of a world collide, an update whose parents two nodes have accepted, each by some length of
+/// its journal, has one past at both. What they see of what it names is the same too, and so are the answers of the checks
+/// of its content, which look at nothing else.
+pub fn pasts_agree()
+    ensures past { (W : World) (c d : Correct) (m n : ℕ) (u t : Update) → IsWorld W → IsCollisionFree W → IsIn c W.nodes → IsIn d W.nodes → HasParents (take m c.journal) u → HasParents (take n d.journal) u → (IsIn t (past u (accepted (take m c.journal))) ↔ IsIn t (past u (accepted (take n d.journal)))) }
+    ensures sight { (W : World) (c d : Correct) (m n : ℕ) (u : Update) → IsWorld W → IsCollisionFree W → IsIn c W.nodes → IsIn d W.nodes → HasParents (take m c.journal) u → HasParents (take n d.journal) u → sight (accepted (take m c.journal)) u ≡ sight (accepted (take n d.journal)) u }
+    ensures content { (W : World) (c d : Correct) (m n : ℕ) (u : Update) → IsWorld W → IsCollisionFree W → IsIn c W.nodes → IsIn d W.nodes → HasParents (take m c.journal) u → HasParents (take n d.journal) u → content_of (take m c.journal) (statement.Update u) ≡ content_of (take n d.journal) (statement.Update u) }
+{}
+
+/// So an update that a correct node put passes the checks of its content at each node that has accepted its parents.
+pub fn own_puts_pass_everywhere()
+    ensures { (W : World) (c d : Correct) (before : List Record) (u : Update) (value : List ℕ) (after : List Record) (n : ℕ) → IsWorld W → IsCollisionFree W → IsIn c W.nodes → IsIn d W.nodes → c.journal ≡ before ++ OwnPut u value ∷ after → HasParents (take n d.journal) u → first (content_of (take n d.journal) (statement.Update u)) ≡ None }
+{}
+
+/// Whatever the nodes of a world were given, while no correct node's signature was forged and no two hashed texts collide:
+/// observation is one strict partial order, in which each correct node's operations form a chain, all that it accepted
+/// precedes what it then writes, and each read gives exactly the latest writes that precede it; and forks are separate
+/// branches. No conviction and no judged proof names a correct node, whether hashes collide or not.
+pub fn fjc_law()
+    ensures causal { (W : World) → IsWorld W → IsAuthentic W → IsCollisionFree W → IsForkJoinCausal W }
+    ensures convicts { (W : World) → IsWorld W → IsAuthentic W → ConvictsNoCorrectNode W }
+{}

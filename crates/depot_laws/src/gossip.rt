@@ -1,0 +1,54 @@
+//! What nodes send each other: bundles, feeds, and histories that rejoin.
+ghost use Rattle.std.specs.Prelude.{◌≡◌, ℕ, List, [], ◌∷◌, ◌++◌, false, Some, ◌⊎◌};
+ghost use Rattle.std.specs.List.{AllByRecursion, flat_map};
+ghost use Rattle.depot_base.specs.declared.update.Update.{Update};
+ghost use Rattle.depot_base.specs.declared.record.Record.{Record};
+ghost use Rattle.depot_base.specs.declared.check.Full.{Full};
+ghost use Rattle.depot_model.specs.Lists.{IsIn};
+ghost use Rattle.depot_model.specs.Texts.{IsRoster};
+ghost use Rattle.depot_model.specs.Order.{parents};
+ghost use Rattle.depot_model.specs.Journal.{accepted};
+ghost use Rattle.depot_model.specs.Checks.{Setting};
+ghost use Rattle.depot_model.specs.Lawful.{IsLawful, is_empty};
+ghost use Rattle.depot_model.specs.Hello.{IsHello, hello_of};
+ghost use Rattle.depot_model.specs.Frames.{Frame, text_of_frame, IsFrame};
+ghost use Rattle.depot_model.specs.Bundle.{Signs, sent_for, bytes_of_bundle};
+ghost use Rattle.depot_model.specs.Feeding.{Feeding, out_of_room, feeding_from, fed};
+ghost use Rattle.depot_model.specs.World.{Correct, World, setting_of, IsWorld, IsAuthentic, IsCollisionFree};
+ghost use Rattle.depot_laws.specs.Streams.{fed_pieces, fed_frames, StaysOpen, AreBytes, IsInOrder};
+ghost use Rattle.depot_laws.specs.Rejoin.{updates_of, hello_at, bundle_at, Hears, HasOrGets, Meet, HasRejoined};
+
+/// The hello of a lawful journal has a text: it names at most 256 convicted nodes, 4,097 leaves and 1,024 wanted hashes, each in
+/// rising order.
+pub fn hellos_have_a_text()
+    ensures { (here : Setting) (J : List Record) → IsRoster here.listed → IsLawful here J → is_empty J ≡ false → IsHello (hello_of here J) }
+{}
+
+/// However a stream is cut into pieces, a feed takes it as one. The bytes of whole frames are taken frame by frame, in order,
+/// as long as the feed is neither closed nor over before the last of them.
+pub fn feeds_take_frames()
+    ensures pieces { (here : Setting) (s : Feeding) (pieces : List (List ℕ)) → fed_pieces here s pieces ≡ fed here s (flat_map (λ p. p) pieces) }
+    ensures frames { (here : Setting) (s : Feeding) (fs : List Frame) → AllByRecursion IsFrame fs → s.begun ≡ [] → StaysOpen here s fs → fed here s (flat_map text_of_frame fs) ≡ fed_frames here s fs }
+{}
+
+/// Whatever bytes a feed is given, a lawful journal stays lawful.
+pub fn feeds_keep_journals_lawful()
+    ensures { (here : Setting) (s : Feeding) (bytes : List ℕ) → AreBytes bytes → IsInOrder here s → IsInOrder here (fed here s bytes) }
+{}
+
+/// Where a bundle doesn't say that there is more, each update that its sender had accepted is one that the reader has accepted or the bundle sends. Each parent of an update that it sends the reader has
+/// accepted, or the bundle sends it in front, whether it leaves something out or not. So what a bundle sends never waits for
+/// something else. No correct node's signature was forged, and no two hashed texts collide.
+pub fn bundles_are_closed()
+    ensures left { (W : World) (a v : Correct) (sign : Signs) (P J : List Record) (u : Update) → IsWorld W → IsAuthentic W → IsCollisionFree W → Hears W a v P J → (bundle_at W a v sign P J).more ≡ false → IsIn u (accepted J) → IsIn u (accepted a.journal) ⊎ IsIn u (updates_of (sent_for sign J (hello_at W a P))) }
+    ensures parents { (W : World) (a v : Correct) (sign : Signs) (P J : List Record) (front behind : List Update) (u : Update) (h : List ℕ) → IsWorld W → IsAuthentic W → IsCollisionFree W → Hears W a v P J → updates_of (sent_for sign J (hello_at W a P)) ≡ front ++ u ∷ behind → IsIn h (parents u) → HasOrGets a front h }
+{}
+
+/// Where a node takes all of a bundle that another one made for its hello, in whatever pieces, and meets no limit, the two
+/// histories rejoin: it has accepted all that both had, no frame was refused and the stream was whole, it holds each value
+/// that the sender held for an update which it sent, and each two statements of others that contradict each other have a
+/// writer whom it convicted. Both may have gone on in between, the reader since its hello and the sender since its bundle.
+/// The bundle left nothing out, no correct node's signature was forged, and no two hashed texts collide.
+pub fn rejoin_law()
+    ensures { (W : World) (a v : Correct) (sign : Signs) (P J : List Record) (pieces : List (List ℕ)) → IsWorld W → IsAuthentic W → IsCollisionFree W → Meet W a v sign P J → (bundle_at W a v sign P J).more ≡ false → flat_map (λ p. p) pieces ≡ bytes_of_bundle (bundle_at W a v sign P J) → ((what : Full) → (fed_pieces (setting_of W a) (feeding_from a.journal) pieces).closed ≡ Some (out_of_room what) → ⊥) → HasRejoined W a v sign P J (fed_pieces (setting_of W a) (feeding_from a.journal) pieces) }
+{}
