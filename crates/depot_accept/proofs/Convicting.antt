@@ -4,11 +4,11 @@ use Rattle.std.specs.List.{AllByRecursion}
 use Rattle.std.specs.Prelude.{Some, is_some}
 use Rattle.std.proofs.lemmas.Bool.Decides.{nat_tests}
 use Rattle.depot_base.specs.declared.key.RosterEntry.{RosterEntry}
-use Rattle.depot_model.specs.Lists.{IsIn}
+use Rattle.depot_model.specs.Lists.{IsIn, is_one_of}
 use Rattle.depot_model.specs.Items.{AreDistinct}
 use Rattle.depot_model.specs.Roster.{key_of, has_node}
 use Rattle.depot_model.proofs.Members.{all_at, all_from, any_from, any_to, in_pushed}
-use Rattle.depot_vouch.specs.Vouching.{is_one_of, with_node}
+use Rattle.depot_vouch.specs.Vouching.{with_node}
 use Rattle.depot_accept.specs.Convicts.{AreConvicts}
 
 -- ---- lists without a number

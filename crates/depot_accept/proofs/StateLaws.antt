@@ -1,5 +1,5 @@
 -- The state of a journal with one record more.
-use Rattle.std.proofs.Common.{◌≡◌, ℕ, List, [], ◌∷◌, ◌++◌, map, Bool, true, false, cond, eqb, ◌||◌, refl, sym, ap, ◌∙◌, arith}
+use Rattle.std.proofs.Common.{◌≡◌, ℕ, List, [], ◌∷◌, ◌++◌, map, Bool, true, false, cond, eqb, ◌||◌, refl, sym, ap, ◌∙◌, append_assoc, arith}
 use Rattle.std.specs.List.{flat_map, list_any}
 use Rattle.std.specs.Prelude.{Result, Ok, Err, OnOk}
 use Rattle.std.proofs.lemmas.Grind.{flat_map-append}
@@ -16,11 +16,11 @@ use Rattle.depot_base.specs.declared.statement.Signed.{Signed}
 use Rattle.depot_model.specs.Texts.{text_of_statement, id_of_statement, id_of_update}
 use Rattle.depot_base.specs.declared.proof.Proof.{Proof}
 use Rattle.std.proofs.lemmas.Bool.Decides.{nat_tests}
-use Rattle.depot_model.specs.Lists.{is_among}
+use Rattle.depot_model.specs.Lists.{is_among, is_one_of}
 use Rattle.depot_model.specs.Journal.{own_by, accepted_by, foreign_by, proof_by, accepted, foreign, vouched, convicted, is_convicted, accused, update_in, voucher_in}
 use Rattle.depot_model.proofs.BodyLaws.{text_of_statement-Update}
 use Rattle.depot_model.proofs.Members.{among-append}
-use Rattle.depot_vouch.specs.Vouching.{is_one_of, with_node, AreTogether}
+use Rattle.depot_vouch.specs.Vouching.{with_node, AreTogether}
 use Rattle.depot_accept.specs.View.{View, IsStateOf, own_voucher_by}
 
 push : {R X : Type 0} (f : R → List X) (rs : List R) (r : R) → flat_map f (rs ++ r ∷ []) ≡ flat_map f rs ++ f r
@@ -158,3 +158,22 @@ silent_grows v r silent = absurd cc
 pub on_ok : {T E P Q : Type 0} (r : Result T E) → OnOk r Q → (Q → P) → OnOk r P
 on_ok (Ok v) held more = more held
 on_ok (Err e) held more = tt
+
+-- ---- a conviction that comes late
+
+-- a reading of both in either order, where only one of them tells something
+turned : {X : Type 0} (f : Record → List X) (J : List Record) (s : Signed) (p : Proof) → flat_map f (Conviction p ∷ Foreign s ∷ []) ≡ flat_map f (Foreign s ∷ Conviction p ∷ []) → flat_map f ((J ++ Conviction p ∷ []) ++ Foreign s ∷ []) ≡ flat_map f ((J ++ Foreign s ∷ []) ++ Conviction p ∷ [])
+turned f J s p same =
+    ap (flat_map f) (append_assoc J (Conviction p ∷ []) (Foreign s ∷ [])) ∙ flat_map-append f J (Conviction p ∷ Foreign s ∷ []) ∙ ap (λ (xs : List _). flat_map f J ++ xs) same
+    ∙ sym (flat_map-append f J (Foreign s ∷ Conviction p ∷ [])) ∙ ap (flat_map f) (sym (append_assoc J (Foreign s ∷ []) (Conviction p ∷ [])))
+
+-- both leave the same state in either order
+pub turned_state : {S : Type 0} (J : List Record) (s : Signed) (p : Proof) (v : View S) → IsStateOf ((J ++ Foreign s ∷ []) ++ Conviction p ∷ []) v → IsStateOf ((J ++ Conviction p ∷ []) ++ Foreign s ∷ []) v
+unfolding is_convicted
+turned_state J s p v is = record {
+  accepted = turned accepted_by J s p refl ∙ is.accepted;
+  foreign = turned foreign_by J s p refl ∙ is.foreign;
+  own_vouchers = turned own_voucher_by J s p refl ∙ is.own_vouchers;
+  vouched = λ h. ap (λ (fs : List Signed). is_among h (flat_map (λ x. flat_map (λ w. w.ids) (voucher_in x.statement)) fs)) (turned foreign_by J s p refl) ∙ is.vouched h;
+  convicted = λ n. ap (λ (ps : List Proof). list_any (λ m. eqb m n) (map accused ps)) (turned proof_by J s p refl) ∙ is.convicted n;
+}

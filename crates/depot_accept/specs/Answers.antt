@@ -1,6 +1,9 @@
 -- What a check answers.
 use Rattle.std.specs.Prelude.{◌≡◌, List, [], ◌∷◌, ◌++◌, Option, Some, None, Result, Ok, Err, slice_get}
 use Rattle.depot_base.specs.declared.statement.Signed.{Signed}
+use Rattle.depot_base.specs.declared.statement.Statement.TheVariants as statements
+use Rattle.depot_base.specs.declared.update.Update.{Update}
+use Rattle.depot_base.specs.declared.voucher.Voucher.{Voucher}
 use Rattle.depot_base.specs.declared.record.Record.{Record}
 use Rattle.depot_base.specs.declared.record.Record.TheVariants.{Foreign, Conviction}
 use Rattle.depot_model.specs.declared.taken.Taken.TheVariants.{New, Known}
@@ -25,10 +28,10 @@ pub record IsNew (here : Setting) (J : List Record) (s : Signed) (found : Option
   pub grows : growth here J (given_statement s) ≡ due ++ Foreign s ∷ []
   pub by : AreDue J s found due
 
--- what a journal answers to a statement, and which conviction is due; Memory may stand in place of each answer
+-- what a journal answers to a statement, and which conviction is due; Memory may stand in place of each answer to an update
 abbrev pub IsChecked : Setting → List Record → Signed → Result Pass CheckError → Type 0
 IsChecked here J s (Ok pass.Known) = answer_to here J (given_statement s) ≡ Ok Known
-IsChecked here J s (Ok (pass.Update found)) = IsNew here J s found
-IsChecked here J s (Ok pass.Voucher) = IsNew here J s None
-IsChecked here J s (Err failed.Memory) = Unit {0}
+IsChecked here J s (Ok (pass.Update found)) = (u : Update) × ((s.statement ≡ statements.Update u) × IsNew here J s found)
+IsChecked here J s (Ok pass.Voucher) = (v : Voucher) × ((s.statement ≡ statements.Voucher v) × IsNew here J s None)
+IsChecked here J s (Err failed.Memory) = (u : Update) × (s.statement ≡ statements.Update u)
 IsChecked here J s (Err (failed.Refused check found)) = (answer_to here J (given_statement s) ≡ Err check) × AreDue J s found (growth here J (given_statement s))

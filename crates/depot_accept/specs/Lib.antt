@@ -3,4 +3,4 @@ pub mod Convicts
 pub mod OwnVouchers
 pub mod Content
 pub mod Answers
-pub mod Behind
+pub mod AfterSignature

@@ -1,17 +1,18 @@
 -- What is seen of a state, and of which journals it is the state.
-use Rattle.std.specs.Prelude.{◌≡◌, ℕ, List, [], ◌∷◌}
+use Rattle.std.specs.Prelude.{◌≡◌, ◌<◌, ◌+◌, ℕ, List, [], ◌∷◌}
 use Rattle.std.specs.List.{flat_map}
 use Rattle.depot_base.specs.declared.update.Update.{Update}
 use Rattle.depot_base.specs.declared.voucher.Voucher.{Voucher}
+use Rattle.depot_base.specs.declared.statement.Statement.{Statement}
+use Rattle.depot_base.specs.declared.statement.Statement.TheVariants as statements
 use Rattle.depot_base.specs.declared.statement.Signed.{Signed}
 use Rattle.depot_base.specs.declared.key.RosterEntry.{RosterEntry}
 use Rattle.depot_base.specs.declared.record.Record.{Record}
 use Rattle.depot_base.specs.declared.record.Record.TheVariants.{OwnVoucher}
-use Rattle.depot_model.specs.Lists.{is_among}
+use Rattle.depot_model.specs.Lists.{is_among, is_one_of}
 use Rattle.depot_model.specs.Journal.{accepted, foreign, vouched, is_convicted}
 use Rattle.depot_model.specs.Checks.{Setting}
 use Rattle.depot_model.specs.Roster.{Verifies}
-use Rattle.depot_vouch.specs.Vouching.{is_one_of}
 
 -- What is seen: the node's own number, its roster and its scheme, and what the checks look at.
 pub record View (S : Type 0) : Type 0 where
@@ -26,6 +27,17 @@ pub record View (S : Type 0) : Type 0 where
   -- the ids that others vouched for, and the convicted nodes
   pub vouched : List (List ℕ)
   pub convicted : List ℕ
+  -- how many own vouchers more have their memory
+  pub voucher_room : ℕ
+
+-- all is as before, but for the room
+abbrev pub IsAsBefore : {S : Type 0} → View S → View S → Type 0
+IsAsBefore old new = new ≡ record old { voucher_room = new.voucher_room }
+
+-- what a statement of the node's own leaves of the room: a voucher takes one, where there is one
+abbrev pub IsRoomAfter : Statement → ℕ → ℕ → Type 0
+IsRoomAfter (statements.Update u) old new = new ≡ old
+IsRoomAfter (statements.Voucher v) old new = 0 < old → new + 1 ≡ old
 
 -- where the node stands
 abbrev pub setting : {S : Type 0} → Verifies → View S → Setting

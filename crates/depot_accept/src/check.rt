@@ -4,53 +4,70 @@ ghost use Rattle.std.specs.List.{AllByRecursion, list_any};
 ghost use Rattle.depot_base.specs.declared.record.Record.{Record};
 ghost use Rattle.depot_base.specs.declared.statement.Signed.{Signed};
 ghost use Rattle.depot_base.specs.declared.statement.Statement.TheVariants as statements;
+ghost use Rattle.depot_base.specs.Statement.{writer_of};
 ghost use Rattle.depot_model.specs.Lists.{first};
+ghost use Rattle.depot_model.specs.Roster.{key_of, is_signed};
 ghost use Rattle.depot_model.specs.Texts.{IsSigned, IsStatement, id_of_statement};
 ghost use Rattle.depot_model.specs.Checks.{given_statement, is_kept, content_of, named_opponent, exposed};
 ghost use Rattle.depot_accept.specs.View.{IsStateOf, setting};
 ghost use Rattle.depot_accept.specs.OwnVouchers.{has_body_of_voucher};
 ghost use Rattle.depot_accept.specs.Content.{TellsNoFork};
 ghost use Rattle.depot_accept.specs.Answers.{IsChecked, AreDue};
-ghost use Rattle.depot_accept.specs.Behind.{IsCheckedBehind, IsOpponent};
+ghost use Rattle.depot_accept.specs.AfterSignature.{IsCheckedAfterSignature, IsOpponent};
 
 use crate::answer::{CheckError, Pass};
 use crate::content::failed_content;
 use crate::state::State;
-use depot_base::{Check, Hash32, Signed, Statement, Update, Voucher};
+use depot_base::{Check, Hash32, PublicKey, Signed, Statement, Update, Voucher};
 use depot_fork::Found;
 use depot_model::{Past, Scheme};
-use depot_sign::verify_signed;
 
 impl<S: Scheme> State<S> {
     /// What the journal whose state this is answers to a statement with this id: that it is new or known, or the first
-    /// check that fails, and the kept statement by which the conviction of its writer is due, if one is. The signature is
-    /// verified once, and only where the checks before it hold. The state stays.
+    /// check that fails, and the kept statement by which the conviction of its writer is due, if one is. Memory comes at
+    /// updates alone. The state stays.
+    ///
+    /// Its cost, of which no clause speaks: it verifies one signature at most, and none where a check before that one
+    /// answers; it looks each parent up once; it hashes the past only where no check before that of the history fails.
     pub fn check(&self, signed: &Signed, id: &Hash32) -> Result<Pass, CheckError>
         requires text { IsSigned signed.now }
         requires id { id.now ≡ id_of_statement signed.now.statement }
         ensures { (J : List Record) → IsStateOf J self.now → IsChecked (setting S.verifies self.now) J signed.now result }
     {
         let writer = signed.statement.writer();
-        if !self.roster.has_node(writer) {
+        let Some(key) = self.roster.key_of(writer) else {
             return Err(refused(Check::UnknownWriter(writer)));
-        }
+        };
         if self.is_kept(&signed.statement, id) {
             return Ok(Pass::Known);
         }
         if writer == self.me {
             return Err(refused(Check::NotMine(*id)));
         }
-        if !verify_signed(&self.roster, &self.scheme, signed) {
+        if !self.verifies(&key, signed) {
             return Err(refused(Check::BadSignature(writer)));
         }
-        self.check_behind(signed, id)
+        self.check_after_signature(signed, id)
     }
 
-    /// The checks behind that of the signature.
-    fn check_behind(&self, signed: &Signed, id: &Hash32) -> Result<Pass, CheckError>
+    /// Whether the signature of a statement verifies under this key, which is that of its writer.
+    fn verifies(&self, key: &PublicKey, signed: &Signed) -> bool
+        requires { key_of self.now.listed (writer_of signed.now.statement) ≡ Some key.now }
+        ensures { result ≡ is_signed S.verifies self.now.listed signed.now }
+    {
+        self.scheme.verify(
+            key,
+            signed.statement.seq(),
+            signed.body.as_slice(),
+            signed.signature.as_slice(),
+        )
+    }
+
+    /// The checks after that of the signature.
+    fn check_after_signature(&self, signed: &Signed, id: &Hash32) -> Result<Pass, CheckError>
         requires text { IsSigned signed.now }
         requires id { id.now ≡ id_of_statement signed.now.statement }
-        ensures { (J : List Record) → IsStateOf J self.now → IsCheckedBehind J signed.now result }
+        ensures { (J : List Record) → IsStateOf J self.now → IsCheckedAfterSignature J signed.now result }
     {
         match &signed.statement {
             Statement::Update(update) => self.check_update(signed, update, id),
@@ -68,13 +85,13 @@ impl<S: Scheme> State<S> {
         requires text { IsSigned signed.now }
         requires update { signed.now.statement ≡ statements.Update update.now }
         requires id { id.now ≡ id_of_statement signed.now.statement }
-        ensures { (J : List Record) → IsStateOf J self.now → IsCheckedBehind J signed.now result }
+        ensures { (J : List Record) → IsStateOf J self.now → IsCheckedAfterSignature J signed.now result }
     {
         match failed_content(self.alloc, &self.graph, update) {
             Err(_) => Err(CheckError::Memory),
             Ok(Some(check)) => Err(CheckError::Refused {
                 check,
-                against: self.found_behind(signed, update, id, &check),
+                against: self.exposing_prev(signed, update, id, &check),
             }),
             Ok(None) => self.check_fork(signed, update, id),
         }
@@ -85,7 +102,7 @@ impl<S: Scheme> State<S> {
         requires text { IsSigned signed.now }
         requires update { signed.now.statement ≡ statements.Update update.now }
         requires id { id.now ≡ id_of_statement signed.now.statement }
-        ensures { (J : List Record) → IsStateOf J self.now → first (content_of J signed.now.statement) ≡ None → IsCheckedBehind J signed.now result }
+        ensures { (J : List Record) → IsStateOf J self.now → first (content_of J signed.now.statement) ≡ None → IsCheckedAfterSignature J signed.now result }
     {
         let is_vouched = self.vouched.is_vouched(id);
         if self.vouched.is_convicted(update.writer) {
@@ -114,7 +131,7 @@ impl<S: Scheme> State<S> {
         requires text { IsSigned signed.now }
         requires voucher { signed.now.statement ≡ statements.Voucher voucher.now }
         requires id { id.now ≡ id_of_statement signed.now.statement }
-        ensures { (J : List Record) → IsStateOf J self.now → IsCheckedBehind J signed.now result }
+        ensures { (J : List Record) → IsStateOf J self.now → IsCheckedAfterSignature J signed.now result }
     {
         if self.vouched.is_convicted(voucher.node) {
             return Err(refused(Check::VoucherConvicted(voucher.node)));
@@ -141,8 +158,8 @@ impl<S: Scheme> State<S> {
     }
 
     /// By which kept statement the conviction of an update's writer is due where this check of its content fails: by its
-    /// prev, if the update steps back behind it and its writer isn't convicted.
-    fn found_behind(
+    /// prev, if the update isn't above it and its writer isn't convicted.
+    fn exposing_prev(
         &self,
         signed: &Signed,
         update: &Update,
@@ -209,24 +226,11 @@ fn has_voucher(vouchers: &[Voucher], voucher: &Voucher) -> bool
     ensures { result ≡ list_any (has_body_of_voucher voucher.now) vouchers.now }
 {
     for own in vouchers {
-        if is_same_voucher(own, voucher) {
+        if own.is_same(voucher) {
             return true;
         }
     }
     false
-}
-
-/// Whether two vouchers are one.
-fn is_same_voucher(a: &Voucher, b: &Voucher) -> bool
-    ensures { IsTrue result ↔ (a.now ≡ b.now) }
-{
-    a.node == b.node && a.seq == b.seq && are_same_ids(a.ids.as_slice(), b.ids.as_slice())
-}
-
-fn are_same_ids(a: &[Hash32], b: &[Hash32]) -> bool
-    ensures { IsTrue result ↔ (a.now ≡ b.now) }
-{
-    a == b
 }
 
 /// A refusal by which no conviction is due.

@@ -1,87 +1,98 @@
 //! The checks of an update's content: its parents, its clock and its history.
 //!
-//! Each check looks the parents up anew, in one call of `Past::find` for each of them. Only the history is hashed, and that
-//! only where all checks before it hold.
-ghost use Rattle.std.specs.Prelude.{◌≡◌, ◌<◌, ◌≤◌, ◌+◌, ◌++◌, nat_lt, length, map, IfOk, OnOk};
+//! Each parent is looked up once, in one call of `Past::find`. The checks then go over the items that were found, the prev's
+//! before the entries'. Only the history is hashed, and that only where all checks before it hold.
+ghost use Rattle.std.specs.Prelude.{◌≡◌, ◌<◌, ◌≤◌, ◌+◌, ◌++◌, [], nat_lt, length, map, Ok, None, Some, IfOk};
 ghost use Rattle.std.specs.List.{flat_map, AllByRecursion};
 ghost use Rattle.std.specs.Option.{option_copied, option_to_list};
-ghost use Rattle.depot_model.specs.Texts.{id_of_update};
+ghost use Rattle.depot_base.specs.declared.limits.TheConstants.{MOST_ENTRIES};
 ghost use Rattle.depot_model.specs.Lists.{first};
 ghost use Rattle.depot_model.specs.Order.{prevs, parents};
 ghost use Rattle.depot_model.specs.Journal.{named, prev_of};
-ghost use Rattle.depot_model.specs.Items.{place_of_id};
-ghost use Rattle.depot_model.specs.Checks.{sight, content_checks, lost, missing, wrong_prev, wrong_entry, wrong_entries, wrong_dep, behind, backward, not_above, clock_low, clock_of, greatest_of, clock_far, bad_history};
-ghost use Rattle.depot_history.specs.Closure.{updates_at};
-ghost use Rattle.depot_accept.specs.Content.{checks_before_history};
+ghost use Rattle.depot_model.specs.Items.{place_of_id, updates_at};
+ghost use Rattle.depot_model.specs.Checks.{sight, content_checks, lost, missing, wrong_prev, wrong_entry, wrong_entries, wrong_dep, behind, backward, not_above, clock_low, greatest_of, clock_far, bad_history};
+ghost use Rattle.depot_accept.specs.Content.{checks_of_parents, items_of, ArePlaces};
 
+use depot_base::limits::MOST_AHEAD;
 use depot_base::{Check, Dep, Hash32, Memory, Update};
 use depot_history::history_hash;
 use depot_model::Past;
 use std::alloc::Global;
 
-/// How far a clock may be above the greatest of the parents.
-const FAR: u64 = 65_536;
-
-/// The accepted update with this id, if there is one.
-fn named<'p, P: Past>(past: &'p P, id: &Hash32) -> Option<&'p Update>
-    ensures { option_copied result ≡ named (P.updates past.now) id.now }
+/// Looks a parent up, and puts its item behind these. The check that the parent is accepted.
+fn find_parent<P: Past>(
+    past: &P,
+    id: &Hash32,
+    items: &mut Vec<u32>,
+) -> Result<Option<Check>, Memory>
+    ensures first { IfOk result (λ failed. failed ≡ lost id.now (named (P.updates past.now) id.now)) }
+    ensures items { result ≡ Ok None → items.new.items ≡ items.old.items ++ option_to_list (place_of_id id.now (P.updates past.now)) }
 {
-    match past.find(id) {
-        Some(item) => Some(past.update(item)),
-        None => None,
-    }
+    let Some(item) = past.find(id) else {
+        return Ok(Some(Check::Missing(*id)));
+    };
+    items.push(item)?;
+    Ok(None)
 }
 
-/// The accepted update that this prev names, if there is one. 32 zero bytes name nothing.
-fn prev_of<'p, P: Past>(past: &'p P, prev: &Hash32) -> Option<&'p Update>
-    ensures { option_copied result ≡ prev_of (P.updates past.now) prev.now }
+/// Looks the prev up, if one is named, and puts its item behind these.
+fn find_prev<P: Past>(
+    past: &P,
+    update: &Update,
+    items: &mut Vec<u32>,
+) -> Result<Option<Check>, Memory>
+    ensures first { IfOk result (λ failed. failed ≡ first (map (λ h. lost h (named (P.updates past.now) h)) (prevs update.now))) }
+    ensures items { result ≡ Ok None → items.new.items ≡ items.old.items ++ items_of (P.updates past.now) (prevs update.now) }
 {
-    if prev.is_zeros() {
-        return None;
+    if update.prev.is_zeros() {
+        return Ok(None);
     }
-    named(past, prev)
+    find_parent(past, &update.prev, items)
 }
 
-/// The check that the parent with this id is accepted.
-fn lost<P: Past>(past: &P, id: &Hash32) -> Option<Check>
-    ensures { result ≡ lost id.now (named (P.updates past.now) id.now) }
+/// Looks the entries up, till one isn't accepted, and puts their items behind these.
+fn find_entries<P: Past>(
+    past: &P,
+    deps: &[Dep],
+    items: &mut Vec<u32>,
+) -> Result<Option<Check>, Memory>
+    ensures first { IfOk result (λ failed. failed ≡ first (map (λ h. lost h (named (P.updates past.now) h)) (map (λ d. d.id) deps.now))) }
+    ensures items { result ≡ Ok None → items.new.items ≡ items.old.items ++ items_of (P.updates past.now) (map (λ d. d.id) deps.now) }
 {
-    match named(past, id) {
-        Some(_) => None,
-        None => Some(Check::Missing(*id)),
+    for dep in deps {
+        if let Some(check) = find_parent(past, &dep.id, items)? {
+            return Ok(Some(check));
+        }
     }
+    Ok(None)
 }
 
-/// The check that the prev, if one is named, is accepted.
-fn lost_prev<P: Past>(past: &P, update: &Update) -> Option<Check>
-    ensures { result ≡ first (map (lost update.now.prev) (sight (P.updates past.now) update.now).before) }
+/// Looks each parent of an update up, the prev before the entries, and puts their items into a list that is empty. The check
+/// that each is accepted.
+fn find_parents<P: Past>(
+    past: &P,
+    update: &Update,
+    items: &mut Vec<u32>,
+) -> Result<Option<Check>, Memory>
+    requires { items.old.items ≡ [] }
+    ensures first { IfOk result (λ failed. failed ≡ missing update.now (sight (P.updates past.now) update.now)) }
+    ensures places { result ≡ Ok None → ArePlaces (P.updates past.now) (parents update.now) items.new.items }
+{
+    if let Some(check) = find_prev(past, update, items)? {
+        return Ok(Some(check));
+    }
+    find_entries(past, update.deps.as_slice(), items)
+}
+
+/// The prev of an update whose parents have these items, if one is named.
+fn prev_of<'p, P: Past>(past: &'p P, update: &Update, items: &[u32]) -> Option<&'p Update>
+    requires { ArePlaces (P.updates past.now) (parents update.now) items.now }
+    ensures { option_copied result ≡ prev_of (P.updates past.now) update.now.prev }
 {
     if update.prev.is_zeros() {
         return None;
     }
-    lost(past, &update.prev)
-}
-
-/// The check that each entry is accepted, for the first that isn't.
-fn lost_entry<P: Past>(past: &P, update: &Update) -> Option<Check>
-    ensures { result ≡ first (map (λ e. lost e.0.id e.1) (sight (P.updates past.now) update.now).entries) }
-{
-    for dep in update.deps.as_slice() {
-        if let Some(check) = lost(past, &dep.id) {
-            return Some(check);
-        }
-    }
-    None
-}
-
-/// The check that each parent is accepted: the prev, and then the entries.
-fn missing<P: Past>(past: &P, update: &Update) -> Option<Check>
-    ensures { result ≡ missing update.now (sight (P.updates past.now) update.now) }
-{
-    match lost_prev(past, update) {
-        Some(check) => Some(check),
-        None => lost_entry(past, update),
-    }
+    Some(past.update(items[0]))
 }
 
 /// The check that the prev is the same writer's.
@@ -95,24 +106,24 @@ fn wrong_prev(update: &Update, prev: Option<&Update>) -> Option<Check>
 }
 
 /// The check that the entry of this place, from 1, has the writer and the clock of the update that it names.
-fn wrong_entry(place: u32, dep: &Dep, update: Option<&Update>) -> Option<Check>
-    ensures { result ≡ wrong_entry place dep.now (option_copied update.entry) }
+fn wrong_entry(place: u32, dep: &Dep, parent: &Update) -> Option<Check>
+    ensures { result ≡ wrong_entry place dep.now (Some parent.now) }
 {
-    match update {
-        Some(update) if update.writer != dep.writer || update.clock != dep.clock => {
-            Some(Check::WrongDep(place))
-        }
-        _ => None,
+    if parent.writer != dep.writer || parent.clock != dep.clock {
+        return Some(Check::WrongDep(place));
     }
+    None
 }
 
-/// The check that each entry has the writer and the clock of the update that it names, for the first that hasn't.
-fn wrong_entries<P: Past>(past: &P, update: &Update) -> Option<Check>
-    requires { length update.now.deps < u32.MAX }
-    ensures { result ≡ first (wrong_entries 1 (sight (P.updates past.now) update.now).entries) }
+/// The check that each entry has the writer and the clock of the update that it names, for the first that hasn't. The
+/// entries have these items.
+fn wrong_entries<P: Past>(past: &P, deps: &[Dep], items: &[u32]) -> Option<Check>
+    requires few { length deps.now < u32.MAX }
+    requires places { ArePlaces (P.updates past.now) (map (λ d. d.id) deps.now) items.now }
+    ensures { result ≡ first (wrong_entries 1 (map (λ d. (d, named (P.updates past.now) d.id)) deps.now)) }
 {
-    for (place, dep) in update.deps.as_slice().iter().enumerate() {
-        if let Some(check) = wrong_entry(place as u32 + 1, dep, named(past, &dep.id)) {
+    for (place, dep) in deps.iter().enumerate() {
+        if let Some(check) = wrong_entry(place as u32 + 1, dep, past.update(items[place])) {
             return Some(check);
         }
     }
@@ -121,13 +132,17 @@ fn wrong_entries<P: Past>(past: &P, update: &Update) -> Option<Check>
 
 /// The check that the prev is the same writer's, and that each entry has the writer and the clock of the update that it
 /// names.
-fn wrong_dep<P: Past>(past: &P, update: &Update) -> Option<Check>
-    requires { length update.now.deps < u32.MAX }
+fn wrong_dep<P: Past>(past: &P, update: &Update, items: &[u32]) -> Option<Check>
+    requires few { length update.now.deps < u32.MAX }
+    requires places { ArePlaces (P.updates past.now) (parents update.now) items.now }
     ensures { result ≡ wrong_dep update.now (sight (P.updates past.now) update.now) }
 {
-    match wrong_prev(update, prev_of(past, &update.prev)) {
+    match wrong_prev(update, prev_of(past, update, items)) {
         Some(check) => Some(check),
-        None => wrong_entries(past, update),
+        None => {
+            let deps = update.deps.as_slice();
+            wrong_entries(past, deps, &items[items.len() - deps.len()..])
+        }
     }
 }
 
@@ -143,133 +158,72 @@ fn behind(update: &Update, prev: Option<&Update>) -> Option<Check>
     }
 }
 
-/// The check that the update's seq and clock are greater than those of its prev.
-fn backward<P: Past>(past: &P, update: &Update) -> Option<Check>
-    ensures { result ≡ backward update.now (sight (P.updates past.now) update.now) }
+/// The check that the clock is above that of each parent: the prev, and then the entries.
+fn clock_low<P: Past>(past: &P, update: &Update, items: &[u32]) -> Option<Check>
+    requires { ArePlaces (P.updates past.now) (parents update.now) items.now }
+    ensures { result ≡ clock_low update.now (sight (P.updates past.now) update.now) }
 {
-    behind(update, prev_of(past, &update.prev))
-}
-
-/// The check that the clock is above that of a parent, which has this id.
-fn not_above(update: &Update, id: &Hash32, parent: Option<&Update>) -> Option<Check>
-    ensures { result ≡ not_above update.now id.now (option_copied parent.entry) }
-{
-    match parent {
-        Some(parent) if update.clock <= parent.clock => Some(Check::ClockLow(*id)),
-        _ => None,
-    }
-}
-
-/// The check that the clock is above that of each entry, for the first that it isn't above.
-fn low_entry<P: Past>(past: &P, update: &Update) -> Option<Check>
-    ensures { result ≡ first (map (λ e. not_above update.now e.0.id e.1) (sight (P.updates past.now) update.now).entries) }
-{
-    for dep in update.deps.as_slice() {
-        if let Some(check) = not_above(update, &dep.id, named(past, &dep.id)) {
-            return Some(check);
+    for item in items {
+        if update.clock <= past.update(*item).clock {
+            return Some(Check::ClockLow(*past.id(*item)));
         }
     }
     None
 }
 
-/// The check that the clock is above that of each parent: the prev, and then the entries.
-fn clock_low<P: Past>(past: &P, update: &Update) -> Option<Check>
-    ensures { result ≡ clock_low update.now (sight (P.updates past.now) update.now) }
+/// The greatest clock of these items, 0 where there is none.
+fn greatest_clock<P: Past>(past: &P, items: &[u32]) -> u64
+    requires { AllByRecursion (λ item. item < length (P.updates past.now)) items.now }
+    ensures { result ≡ greatest_of (map (λ t. Some t) (updates_at (P.updates past.now) items.now)) }
 {
-    match not_above(update, &update.prev, prev_of(past, &update.prev)) {
-        Some(check) => Some(check),
-        None => low_entry(past, update),
-    }
-}
-
-/// The clock of an update, 0 where there is none.
-fn clock_of(update: Option<&Update>) -> u64
-    ensures { result ≡ clock_of (option_copied update.entry) }
-{
-    match update {
-        Some(update) => update.clock,
-        None => 0,
-    }
-}
-
-/// The greatest clock of the parents, 0 where there is none.
-fn greatest_clock<P: Past>(past: &P, update: &Update) -> u64
-    ensures { result ≡ greatest_of ((sight (P.updates past.now) update.now).before ++ map (λ e. e.1) (sight (P.updates past.now) update.now).entries) }
-{
-    let mut greatest = clock_of(prev_of(past, &update.prev));
-    for dep in update.deps.as_slice() {
-        greatest = greatest.max(clock_of(named(past, &dep.id)));
+    let mut greatest = 0;
+    for item in items {
+        greatest = greatest.max(past.update(*item).clock);
     }
     greatest
 }
 
-/// Whether a clock is too far above this greatest clock of the parents.
-fn is_far(greatest: u64, clock: u64) -> bool
-    ensures { result ≡ nat_lt (greatest + FAR) clock }
-{
-    clock.saturating_sub(greatest) > FAR
-}
-
 /// The check that the clock isn't too far above the greatest of the parents.
-fn clock_far<P: Past>(past: &P, update: &Update) -> Option<Check>
+fn clock_far<P: Past>(past: &P, update: &Update, items: &[u32]) -> Option<Check>
+    requires { ArePlaces (P.updates past.now) (parents update.now) items.now }
     ensures { result ≡ clock_far update.now (sight (P.updates past.now) update.now) }
 {
-    let greatest = greatest_clock(past, update);
-    if is_far(greatest, update.clock) {
+    let greatest = greatest_clock(past, items);
+    if update.clock.saturating_sub(greatest) > MOST_AHEAD {
         return Some(Check::ClockFar(greatest));
     }
     None
 }
 
-/// Puts the item with this id, if there is one, behind these items.
-fn add_item<P: Past>(past: &P, id: &Hash32, items: &mut Vec<u32>) -> Result<(), Memory>
-    ensures { OnOk result (items.new.items ≡ items.old.items ++ option_to_list (place_of_id id.now (P.updates past.now))) }
+/// The first check that fails of those of the parents and of the clock.
+fn failed_by_parents<P: Past>(past: &P, update: &Update, items: &[u32]) -> Option<Check>
+    requires few { length update.now.deps < u32.MAX }
+    requires places { ArePlaces (P.updates past.now) (parents update.now) items.now }
+    ensures { result ≡ first (checks_of_parents update.now (sight (P.updates past.now) update.now)) }
 {
-    if let Some(item) = past.find(id) {
-        items.push(item)?;
+    if let Some(check) = wrong_dep(past, update, items) {
+        return Some(check);
     }
-    Ok(())
-}
-
-/// Puts the item of the prev, if one is named and accepted, behind these items.
-fn add_prev<P: Past>(past: &P, update: &Update, items: &mut Vec<u32>) -> Result<(), Memory>
-    ensures { OnOk result (items.new.items ≡ items.old.items ++ flat_map (λ h. option_to_list (place_of_id h (P.updates past.now))) (prevs update.now)) }
-{
-    if !update.prev.is_zeros() {
-        add_item(past, &update.prev, items)?;
+    if let Some(check) = behind(update, prev_of(past, update, items)) {
+        return Some(check);
     }
-    Ok(())
-}
-
-/// Puts the items of the entries that are accepted behind these items.
-fn add_entries<P: Past>(past: &P, deps: &[Dep], items: &mut Vec<u32>) -> Result<(), Memory>
-    ensures { OnOk result (items.new.items ≡ items.old.items ++ flat_map (λ h. option_to_list (place_of_id h (P.updates past.now))) (map (λ d. d.id) deps.now)) }
-{
-    for dep in deps {
-        add_item(past, &dep.id, items)?;
+    if let Some(check) = clock_low(past, update, items) {
+        return Some(check);
     }
-    Ok(())
+    clock_far(past, update, items)
 }
 
-/// The items of the parents, where all are accepted.
-fn parent_items<P: Past>(alloc: Global, past: &P, update: &Update) -> Result<Vec<u32>, Memory>
-    requires { missing update.now (sight (P.updates past.now) update.now) ≡ None }
-    ensures parents { IfOk result (λ items. map id_of_update (updates_at (P.updates past.now) items.items) ≡ parents update.now) }
-    ensures items { IfOk result (λ items. AllByRecursion (λ item. item < length (P.updates past.now)) items.items) }
-{
-    let mut items = Vec::new(alloc);
-    add_prev(past, update, &mut items)?;
-    add_entries(past, update.deps.as_slice(), &mut items)?;
-    Ok(items)
-}
-
-/// The check that the history hash is that of the past, where each parent is accepted.
-fn bad_history<P: Past>(alloc: Global, past: &P, update: &Update) -> Result<Option<Check>, Memory>
-    requires { missing update.now (sight (P.updates past.now) update.now) ≡ None }
+/// The check that the history hash is that of the past.
+fn bad_history<P: Past>(
+    alloc: Global,
+    past: &P,
+    update: &Update,
+    items: &[u32],
+) -> Result<Option<Check>, Memory>
+    requires { ArePlaces (P.updates past.now) (parents update.now) items.now }
     ensures { IfOk result (λ failed. failed ≡ bad_history update.now (sight (P.updates past.now) update.now)) }
 {
-    let items = parent_items(alloc, past, update)?;
-    let right = history_hash(alloc, past, items.as_slice())?;
+    let right = history_hash(alloc, past, items)?;
     if update.history != right {
         return Ok(Some(Check::BadHistory {
             given: update.history,
@@ -279,27 +233,6 @@ fn bad_history<P: Past>(alloc: Global, past: &P, update: &Update) -> Result<Opti
     Ok(None)
 }
 
-/// The first of the checks before that of the history that fails.
-fn failed_before_history<P: Past>(past: &P, update: &Update) -> Option<Check>
-    requires { length update.now.deps < u32.MAX }
-    ensures first { result ≡ first (checks_before_history update.now (sight (P.updates past.now) update.now)) }
-    ensures here { result ≡ None → missing update.now (sight (P.updates past.now) update.now) ≡ None }
-{
-    if let Some(check) = missing(past, update) {
-        return Some(check);
-    }
-    if let Some(check) = wrong_dep(past, update) {
-        return Some(check);
-    }
-    if let Some(check) = backward(past, update) {
-        return Some(check);
-    }
-    if let Some(check) = clock_low(past, update) {
-        return Some(check);
-    }
-    clock_far(past, update)
-}
-
 /// The first check of an update's content that fails among the accepted updates, and None where none does. The past is
 /// hashed only where all checks before it hold.
 pub(crate) fn failed_content<P: Past>(
@@ -307,11 +240,15 @@ pub(crate) fn failed_content<P: Past>(
     past: &P,
     update: &Update,
 ) -> Result<Option<Check>, Memory>
-    requires few { length update.now.deps ≤ 1024 }
+    requires few { length update.now.deps ≤ MOST_ENTRIES }
     ensures { IfOk result (λ failed. failed ≡ first (content_checks update.now (sight (P.updates past.now) update.now))) }
 {
-    if let Some(check) = failed_before_history(past, update) {
+    let mut items = Vec::new(alloc);
+    if let Some(check) = find_parents(past, update, &mut items)? {
         return Ok(Some(check));
     }
-    bad_history(alloc, past, update)
+    if let Some(check) = failed_by_parents(past, update, items.as_slice()) {
+        return Ok(Some(check));
+    }
+    bad_history(alloc, past, update, items.as_slice())
 }

@@ -1,13 +1,16 @@
 //! The checks of a statement that a node is given, and what is kept of its journal for them.
 //!
 //! A `State` is seen as the node's number, its roster and scheme, and what the checks look at: the accepted updates, the signed
-//! statements of others, the node's own vouchers, the ids that others vouched for, and the convicted nodes. Whether it is the
-//! state of a journal is said by the readings of the journal's records (`IsStateOf`); the journal itself isn't kept here.
+//! statements of others, the node's own vouchers, the ids that others vouched for, and the convicted nodes; and how many own
+//! vouchers more have their memory. Whether it is the state of a journal is said by the readings of the journal's records
+//! (`IsStateOf`), which don't speak of that room; the journal itself isn't kept here.
 //!
 //! `check` answers what the definition does for each journal whose state this is: that the statement is new or known, or the
 //! first check that fails with what it carries, in the order of `depot_base::Check`; and the kept statement by which the
 //! conviction of its writer is due, if one is. `check.rt` has the order, `content.rt` the checks of an update's content.
 //! `add_foreign`, `add_own` and `convict` make it the state of the journal with one record more; what fails changes nothing.
+//! `reserve_vouchers` finds memory, and changes nothing but the room (`IsAsBefore`). A conviction may also come behind the
+//! statement that it was due before (`convictions_may_come_late`).
 //!
 //! What always holds: convicted nodes are nodes of the roster, and there is room for the convictions of all; the own vouchers
 //! name this node. No text is read here, nothing is signed, and room for records is not asked.
@@ -16,8 +19,10 @@
 mod answer;
 mod check;
 mod content;
+mod laws;
 mod state;
 
 pub use answer::{CheckError, Pass};
 pub use depot_fork::Found;
+pub use laws::convictions_may_come_late;
 pub use state::State;

@@ -1,25 +1,26 @@
 //! What a node keeps of its journal for the checks.
-ghost use Rattle.std.specs.Prelude.{◌≡◌, ◌<◌, ◌⊎◌, ℕ, List, [], ◌∷◌, ◌++◌, length, true, IfOk, OnOk, OnErr, Some, slice_get};
+ghost use Rattle.std.specs.Prelude.{◌≡◌, ◌<◌, ◌≤◌, ◌+◌, ℕ, List, [], ◌∷◌, ◌++◌, length, true, IsOk, IfOk, OnOk, OnErr, Some, slice_get};
 ghost use Rattle.depot_base.specs.declared.record.Record.{Record};
 ghost use Rattle.depot_base.specs.declared.record.Record.TheVariants.{Foreign, Conviction};
 ghost use Rattle.depot_base.specs.declared.proof.Proof.{Proof};
+ghost use Rattle.depot_base.specs.declared.statement.Statement.TheVariants as statements;
+ghost use Rattle.depot_model.specs.Lists.{is_one_of};
 ghost use Rattle.depot_model.specs.Texts.{IsSigned, IsStatement, id_of_statement, id_of_update};
 ghost use Rattle.depot_base.specs.Statement.{writer_of};
 ghost use Rattle.depot_model.specs.Order.{IsCausal};
 ghost use Rattle.depot_model.specs.Roster.{has_node};
 ghost use Rattle.depot_model.specs.Journal.{update_in, own_by, accused};
-ghost use Rattle.depot_accept.specs.View.{IsStateOf, setting};
-ghost use Rattle.depot_vouch.specs.Vouching.{is_one_of};
+ghost use Rattle.depot_accept.specs.View.{IsStateOf, IsAsBefore, IsRoomAfter, setting};
+ghost use Rattle.depot_accept.specs.OwnVouchers.{spare};
 
-use depot_base::{Hash32, Memory, NodeId, Signed, Statement, Steps, Update, Voucher};
+use depot_base::{Hash32, Memory, NodeId, Signed, Statement, Voucher};
 use depot_fork::Seen;
 use depot_graph::Graph;
 use depot_model::{Past, Scheme};
 use depot_sign::Roster;
 use depot_vouch::Vouched;
 use std::alloc::Global;
-use std::marker::{Brand, Model};
-use std::sync::ledger::{Blank, Ledger};
+use std::marker::Model;
 
 /// What a node keeps of its journal for the checks: the accepted updates, the signed statements of others, its own
 /// vouchers, what others vouched for, and who is convicted.
@@ -36,13 +37,14 @@ pub struct State<S: Scheme> {
 }
 
 impl<S: Scheme> Model for State<S> {
+    ghost use Rattle.depot_accept.specs.OwnVouchers.{spare};
     ghost use Rattle.depot_accept.specs.View.{View};
     ghost use Rattle.depot_accept.specs.Convicts.{AreConvicts};
     ghost use Rattle.depot_accept.specs.OwnVouchers.{AreVouchersOf};
 
     ghost Value = { View S };
 
-    ghost view = { λ s. record { me = s.me; listed = s.roster; scheme = s.scheme; accepted = ⟦<Graph as Past>⟧.updates s.graph; foreign = s.seen.kept; own_vouchers = s.own_vouchers.items; vouched = s.vouched.ids; convicted = s.vouched.convicted } };
+    ghost view = { λ s. record { me = s.me; listed = s.roster; scheme = s.scheme; accepted = ⟦<Graph as Past>⟧.updates s.graph; foreign = s.seen.kept; own_vouchers = s.own_vouchers.items; vouched = s.vouched.ids; convicted = s.vouched.convicted; voucher_room = spare s.own_vouchers } };
 
     ghost invariant = { λ s. AreConvicts s.roster s.vouched.convicted s.vouched.nodes × AreVouchersOf s.me s.own_vouchers.items };
 }
@@ -50,7 +52,7 @@ impl<S: Scheme> Model for State<S> {
 impl<S: Scheme> State<S> {
     /// The state of a journal without records.
     pub fn new(alloc: Global, me: NodeId, roster: Roster, scheme: S) -> Result<State<S>, Memory>
-        ensures { IfOk result (λ s. s ≡ record { me = me; listed = roster; scheme = scheme; accepted = []; foreign = []; own_vouchers = []; vouched = []; convicted = [] }) }
+        ensures { IfOk result (λ s. s ≡ record { me = me; listed = roster; scheme = scheme; accepted = []; foreign = []; own_vouchers = []; vouched = []; convicted = []; voucher_room = 0 }) }
     {
         let nodes = roster.count();
         Ok(State {
@@ -110,7 +112,8 @@ impl<S: Scheme> State<S> {
     }
 
     /// Keeps the record of another's statement, whose id is at hand. After Memory the state is as before. The record may
-    /// also be one that is lawful only behind the conviction of its writer, which is then the next change.
+    /// also be one that is lawful only behind the conviction of its writer, which is then the next change. That the updates
+    /// stay causal follows from the record being lawful, by `lawful_journals_are_causal` of depot_laws.
     pub fn add_foreign(&mut self, signed: Signed, id: Hash32) -> Result<(), Memory>
         requires text { IsSigned signed }
         requires id { id ≡ id_of_statement signed.statement }
@@ -118,14 +121,16 @@ impl<S: Scheme> State<S> {
         requires few_accepted { length self.old.accepted < 4294967295 }
         requires few_foreign { length self.old.foreign < 4294967295 }
         ensures ok { OnOk result ((J : List Record) → IsStateOf J self.old → IsStateOf (J ++ Foreign signed ∷ []) self.new) }
-        ensures err { OnErr result ((J : List Record) → IsStateOf J self.old → IsStateOf J self.new) }
+        ensures err { OnErr result (self.new ≡ self.old) }
         ensures stays { setting S.verifies self.new ≡ setting S.verifies self.old }
+        ensures scheme { self.new.scheme ≡ self.old.scheme }
+        ensures room { self.new.voucher_room ≡ self.old.voucher_room }
     {
         self.seen.reserve(&signed)?;
         match &signed.statement {
             Statement::Update(update) => {
                 let update = update.copy()?;
-                add_uncounted::<Brand>(&mut self.graph, update, id, Blank::new(1))?;
+                self.graph.add_uncounted(update, id)?;
                 self.seen.add(signed, id)
             }
             Statement::Voucher(voucher) => {
@@ -135,7 +140,20 @@ impl<S: Scheme> State<S> {
         }
     }
 
-    /// Keeps the record of an own statement, whose id is at hand. After Memory the state is as before.
+    /// Finds the memory for `count` own vouchers: the next `count` calls of `add_own` with vouchers can't answer Memory. All
+    /// else stays as it is; after Memory so does the room.
+    pub fn reserve_vouchers(&mut self, count: u32) -> Result<(), Memory>
+        ensures room { OnOk result (count ≤ self.new.voucher_room) }
+        ensures never_less { self.old.voucher_room ≤ self.new.voucher_room }
+        ensures same { IsAsBefore self.old self.new }
+        ensures err { OnErr result (self.new ≡ self.old) }
+    {
+        self.own_vouchers.reserve(count as usize)?;
+        Ok(())
+    }
+
+    /// Keeps the record of an own statement, whose id is at hand. A voucher takes one of the room for vouchers and can't fail
+    /// where there is some; where there was none, any room may be left. After Memory the state is as before.
     pub fn add_own(&mut self, statement: Statement, id: Hash32) -> Result<(), Memory>
         requires text { IsStatement statement }
         requires id { id ≡ id_of_statement statement }
@@ -143,17 +161,18 @@ impl<S: Scheme> State<S> {
         requires fits { IsCausal [] (self.old.accepted ++ update_in statement) }
         requires few { length self.old.accepted < 4294967295 }
         ensures ok { OnOk result ((J : List Record) (r : Record) → own_by r ≡ statement ∷ [] → IsStateOf J self.old → IsStateOf (J ++ r ∷ []) self.new) }
-        ensures err { OnErr result ((J : List Record) → IsStateOf J self.old → IsStateOf J self.new) }
+        ensures err { OnErr result (self.new ≡ self.old) }
         ensures stays { setting S.verifies self.new ≡ setting S.verifies self.old }
+        ensures scheme { self.new.scheme ≡ self.old.scheme }
+        ensures room { OnOk result (IsRoomAfter statement self.old.voucher_room self.new.voucher_room) }
+        ensures reserved { (v : Voucher) → statement ≡ statements.Voucher v → 0 < self.old.voucher_room → IsOk result }
     {
         match statement {
             Statement::Update(update) => {
-                add_uncounted::<Brand>(&mut self.graph, update, id, Blank::new(1))
-            }
-            Statement::Voucher(voucher) => {
-                self.own_vouchers.push(voucher)?;
+                self.graph.add_uncounted(update, id)?;
                 Ok(())
             }
+            Statement::Voucher(voucher) => add_voucher(&mut self.own_vouchers, voucher),
         }
     }
 
@@ -162,28 +181,24 @@ impl<S: Scheme> State<S> {
         requires { has_node self.old.listed node ≡ true }
         ensures convicted { (J : List Record) (p : Proof) → accused p ≡ node → IsStateOf J self.old → IsStateOf (J ++ Conviction p ∷ []) self.new }
         ensures stays { setting S.verifies self.new ≡ setting S.verifies self.old }
+        ensures scheme { self.new.scheme ≡ self.old.scheme }
+        ensures room { self.new.voucher_room ≡ self.old.voucher_room }
     {
         self.vouched.convict(node);
     }
 }
 
-/// Adds an update to a graph; the steps are counted for nobody.
-fn add_uncounted<L: Ledger>(
-    graph: &mut Graph,
-    update: Update,
-    id: Hash32,
-    blank: Blank,
-) -> Result<(), Memory>
-    requires name { blank.name ≡ L.name }
-    requires parts { blank.parts ≡ L.parts }
-    requires some { 0 < blank.parts }
-    requires id { id ≡ id_of_update update }
-    requires fits { IsCausal [] (⟦<Graph as Past>⟧.updates graph.old ++ update ∷ []) }
-    requires few { length (⟦<Graph as Past>⟧.updates graph.old) < 4294967295 }
-    ensures ok { OnOk result (⟦<Graph as Past>⟧.updates graph.new ≡ ⟦<Graph as Past>⟧.updates graph.old ++ update ∷ []) }
-    ensures err { OnErr result (⟦<Graph as Past>⟧.updates graph.new ≡ ⟦<Graph as Past>⟧.updates graph.old) }
+/// Adds a voucher to these. It takes one of their room, and can't fail where there is some.
+fn add_voucher(vouchers: &mut Vec<Voucher>, voucher: Voucher) -> Result<(), Memory>
+    ensures ok { OnOk result (vouchers.new.items ≡ vouchers.old.items ++ voucher ∷ []) }
+    ensures err { OnErr result (vouchers.new.items ≡ vouchers.old.items) }
+    ensures err_room { OnErr result (spare vouchers.new ≡ spare vouchers.old) }
+    ensures room { OnOk result (0 < spare vouchers.old → spare vouchers.new + 1 ≡ spare vouchers.old) }
+    ensures reserved { 0 < spare vouchers.old → IsOk result }
 {
-    let mut steps = Steps::<L>::new(blank);
-    graph.add(update, id, &mut steps)?;
+    if vouchers.len() == vouchers.capacity() {
+        vouchers.reserve(1)?;
+    }
+    vouchers.push_reserved(voucher);
     Ok(())
 }

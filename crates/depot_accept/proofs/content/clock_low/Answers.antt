@@ -1,10 +1,24 @@
-use Rattle.std.proofs.Common.{sym, ap, ◌∙◌}
-use Rattle.depot_model.specs.Checks.{not_above}
-use Rattle.depot_accept.proofs.Checks.{low_for_prev, low_for_entry}
+use Rattle.std.proofs.Common.{refl, sym, ◌∙◌}
+use Rattle.depot_model.specs.Order.{parents}
+use Rattle.depot_base.specs.declared.check.Check.TheVariants as check
+use Rattle.depot_accept.proofs.ParentItems.{place_within, low_against, low_at_items, low_told, fails_here, fails_nowhere_else}
 use Rattle.depot_accept.proofs.content.clock_low.Goals as goal
 
-pub returns-in-Some : goal.returns-in-Some
-returns-in-Some g c = sym (low_for_prev (g.P.Past.updates c.args.past.now) c.args.update.now c.in-Some.check (sym (c.in-Some.ensures ∙ ap (not_above c.args.update.now c.args.update.now.prev) c.prev_of.ensures)))
+pub update-requires : goal.update-requires
+update-requires g c = place_within (g.P.Past.updates c.args.past.now) (parents c.args.update.now) c.args.items.now c.loop-item.item-index c.requires c.loop-item-test.true
 
-pub returns-in-None : goal.returns-in-None
-returns-in-None g c = c.low_entry.ensures ∙ sym (low_for_entry (g.P.Past.updates c.args.past.now) c.args.update.now (sym (c.in-None.ensures ∙ ap (not_above c.args.update.now c.args.update.now.prev) c.prev_of.ensures)))
+pub id-requires : goal.id-requires
+id-requires g c = place_within (g.P.Past.updates c.args.past.now) (parents c.args.update.now) c.args.items.now c.loop-item.item-index c.requires c.loop-item-test.true
+
+pub returns-then-update : goal.returns-then-update
+returns-then-update g c =
+    let us = g.P.Past.updates c.args.past.now in
+    let u = c.args.update.now in
+    let t = c.update.result.now in
+    let low = low_told us u t _ c.id.result.now c.update.ensures c.id.ensures c.if-update.true in
+    sym (low_at_items us u c.args.items.now c.requires ∙ c.loop-item.invariant ∙ fails_here (low_against u) us c.args.items.now c.loop-item.item-index _ t (check.ClockLow c.id.result.now) c.loop-item-test.true refl c.update.ensures low)
+
+pub returns : goal.returns
+returns g c =
+    let us = g.P.Past.updates c.args.past.now in
+    sym (low_at_items us c.args.update.now c.args.items.now c.requires ∙ c.loop-item.invariant ∙ fails_nowhere_else (low_against c.args.update.now) us c.args.items.now c.loop-item.item-index c.loop-item-test.false)

@@ -1,14 +1,24 @@
-use Rattle.std.proofs.Common.{sym, ◌≡◌, ◌∙◌}
+use Rattle.std.proofs.Common.{◌≡◌, sym, ◌∙◌}
 use Rattle.std.specs.Prelude.{Option}
 use Rattle.depot_base.specs.declared.check.Check.{Check}
 use Rattle.depot_model.specs.Lists.{first}
 use Rattle.depot_model.specs.Checks.{sight, content_checks, bad_history}
 use Rattle.depot_history.proofs.Leaving.{if_ok}
-use Rattle.depot_accept.proofs.Checks.{fails_before, fails_last}
+use Rattle.depot_accept.proofs.ContentOrder.{fails_missing, fails_by_parents, fails_last}
 use Rattle.depot_accept.proofs.content.failed_content.Goals as goal
 
 pub returns-in-Some : goal.returns-in-Some
-returns-in-Some g c = sym (fails_before c.args.update.now (sight (g.P.Past.updates c.args.past.now) c.args.update.now) c.in-Some.check (sym c.in-Some.ensures.first))
+returns-in-Some g c = sym (fails_missing c.args.update.now (sight (g.P.Past.updates c.args.past.now) c.args.update.now) c.in-Some.check (sym (sym c.in-Some.is ∙ c.in_ok-check.ensures.first)))
+
+pub returns-in-Some-failed_by_parents : goal.returns-in-Some-failed_by_parents
+returns-in-Some-failed_by_parents g c =
+    let u = c.args.update.now in
+    let seen = sight (g.P.Past.updates c.args.past.now) u in
+    sym (fails_by_parents u seen c.in-Some-failed_by_parents.check (sym (sym c.in_default.is ∙ c.in_ok-check.ensures.first)) (sym c.in-Some-failed_by_parents.ensures))
 
 pub returns : goal.returns
-returns g c = if_ok c.bad_history.result (λ (failed : Option Check). failed ≡ bad_history c.args.update.now (sight (g.P.Past.updates c.args.past.now) c.args.update.now)) (λ (failed : Option Check). failed ≡ first (content_checks c.args.update.now (sight (g.P.Past.updates c.args.past.now) c.args.update.now))) c.bad_history.ensures (λ failed is. is ∙ fails_last c.args.update.now (sight (g.P.Past.updates c.args.past.now) c.args.update.now) (sym c.in_default.ensures.first))
+returns g c =
+    let u = c.args.update.now in
+    let seen = sight (g.P.Past.updates c.args.past.now) u in
+    if_ok c.bad_history.result (λ (failed : Option Check). failed ≡ bad_history u seen) (λ (failed : Option Check). failed ≡ first (content_checks u seen)) c.bad_history.ensures
+    (λ failed is. is ∙ fails_last u seen (sym (sym c.in_default.is ∙ c.in_ok-check.ensures.first)) (sym c.in_default-failed_by_parents.ensures))

@@ -17,7 +17,7 @@ returns-in_ok-add_uncounted-in-Update-clause-ok g c =
     let same = c.in-Update.is ∙ ap (λ (t : Update). statements.Update t) (sym c.in_ok-update-in-Update.ensures) in
     on_ok c.add.result c.add.ensures.ok (λ kept J s.
     grown J v _ (Foreign c.args.signed) s (
-    update_grows v _ c.args.signed u same (c.in_ok-add_uncounted-in-Update.ensures.ok ∙ ap (λ (w : View _). w.accepted ++ u ∷ []) c.self.view_is)
+    update_grows v _ c.args.signed u same (c.in_ok-add_uncounted-in-Update.ensures.added ∙ ap (λ (w : View _). w.accepted ++ u ∷ []) c.self.view_is)
     (kept ∙ ap (λ (l : List _). l ++ c.args.signed ∷ []) c.in_ok-reserve.ensures.same ∙ ap (λ (w : View _). w.foreign ++ c.args.signed ∷ []) c.self.view_is) (record {
       own_vouchers = ap (λ (w : View _). w.own_vouchers) c.self.view_is;
       vouched = ap (λ (w : View _). w.vouched) c.self.view_is;

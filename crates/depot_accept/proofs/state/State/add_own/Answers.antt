@@ -7,10 +7,11 @@ use Rattle.depot_accept.proofs.state.State.add_own.Goals as goal
 pub add_uncounted-requires-clause-id : goal.add_uncounted-requires-clause-id
 add_uncounted-requires-clause-id g c = id_of_its_update c.args.statement _ c.args.id c.requires.id c.in-Update.is
 
-pub returns-in-Update-clause-ok : goal.returns-in-Update-clause-ok
-returns-in-Update-clause-ok g c =
+pub returns-in_ok-add_uncounted-in-Update-clause-ok : goal.returns-in_ok-add_uncounted-in-Update-clause-ok
+returns-in_ok-add_uncounted-in-Update-clause-ok g c =
     let v = c.args.self.now in
-    on_ok c.add_uncounted.result c.add_uncounted.ensures.ok (λ added J r by s.
+    (λ J r by s.
+    let added = c.in_ok-add_uncounted-in-Update.ensures.added in
     grown J v _ r s (
     own_update_grows v _ r c.in-Update.update (by ∙ ap (λ (t : Statement). t ∷ []) c.in-Update.is) (added ∙ ap (λ (w : View _). w.accepted ++ c.in-Update.update ∷ []) c.self.view_is) (ap (λ (w : View _). w.foreign) c.self.view_is) (record {
       own_vouchers = ap (λ (w : View _). w.own_vouchers) c.self.view_is;
@@ -18,9 +19,10 @@ returns-in-Update-clause-ok g c =
       convicted = ap (λ (w : View _). w.convicted) c.self.view_is;
     })))
 
-pub returns-in_ok-push-in-Voucher-clause-ok : goal.returns-in_ok-push-in-Voucher-clause-ok
-returns-in_ok-push-in-Voucher-clause-ok g c = λ J r by s.
+pub returns-in-Voucher-clause-ok : goal.returns-in-Voucher-clause-ok
+returns-in-Voucher-clause-ok g c =
     let v = c.args.self.now in
+    on_ok c.add_voucher.result c.add_voucher.ensures.ok (λ added J r by s.
     grown J v _ r s (
     own_voucher_grows v _ r c.in-Voucher.voucher (by ∙ ap (λ (t : Statement). t ∷ []) c.in-Voucher.is) (ap (λ (w : View _). w.accepted) c.self.view_is) (ap (λ (w : View _). w.foreign) c.self.view_is)
-    (c.in_ok-push-in-Voucher.ensures.items ∙ ap (λ (w : View _). w.own_vouchers ++ c.in-Voucher.voucher ∷ []) c.self.view_is) (ap (λ (w : View _). w.vouched) c.self.view_is) (ap (λ (w : View _). w.convicted) c.self.view_is))
+    (added ∙ ap (λ (w : View _). w.own_vouchers ++ c.in-Voucher.voucher ∷ []) c.self.view_is) (ap (λ (w : View _). w.vouched) c.self.view_is) (ap (λ (w : View _). w.convicted) c.self.view_is)))

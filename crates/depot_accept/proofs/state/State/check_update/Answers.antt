@@ -1,19 +1,19 @@
 use Rattle.std.proofs.Common.{Some, sym}
 use Rattle.depot_model.specs.Checks.{sight}
-use Rattle.depot_accept.proofs.Contents.{few_deps, content_tells_no_fork}
-use Rattle.depot_accept.proofs.Rows.{fails_in_content}
-use Rattle.depot_accept.proofs.Dues.{content_seen}
+use Rattle.depot_accept.proofs.PlainContent.{few_deps, content_tells_no_fork}
+use Rattle.depot_accept.proofs.LaterChecks.{fails_in_content}
+use Rattle.depot_accept.proofs.DueConvictions.{content_seen}
 use Rattle.depot_accept.proofs.state.State.check_update.Goals as goal
 
 pub failed_content-requires : goal.failed_content-requires
 failed_content-requires g c = record { few = few_deps c.args.signed.now c.args.update.now c.requires.text c.requires.update }
 
-pub found_behind-requires-clause-check : goal.found_behind-requires-clause-check
-found_behind-requires-clause-check g c = content_tells_no_fork c.args.update.now (sight _ c.args.update.now) c.in-Ok-Some.check (sym (rw c.in-Ok-Some.field-0-is at c.in-Ok-Some.ensures))
+pub exposing_prev-requires-clause-check : goal.exposing_prev-requires-clause-check
+exposing_prev-requires-clause-check g c = content_tells_no_fork c.args.update.now (sight _ c.args.update.now) c.in-Ok-Some.check (sym (rw c.in-Ok-Some.field-0-is at c.in-Ok-Some.ensures))
 
 pub returns-in-Ok-Some : goal.returns-in-Ok-Some
 returns-in-Ok-Some g c = λ J st. (
   fails_in_content J c.args.signed.now.statement c.in-Ok-Some.check
       (content_seen J _ _ c.args.signed.now.statement c.args.update.now (Some c.in-Ok-Some.check) c.self.view_is st c.requires.update (rw c.in-Ok-Some.field-0-is at c.in-Ok-Some.ensures)),
-  c.found_behind.ensures J st,
+  c.exposing_prev.ensures J st,
 )

@@ -2,7 +2,7 @@ use Rattle.std.proofs.Common.{true, false, Some, None, sym, ap, ◌∙◌}
 use Rattle.depot_base.specs.Statement.{writer_of}
 use Rattle.depot_base.specs.declared.statement.Statement.{Statement}
 use Rattle.depot_model.proofs.BodyLaws.{IsStatement-from_signed}
-use Rattle.depot_accept.proofs.Dues.{writer_convicted, voucher_alone, no_content, same_foreign, opponent_found, found_within, passes_alone, voucher_refused, fork_refused}
+use Rattle.depot_accept.proofs.DueConvictions.{writer_convicted, voucher_alone, no_content, same_foreign, opponent_found, found_within, passes_alone, voucher_refused, fork_refused}
 use Rattle.depot_accept.proofs.state.State.check_voucher.Goals as goal
 
 pub returns-then-is_convicted : goal.returns-then-is_convicted
@@ -28,9 +28,14 @@ returns-in-Some g c = λ J st.
     c.forked.ensures
 
 pub returns-in-None : goal.returns-in-None
-returns-in-None g c = λ J st.
+returns-in-None g c = λ J st. (
+  c.args.voucher.now,
+  (
+    c.requires.voucher,
     passes_alone J c.args.signed.now
-    (no_content J c.args.signed.now.statement c.args.voucher.now c.requires.voucher)
-    (writer_convicted J _ _ c.args.signed.now.statement c.args.voucher.now.node false c.self.view_is st (ap (λ (x : Statement). writer_of x) c.requires.voucher) (sym c.if-is_convicted.false ∙ c.is_convicted.ensures))
-    (voucher_alone J c.args.signed.now.statement c.args.voucher.now c.requires.voucher)
-    (opponent_found J _ _ c.args.signed.now.statement None c.self.view_is st c.in-None.ensures)
+        (no_content J c.args.signed.now.statement c.args.voucher.now c.requires.voucher)
+        (writer_convicted J _ _ c.args.signed.now.statement c.args.voucher.now.node false c.self.view_is st (ap (λ (x : Statement). writer_of x) c.requires.voucher) (sym c.if-is_convicted.false ∙ c.is_convicted.ensures))
+        (voucher_alone J c.args.signed.now.statement c.args.voucher.now c.requires.voucher)
+        (opponent_found J _ _ c.args.signed.now.statement None c.self.view_is st c.in-None.ensures),
+  ),
+)

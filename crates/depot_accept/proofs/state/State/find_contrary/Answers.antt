@@ -1,6 +1,6 @@
 use Rattle.std.proofs.Common.{sym}
-use Rattle.depot_accept.proofs.Dues.{same_foreign}
-use Rattle.depot_accept.proofs.Known.{none_named, named_contrary, named_agrees}
+use Rattle.depot_accept.proofs.DueConvictions.{same_foreign}
+use Rattle.depot_accept.proofs.KeptStatements.{none_named, named_contrary, named_agrees}
 use Rattle.depot_accept.proofs.state.State.find_contrary.Goals as goal
 
 pub returns-in_default : goal.returns-in_default

@@ -1,7 +1,7 @@
 use Rattle.std.proofs.Common.{ℕ, ap, ◌∙◌}
 use Rattle.std.specs.Prelude.{Option}
 use Rattle.std.specs.Option.{is_some}
-use Rattle.depot_accept.proofs.Known.{update_kept, voucher_kept, own_or, own_or_kept}
+use Rattle.depot_accept.proofs.KeptStatements.{update_kept, voucher_kept, own_or, own_or_kept}
 use Rattle.depot_accept.proofs.state.State.is_kept.Goals as goal
 
 pub returns-in-Update : goal.returns-in-Update

@@ -1,4 +1,4 @@
-use Rattle.depot_accept.proofs.Known.{not_own}
+use Rattle.depot_accept.proofs.KeptStatements.{not_own}
 use Rattle.depot_accept.proofs.state.State.is_own_voucher.Goals as goal
 
 pub returns-else-eq : goal.returns-else-eq
