@@ -1,4 +1,5 @@
 pub mod Putting
-pub mod Answering
+pub mod Deciding
 pub mod Starting
 pub mod Keyed
+pub mod Running

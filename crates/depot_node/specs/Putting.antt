@@ -1,46 +1,63 @@
 -- What a node answers to a put, and what its journal is then.
-use Rattle.std.specs.Prelude.{◌≡◌, ℕ, ◌<◌, ◌≤◌, List, [], ◌∷◌, ◌++◌, length, Some, None, Result, Ok, Err}
+use Rattle.std.specs.Prelude.{◌≡◌, ℕ, ◌<◌, List, [], ◌∷◌, ◌++◌, length, Some, None, Option, option_map, Result, Ok, Err}
+use Rattle.depot_base.specs.declared.limits.TheConstants.{MOST_ENTRIES}
 use Rattle.depot_base.specs.declared.update.Update.{Update}
 use Rattle.depot_base.specs.declared.record.Record.{Record}
 use Rattle.depot_base.specs.declared.record.Record.TheVariants.{OwnPut}
 use Rattle.depot_model.specs.Checks.{Setting}
-use Rattle.depot_model.specs.Journal.{own}
-use Rattle.depot_model.specs.Lawful.{MayPut}
-use Rattle.depot_model.specs.Own.{next_own, IsFresh, leaf_count}
+use Rattle.depot_model.specs.Lawful.{IsLawful}
+use Rattle.depot_model.specs.Limits.{Limit, spent, tips, collides, full, limit_of_put, IsCutShort}
+use Rattle.depot_model.specs.Own.{next_own}
 use Rattle.depot_model.specs.Room.{full_by}
 use Rattle.depot_model.specs.Texts.{id_of_update}
 use Rattle.depot_node.specs.declared.answer.PutDone.{PutDone}
 use Rattle.depot_node.specs.declared.answer.PutError.{PutError}
 use Rattle.depot_node.specs.declared.answer.PutError.TheVariants as refused
 
--- The update may be put, there is room for its record, this is what is told of it, and the journal has grown by it.
-pub record IsPut (here : Setting) (J : List Record) (u : Update) (value : List ℕ) (done : PutDone) (then : List Record) : Type 0 where
-  pub may : MayPut here J u value
-  pub room : full_by here.me J (OwnPut u value ∷ []) ≡ None
-  pub told : done ≡ record { id = id_of_update u; seq = u.seq; clock = u.clock }
-  pub grown : then ≡ J ++ OwnPut u value ∷ []
+-- what is told of an update that was put
+abbrev pub told_of : Update → PutDone
+told_of u = record { id = id_of_update u; seq = u.seq; clock = u.clock }
 
--- a leaf is left to sign it
-abbrev pub HasLeaf : Setting → List Record → Type 0
-HasLeaf here J = length (own J) < leaf_count here.listed here.me
+-- the records that a put appends: the next own update, with its value
+abbrev pub put_records : Setting → List Record → List ℕ → List ℕ → List Record
+put_records here J key value = OwnPut (next_own here.me J key value) value ∷ []
 
--- the update has more than 1,024 entries, and this is their number; or no memory was found
+-- the put meets this limit, and nothing is appended
+abbrev pub IsLimited : Setting → List Record → List ℕ → List ℕ → Limit → List Record → Type 0
+IsLimited here J key value limit then = (limit_of_put here J key value ≡ Some limit) × (then ≡ J)
+
+-- What a node answers to a put of a value under a key, and the journal after it. Memory may stand in place of each answer, and
+-- then nothing is appended; nor is it by a stopped node.
+abbrev pub Puts : Setting → List Record → List ℕ → List ℕ → Result PutDone PutError → List Record → Type 0
+Puts here J key value (Ok done) then = (limit_of_put here J key value ≡ None) × ((done ≡ told_of (next_own here.me J key value)) × (then ≡ J ++ put_records here J key value))
+Puts here J key value (Err refused.Memory) then = then ≡ J
+Puts here J key value (Err refused.Disk) then = (limit_of_put here J key value ≡ None) × IsCutShort J (put_records here J key value) then
+Puts here J key value (Err refused.Stopped) then = then ≡ J
+Puts here J key value (Err (refused.Spent n)) then = IsLimited here J key value (spent n) then
+Puts here J key value (Err (refused.Tips n)) then = IsLimited here J key value (tips n) then
+Puts here J key value (Err (refused.Collides h)) then = IsLimited here J key value (collides h) then
+Puts here J key value (Err (refused.Full what)) then = IsLimited here J key value (full what) then
+
+-- ---- deciding
+
+-- A put is planned: of its limits only the room is open, this is to be told of it, it is what the journal is to grow by, and with
+-- it the journal stays lawful where there is room.
+pub record IsPlanned (here : Setting) (J : List Record) (key value : List ℕ) (done : PutDone) (new : List Record) : Type 0 where
+  pub limit : limit_of_put here J key value ≡ option_map full (full_by here.me J new)
+  pub told : done ≡ told_of (next_own here.me J key value)
+  pub grows : new ≡ put_records here J key value
+  pub lawful : full_by here.me J new ≡ None → IsLawful here (J ++ new)
+
+-- What a refusal says before the room is asked for. Memory may stand in place of each answer.
+abbrev pub IsRefused : Setting → List Record → List ℕ → List ℕ → PutError → Type 0
+IsRefused here J key value refused.Memory = Unit {0}
+IsRefused here J key value (refused.Spent n) = limit_of_put here J key value ≡ Some (spent n)
+IsRefused here J key value (refused.Tips n) = limit_of_put here J key value ≡ Some (tips n)
+IsRefused here J key value (refused.Collides h) = limit_of_put here J key value ≡ Some (collides h)
+IsRefused here J key value e = ⊥
+
+-- a refusal of an update while it is made: it has more than 1,024 entries, and this is their number; or no memory was found
 abbrev pub IsTooWide : Update → PutError → Type 0
 IsTooWide u refused.Memory = Unit {0}
-IsTooWide u (refused.Tips n) = (n ≡ length u.deps) × (1024 < n)
+IsTooWide u (refused.Tips n) = (n ≡ length u.deps) × (MOST_ENTRIES < n)
 IsTooWide u e = ⊥
-
--- What each refusal of an update says, none of those before it holding. Memory may stand in place of each answer.
-abbrev pub IsRefused : Setting → List Record → Update → List ℕ → PutError → Type 0
-IsRefused here J u value refused.Memory = Unit {0}
-IsRefused here J u value refused.Disk = ⊥
-IsRefused here J u value refused.Stopped = ⊥
-IsRefused here J u value (refused.Spent n) = (n ≡ length (own J)) × (n ≡ leaf_count here.listed here.me)
-IsRefused here J u value (refused.Tips n) = HasLeaf here J × ((n ≡ length u.deps) × (1024 < n))
-IsRefused here J u value (refused.Collides h) = HasLeaf here J × ((length u.deps ≤ 1024) × ((h ≡ id_of_update u) × ¬ IsFresh J h))
-IsRefused here J u value (refused.Full full) = MayPut here J u value × (full_by here.me J (OwnPut u value ∷ []) ≡ Some full)
-
--- A put makes the next own update, or it is refused and nothing is appended.
-abbrev pub Puts : Setting → List Record → List ℕ → List ℕ → Result PutDone PutError → List Record → Type 0
-Puts here J key value (Ok done) then = IsPut here J (next_own here.me J key value) value done then
-Puts here J key value (Err e) then = IsRefused here J (next_own here.me J key value) value e × (then ≡ J)

@@ -7,21 +7,21 @@
 //! `Replica` is what others see of a node and give it, with its laws: the journal is lawful and has its birth record, and the
 //! roster has the node. The journal is kept in memory, as the list of its record texts; a node is started from such a list, and gives it back.
 //!
-//! Puts, statements, proofs, values and starts each have a file of that name, with functions over the
-//! `Store` of `depot_store`; `lawful` says of the takes that lawful journals stay lawful, and `node` puts them together.
+//! What is put or taken is decided over the `Store` of `depot_store` as it stands, which appends nothing (`put`, `statement`,
+//! `proof`, `value`), and then carried out by one call, `Store::commit`, by which alone the journal grows once it is started;
+//! `take` does the one and then the other, `start` has the starts, and `node` puts them together.
 #![tactic(auto)]
 
 mod answer;
-mod lawful;
+mod decision;
 mod node;
 mod proof;
 mod put;
-mod replica;
 mod start;
 mod statement;
+mod take;
 mod value;
 
 pub use answer::{PutDone, PutError, StartError};
 pub use depot_model::{TakeError, Taken};
 pub use node::Node;
-pub use replica::Replica;

@@ -1,25 +1,27 @@
 //! The node.
-ghost use Rattle.std.specs.Prelude.{◌≡◌, ◌<◌, List, length, false, refl, Some, IfOk, IfErr, All, option_copied, slice_get};
+ghost use Rattle.std.specs.Prelude.{◌≡◌, ◌<◌, List, length, false, refl, Some, IsErrOf, IfOk, IfErr, All, option_copied, slice_get};
 ghost use Rattle.depot_base.specs.declared.record.Record.{Record};
 ghost use Rattle.depot_base.specs.declared.update.Update.{Update};
 ghost use Rattle.depot_model.specs.Journal.{accepted, value_of};
 ghost use Rattle.depot_model.specs.Lawful.{IsLawful, is_empty};
+ghost use Rattle.depot_model.specs.LawfulFacts.{IsLawful-prop};
 ghost use Rattle.depot_model.specs.Order.{AreLatestIn};
+ghost use Rattle.depot_model.specs.Replicas.{IsSameNode, StopsBy, KeepsDisk};
 ghost use Rattle.depot_model.specs.Roster.{key_of};
-ghost use Rattle.depot_graph.specs.Reads.{updates_at};
-ghost use Rattle.depot_store.specs.Facts.{lawful_from_some};
-ghost use Rattle.depot_store.specs.View.{standing};
-ghost use Rattle.depot_node.specs.Keyed.{HasKey, has_node_from_key};
+ghost use Rattle.depot_model.specs.TextFacts.{IsRoster-prop};
+ghost use Rattle.depot_model.specs.Texts.{IsRoster};
+ghost use Rattle.depot_model.specs.Items.{updates_at};
+ghost use Rattle.depot_store.specs.Holdings.{standing};
+ghost use Rattle.depot_node.specs.Keyed.{HasKey-prop};
 ghost use Rattle.depot_node.specs.Putting.{Puts};
 ghost use Rattle.depot_node.specs.Starting.{AreTextsOf, started, IsNotStarted};
 
 use crate::answer::{PutDone, PutError, StartError};
-use crate::lawful::{take_proof_lawfully, take_statement_lawfully, take_value_lawfully};
 use crate::put::put;
-use crate::replica::Replica;
 use crate::start::load;
+use crate::take::{take_proof, take_statement, take_value};
 use depot_base::{Hash32, Key, NodeId, Texts, Update, Value};
-use depot_model::{Past, Scheme, Signer, TakeError, Taken};
+use depot_model::{Past, Replica, Scheme, Signer, TakeError, Taken};
 use depot_sign::Roster;
 use depot_store::Store;
 use std::alloc::Global;
@@ -30,9 +32,10 @@ pub struct Node<S: Scheme, G: Signer<Of = S>> {
     alloc: Global,
     store: Store<S>,
     signer: G,
-    ghost lawful: { ∥ IsLawful (standing S.verifies store) store.records ∥₁ },
+    ghost lawful: { IsLawful (standing S.verifies store) store.records } by { IsLawful-prop (standing S.verifies store) store.records },
     ghost some: { is_empty store.records ≡ false },
-    ghost keyed: { HasKey store.listed store.me (G.key_of signer) },
+    ghost formed: { IsRoster store.listed } by { IsRoster-prop store.listed },
+    ghost keyed: { key_of store.listed store.me ≡ Some (G.key_of signer) } by { HasKey-prop store.listed store.me (G.key_of signer) },
 }
 
 impl<S: Scheme, G: Signer<Of = S>> Node<S, G> {
@@ -72,7 +75,6 @@ impl<S: Scheme, G: Signer<Of = S>> Node<S, G> {
     }
 
     /// The texts of the records of its journal, from which it can be started again. It takes no memory.
-    #[tactic(auto, using(depot_store::specs::Facts::lawful_from_some))]
     pub fn into_texts(self) -> Texts
         ensures { AreTextsOf (⟦<Node<S, G> as Replica>⟧.stands self) (⟦<Node<S, G> as Replica>⟧.records self) result }
     {
@@ -82,10 +84,12 @@ impl<S: Scheme, G: Signer<Of = S>> Node<S, G> {
     /// Puts a value under a key: the journal grows by the next own update, whose id, seq and clock are told. `Spent`,
     /// `Tips`, `Collides` and `Full` come exactly where the definition says, in this order, and then, as after Memory, the
     /// journal is as before. `Disk` and `Stopped` never come while the journal is kept in memory.
-    #[tactic(auto, using(depot_store::specs::Facts::lawful_from_some, crate::specs::Keyed::key_stays))]
+    #[tactic(auto, using(crate::proofs::InMemory::in_memory))]
     pub fn put(&mut self, key: Key, value: Value) -> Result<PutDone, PutError>
         ensures puts { Puts (⟦<Node<S, G> as Replica>⟧.stands self.old) (⟦<Node<S, G> as Replica>⟧.records self.old) key value result (⟦<Node<S, G> as Replica>⟧.records self.new) }
-        ensures stays { ⟦<Node<S, G> as Replica>⟧.stands self.new ≡ ⟦<Node<S, G> as Replica>⟧.stands self.old }
+        ensures stays { IsSameNode (⟦<Node<S, G> as Replica>⟧.stands self.old) (⟦<Node<S, G> as Replica>⟧.stands self.new) (⟦<Node<S, G> as Replica>⟧.key self.old) (⟦<Node<S, G> as Replica>⟧.key self.new) (⟦<Node<S, G> as Replica>⟧.signature_of self.old) (⟦<Node<S, G> as Replica>⟧.signature_of self.new) }
+        ensures stops { StopsBy (⟦<Node<S, G> as Replica>⟧.stopped self.old) (⟦<Node<S, G> as Replica>⟧.stopped self.new) (IsErrOf result PutError.Stopped) (IsErrOf result PutError.Disk) }
+        ensures disk { KeepsDisk (⟦<Node<S, G> as Replica>⟧.handle self.old) (⟦<Node<S, G> as Replica>⟧.handle self.new) (⟦<Node<S, G> as Replica>⟧.faults self.old) (⟦<Node<S, G> as Replica>⟧.faults self.new) (⟦<Node<S, G> as Replica>⟧.is_faultless self.old) (⟦<Node<S, G> as Replica>⟧.is_faultless self.new) (IsErrOf result PutError.Disk) }
     {
         put(self.alloc, &mut self.store, key, value)
     }
@@ -127,6 +131,18 @@ impl<S: Scheme, G: Signer<Of = S>> Replica for Node<S, G> {
 
     ghost records = { λ n. n.store.records };
 
+    ghost key = { λ n. G.key_of n.signer };
+
+    ghost signature_of = { λ n. G.signature_of n.signer };
+
+    ghost stopped = { λ _. false };
+
+    ghost handle = { λ _. 0 };
+
+    ghost faults = { λ _. 0 };
+
+    ghost is_faultless = { λ _. Unit {0} };
+
     fn me(&self) -> NodeId {
         self.store.state().me()
     }
@@ -143,7 +159,7 @@ impl<S: Scheme, G: Signer<Of = S>> Replica for Node<S, G> {
         false
     }
 
-    #[tactic(auto, using(depot_store::specs::Facts::lawful_from_some, depot_laws::proofs::OwnTexts::lawful_is_short))]
+    #[tactic(auto, using(depot_laws::proofs::OwnTexts::lawful_is_short))]
     fn record_count(&self) -> u32 {
         self.store.list().count() as u32
     }
@@ -152,26 +168,32 @@ impl<S: Scheme, G: Signer<Of = S>> Replica for Node<S, G> {
         self.store.list().text(place as usize)
     }
 
-    #[tactic(auto, using(depot_store::specs::Facts::lawful_from_some, crate::specs::Keyed::key_stays))]
+    #[tactic(auto, using(crate::proofs::InMemory::in_memory))]
     fn take_statement(&mut self, text: &[u8]) -> Result<Taken, TakeError> {
-        take_statement_lawfully(self.alloc, &mut self.store, text)
+        take_statement(self.alloc, &mut self.store, text)
     }
 
-    #[tactic(auto, using(depot_store::specs::Facts::lawful_from_some, crate::specs::Keyed::key_stays))]
+    #[tactic(auto, using(crate::proofs::InMemory::in_memory))]
     fn take_proof(&mut self, text: &[u8]) -> Result<Taken, TakeError> {
-        take_proof_lawfully(self.alloc, &mut self.store, text)
+        take_proof(self.alloc, &mut self.store, text)
     }
 
-    #[tactic(auto, using(depot_store::specs::Facts::lawful_from_some, crate::specs::Keyed::key_stays))]
+    #[tactic(auto, using(crate::proofs::InMemory::in_memory))]
     fn take_value(&mut self, text: &[u8]) -> Result<Taken, TakeError> {
-        take_value_lawfully(self.alloc, &mut self.store, text)
+        take_value(self.alloc, &mut self.store, text)
     }
 
-    ghost lawful = { λ n. lawful_from_some (standing S.verifies n.store) n.store.records n.lawful };
+    ghost lawful = { λ n. n.lawful };
 
     ghost some = { λ n. n.some };
 
-    ghost has_me = { λ n. has_node_from_key n.store.listed n.store.me (G.key_of n.signer) n.keyed };
+    ghost formed = { λ n. n.formed };
+
+    ghost keyed = { λ n. n.keyed };
 
     ghost verifies_by = { λ n. refl };
+
+    ghost signs = { λ n seq body below. G.verifies_under_key n.signer seq body below };
+
+    ghost short = { λ n seq body. G.is_short n.signer seq body };
 }

@@ -2,27 +2,32 @@
 ghost use Rattle.std.specs.Prelude.{◌≡◌, ◌<◌, ◌≤◌, ◌^◌, ◌↔◌, List, [], ◌∷◌, length, map, IfOk, IfErr, IsTrue, false, nat_lt};
 ghost use Rattle.std.specs.Option.{ForSome};
 ghost use Rattle.std.specs.List.{AllByRecursion};
+ghost use Rattle.depot_base.specs.declared.limits.TheConstants.{MOST_ENTRIES};
 ghost use Rattle.depot_base.specs.declared.record.Record.{Record};
-ghost use Rattle.depot_model.specs.Items.{place_of_prev};
+ghost use Rattle.depot_model.specs.Items.{place_of_prev, updates_at};
 ghost use Rattle.depot_model.specs.Journal.{accepted};
 ghost use Rattle.depot_model.specs.Lawful.{IsLawful, is_empty};
 ghost use Rattle.depot_model.specs.Own.{entry_of, next_own, IsFresh, leaf_count};
-ghost use Rattle.depot_history.specs.Closure.{updates_at};
-ghost use Rattle.depot_store.specs.View.{standing};
-ghost use Rattle.depot_node.specs.Putting.{Puts, IsTooWide};
+ghost use Rattle.depot_store.specs.Holdings.{standing};
+ghost use Rattle.depot_node.specs.Putting.{Puts, IsPlanned, IsRefused, IsTooWide};
+ghost use Rattle.depot_node.specs.Running.{IsRunning};
 
 use crate::answer::{PutDone, PutError};
-use depot_base::{Dep, Deps, Hash32, Key, Memory, PublicKey, Update, Value};
+use depot_base::limits::MOST_ENTRIES;
+use depot_base::{Dep, Deps, Hash32, Key, Memory, Record, Update, Value};
 use depot_graph::Graph;
 use depot_history::{changed_leaves, summary};
-use depot_model::{Past, Scheme};
-use depot_store::Store;
-use depot_update::{encode_own_put, id_of};
-use sha2::{Digest, Sha256};
+use depot_model::{Past, Scheme, hash_of};
+use depot_store::{CommitError, Growth, Store};
+use depot_update::encode_own_put;
 use std::alloc::Global;
 
-/// The most entries of an update.
-const MOST_ENTRIES: usize = 1024;
+/// What a put is to append, and what it then tells.
+#[derive(Drop)]
+struct Plan {
+    done: PutDone,
+    growth: Growth,
+}
 
 /// Puts a value under a key: the journal grows by the next own update, and stays lawful. A refusal leaves all as it is.
 pub fn put<S: Scheme>(
@@ -34,30 +39,47 @@ pub fn put<S: Scheme>(
     requires lawful { IsLawful (standing S.verifies store.old) store.old.records }
     requires some { is_empty store.old.records ≡ false }
     ensures puts { Puts (standing S.verifies store.old) store.old.records key value result store.new.records }
+    ensures runs { IsRunning result PutError.Disk PutError.Stopped }
     ensures stands { standing S.verifies store.new ≡ standing S.verifies store.old }
     ensures lawful { IsLawful (standing S.verifies store.new) store.new.records }
     ensures some { is_empty store.new.records ≡ false }
+{
+    let plan = decide_put(alloc, store, key, value)?;
+    match store.commit(plan.growth) {
+        Ok(()) => Ok(plan.done),
+        Err(CommitError::Memory) => Err(PutError::Memory),
+        Err(CommitError::Full(full)) => Err(PutError::Full(full)),
+    }
+}
+
+/// What is decided of a put: the next own update, unless no leaf is left, it has too many entries, or its id isn't fresh.
+fn decide_put<S: Scheme>(
+    alloc: Global,
+    store: &Store<S>,
+    key: Key,
+    value: Value,
+) -> Result<Plan, PutError>
+    requires lawful { IsLawful (standing S.verifies store.now) store.now.records }
+    requires some { is_empty store.now.records ≡ false }
+    ensures planned { IfOk result (λ p. IsPlanned (standing S.verifies store.now) store.now.records key value p.done p.growth) }
+    ensures refused { IfErr result (IsRefused (standing S.verifies store.now) store.now.records key value) }
 {
     let own = store.totals().own;
     if !has_leaf(store, own) {
         return Err(PutError::Spent(own));
     }
     let update = next_own(alloc, store, key, &value)?;
-    let id = id_of(alloc, &update)?;
-    if !is_fresh(store.state().graph(), &id) {
-        return Err(PutError::Collides(id));
-    }
-    let text = encode_own_put(alloc, &update, &value)?;
-    if let Some(full) = store.full_with(&text) {
-        return Err(PutError::Full(full));
+    let made = encode_own_put(alloc, &update, &value)?;
+    if !is_fresh(store.state().graph(), &made.id) {
+        return Err(PutError::Collides(made.id));
     }
     let done = PutDone {
-        id,
+        id: made.id,
         seq: update.seq,
         clock: update.clock,
     };
-    store.add_put(update, id, value, text)?;
-    Ok(done)
+    let growth = Growth::of_text(alloc, Record::OwnPut { update, value }, made.id, made.text)?;
+    Ok(Plan { done, growth })
 }
 
 /// Whether the node has a leaf of this number to sign by.
@@ -67,16 +89,9 @@ fn has_leaf<S: Scheme>(store: &Store<S>, leaf: u32) -> bool
 {
     let state = store.state();
     match state.roster().key_of(state.me()) {
-        Some(key) => is_leaf(&key, leaf),
+        Some(key) => key.has_leaf(leaf),
         None => false,
     }
-}
-
-/// Whether the tree of the key has this leaf.
-fn is_leaf(key: &PublicKey, leaf: u32) -> bool
-    ensures { result ≡ nat_lt leaf (2 ^ key.now.height) }
-{
-    key.height >= 32 || leaf >> key.height == 0
 }
 
 /// The next own update. `Tips` comes exactly where it would have more than 1,024 entries, with their number.
@@ -88,7 +103,7 @@ fn next_own<S: Scheme>(
 ) -> Result<Update, PutError>
     requires { IsLawful (standing S.verifies store.now) store.now.records }
     ensures next { IfOk result (λ u. u ≡ next_own store.now.me store.now.records key value.now) }
-    ensures narrow { IfOk result (λ u. length u.deps ≤ 1024) }
+    ensures narrow { IfOk result (λ u. length u.deps ≤ MOST_ENTRIES) }
     ensures wide { IfErr result (IsTooWide (next_own store.now.me store.now.records key value.now)) }
 {
     let state = store.state();
@@ -97,7 +112,7 @@ fn next_own<S: Scheme>(
     let last = item_of(graph, &totals.last);
     let items = changed_leaves(alloc, graph, state.me(), last)?;
     let items = items.as_slice();
-    if items.len() > MOST_ENTRIES {
+    if items.len() > MOST_ENTRIES as usize {
         return Err(PutError::Tips(items.len() as u32));
     }
     Ok(Update {
@@ -106,7 +121,7 @@ fn next_own<S: Scheme>(
         clock: totals.clock + 1,
         prev: totals.last,
         key,
-        value_hash: Hash32::new(Sha256::digest(value.bytes())),
+        value_hash: hash_of(value.bytes()),
         value_len: value.bytes().len() as u32,
         deps: entries_of(alloc, graph, items)?,
         history: summary(alloc, graph)?,

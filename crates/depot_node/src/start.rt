@@ -1,19 +1,18 @@
 //! The store of a journal whose record texts are at hand.
-ghost use Rattle.std.specs.Prelude.{◌≡◌, List, [], ◌∷◌, ◌++◌, true, ℕ, OnOk, IfOk};
-ghost use Rattle.sha2.specs.Sha256.{sha256};
+ghost use Rattle.std.specs.Prelude.{◌≡◌, List, [], ◌∷◌, ◌++◌, true, OnOk, IfOk};
 ghost use Rattle.depot_base.specs.declared.record.Record.{Record};
 ghost use Rattle.depot_model.specs.Lawful.{IsLawful};
 ghost use Rattle.depot_model.specs.Roster.{has_node};
-ghost use Rattle.depot_store.specs.Told.{IsTextOf};
-ghost use Rattle.depot_store.specs.View.{standing, with_records};
+ghost use Rattle.depot_store.specs.NewRecords.{IsHashOf};
+ghost use Rattle.depot_store.specs.RecordTexts.{IsTextOf};
+ghost use Rattle.depot_store.specs.Holdings.{standing, with_records};
 ghost use Rattle.depot_node.specs.Starting.{AreTextsOf, started};
 
 use depot_base::{Bytes, Hash32, Memory, NodeId, Record, Texts};
-use depot_model::Scheme;
+use depot_model::{Scheme, hash_of};
 use depot_sign::Roster;
-use depot_store::Store;
-use depot_update::{decode_record, encode_record, id_of};
-use sha2::{Digest, Sha256};
+use depot_store::{Growth, Store};
+use depot_update::{decode_record, id_in_own_put, id_in_own_voucher};
 use std::alloc::Global;
 
 /// The store of the journal that a node of the roster is started with.
@@ -61,8 +60,8 @@ fn add_birth<S: Scheme>(alloc: Global, store: &mut Store<S>) -> Result<(), Memor
     // Called for its clause alone: the entries make a roster, so the birth record has a text.
     let _entries = roster.entries();
     let roster = *roster.hash();
-    let text = encode_record(alloc, &Record::Birth { node, roster })?;
-    store.add_birth(node, roster, text)
+    let growth = Growth::one(alloc, Record::Birth { node, roster }, Hash32::zeros())?;
+    store.append(growth)
 }
 
 /// Adds the records of these texts to a store without records.
@@ -77,7 +76,7 @@ fn add_all<S: Scheme>(alloc: Global, store: &mut Store<S>, texts: Texts) -> Resu
     Ok(())
 }
 
-/// Adds the record of a text behind the others.
+/// Adds the record of a text after the others.
 fn add_text<S: Scheme>(alloc: Global, store: &mut Store<S>, text: Bytes) -> Result<(), Memory>
     requires { (r : Record) × (IsTextOf r text × IsLawful (standing S.verifies store.old) (store.old.records ++ r ∷ [])) }
     ensures { OnOk result ((r : Record) → IsTextOf r text → store.new ≡ with_records store.old (store.old.records ++ r ∷ [])) }
@@ -88,7 +87,7 @@ fn add_text<S: Scheme>(alloc: Global, store: &mut Store<S>, text: Bytes) -> Resu
     }
 }
 
-/// Adds a record, which has this text, behind the others.
+/// Adds a record, which has this text, after the others.
 fn add_record<S: Scheme>(
     alloc: Global,
     store: &mut Store<S>,
@@ -99,31 +98,22 @@ fn add_record<S: Scheme>(
     requires lawful { IsLawful (standing S.verifies store.old) (store.old.records ++ item ∷ []) }
     ensures { OnOk result (store.new ≡ with_records store.old (store.old.records ++ item ∷ [])) }
 {
-    match item {
-        Record::Birth { node, roster } => store.add_birth(node, roster, text),
-        Record::OwnPut { update, value } => {
-            let id = id_of(alloc, &update)?;
-            store.add_put(update, id, value, text)
-        }
-        Record::OwnVoucher { voucher } => {
-            let id = digest_behind_tag(text.as_slice());
-            store.add_voucher(voucher, id, text)
-        }
-        Record::Foreign { signed } => {
-            let id = Hash32::new(Sha256::digest(signed.body.as_slice()));
-            store.add_foreign(signed, id, text)
-        }
-        Record::Conviction { proof } => store.add_conviction(&proof, text),
-        Record::Held { value } => {
-            let hash = Hash32::new(Sha256::digest(value.bytes()));
-            store.add_held(value, hash, text)
-        }
-    }
+    let hash = kept_hash(&item, text.as_slice());
+    let growth = Growth::of_text(alloc, item, hash, text)?;
+    store.append(growth)
 }
 
-/// SHA-256 of a record's text without its tag.
-fn digest_behind_tag(text: &[u8]) -> Hash32
-    ensures { (rest : List ℕ) (tag : ℕ) → text.now ≡ tag ∷ rest → result ≡ sha256 rest }
+/// The hash by which a record of this text is kept. The bytes of the text are hashed, and nothing is encoded.
+fn kept_hash(item: &Record, text: &[u8]) -> Hash32
+    requires { IsTextOf item.now text.now }
+    ensures { IsHashOf item.now result }
 {
-    Hash32::new(Sha256::digest(text.get(1..).unwrap_or(&[])))
+    match item {
+        Record::OwnPut { .. } => id_in_own_put(text),
+        Record::OwnVoucher { .. } => id_in_own_voucher(text),
+        Record::Foreign { signed } => hash_of(signed.body.as_slice()),
+        Record::Held { value } => hash_of(value.bytes()),
+        Record::Birth { .. } => Hash32::zeros(),
+        Record::Conviction { .. } => Hash32::zeros(),
+    }
 }

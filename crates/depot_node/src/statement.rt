@@ -1,201 +1,118 @@
-//! Statements that are taken.
-ghost use Rattle.std.specs.Prelude.{◌≡◌, ◌<◌, [], ◌∷◌, length, false, IfOk, Ok, Err, Some, None};
-ghost use Rattle.depot_base.specs.declared.check.Check.TheVariants as check;
-ghost use Rattle.depot_base.specs.declared.record.Record.TheVariants.{Foreign, Conviction};
+//! What is decided of a statement.
+ghost use Rattle.std.specs.Prelude.{◌≡◌, [], ◌∷◌, IfOk, Err, Some};
+ghost use Rattle.depot_base.specs.declared.record.Record.TheVariants.{Conviction};
 ghost use Rattle.depot_model.specs.Checks.{given_statement, answer_to, growth};
-ghost use Rattle.depot_model.specs.Conviction.{proof_of};
-ghost use Rattle.depot_model.specs.Journal.{foreign};
-ghost use Rattle.depot_model.specs.Lawful.{IsLawful, is_empty};
-ghost use Rattle.depot_model.specs.Taking.{TakesStatement};
-ghost use Rattle.depot_model.specs.Texts.{IsSigned, IsProof, id_of_statement};
+ghost use Rattle.depot_model.specs.Texts.{IsSigned, IsProof, id_of_statement, text_of_signed};
 ghost use Rattle.depot_accept.specs.Answers.{IsNew, AreDue};
-ghost use Rattle.depot_store.specs.View.{standing};
-ghost use Rattle.depot_node.specs.Answering.{Answers, IsDueBy};
+ghost use Rattle.depot_store.specs.Holdings.{standing};
+ghost use Rattle.depot_node.specs.Deciding.{DecidesStatement, IsDecided, IsDueBy};
 
+use crate::decision::Decision;
 use depot_accept::{CheckError, Found, Pass};
-use depot_base::{Check, DecodeError, Hash32, Memory, Proof, Signed};
+use depot_base::{Check, DecodeError, Hash32, Memory, Proof, Record, Signed};
 use depot_judge::make_proof;
-use depot_model::{Scheme, TakeError, Taken};
-use depot_store::Store;
-use depot_update::{decode_signed, encode_conviction, encode_foreign};
-use sha2::{Digest, Sha256};
+use depot_model::{Scheme, Taken, hash_of};
+use depot_store::{Growth, Store};
+use depot_update::{decode_signed, foreign_of_text};
 use std::alloc::Global;
 
-/// Takes the text of a signed statement: the journal grows by what the checks say of it.
-pub fn take_statement<S: Scheme>(
+/// What is decided of the text of a signed statement: what the checks say.
+pub fn decide_statement<S: Scheme>(
     alloc: Global,
-    store: &mut Store<S>,
+    store: &Store<S>,
     text: &[u8],
-) -> Result<Taken, TakeError>
-    requires lawful { IsLawful (standing S.verifies store.old) store.old.records }
-    requires some { is_empty store.old.records ≡ false }
-    ensures takes { TakesStatement (standing S.verifies store.old) store.old.records text.now result store.new.records }
-    ensures stands { standing S.verifies store.new ≡ standing S.verifies store.old }
+) -> Result<Decision, Memory>
+    ensures { IfOk result (λ d. DecidesStatement (standing S.verifies store.now) store.now.records text.now d.answer d.growth) }
 {
     match decode_signed(alloc, text) {
-        Ok(signed) => take_signed(alloc, store, signed),
-        Err(DecodeError::Memory) => Err(TakeError::Memory),
-        Err(DecodeError::IllFormed(at)) => Err(TakeError::Refused(Check::IllFormed(at))),
+        Ok(signed) => decide_signed(alloc, store, signed, text),
+        Err(DecodeError::Memory) => Err(Memory),
+        Err(DecodeError::IllFormed(at)) => Ok(Decision::of(alloc, Err(Check::IllFormed(at)))),
     }
 }
 
-/// Takes a signed statement. Its body is hashed once.
-fn take_signed<S: Scheme>(
+/// What is decided of a signed statement of this text. Its body is hashed once.
+fn decide_signed<S: Scheme>(
     alloc: Global,
-    store: &mut Store<S>,
+    store: &Store<S>,
     signed: Signed,
-) -> Result<Taken, TakeError>
-    requires text { IsSigned signed }
-    requires lawful { IsLawful (standing S.verifies store.old) store.old.records }
-    requires some { is_empty store.old.records ≡ false }
-    ensures answers { Answers (standing S.verifies store.old) store.old.records (given_statement signed) result store.new.records }
-    ensures stands { standing S.verifies store.new ≡ standing S.verifies store.old }
+    text: &[u8],
+) -> Result<Decision, Memory>
+    requires signed { IsSigned signed }
+    requires text { text.now ≡ text_of_signed signed }
+    ensures { IfOk result (λ d. IsDecided (standing S.verifies store.now) store.now.records (given_statement signed) d.answer d.growth) }
 {
-    let id = Hash32::new(Sha256::digest(signed.body.as_slice()));
+    let id = hash_of(signed.body.as_slice());
     match store.state().check(&signed, &id) {
-        Ok(Pass::Known) => Ok(Taken::Known),
-        Ok(Pass::Voucher) => accept(alloc, store, signed, id),
-        Ok(Pass::Update(found)) => accept_update(alloc, store, signed, id, found),
-        Err(CheckError::Memory) => Err(TakeError::Memory),
+        Ok(Pass::Known) => Ok(Decision::of(alloc, Ok(Taken::Known))),
+        Ok(Pass::Voucher) => accept(alloc, store, signed, id, text, None),
+        Ok(Pass::Update(found)) => accept(alloc, store, signed, id, text, found),
+        Err(CheckError::Memory) => Err(Memory),
         Err(CheckError::Refused { check, against }) => {
             refuse(alloc, store, &signed, check, against)
         }
     }
 }
 
-/// Keeps a new update, by which the conviction of its writer may be due.
-fn accept_update<S: Scheme>(
-    alloc: Global,
-    store: &mut Store<S>,
-    signed: Signed,
-    id: Hash32,
-    found: Option<Found>,
-) -> Result<Taken, TakeError>
-    requires text { IsSigned signed }
-    requires id { id ≡ id_of_statement signed.statement }
-    requires lawful { IsLawful (standing S.verifies store.old) store.old.records }
-    requires some { is_empty store.old.records ≡ false }
-    requires new { IsNew (standing S.verifies store.old) store.old.records signed found }
-    ensures answers { Answers (standing S.verifies store.old) store.old.records (given_statement signed) result store.new.records }
-    ensures stands { standing S.verifies store.new ≡ standing S.verifies store.old }
-{
-    match found {
-        None => accept(alloc, store, signed, id),
-        Some(found) => accept_convicting(alloc, store, signed, id, found),
-    }
-}
-
-/// Keeps a new statement.
+/// A new statement of this text is kept, after the conviction of its writer if one is due. Its record is the text as it came
+/// after a tag.
 fn accept<S: Scheme>(
     alloc: Global,
-    store: &mut Store<S>,
+    store: &Store<S>,
     signed: Signed,
     id: Hash32,
-) -> Result<Taken, TakeError>
-    requires text { IsSigned signed }
+    text: &[u8],
+    found: Option<Found>,
+) -> Result<Decision, Memory>
+    requires signed { IsSigned signed }
+    requires text { text.now ≡ text_of_signed signed }
     requires id { id ≡ id_of_statement signed.statement }
-    requires lawful { IsLawful (standing S.verifies store.old) store.old.records }
-    requires some { is_empty store.old.records ≡ false }
-    requires new { IsNew (standing S.verifies store.old) store.old.records signed None }
-    ensures answers { Answers (standing S.verifies store.old) store.old.records (given_statement signed) result store.new.records }
-    ensures stands { standing S.verifies store.new ≡ standing S.verifies store.old }
+    requires new { IsNew (standing S.verifies store.now) store.now.records signed found }
+    ensures { IfOk result (λ d. IsDecided (standing S.verifies store.now) store.now.records (given_statement signed) d.answer d.growth) }
 {
-    let Ok(text) = encode_foreign(alloc, &signed) else {
-        return Err(TakeError::Memory);
-    };
-    if let Some(full) = store.full_with_foreign(&signed, &text) {
-        return Err(TakeError::Full(full));
-    }
-    match store.add_foreign(signed, id, text) {
-        Ok(()) => Ok(Taken::New),
-        Err(_) => Err(TakeError::Memory),
+    let text = foreign_of_text(alloc, text)?;
+    match found {
+        None => {
+            let growth = Growth::of_text(alloc, Record::Foreign { signed }, id, text)?;
+            Ok(Decision {
+                answer: Ok(Taken::New),
+                growth,
+            })
+        }
+        Some(found) => {
+            let proof = proof_by(store, found, &signed)?;
+            let growth = Growth::convicting(alloc, proof, signed, id, text)?;
+            Ok(Decision {
+                answer: Ok(Taken::New),
+                growth,
+            })
+        }
     }
 }
 
-/// Keeps a new update behind the conviction of its writer.
-fn accept_convicting<S: Scheme>(
-    alloc: Global,
-    store: &mut Store<S>,
-    signed: Signed,
-    id: Hash32,
-    found: Found,
-) -> Result<Taken, TakeError>
-    requires text { IsSigned signed }
-    requires id { id ≡ id_of_statement signed.statement }
-    requires lawful { IsLawful (standing S.verifies store.old) store.old.records }
-    requires some { is_empty store.old.records ≡ false }
-    requires new { IsNew (standing S.verifies store.old) store.old.records signed (Some found) }
-    ensures answers { Answers (standing S.verifies store.old) store.old.records (given_statement signed) result store.new.records }
-    ensures stands { standing S.verifies store.new ≡ standing S.verifies store.old }
-{
-    let Ok(proof) = proof_by(store, found, &signed) else {
-        return Err(TakeError::Memory);
-    };
-    let Ok(proof_text) = encode_conviction(alloc, &proof) else {
-        return Err(TakeError::Memory);
-    };
-    let Ok(text) = encode_foreign(alloc, &signed) else {
-        return Err(TakeError::Memory);
-    };
-    if let Some(full) = store.full_with_both(&proof_text, &signed, &text) {
-        return Err(TakeError::Full(full));
-    }
-    match store.add_convicting(&proof, proof_text, signed, id, text) {
-        Ok(()) => Ok(Taken::New),
-        Err(_) => Err(TakeError::Memory),
-    }
-}
-
-/// Refuses a statement by the first check that fails, and keeps the conviction of its writer if one is due.
+/// A statement is refused by the first check that fails, and the conviction of its writer kept if one is due.
 fn refuse<S: Scheme>(
     alloc: Global,
-    store: &mut Store<S>,
+    store: &Store<S>,
     signed: &Signed,
     check: Check,
     against: Option<Found>,
-) -> Result<Taken, TakeError>
+) -> Result<Decision, Memory>
     requires text { IsSigned signed.now }
-    requires lawful { IsLawful (standing S.verifies store.old) store.old.records }
-    requires some { is_empty store.old.records ≡ false }
-    requires failed { answer_to (standing S.verifies store.old) store.old.records (given_statement signed.now) ≡ Err check }
-    requires due { AreDue store.old.records signed.now against (growth (standing S.verifies store.old) store.old.records (given_statement signed.now)) }
-    ensures answers { Answers (standing S.verifies store.old) store.old.records (given_statement signed.now) result store.new.records }
-    ensures stands { standing S.verifies store.new ≡ standing S.verifies store.old }
+    requires failed { answer_to (standing S.verifies store.now) store.now.records (given_statement signed.now) ≡ Err check }
+    requires due { AreDue store.now.records signed.now against (growth (standing S.verifies store.now) store.now.records (given_statement signed.now)) }
+    ensures { IfOk result (λ d. IsDecided (standing S.verifies store.now) store.now.records (given_statement signed.now) d.answer d.growth) }
 {
     match against {
-        None => Err(TakeError::Refused(check)),
-        Some(found) => refuse_convicting(alloc, store, signed, check, found),
-    }
-}
-
-/// Refuses a statement by the first check that fails, and keeps the conviction of its writer.
-fn refuse_convicting<S: Scheme>(
-    alloc: Global,
-    store: &mut Store<S>,
-    signed: &Signed,
-    check: Check,
-    found: Found,
-) -> Result<Taken, TakeError>
-    requires text { IsSigned signed.now }
-    requires lawful { IsLawful (standing S.verifies store.old) store.old.records }
-    requires some { is_empty store.old.records ≡ false }
-    requires failed { answer_to (standing S.verifies store.old) store.old.records (given_statement signed.now) ≡ Err check }
-    requires due { AreDue store.old.records signed.now (Some found) (growth (standing S.verifies store.old) store.old.records (given_statement signed.now)) }
-    ensures answers { Answers (standing S.verifies store.old) store.old.records (given_statement signed.now) result store.new.records }
-    ensures stands { standing S.verifies store.new ≡ standing S.verifies store.old }
-{
-    let Ok(proof) = proof_by(store, found, signed) else {
-        return Err(TakeError::Memory);
-    };
-    let Ok(text) = encode_conviction(alloc, &proof) else {
-        return Err(TakeError::Memory);
-    };
-    if let Some(full) = store.full_with(&text) {
-        return Err(TakeError::Full(full));
-    }
-    match store.add_conviction(&proof, text) {
-        Ok(()) => Err(TakeError::Refused(check)),
-        Err(_) => Err(TakeError::Memory),
+        None => Ok(Decision::of(alloc, Err(check))),
+        Some(found) => {
+            let proof = proof_by(store, found, signed)?;
+            let growth = Growth::one(alloc, Record::Conviction { proof }, Hash32::zeros())?;
+            Ok(Decision {
+                answer: Err(check),
+                growth,
+            })
+        }
     }
 }
 

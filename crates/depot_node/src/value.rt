@@ -1,82 +1,54 @@
-//! Values that are taken.
-ghost use Rattle.std.specs.Prelude.{◌≡◌, ◌≤◌, false, length, IfOk};
-ghost use Rattle.sha2.specs.Sha256.{sha256};
+//! What is decided of a value.
+ghost use Rattle.std.specs.Prelude.{IfOk};
 ghost use Rattle.depot_base.specs.Sized.{IsValue};
 ghost use Rattle.depot_model.specs.Checks.{given_value};
-ghost use Rattle.depot_model.specs.Journal.{accepted, is_wanted};
-ghost use Rattle.depot_model.specs.Lawful.{IsLawful, is_empty};
-ghost use Rattle.depot_model.specs.Taking.{TakesValue};
-ghost use Rattle.depot_store.specs.View.{standing};
-ghost use Rattle.depot_node.specs.Answering.{Answers};
+ghost use Rattle.depot_store.specs.Holdings.{standing};
+ghost use Rattle.depot_node.specs.Deciding.{DecidesValue, IsDecided};
 
-use depot_base::{Check, Hash32, Value};
-use depot_graph::Graph;
-use depot_model::{Past, Scheme, TakeError, Taken};
-use depot_store::Store;
-use depot_update::encode_held;
-use sha2::{Digest, Sha256};
+use crate::decision::Decision;
+use depot_base::limits::MOST_VALUE;
+use depot_base::{Check, Memory, Record, Value};
+use depot_model::{Scheme, Taken, hash_of};
+use depot_store::{Growth, Store};
 use std::alloc::Global;
 
-/// Takes a value: it is kept where an accepted update names its hash and its length, unless one of its hash is held.
-pub fn take_value<S: Scheme>(
+/// What is decided of a value: it is kept where an accepted update names its hash and its length, unless one of its hash is
+/// held.
+pub fn decide_value<S: Scheme>(
     alloc: Global,
-    store: &mut Store<S>,
+    store: &Store<S>,
     text: &[u8],
-) -> Result<Taken, TakeError>
-    requires lawful { IsLawful (standing S.verifies store.old) store.old.records }
-    requires some { is_empty store.old.records ≡ false }
-    ensures takes { TakesValue (standing S.verifies store.old) store.old.records text.now result store.new.records }
-    ensures stands { standing S.verifies store.new ≡ standing S.verifies store.old }
+) -> Result<Decision, Memory>
+    ensures { IfOk result (λ d. DecidesValue (standing S.verifies store.now) store.now.records text.now d.answer d.growth) }
 {
-    if text.len() > Value::MOST {
-        return Err(TakeError::Refused(Check::IllFormed(Value::MOST as u32)));
+    if text.len() > MOST_VALUE {
+        return Ok(Decision::of(alloc, Err(Check::IllFormed(MOST_VALUE as u32))));
     }
-    take_short(alloc, store, text)
+    decide_short(alloc, store, text)
 }
 
-/// Takes a value of at most 65,536 bytes. It is hashed once.
-fn take_short<S: Scheme>(
+/// What is decided of a value of at most 65,536 bytes. It is hashed once.
+fn decide_short<S: Scheme>(
     alloc: Global,
-    store: &mut Store<S>,
+    store: &Store<S>,
     bytes: &[u8],
-) -> Result<Taken, TakeError>
-    requires value { IsValue bytes.now }
-    requires lawful { IsLawful (standing S.verifies store.old) store.old.records }
-    requires some { is_empty store.old.records ≡ false }
-    ensures answers { Answers (standing S.verifies store.old) store.old.records (given_value bytes.now) result store.new.records }
-    ensures stands { standing S.verifies store.new ≡ standing S.verifies store.old }
+) -> Result<Decision, Memory>
+    requires { IsValue bytes.now }
+    ensures { IfOk result (λ d. IsDecided (standing S.verifies store.now) store.now.records (given_value bytes.now) d.answer d.growth) }
 {
-    let hash = Hash32::new(Sha256::digest(bytes));
+    let hash = hash_of(bytes);
     if store.value(&hash).is_some() {
-        return Ok(Taken::Known);
+        return Ok(Decision::of(alloc, Ok(Taken::Known)));
     }
-    if !is_wanted(store.state().graph(), &hash, bytes.len()) {
-        return Err(TakeError::Refused(Check::Unwanted(hash)));
+    if !store.is_wanted(&hash, bytes.len() as u32) {
+        return Ok(Decision::of(alloc, Err(Check::Unwanted(hash))));
     }
     let Ok(value) = Value::new(alloc, bytes) else {
-        return Err(TakeError::Memory);
+        return Err(Memory);
     };
-    let Ok(text) = encode_held(alloc, &value) else {
-        return Err(TakeError::Memory);
-    };
-    if let Some(full) = store.full_with(&text) {
-        return Err(TakeError::Full(full));
-    }
-    match store.add_held(value, hash, text) {
-        Ok(()) => Ok(Taken::New),
-        Err(_) => Err(TakeError::Memory),
-    }
-}
-
-/// Whether an accepted update names a value of this hash and of this length.
-fn is_wanted(graph: &Graph, hash: &Hash32, length: usize) -> bool
-    ensures { result ≡ is_wanted (⟦<Graph as Past>⟧.updates graph.now) hash.now length }
-{
-    for item in 0..graph.count() {
-        let update = graph.update(item);
-        if update.value_hash == *hash && update.value_len as usize == length {
-            return true;
-        }
-    }
-    false
+    let growth = Growth::one(alloc, Record::Held { value }, hash)?;
+    Ok(Decision {
+        answer: Ok(Taken::New),
+        growth,
+    })
 }

@@ -1,5 +1,5 @@
 -- How much a lawful journal can hold.
-use Rattle.std.proofs.Common.{◌≡◌, ℕ, ◌+◌, ◌<◌, ◌≤◌, ◌^◌, List, [], ◌∷◌, ◌++◌, length, ap, arith, length-append}
+use Rattle.std.proofs.Common.{◌≡◌, ℕ, ◌+◌, ◌<◌, ◌≤◌, List, [], ◌∷◌, ◌++◌, length, ap, arith, length-append}
 use Rattle.depot_base.specs.declared.record.Record.{Record}
 use Rattle.depot_base.specs.declared.record.Record.TheVariants.{Birth, OwnPut, OwnVoucher, Foreign, Conviction, Held}
 use Rattle.depot_base.specs.declared.statement.Signed.{Signed}
@@ -7,16 +7,15 @@ use Rattle.depot_base.specs.declared.update.Update.{Update}
 use Rattle.depot_model.specs.Checks.{Setting}
 use Rattle.depot_model.specs.Journal.{accepted, foreign, foreign_by, own}
 use Rattle.depot_model.specs.Lawful.{IsLawful}
-use Rattle.depot_model.specs.Records.{text_of_record, journal_bytes}
+use Rattle.depot_model.specs.Records.{journal_bytes}
 use Rattle.depot_laws.proofs.Counts.{bytes_more}
 use Rattle.depot_laws.proofs.Limits.{within_from_room}
 use Rattle.depot_laws.proofs.OwnTexts.{few_own, lawful_is_short}
 use Rattle.depot_laws.proofs.Splits.{lawful_front, lawful_last}
-use Rattle.depot_store.specs.Told.{IsTextOf}
+use Rattle.depot_store.specs.NewRecords.{bytes_of}
 use Rattle.depot_store.specs.Totals.{AreTotals}
 use Rattle.depot_store.specs.declared.totals.Totals.{Totals}
 use Rattle.depot_store.proofs.LeafLaws.{few_accepted}
-use Rattle.depot_store.proofs.TotalLaws.{bytes_push}
 
 one_foreign : (r : Record) → length (foreign_by r) ≤ 1
 one_foreign (Birth node h) = omega arith
@@ -37,7 +36,6 @@ record AreWithin (J : List Record) (r : Record) : Type 0 where
   pub accepted : length (accepted J) < 131072
   pub foreign : length (foreign J) < 131072
   pub own : length (own J) < 131072
-  pub bytes : journal_bytes J + (5 + length (text_of_record r)) ≤ 2 ^ 30
 
 within : (here : Setting) (J : List Record) (r : Record) → IsLawful here (J ++ r ∷ []) → AreWithin J r
 within here J r l =
@@ -48,7 +46,6 @@ within here J r l =
       accepted = omega (arith, few, few_accepted J);
       foreign = omega (arith, few, few_foreign J);
       own = omega (arith, few, few_own J);
-      bytes = omega (arith, w.bytes, bytes_more J (r ∷ []));
     }
 
 -- few enough that one more can be counted
@@ -61,17 +58,10 @@ few_statements here J r kept l is = let w = within here J r l in omega (arith, w
 pub few_of_own : (here : Setting) (me : ℕ) (J : List Record) (r : Record) (t : Totals) → IsLawful here (J ++ r ∷ []) → AreTotals me J t → t.own < 131072
 few_of_own here me J r t l a = let w = within here J r l in omega (arith, w.own, a.own)
 
--- the bytes with those of the record
-pub few_bytes : (here : Setting) (J : List Record) (r : Record) (text : List ℕ) (size bytes : ℕ) → IsLawful here (J ++ r ∷ []) → IsTextOf r text → size ≡ 5 + length text → bytes ≡ journal_bytes J → bytes + size ≤ 2 ^ 30
-few_bytes here J r text size bytes l told is counted = let w = within here J r l in omega (arith, w.bytes, counted, is, ap length told.is)
+-- the records in front of others
+pub few_records : (here : Setting) (J more : List Record) → IsLawful here (J ++ more) → length J ≤ 131072
+few_records here J more l = lawful_is_short here J (lawful_front here J more l)
 
--- and the records in front of it
-pub few_records : (here : Setting) (J mid more : List Record) → IsLawful here (J ++ more) → mid ≡ J → length mid ≤ 131072
-few_records here J mid more l same = omega (arith, lawful_is_short here J (lawful_front here J more l), ap length same)
-
--- the bytes with those of two records
-pub few_bytes_both : (here : Setting) (J mid : List Record) (r q : Record) (text other : List ℕ) (size more : ℕ) → IsLawful here ((J ++ r ∷ []) ++ q ∷ []) → IsTextOf r text → size ≡ 5 + length text → IsTextOf q other → more ≡ 5 + length other → mid ≡ J
-    → journal_bytes mid + (size + more) ≤ 2 ^ 30
-few_bytes_both here J mid r q text other size more l told is other_told other_is same =
-    let w = within here (J ++ r ∷ []) q l in
-    omega (arith, w.bytes, bytes_push J r text size told is, other_is, ap length other_told.is, ap journal_bytes same)
+-- the bytes of a journal with those of more records
+pub bytes_with : (J mid new : List Record) (bytes more : ℕ) → J ≡ mid → bytes ≡ journal_bytes J → more ≡ bytes_of new → bytes + more ≡ journal_bytes (mid ++ new)
+bytes_with J mid new bytes more same counted is = omega (arith, counted, is, ap journal_bytes same, bytes_more mid new)

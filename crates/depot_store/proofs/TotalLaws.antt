@@ -1,5 +1,5 @@
 -- What is counted, with one record more.
-use Rattle.std.proofs.Common.{◌≡◌, ℕ, ◌+◌, max, List, [], ◌∷◌, ◌++◌, length, refl, sym, ap, ◌∙◌, arith, length-append}
+use Rattle.std.proofs.Common.{◌≡◌, ℕ, ◌+◌, max, List, [], ◌∷◌, ◌++◌, length, Some, refl, sym, ap, ◌∙◌, arith, length-append}
 use Rattle.std.proofs.lemmas.List.{append-nil}
 use Rattle.depot_base.specs.Zeros.{zeros}
 use Rattle.depot_base.specs.declared.proof.Proof.{Proof}
@@ -12,23 +12,17 @@ use Rattle.depot_base.specs.declared.update.Update.{Update}
 use Rattle.depot_base.specs.declared.voucher.Voucher.{Voucher}
 use Rattle.depot_model.specs.Checks.{Setting}
 use Rattle.depot_model.specs.History.{greatest_clock}
-use Rattle.depot_model.specs.Journal.{accepted, accepted_by, own, own_by, last_own, last_own_behind, update_in}
+use Rattle.depot_model.specs.Journal.{accepted, accepted_by, own, own_by, last_own_behind, update_in}
 use Rattle.depot_model.specs.Lawful.{IsLawful}
-use Rattle.depot_model.specs.Records.{journal_bytes}
 use Rattle.depot_model.specs.Room.{foreign_leaves}
 use Rattle.depot_model.specs.Texts.{id_of_update}
-use Rattle.depot_laws.proofs.Counts.{bytes_more, put_count, silent_leaves, taken_count}
+use Rattle.depot_laws.proofs.Counts.{put_count, silent_leaves, taken_count}
 use Rattle.depot_laws.proofs.Splits.{accepted_push, flat_push, lawful_front, lawful_last, silent}
-use Rattle.depot_store.specs.Room.{number_after}
-use Rattle.depot_store.specs.Told.{IsTextOf}
-use Rattle.depot_store.specs.Totals.{AreTotals}
+use Rattle.depot_store.specs.RoomByCounts.{leaves_then, number_after}
+use Rattle.depot_store.specs.Totals.{AreTotals, AreTaken}
 use Rattle.depot_store.specs.declared.totals.Totals.{Totals}
 
 -- ---- each count
-
--- the bytes that a record takes
-pub bytes_push : (J : List Record) (r : Record) (text : List ℕ) (size : ℕ) → IsTextOf r text → size ≡ 5 + length text → journal_bytes J + size ≡ journal_bytes (J ++ r ∷ [])
-bytes_push J r text size told is = omega (arith, bytes_more J (r ∷ []), is, ap length told.is)
 
 last_push : (h : List ℕ) (ss : List Statement) (s : Statement) → last_own_behind h (ss ++ s ∷ []) ≡ last_own_behind (last_own_behind h ss) (s ∷ [])
 last_push h [] s = refl
@@ -50,12 +44,15 @@ clock_with us s u n m is greatest old = greatest ∙ ap (max u.clock) old ∙ sy
 pub clock_without : (us : List Update) (s : Statement) (v : Voucher) (n : ℕ) → s ≡ statements.Voucher v → n ≡ greatest_clock us → n ≡ greatest_clock (us ++ update_in s)
 clock_without us s v n is old = old ∙ ap greatest_clock (sym (append-nil us)) ∙ ap (λ (x : Statement). greatest_clock (us ++ update_in x)) (sym is)
 
+-- the leaves with those of a statement that is an update
+pub number_with : (us : List Update) (leaves n : ℕ) (s : Statement) → Some n ≡ leaves_then us leaves s → n ≡ number_after us leaves s
+number_with us leaves n (statements.Update u) e = cc
+number_with us leaves n (statements.Voucher v) e = absurd cc
+
 -- ---- a record that brings no update, and is no own statement
 
-pub silent_totals : (me : ℕ) (J : List Record) (r : Record) (t : Totals) (text : List ℕ) (size : ℕ) → IsTextOf r text → size ≡ 5 + length text → accepted_by r ≡ [] → own_by r ≡ [] → AreTotals me J t
-    → AreTotals me (J ++ r ∷ []) (record { bytes = t.bytes + size; own = t.own; leaves = t.leaves; clock = t.clock; last = t.last })
-silent_totals me J r t text size told is no_update no_own a = record {
-  bytes = ap (λ (n : ℕ). n + size) a.bytes ∙ bytes_push J r text size told is;
+pub silent_totals : (me : ℕ) (J : List Record) (r : Record) (t : Totals) → accepted_by r ≡ [] → own_by r ≡ [] → AreTotals me J t → AreTotals me (J ++ r ∷ []) t
+silent_totals me J r t no_update no_own a = record {
   own = a.own ∙ ap length (sym (silent own_by J r no_own));
   leaves = a.leaves ∙ ap length (sym (silent_leaves me J r no_update));
   clock = a.clock ∙ ap greatest_clock (sym (silent accepted_by J r no_update));
@@ -70,10 +67,8 @@ own_push J r s brings = flat_push own_by J r ∙ ap (λ (ss : List Statement). o
 own_more : (J : List Record) (r : Record) (s : Statement) (n : ℕ) → own_by r ≡ s ∷ [] → n ≡ length (own J) → n + 1 ≡ length (own (J ++ r ∷ []))
 own_more J r s n brings is = omega (arith, is, ap length (own_push J r s brings), length-append (own J) (s ∷ []))
 
-pub voucher_totals : (me : ℕ) (J : List Record) (v : Voucher) (t : Totals) (text : List ℕ) (size : ℕ) → IsTextOf (OwnVoucher v) text → size ≡ 5 + length text → AreTotals me J t
-    → AreTotals me (J ++ OwnVoucher v ∷ []) (record { bytes = t.bytes + size; own = t.own + 1; leaves = t.leaves; clock = t.clock; last = t.last })
-voucher_totals me J v t text size told is a = record {
-  bytes = ap (λ (n : ℕ). n + size) a.bytes ∙ bytes_push J (OwnVoucher v) text size told is;
+pub voucher_totals : (me : ℕ) (J : List Record) (v : Voucher) (t : Totals) → AreTotals me J t → AreTotals me (J ++ OwnVoucher v ∷ []) (record { own = t.own + 1; leaves = t.leaves; clock = t.clock; last = t.last })
+voucher_totals me J v t a = record {
   own = own_more J (OwnVoucher v) (statements.Voucher v) t.own refl a.own;
   leaves = a.leaves ∙ ap length (sym (silent_leaves me J (OwnVoucher v) refl));
   clock = a.clock ∙ ap greatest_clock (sym (silent accepted_by J (OwnVoucher v) refl));
@@ -82,12 +77,11 @@ voucher_totals me J v t text size told is a = record {
 
 -- ---- an own update
 
-pub put_totals : (here : Setting) (J : List Record) (u : Update) (value : List ℕ) (t : Totals) (text id : List ℕ) (size clock : ℕ) → IsLawful here (J ++ OwnPut u value ∷ []) → IsTextOf (OwnPut u value) text → size ≡ 5 + length text → id ≡ id_of_update u
-    → clock ≡ max u.clock t.clock → AreTotals here.me J t → AreTotals here.me (J ++ OwnPut u value ∷ []) (record { bytes = t.bytes + size; own = t.own + 1; leaves = t.leaves; clock = clock; last = id })
-put_totals here J u value t text id size clock l told is named greatest a =
+pub put_totals : (here : Setting) (J : List Record) (u : Update) (value : List ℕ) (t : Totals) (id : List ℕ) (clock : ℕ) → IsLawful here (J ++ OwnPut u value ∷ []) → id ≡ id_of_update u → clock ≡ max u.clock t.clock → AreTotals here.me J t
+    → AreTotals here.me (J ++ OwnPut u value ∷ []) (record { own = t.own + 1; leaves = t.leaves; clock = clock; last = id })
+put_totals here J u value t id clock l named greatest a =
     let may = (lawful_last here J (OwnPut u value) l).may in
     record {
-      bytes = ap (λ (n : ℕ). n + size) a.bytes ∙ bytes_push J (OwnPut u value) text size told is;
       own = own_more J (OwnPut u value) (statements.Update u) t.own refl a.own;
       leaves = a.leaves ∙ sym (put_count here J u u.key value (lawful_front here J (OwnPut u value ∷ []) l) may.next may.fresh);
       clock = greatest ∙ ap (max u.clock) a.clock ∙ sym (ap greatest_clock (accepted_push J (OwnPut u value)) ∙ clock_push (accepted J) u);
@@ -102,23 +96,15 @@ leaves_after here J s l = by_kind s.statement refl where
   by_kind (statements.Update u) is = sym (taken_count here J s u (lawful_front here J (Foreign s ∷ []) l) is (lawful_last here J (Foreign s) l).may.0)
   by_kind (statements.Voucher v) is = sym (ap length (silent_leaves here.me J (Foreign s) (ap update_in is)))
 
--- the counts once the statement is taken, but for the bytes
-pub record AreTaken (me : ℕ) (J : List Record) (s : Statement) (t : Totals) : Type 0 where
-  pub own : t.own ≡ length (own J)
-  pub leaves : t.leaves ≡ number_after (accepted J) (length (foreign_leaves me J)) s
-  pub clock : t.clock ≡ greatest_clock (accepted J ++ update_in s)
-  pub last : t.last ≡ last_own J
-
-pub taken_totals : (here : Setting) (J : List Record) (s : Signed) (t : Totals) → IsLawful here (J ++ Foreign s ∷ []) → t.bytes ≡ journal_bytes (J ++ Foreign s ∷ []) → AreTaken here.me J s.statement t → AreTotals here.me (J ++ Foreign s ∷ []) t
-taken_totals here J s t l bytes a = record {
-  bytes = bytes;
+pub taken_totals : (here : Setting) (J : List Record) (s : Signed) (t : Totals) → IsLawful here (J ++ Foreign s ∷ []) → AreTaken here.me J s.statement t → AreTotals here.me (J ++ Foreign s ∷ []) t
+taken_totals here J s t l a = record {
   own = a.own ∙ ap length (sym (silent own_by J (Foreign s) refl));
   leaves = a.leaves ∙ leaves_after here J s l;
   clock = a.clock ∙ ap greatest_clock (sym (accepted_push J (Foreign s)));
   last = a.last ∙ ap (last_own_behind zeros) (sym (silent own_by J (Foreign s) refl));
 }
 
--- a conviction in front changes only the bytes
+-- a conviction in front changes nothing
 pub taken_behind : (me : ℕ) (J : List Record) (p : Proof) (s : Statement) (t : Totals) → AreTaken me J s t → AreTaken me (J ++ Conviction p ∷ []) s t
 taken_behind me J p s t a =
     let updates : accepted J ≡ accepted (J ++ Conviction p ∷ []) = sym (silent accepted_by J (Conviction p) refl) in

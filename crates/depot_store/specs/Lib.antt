@@ -1,7 +1,7 @@
-pub mod View
-pub mod Told
+pub mod Holdings
+pub mod RecordTexts
 pub mod Totals
-pub mod Room
-pub mod Keeping
-pub mod Codes
-pub mod Facts
+pub mod RoomByCounts
+pub mod NewRecords
+pub mod StoreParts
+pub mod Named

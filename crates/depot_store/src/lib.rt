@@ -1,20 +1,26 @@
 //! What a node keeps of its journal: the records, and all that is read off them.
 //!
 //! A `Store` is seen as the node's number, its roster and the list of the records of its journal. A record is kept as its
-//! text. Beside the texts it keeps what the checks look at (`depot_accept::State`), the values by their hash, and counts: of
-//! bytes, of the node's own statements, of the leaves of other writers, and the greatest clock. At each record that is added all
-//! of it is mended; after Memory it is as before.
+//! text. Beside the texts it keeps what the checks look at (`depot_accept::State`), the values by their hash, and counts of
+//! the node's own statements and of the leaves of other writers, and the greatest clock.
 //!
-//! A record is added only where the journal stays lawful with it, which each adding call has as its condition: this crate
-//! decides nothing. It tells the limit that records would pass.
+//! The journal grows by one call alone, `append`, whatever it grows by: a `Growth` is up to two records, decoded, with their texts
+//! and hashes. All that is kept is mended with it; after Memory it is as before. `room_for` tells the limit that a growth would pass.
+//!
+//! A record is appended only where the journal stays lawful with it, which `append` has as its condition: this crate decides
+//! nothing.
 #![tactic(auto)]
 
-mod grow;
+mod growth;
+mod kept;
 mod list;
+mod named;
 mod room;
 mod store;
 mod totals;
 
+pub use growth::Growth;
 pub use list::RecordList;
+pub use room::CommitError;
 pub use store::Store;
 pub use totals::Totals;

@@ -1,30 +1,37 @@
 //! The records of a journal, kept in memory as their texts.
-ghost use Rattle.std.specs.Prelude.{◌≡◌, ◌<◌, ◌≤◌, ◌+◌, ◌++◌, ◌∷◌, [], length, map, OnOk, Some, slice_get};
+ghost use Rattle.std.specs.Prelude.{◌≡◌, ◌<◌, ◌≤◌, ◌+◌, ◌^◌, ◌++◌, [], List, length, map, OnOk, Some, slice_get, vec_len};
+ghost use Rattle.std.specs.Vec.{vec_capacity};
 ghost use Rattle.depot_base.specs.declared.record.Record.{Record};
-ghost use Rattle.depot_model.specs.Records.{text_of_record};
-ghost use Rattle.depot_store.specs.Told.{IsTextOf};
+ghost use Rattle.depot_model.specs.Records.{text_of_record, journal_bytes};
+ghost use Rattle.depot_store.specs.NewRecords.{AreTextsFor, bytes_of};
+ghost use Rattle.depot_store.specs.RecordTexts.{IsTextOf};
 
 use depot_base::{Bytes, Memory, Texts};
 use std::alloc::Global;
 use std::marker::Model;
 
-/// The records of a journal, each kept as its text. They are seen as the list of the records that the texts tell, and the
-/// number of records more that have their memory.
+/// The bytes that a record takes besides its text: its length, and the gate after it.
+const FRAME: u64 = 5;
+
+/// The records of a journal, each kept as its text. They are seen as the list of the records, and the number of records more
+/// that have their memory.
 #[derive(Drop)]
 pub struct RecordList {
     texts: Vec<Bytes>,
+    bytes: u64,
 }
 
 impl Model for RecordList {
-    ghost use Rattle.std.specs.Prelude.{◌-◌, vec_len};
+    ghost use Rattle.std.specs.Prelude.{◌≡◌, ◌-◌, vec_len};
     ghost use Rattle.std.specs.Vec.{vec_capacity};
-    ghost use Rattle.depot_store.specs.Told.{Listed, told, AreTexts};
+    ghost use Rattle.depot_model.specs.Records.{journal_bytes};
+    ghost use Rattle.depot_store.specs.RecordTexts.{Listed, records_of, AreTexts};
 
     ghost Value = { Listed };
 
-    ghost view = { λ l. record { records = told l.texts.items; room = vec_capacity l.texts - vec_len l.texts } };
+    ghost view = { λ l. record { records = records_of l.texts.items; room = vec_capacity l.texts - vec_len l.texts } };
 
-    ghost invariant = { λ l. AreTexts l.texts.items };
+    ghost invariant = { λ l. AreTexts l.texts.items × (l.bytes ≡ journal_bytes (records_of l.texts.items)) };
 }
 
 impl RecordList {
@@ -34,6 +41,7 @@ impl RecordList {
     {
         RecordList {
             texts: Vec::new(alloc),
+            bytes: 1,
         }
     }
 
@@ -42,6 +50,13 @@ impl RecordList {
         ensures { result ≡ length self.now.records }
     {
         self.texts.len()
+    }
+
+    /// The bytes of the journal. It takes no memory.
+    pub fn bytes(&self) -> u64
+        ensures { result ≡ journal_bytes self.now.records }
+    {
+        self.bytes
     }
 
     /// The text of the record of a place, from 0. It takes no memory.
@@ -61,14 +76,15 @@ impl RecordList {
         Ok(())
     }
 
-    /// Adds the record of a text behind the others. It takes no memory but what was found before.
-    pub fn push(&mut self, text: Bytes)
-        requires room { 0 < self.old.room }
-        requires record { (r : Record) × IsTextOf r text }
-        ensures records { (r : Record) → IsTextOf r text → self.new.records ≡ self.old.records ++ r ∷ [] }
-        ensures room { self.old.room ≤ self.new.room + 1 }
+    /// Adds the records of these texts, which take so many bytes, after the others. It takes no memory but what was found
+    /// before.
+    pub fn append_all(&mut self, texts: Vec<Bytes>, bytes: u64)
+        requires room { length texts.items ≤ self.old.room }
+        requires texts { (new : List Record) × (AreTextsFor new texts.items × ((bytes ≡ bytes_of new) × (journal_bytes (self.old.records ++ new) ≤ 2 ^ 30))) }
+        ensures { (new : List Record) → AreTextsFor new texts.items → self.new.records ≡ self.old.records ++ new }
     {
-        let _ = self.texts.push(text);
+        self.bytes += bytes;
+        push_all(&mut self.texts, texts);
     }
 
     /// The texts of the records. It takes no memory.
@@ -77,4 +93,23 @@ impl RecordList {
     {
         Texts::from_vec(self.texts)
     }
+}
+
+/// Pushes texts for which there is room.
+fn push_all(texts: &mut Vec<Bytes>, more: Vec<Bytes>)
+    requires { vec_len texts.old + vec_len more ≤ vec_capacity texts.old }
+    ensures { texts.new.items ≡ texts.old.items ++ more.items }
+{
+    for text in more {
+        texts.push_reserved(text);
+    }
+}
+
+/// The bytes that the record of a text takes.
+pub(crate) fn size_of(text: &Bytes) -> u64
+    requires { (r : Record) × IsTextOf r text.now }
+    ensures size { result ≡ 5 + length text.now }
+    ensures small { result ≤ 108928 }
+{
+    FRAME + text.as_slice().len() as u64
 }

@@ -1,12 +1,18 @@
-//! The store.
-ghost use Rattle.std.specs.Prelude.{◌≡◌, List, [], IfOk, option_copied, map};
-ghost use Rattle.depot_model.specs.Journal.{held, value_with};
+//! A journal in memory, with what is read off it.
+ghost use Rattle.std.specs.Prelude.{◌≡◌, ◌≤◌, ◌++◌, List, [], length, OnOk, OnErr, IfOk, option_copied, map};
+ghost use Rattle.depot_model.specs.Journal.{accepted, held, is_wanted, value_with};
+ghost use Rattle.depot_model.specs.Lawful.{IsLawful};
 ghost use Rattle.depot_model.specs.Records.{text_of_record};
+ghost use Rattle.depot_model.specs.Room.{foreign_leaves};
 ghost use Rattle.depot_accept.specs.View.{IsStateOf, setting};
-ghost use Rattle.depot_store.specs.View.{standing};
+ghost use Rattle.depot_store.specs.RoomByCounts.{leaves_with};
+ghost use Rattle.depot_store.specs.Holdings.{standing, with_records};
 ghost use Rattle.depot_store.specs.Totals.{AreTotals};
 
+use crate::growth::Growth;
+use crate::kept::Kept;
 use crate::list::RecordList;
+use crate::named::{NamedValues, name_in};
 use crate::totals::Totals;
 use depot_accept::State;
 use depot_base::{Hash32, Memory, NodeId, Texts};
@@ -19,21 +25,22 @@ use std::marker::Model;
 /// What a node keeps of its journal.
 #[derive(Drop)]
 pub struct Store<S: Scheme> {
-    pub(crate) state: State<S>,
-    pub(crate) values: Values,
+    pub(crate) kept: Kept<S>,
+    pub(crate) named: NamedValues,
     pub(crate) list: RecordList,
-    pub(crate) totals: Totals,
 }
 
 impl<S: Scheme> Model for Store<S> {
-    ghost use Rattle.depot_store.specs.View.{Holding};
-    ghost use Rattle.depot_store.specs.Keeping.{IsKept};
+    ghost use Rattle.depot_store.specs.Holdings.{Holding};
+    ghost use Rattle.depot_model.specs.Journal.{accepted};
+    ghost use Rattle.depot_store.specs.StoreParts.{IsKept};
+    ghost use Rattle.depot_store.specs.Named.{AreNamed};
 
     ghost Value = { Holding };
 
-    ghost view = { λ s. record { me = s.state.me; listed = s.state.listed; records = s.list.records } };
+    ghost view = { λ s. record { me = s.kept.state.me; listed = s.kept.state.listed; records = s.list.records } };
 
-    ghost invariant = { λ s. IsKept s.list.records s.state s.values s.totals };
+    ghost invariant = { λ s. IsKept s.list.records s.kept.state s.kept.values s.kept.totals × AreNamed (accepted s.list.records) s.named };
 }
 
 impl<S: Scheme> Store<S> {
@@ -41,12 +48,52 @@ impl<S: Scheme> Store<S> {
     pub fn new(alloc: Global, me: NodeId, roster: Roster, scheme: S) -> Result<Store<S>, Memory>
         ensures { IfOk result (λ s. s ≡ record { me = me; listed = roster; records = [] }) }
     {
-        Ok(Store {
+        let kept = Kept {
             state: State::new(alloc, me, roster, scheme)?,
             values: Values::new(alloc),
-            list: RecordList::new(alloc),
             totals: Totals::new(),
+        };
+        Ok(Store {
+            kept,
+            named: NamedValues::new(alloc),
+            list: RecordList::new(alloc),
         })
+    }
+
+    /// Appends the records of a growth: all, or after Memory none, and all is as before. No limit is asked for: that there is
+    /// room is known, since the journal stays lawful.
+    pub fn append(&mut self, new: Growth) -> Result<(), Memory>
+        requires { IsLawful (standing S.verifies self.old) (self.old.records ++ new) }
+        ensures ok { OnOk result (self.new ≡ with_records self.old (self.old.records ++ new)) }
+        ensures err { OnErr result (self.new ≡ self.old) }
+    {
+        let leaves = self.leaves_with(&new);
+        self.append_counted(new, leaves)
+    }
+
+    /// The same where the leaves of other writers are counted.
+    pub(crate) fn append_counted(&mut self, new: Growth, leaves: Option<u32>) -> Result<(), Memory>
+        requires lawful { IsLawful (standing S.verifies self.old) (self.old.records ++ new) }
+        requires leaves { leaves ≡ leaves_with (accepted self.old.records) (length (foreign_leaves self.old.me self.old.records)) new }
+        ensures ok { OnOk result (self.new ≡ with_records self.old (self.old.records ++ new)) }
+        ensures err { OnErr result (self.new ≡ self.old) }
+    {
+        let Growth { news, texts, bytes } = new;
+        let name = name_in(&news);
+        self.list.reserve(texts.len())?;
+        self.named.reserve(&name)?;
+        self.kept.keep(news, leaves)?;
+        self.named.add(name);
+        self.list.append_all(texts, bytes);
+        Ok(())
+    }
+
+    /// How many leaves of other writers there are with a growth, where it takes an update of another.
+    pub(crate) fn leaves_with(&self, new: &Growth) -> Option<u32>
+        requires { length self.now.records ≤ 131072 }
+        ensures { result ≡ leaves_with (accepted self.now.records) (length (foreign_leaves self.now.me self.now.records)) new.now }
+    {
+        self.kept.leaves_with(&new.news)
     }
 
     /// What the checks look at. It takes no memory.
@@ -54,14 +101,14 @@ impl<S: Scheme> Store<S> {
         ensures state { IsStateOf self.now.records result.now }
         ensures stands { setting S.verifies result.now ≡ standing S.verifies self.now }
     {
-        &self.state
+        &self.kept.state
     }
 
     /// What is counted. It takes no memory.
     pub fn totals(&self) -> &Totals
         ensures { AreTotals self.now.me self.now.records result.now }
     {
-        &self.totals
+        &self.kept.totals
     }
 
     /// The records. It takes no memory.
@@ -75,7 +122,14 @@ impl<S: Scheme> Store<S> {
     pub fn value(&self, hash: &Hash32) -> Option<&[u8]>
         ensures { option_copied result ≡ value_with hash.now (held self.now.records) }
     {
-        self.values.get(hash)
+        self.kept.values.get(hash)
+    }
+
+    /// Whether an accepted update names a value of this hash and of so many bytes. It takes no memory.
+    pub fn is_wanted(&self, hash: &Hash32, size: u32) -> bool
+        ensures { result ≡ is_wanted (accepted self.now.records) hash.now size }
+    {
+        self.named.names(hash, size)
     }
 
     /// The texts of the records. It takes no memory.

@@ -1,89 +1,38 @@
-use Rattle.std.proofs.Common.{◌≡◌, ◌∷◌, [], ◌↔◌, List, ℕ, IsTrue, refl, sym, ap, subst, ◌∙◌}
-use Rattle.std.proofs.lemmas.Bool.{both_ways}
-use Rattle.depot_base.specs.Sized.{IsKey, IsValue}
-use Rattle.depot_base.specs.declared.record.Record.TheVariants.{OwnPut}
-use Rattle.depot_model.specs.Lawful.{IsLawful, is_empty}
-use Rattle.depot_model.specs.Own.{IsFresh, leaf_count}
-use Rattle.depot_model.specs.Room.{full_by}
-use Rattle.depot_store.specs.View.{Holding, standing}
-use Rattle.depot_node.proofs.LawfulLaws.{some_more}
-use Rattle.depot_node.proofs.PutLaws.{spent, leaf_left, IsMade, made_fits, made_record_fits, made_text, made_may, made_is_lawful, collides, no_room, put_is}
-use Rattle.depot_node.proofs.put.put.Given.{Over}
+use Rattle.std.proofs.Common.{Err, subst}
+use Rattle.std.proofs.lemmas.Result.{err_from_is_err_and}
+use Rattle.depot_store.specs.Holdings.{standing}
+use Rattle.depot_store.specs.RoomByCounts.{Commits}
+use Rattle.depot_store.specs.declared.room.CommitError.{CommitError}
+use Rattle.depot_node.proofs.InMemory.{full_puts, no_memory_puts, put_runs, refused_runs}
+use Rattle.depot_node.proofs.PutLaws.{plan_may_grow, plan_is_put, plan_has_no_room, refused_puts}
 use Rattle.depot_node.proofs.put.put.Goals as goal
-use Rattle.depot_node.proofs.put.put.Goals.{In_ok-update, After-is_fresh, After-full_with}
 
--- what is known of the update
-made : (g : Over) (c : In_ok-update g) → IsMade (standing g.S.Scheme.verifies c.args.store.now) c.args.store.now.records c.in_ok-update.update c.args.key c.args.value
-made g c = record {
-  lawful = c.requires.lawful;
-  some = c.requires.some;
-  key_fits = subst (λ (b : List ℕ). IsKey b) c.key.view_is c.key.invariant;
-  value_fits = subst (λ (b : List ℕ). IsValue b) c.value.view_is c.value.invariant;
-  leaf = leaf_left c.args.store.now.records c.totals.result.now.own (leaf_count c.args.store.now.listed c.args.store.now.me) c.has_leaf.result c.totals.ensures.own c.has_leaf.ensures c.if-not-has_leaf.false;
-  next = c.in_ok-update.ensures.next;
-  narrow = c.in_ok-update.ensures.narrow;
-}
+pub commit-requires-clause-may : goal.commit-requires-clause-may
+commit-requires-clause-may g c = plan_may_grow (standing g.S.Scheme.verifies c.args.store.now) c.args.store.now.records _ _ _ _ c.in_ok-plan.ensures.planned
 
--- the test of its id
-fresh : (g : Over) (c : After-is_fresh g) → IsTrue c.is_fresh.result ↔ IsFresh c.args.store.now.records c.in_ok-id.id
-fresh g c = c.is_fresh.ensures c.args.store.now.records (c.state.ensures.state.accepted ∙ sym c.graph.ensures)
+pub returns-in-Ok-clause-puts : goal.returns-in-Ok-clause-puts
+returns-in-Ok-clause-puts g c = plan_is_put (standing g.S.Scheme.verifies c.args.store.now) c.args.store.now.records _ _ _ _ _ c.in_ok-plan.ensures.planned c.in-Ok.ensures.commits
 
--- the room for its record
-room : (g : Over) (c : After-full_with g) → IsMade (standing g.S.Scheme.verifies c.args.store.now) c.args.store.now.records c.in_ok-update.update c.args.key c.args.value
-    → full_by c.args.store.now.me c.args.store.now.records (OwnPut c.in_ok-update.update c.args.value ∷ []) ≡ c.full_with.result
-room g c m = sym (c.full_with.ensures (OwnPut c.in_ok-update.update c.args.value) (made_text m c.in_ok-text.text c.in_ok-text.ensures) refl)
+pub returns-in-Err-Full-clause-puts : goal.returns-in-Err-Full-clause-puts
+returns-in-Err-Full-clause-puts g c =
+    rw c.in-Err-Full.field-0-is (plan_has_no_room (standing g.S.Scheme.verifies c.args.store.now) c.args.store.now.records _ _ _ _ _ c.in-Err-Full.full c.in_ok-plan.ensures.planned
+    (subst (λ (e : CommitError). Commits c.args.store.now.me c.args.store.now.records c.in_ok-plan.plan.growth (Err e) c.commit.new.self.records) c.in-Err-Full.field-0-is c.in-Err-Full.ensures.commits))
 
-pub returns-then-not-has_leaf-clause-puts : goal.returns-then-not-has_leaf-clause-puts
-returns-then-not-has_leaf-clause-puts g c = (
-  spent (standing g.S.Scheme.verifies c.args.store.now) c.args.store.now.records c.totals.result.now.own c.has_leaf.result c.requires.lawful c.totals.ensures.own c.has_leaf.ensures c.if-not-has_leaf.true,
-  refl,
-)
+pub returns-in_err-plan-clause-puts : goal.returns-in_err-plan-clause-puts
+returns-in_err-plan-clause-puts g c =
+    let p = err_from_is_err_and c.from_residual.result c.from_residual.ensures.1 in
+    rw (p.1, p.2) (refused_puts (standing g.S.Scheme.verifies c.args.store.now) c.args.store.now.records c.args.key c.args.value c.in_err-plan.field-0.0 c.in_err-plan.ensures.refused)
 
-pub id_of-requires : goal.id_of-requires
-id_of-requires g c = made_fits (made g (goal.at.id_of-requires g c).In_ok-update)
+pub returns-in_err-plan-clause-runs : goal.returns-in_err-plan-clause-runs
+returns-in_err-plan-clause-runs g c =
+    let p = err_from_is_err_and c.from_residual.result c.from_residual.ensures.1 in
+    rw (p.1, p.2) (refused_runs (standing g.S.Scheme.verifies c.args.store.now) c.args.store.now.records c.args.key c.args.value c.in_err-plan.field-0.0 c.in_err-plan.ensures.refused)
 
-pub returns-then-not-is_fresh-clause-puts : goal.returns-then-not-is_fresh-clause-puts
-returns-then-not-is_fresh-clause-puts g c =
-    let at = goal.at.returns-then-not-is_fresh-clause-puts g c in
-    (collides (made g at.In_ok-update) c.in_ok-id.id c.in_ok-id.ensures (λ is. both_ways c.is_fresh.result c.if-not-is_fresh.true ((fresh g at.After-is_fresh).1 is)), refl)
+pub returns-in-Ok-clause-runs : goal.returns-in-Ok-clause-runs
+returns-in-Ok-clause-runs g c = put_runs _
 
-pub encode_own_put-requires : goal.encode_own_put-requires
-encode_own_put-requires g c = made_record_fits (made g (goal.at.encode_own_put-requires g c).In_ok-update)
+pub returns-in-Err-Memory-clause-runs : goal.returns-in-Err-Memory-clause-runs
+returns-in-Err-Memory-clause-runs g c = no_memory_puts
 
-pub full_with-requires-clause-text : goal.full_with-requires-clause-text
-full_with-requires-clause-text g c = (OwnPut c.in_ok-update.update c.args.value, made_text (made g (goal.at.full_with-requires-clause-text g c).In_ok-update) c.in_ok-text.text c.in_ok-text.ensures)
-
-pub returns-in-Some-clause-puts : goal.returns-in-Some-clause-puts
-returns-in-Some-clause-puts g c =
-    let at = goal.at.returns-in-Some-clause-puts g c in
-    let m = made g at.In_ok-update in
-    let may = made_may m c.in_ok-id.id c.in_ok-id.ensures ((fresh g at.After-is_fresh).0 c.if-not-is_fresh.false) in
-    (no_room m c.in-Some.full may (room g at.After-full_with m ∙ c.in-Some.is), refl)
-
-pub add_put-requires-clause-text : goal.add_put-requires-clause-text
-add_put-requires-clause-text g c = made_text (made g (goal.at.add_put-requires-clause-text g c).In_ok-update) c.in_ok-text.text c.in_ok-text.ensures
-
-pub add_put-requires-clause-lawful : goal.add_put-requires-clause-lawful
-add_put-requires-clause-lawful g c =
-    let at = goal.at.add_put-requires-clause-lawful g c in
-    let m = made g at.In_ok-update in
-    let may = made_may m c.in_ok-id.id c.in_ok-id.ensures ((fresh g at.After-is_fresh).0 c.if-not-is_fresh.false) in
-    made_is_lawful m may (room g at.After-full_with m ∙ c.in_default.is)
-
-pub returns-clause-puts : goal.returns-clause-puts
-returns-clause-puts g c =
-    let at = goal.at.returns-clause-puts g c in
-    let m = made g at.In_ok-update in
-    let may = made_may m c.in_ok-id.id c.in_ok-id.ensures ((fresh g at.After-is_fresh).0 c.if-not-is_fresh.false) in
-    put_is m c.in_ok-id.id c.add_put.new.self.records may (room g at.After-full_with m ∙ c.in_default.is) c.in_ok-id.ensures (ap (λ (h : Holding). h.records) c.in_ok-add_put.ensures.ok)
-
-pub returns-clause-lawful : goal.returns-clause-lawful
-returns-clause-lawful g c =
-    let at = goal.at.returns-clause-lawful g c in
-    let m = made g at.In_ok-update in
-    let may = made_may m c.in_ok-id.id c.in_ok-id.ensures ((fresh g at.After-is_fresh).0 c.if-not-is_fresh.false) in
-    subst (λ (h : Holding). IsLawful (standing g.S.Scheme.verifies h) h.records) (sym c.in_ok-add_put.ensures.ok) (made_is_lawful m may (room g at.After-full_with m ∙ c.in_default.is))
-
-pub returns-clause-some : goal.returns-clause-some
-returns-clause-some g c =
-    ap (λ (h : Holding). is_empty h.records) c.in_ok-add_put.ensures.ok ∙ some_more c.args.store.now.records (OwnPut c.in_ok-update.update c.args.value ∷ []) c.requires.some
+pub returns-in-Err-Full-clause-runs : goal.returns-in-Err-Full-clause-runs
+returns-in-Err-Full-clause-runs g c = full_puts _

@@ -1,9 +1,10 @@
--- The birth of the node is lawful behind no records, so it has a text.
-use Rattle.std.proofs.Common.{[], ◌∷◌, ◌++◌, ap, ◌∙◌}
+-- The birth of the node is lawful after no records, so it has a text.
+use Rattle.std.proofs.Common.{[], ◌∷◌, ◌++◌, List, sym, ap, subst, ◌∙◌}
+use Rattle.depot_base.specs.declared.record.Record.{Record}
 use Rattle.depot_base.specs.declared.record.Record.TheVariants.{Birth}
 use Rattle.depot_model.specs.Checks.{Setting}
 use Rattle.depot_model.specs.Lawful.{IsLawful}
-use Rattle.depot_store.specs.View.{standing}
+use Rattle.depot_store.specs.Holdings.{standing}
 use Rattle.depot_node.proofs.Beginnings.{birth_begins, last_has_text}
 use Rattle.depot_node.proofs.start.add_birth.Given.{Over}
 use Rattle.depot_node.proofs.start.add_birth.Goals as goal
@@ -20,14 +21,9 @@ lawful g c =
     c.hash-roster.ensures
     c.requires.listed
 
-pub encode_record-requires : goal.encode_record-requires
-encode_record-requires g c = last_has_text (standing g.S.Scheme.verifies c.args.store.now) c.args.store.now.records (Birth c.me-node.result c.hash-roster.result.now) (lawful g (goal.at.encode_record-requires g c).After-hash-roster)
+pub one-requires-clause-text : goal.one-requires-clause-text
+one-requires-clause-text g c = last_has_text (standing g.S.Scheme.verifies c.args.store.now) c.args.store.now.records (Birth c.me-node.result c.hash-roster.result.now) (lawful g (goal.at.one-requires-clause-text g c).After-hash-roster)
 
-pub add_birth-requires-clause-text : goal.add_birth-requires-clause-text
-add_birth-requires-clause-text g c = record {
-  fits = last_has_text (standing g.S.Scheme.verifies c.args.store.now) c.args.store.now.records (Birth c.me-node.result c.hash-roster.result.now) (lawful g (goal.at.add_birth-requires-clause-text g c).After-hash-roster);
-  is = c.in_ok-text.ensures;
-}
-
-pub add_birth-requires-clause-lawful : goal.add_birth-requires-clause-lawful
-add_birth-requires-clause-lawful g c = lawful g (goal.at.add_birth-requires-clause-lawful g c).After-hash-roster
+pub append-requires : goal.append-requires
+append-requires g c =
+    subst (λ (rs : List Record). IsLawful (standing g.S.Scheme.verifies c.args.store.now) (c.args.store.now.records ++ rs)) (sym c.in_ok-growth.ensures) (lawful g (goal.at.append-requires g c).After-hash-roster)

@@ -1,9 +1,7 @@
 use Rattle.std.proofs.Common.{length, ap, arith}
-use Rattle.depot_store.specs.View.{Holding}
+use Rattle.depot_store.specs.Holdings.{Holding}
 use Rattle.depot_store.proofs.LeafLaws.{few_leaves}
 use Rattle.depot_store.proofs.store.Store.leaves_with.Goals as goal
 
-pub overflow_add-result : goal.overflow_add-result
-overflow_add-result g c =
-    let few = few_leaves c.self.inside.state.me c.self.inside.list.records in
-    omega (arith, few, c.self.invariant.totals.leaves, ap (λ (v : Holding). length v.records) c.self.view_is, c.requires)
+pub leaves_with-requires : goal.leaves_with-requires
+leaves_with-requires g c = omega (arith, c.self.invariant.0.totals.leaves, few_leaves c.self.inside.kept.state.me c.self.inside.list.records, c.requires, ap (λ (v : Holding). length v.records) c.self.view_is)

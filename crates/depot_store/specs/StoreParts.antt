@@ -1,0 +1,29 @@
+-- What a store keeps of its records.
+use Rattle.std.specs.Prelude.{◌≡◌, ℕ, List, ◌++◌}
+use Rattle.depot_base.specs.declared.record.Record.{Record}
+use Rattle.depot_model.specs.Journal.{held, value_with}
+use Rattle.depot_model.specs.Lawful.{IsLawful}
+use Rattle.depot_model.specs.Roster.{Verifies}
+use Rattle.depot_accept.specs.View.{View, IsStateOf, setting}
+use Rattle.depot_values.specs.Values as values
+use Rattle.depot_values.specs.declared.values.Values.{Values}
+use Rattle.depot_store.specs.Totals.{AreTotals}
+use Rattle.depot_store.specs.declared.totals.Totals.{Totals}
+
+-- What is kept is that of these records.
+pub record IsKept {S : Type 0} (J : List Record) (v : View S) (kept : Values) (t : Totals) : Type 0 where
+  pub state : IsStateOf J v
+  pub values : (hash : List ℕ) → values.held kept hash ≡ value_with hash (held J)
+  pub totals : AreTotals v.me J t
+
+-- What is kept is that of a journal which is lawful with these records after it.
+abbrev pub MayKeep : {S : Type 0} → Verifies → View S → Values → Totals → List Record → Type 0
+MayKeep verifies v kept t new = (J : List Record) × (IsKept J v kept t × IsLawful (setting verifies v) (J ++ new))
+
+-- Of whichever journal it was kept, now it is kept of that with these records after it.
+abbrev pub Keeps : {S : Type 0} → Verifies → View S → Values → Totals → List Record → View S → Values → Totals → Type 0
+Keeps verifies v kept t new w kept_then u = (J : List Record) → IsKept J v kept t → IsLawful (setting verifies v) (J ++ new) → IsKept (J ++ new) w kept_then u
+
+-- Of whichever journal it was kept, it is kept of that still.
+abbrev pub StillKeeps : {S : Type 0} → View S → Values → Totals → View S → Values → Totals → Type 0
+StillKeeps v kept t w kept_then u = (J : List Record) → IsKept J v kept t → IsKept J w kept_then u

@@ -1,0 +1,233 @@
+//! What is read off the records of a journal.
+ghost use Rattle.std.specs.Prelude.{◌≡◌, ◌≤◌, [], ◌∷◌, List, OnOk, OnErr};
+ghost use Rattle.sha2.specs.Sha256.{sha256};
+ghost use Rattle.depot_base.specs.declared.record.Record.{Record};
+ghost use Rattle.depot_base.specs.declared.record.Record.TheVariants.{OwnPut, OwnVoucher, Foreign, Conviction, Held};
+ghost use Rattle.depot_base.specs.declared.statement.Statement.TheVariants as statements;
+ghost use Rattle.depot_model.specs.Texts.{id_of_statement, id_of_update};
+ghost use Rattle.depot_accept.specs.View.{setting};
+ghost use Rattle.depot_laws.specs.Leaves.{follows_leaf};
+ghost use Rattle.depot_store.specs.NewRecords.{records_in, IsHashOf, AreHashed};
+ghost use Rattle.depot_store.specs.StoreParts.{IsKept, MayKeep, Keeps, StillKeeps};
+ghost use Rattle.depot_store.specs.RoomByCounts.{leaves_then, leaves_with_record, leaves_with};
+ghost use Rattle.depot_store.specs.Totals.{AreTaken};
+
+use crate::growth::News;
+use crate::totals::Totals;
+use depot_accept::State;
+use depot_base::{Hash32, Memory, Proof, Record, Signed, Statement, Update, Value, Voucher};
+use depot_graph::Graph;
+use depot_model::{Past, Scheme};
+use depot_values::Values;
+
+/// What is read off the records of a journal: what the checks look at, the values by their hash, and counts. It says of no
+/// journal that it is its own: each call says what it makes of what is kept of any.
+#[derive(Drop)]
+pub struct Kept<S: Scheme> {
+    pub(crate) state: State<S>,
+    pub(crate) values: Values,
+    pub(crate) totals: Totals,
+}
+
+impl<S: Scheme> Kept<S> {
+    /// Keeps the records of a growth: all, or after Memory none. With them there are so many leaves of other writers, where they
+    /// bring an update of another.
+    pub(crate) fn keep(&mut self, news: News, leaves: Option<u32>) -> Result<(), Memory>
+        requires hashed { AreHashed news }
+        requires leaves { leaves ≡ leaves_with self.old.state.accepted self.old.totals.leaves (records_in news) }
+        requires may { MayKeep S.verifies self.old.state self.old.values self.old.totals (records_in news) }
+        ensures ok { OnOk result (Keeps S.verifies self.old.state self.old.values self.old.totals (records_in news) self.new.state self.new.values self.new.totals) }
+        ensures err { OnErr result (StillKeeps self.old.state self.old.values self.old.totals self.new.state self.new.values self.new.totals) }
+        ensures stays { setting S.verifies self.new.state ≡ setting S.verifies self.old.state }
+    {
+        match news {
+            News::Nothing => Ok(()),
+            News::One(item, hash) => self.keep_one(item, hash, leaves),
+            News::Convicting(proof, signed, id) => self.keep_convicting(&proof, signed, id, leaves),
+        }
+    }
+
+    /// Keeps a record.
+    fn keep_one(&mut self, item: Record, hash: Hash32, leaves: Option<u32>) -> Result<(), Memory>
+        requires hash { IsHashOf item hash }
+        requires leaves { leaves ≡ leaves_with_record self.old.state.accepted self.old.totals.leaves item }
+        requires may { MayKeep S.verifies self.old.state self.old.values self.old.totals (item ∷ []) }
+        ensures ok { OnOk result (Keeps S.verifies self.old.state self.old.values self.old.totals (item ∷ []) self.new.state self.new.values self.new.totals) }
+        ensures err { OnErr result (StillKeeps self.old.state self.old.values self.old.totals self.new.state self.new.values self.new.totals) }
+        ensures stays { setting S.verifies self.new.state ≡ setting S.verifies self.old.state }
+    {
+        match item {
+            Record::Birth { .. } => Ok(()),
+            Record::OwnPut { update, value } => self.keep_put(update, hash, value),
+            Record::OwnVoucher { voucher } => self.keep_voucher(voucher, hash),
+            Record::Foreign { signed } => self.keep_foreign(signed, hash, leaves),
+            Record::Conviction { proof } => {
+                self.convict(&proof);
+                Ok(())
+            }
+            Record::Held { value } => self.keep_held(value, hash),
+        }
+    }
+
+    /// Keeps an own update and its value.
+    fn keep_put(&mut self, update: Update, id: Hash32, value: Value) -> Result<(), Memory>
+        requires id { id ≡ id_of_update update }
+        requires may { MayKeep S.verifies self.old.state self.old.values self.old.totals (OwnPut update value ∷ []) }
+        ensures ok { OnOk result (Keeps S.verifies self.old.state self.old.values self.old.totals (OwnPut update value ∷ []) self.new.state self.new.values self.new.totals) }
+        ensures err { OnErr result (StillKeeps self.old.state self.old.values self.old.totals self.new.state self.new.values self.new.totals) }
+        ensures stays { setting S.verifies self.new.state ≡ setting S.verifies self.old.state }
+    {
+        let hash = update.value_hash;
+        self.values.reserve(&hash)?;
+        let clock = update.clock;
+        self.state.add_own(Statement::Update(update), id)?;
+        let _ = self.values.add_hashed(hash, value);
+        self.totals.own += 1;
+        self.totals.clock = clock.max(self.totals.clock);
+        self.totals.last = id;
+        Ok(())
+    }
+
+    /// Keeps an own voucher.
+    fn keep_voucher(&mut self, voucher: Voucher, id: Hash32) -> Result<(), Memory>
+        requires id { id ≡ id_of_statement (statements.Voucher voucher) }
+        requires may { MayKeep S.verifies self.old.state self.old.values self.old.totals (OwnVoucher voucher ∷ []) }
+        ensures ok { OnOk result (Keeps S.verifies self.old.state self.old.values self.old.totals (OwnVoucher voucher ∷ []) self.new.state self.new.values self.new.totals) }
+        ensures err { OnErr result (StillKeeps self.old.state self.old.values self.old.totals self.new.state self.new.values self.new.totals) }
+        ensures stays { setting S.verifies self.new.state ≡ setting S.verifies self.old.state }
+    {
+        self.state.add_own(Statement::Voucher(voucher), id)?;
+        self.totals.own += 1;
+        Ok(())
+    }
+
+    /// Keeps another's statement.
+    fn keep_foreign(
+        &mut self,
+        signed: Signed,
+        id: Hash32,
+        leaves: Option<u32>,
+    ) -> Result<(), Memory>
+        requires id { id ≡ id_of_statement signed.statement }
+        requires leaves { leaves ≡ leaves_then self.old.state.accepted self.old.totals.leaves signed.statement }
+        requires may { MayKeep S.verifies self.old.state self.old.values self.old.totals (Foreign signed ∷ []) }
+        ensures ok { OnOk result (Keeps S.verifies self.old.state self.old.values self.old.totals (Foreign signed ∷ []) self.new.state self.new.values self.new.totals) }
+        ensures err { OnErr result (StillKeeps self.old.state self.old.values self.old.totals self.new.state self.new.values self.new.totals) }
+        ensures stays { setting S.verifies self.new.state ≡ setting S.verifies self.old.state }
+    {
+        let totals = self.totals_with(&signed.statement, leaves);
+        self.state.add_foreign(signed, id)?;
+        self.totals = totals;
+        Ok(())
+    }
+
+    /// Keeps another's statement after the conviction of its writer.
+    fn keep_convicting(
+        &mut self,
+        proof: &Proof,
+        signed: Signed,
+        id: Hash32,
+        leaves: Option<u32>,
+    ) -> Result<(), Memory>
+        requires id { id ≡ id_of_statement signed.statement }
+        requires leaves { leaves ≡ leaves_then self.old.state.accepted self.old.totals.leaves signed.statement }
+        requires may { MayKeep S.verifies self.old.state self.old.values self.old.totals (Conviction proof.now ∷ Foreign signed ∷ []) }
+        ensures ok { OnOk result (Keeps S.verifies self.old.state self.old.values self.old.totals (Conviction proof.now ∷ Foreign signed ∷ []) self.new.state self.new.values self.new.totals) }
+        ensures err { OnErr result (StillKeeps self.old.state self.old.values self.old.totals self.new.state self.new.values self.new.totals) }
+        ensures stays { setting S.verifies self.new.state ≡ setting S.verifies self.old.state }
+    {
+        let totals = self.totals_with(&signed.statement, leaves);
+        self.state.add_foreign(signed, id)?;
+        self.state.convict(proof.first.statement.writer());
+        self.totals = totals;
+        Ok(())
+    }
+
+    /// Keeps a conviction. It takes no memory.
+    fn convict(&mut self, proof: &Proof)
+        requires { MayKeep S.verifies self.old.state self.old.values self.old.totals (Conviction proof.now ∷ []) }
+        ensures kept { Keeps S.verifies self.old.state self.old.values self.old.totals (Conviction proof.now ∷ []) self.new.state self.new.values self.new.totals }
+        ensures stays { setting S.verifies self.new.state ≡ setting S.verifies self.old.state }
+    {
+        self.state.convict(proof.first.statement.writer());
+    }
+
+    /// Keeps a value of others.
+    fn keep_held(&mut self, value: Value, hash: Hash32) -> Result<(), Memory>
+        requires hash { hash ≡ sha256 value }
+        requires may { MayKeep S.verifies self.old.state self.old.values self.old.totals (Held value ∷ []) }
+        ensures ok { OnOk result (Keeps S.verifies self.old.state self.old.values self.old.totals (Held value ∷ []) self.new.state self.new.values self.new.totals) }
+        ensures err { OnErr result (StillKeeps self.old.state self.old.values self.old.totals self.new.state self.new.values self.new.totals) }
+        ensures stays { setting S.verifies self.new.state ≡ setting S.verifies self.old.state }
+    {
+        self.values.reserve(&hash)?;
+        let _ = self.values.add_hashed(hash, value);
+        Ok(())
+    }
+
+    /// The counts once a statement of another is taken, with which there are so many leaves where it is an update.
+    fn totals_with(&self, statement: &Statement, leaves: Option<u32>) -> Totals
+        requires { leaves ≡ leaves_then self.now.state.accepted self.now.totals.leaves statement.now }
+        ensures { (J : List Record) → IsKept J self.now.state self.now.values self.now.totals → AreTaken self.now.state.me J statement.now result }
+    {
+        let mut totals = self.totals;
+        if let Statement::Update(update) = statement {
+            totals.clock = update.clock.max(totals.clock);
+        }
+        if let Some(leaves) = leaves {
+            totals.leaves = leaves;
+        }
+        totals
+    }
+
+    /// How many leaves of other writers there are once a growth is taken, where it takes an update of another.
+    pub(crate) fn leaves_with(&self, news: &News) -> Option<u32>
+        requires { self.now.totals.leaves ≤ 131072 }
+        ensures { result ≡ leaves_with self.now.state.accepted self.now.totals.leaves (records_in news.now) }
+    {
+        match news {
+            News::Nothing => None,
+            News::One(item, _) => self.leaves_with_record(item),
+            News::Convicting(_, signed, _) => self.leaves_then(&signed.statement),
+        }
+    }
+
+    /// The same of a record.
+    fn leaves_with_record(&self, item: &Record) -> Option<u32>
+        requires { self.now.totals.leaves ≤ 131072 }
+        ensures { result ≡ leaves_with_record self.now.state.accepted self.now.totals.leaves item.now }
+    {
+        let Record::Foreign { signed } = item else {
+            return None;
+        };
+        self.leaves_then(&signed.statement)
+    }
+
+    /// The same of a statement.
+    fn leaves_then(&self, statement: &Statement) -> Option<u32>
+        requires { self.now.totals.leaves ≤ 131072 }
+        ensures { result ≡ leaves_then self.now.state.accepted self.now.totals.leaves statement.now }
+    {
+        let Statement::Update(update) = statement else {
+            return None;
+        };
+        if follows_leaf(self.state.graph(), update) {
+            Some(self.totals.leaves)
+        } else {
+            Some(self.totals.leaves + 1)
+        }
+    }
+}
+
+/// Whether the prev of an update is a leaf.
+fn follows_leaf(graph: &Graph, update: &Update) -> bool
+    ensures { result ≡ follows_leaf (⟦<Graph as Past>⟧.updates graph.now) update.now }
+{
+    if update.prev.is_zeros() {
+        return false;
+    }
+    match graph.find(&update.prev) {
+        Some(item) => graph.children(item).is_empty(),
+        None => false,
+    }
+}
