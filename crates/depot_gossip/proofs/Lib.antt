@@ -1,0 +1,5 @@
+pub mod CallLaws
+pub mod ChunkLaws
+pub mod GivenLaws
+pub mod LeafPlaces
+pub mod PieceLaws

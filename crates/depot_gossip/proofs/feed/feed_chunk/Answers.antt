@@ -1,0 +1,61 @@
+use Rattle.std.proofs.Common.{◌≡◌, ℕ, List, ◌++◌, length, false, Ok, Err, refl, sym, ap, subst, ◌∙◌, arith, length-append}
+use Rattle.std.proofs.lemmas.Result.{err_from_is_err_and}
+use Rattle.depot_model.specs.Frames.{frame_at, open_frame, no_frame, whole_frame}
+use Rattle.depot_gossip.specs.Pieces.{Feeds, at_work}
+use Rattle.depot_gossip.specs.Calls.{stream_by, TakesFrame}
+use Rattle.depot_gossip.proofs.ChunkLaws.{in_reach}
+use Rattle.depot_gossip.proofs.PieceLaws.{over_is_ill, chunk_is_dropped, chunk_is_open, chunk_is_ill, chunk_is_taken}
+use Rattle.depot_gossip.proofs.feed.feed_chunk.Goals as goal
+
+pub returns-then-is_over-clause-feeds : goal.returns-then-is_over-clause-feeds
+returns-then-is_over-clause-feeds g c = over_is_ill (g.R.Replica.stands c.args.node.now) c.args.tally.now c.args.begun.now.items c.args.chunk.now (g.R.Replica.records c.args.node.now) (sym c.is_over.ensures ∙ c.if-is_over.true) c.requires.some
+
+pub returns-in_err-extend_from_slice-clause-feeds : goal.returns-in_err-extend_from_slice-clause-feeds
+returns-in_err-extend_from_slice-clause-feeds g c =
+    let p = err_from_is_err_and c.from_residual.result c.from_residual.ensures.1 in
+    rw (p.1, p.2) (chunk_is_dropped (g.R.Replica.stands c.args.node.now) c.args.tally.now c.args.tally.now c.args.begun.now.items c.args.chunk.now (g.R.Replica.records c.args.node.now) (g.R.Replica.records c.args.node.now) refl refl)
+
+pub returns-in-Open-clause-feeds : goal.returns-in-Open-clause-feeds
+returns-in-Open-clause-feeds g c =
+    let items = c.in_ok-extend_from_slice.ensures.items in
+    let at : frame_at (c.args.begun.now.items ++ c.args.chunk.now) ≡ open_frame = ap frame_at (sym (c.as_slice-frame.ensures.value ∙ items)) ∙ c.in-Open.ensures in
+    let s = at_work (stream_by c.args.tally.now c.args.begun.now.items false) (g.R.Replica.records c.args.node.now) in
+    subst (λ (b : List ℕ). Feeds (g.R.Replica.stands c.args.node.now) s c.args.chunk.now (Ok tt) (stream_by c.args.tally.now b false) (g.R.Replica.records c.args.node.now)) (sym items)
+    (chunk_is_open (g.R.Replica.stands c.args.node.now) c.args.tally.now c.args.begun.now.items c.args.chunk.now (g.R.Replica.records c.args.node.now) (sym c.is_over.ensures ∙ c.if-is_over.false) c.requires.begun c.requires.some c.requires.short at)
+
+pub returns-in-Open-clause-begun : goal.returns-in-Open-clause-begun
+returns-in-Open-clause-begun g c = ap frame_at (sym c.as_slice-frame.ensures.value) ∙ c.in-Open.ensures
+
+pub returns-in-Nothing-clause-feeds : goal.returns-in-Nothing-clause-feeds
+returns-in-Nothing-clause-feeds g c =
+    let at : frame_at (c.args.begun.now.items ++ c.args.chunk.now) ≡ no_frame = ap frame_at (sym (c.as_slice-frame.ensures.value ∙ c.in_ok-extend_from_slice.ensures.items)) ∙ c.in-Nothing.ensures in
+    chunk_is_ill (g.R.Replica.stands c.args.node.now) c.args.tally.now c.args.begun.now.items c.args.chunk.now (g.R.Replica.records c.args.node.now) (sym c.is_over.ensures ∙ c.if-is_over.false) c.requires.begun c.requires.some c.requires.short at
+
+pub take-requires-clause-short : goal.take-requires-clause-short
+take-requires-clause-short g c =
+    let reach = in_reach c.args.begun.now.items c.requires.begun in
+    let long : length c.as_slice-frame.result.now ≡ length (c.args.begun.now.items ++ c.args.chunk.now) = ap length (c.as_slice-frame.ensures.value ∙ c.in_ok-extend_from_slice.ensures.items) in
+    omega (arith, long, length-append c.args.begun.now.items c.args.chunk.now, reach.most, c.requires.short)
+
+pub returns-in_err-take-in-Whole-clause-feeds : goal.returns-in_err-take-in-Whole-clause-feeds
+returns-in_err-take-in-Whole-clause-feeds g c =
+    let p = err_from_is_err_and c.from_residual-in_err-take-in-Whole.result c.from_residual-in_err-take-in-Whole.ensures.1 in
+    let items : c.as_slice-frame.result.now ≡ c.args.begun.now.items ++ c.args.chunk.now = c.as_slice-frame.ensures.value ∙ c.in_ok-extend_from_slice.ensures.items in
+    let at : frame_at (c.args.begun.now.items ++ c.args.chunk.now) ≡ whole_frame (record { tag = c.in-Whole.tag; payload = c.in-Whole.payload.now }) = ap frame_at (sym items) ∙ c.in-Whole.ensures.0 in
+    let takes = subst (λ (n : ℕ). TakesFrame (g.R.Replica.stands c.args.node.now) n (record { tag = c.in-Whole.tag; payload = c.in-Whole.payload.now }) c.args.tally.now (g.R.Replica.records c.args.node.now) (Err c.in_err-take-in-Whole.field-0.0) c.take.new.self (g.R.Replica.records c.take.new.node)) (ap length items) c.in_err-take-in-Whole.ensures.takes in
+    rw (p.1, p.2) (chunk_is_taken (g.R.Replica.stands c.args.node.now) c.args.tally.now c.take.new.self c.args.begun.now.items c.args.chunk.now (g.R.Replica.records c.args.node.now) (g.R.Replica.records c.take.new.node) (record { tag = c.in-Whole.tag; payload = c.in-Whole.payload.now }) (Err c.in_err-take-in-Whole.field-0.0)
+    (sym c.is_over.ensures ∙ c.if-is_over.false) c.requires.begun c.requires.some c.requires.short at takes)
+
+pub returns-clause-feeds : goal.returns-clause-feeds
+returns-clause-feeds g c =
+    let items : c.as_slice-frame.result.now ≡ c.args.begun.now.items ++ c.args.chunk.now = c.as_slice-frame.ensures.value ∙ c.in_ok-extend_from_slice.ensures.items in
+    let at : frame_at (c.args.begun.now.items ++ c.args.chunk.now) ≡ whole_frame (record { tag = c.in-Whole.tag; payload = c.in-Whole.payload.now }) = ap frame_at (sym items) ∙ c.in-Whole.ensures.0 in
+    let takes = subst (λ (n : ℕ). TakesFrame (g.R.Replica.stands c.args.node.now) n (record { tag = c.in-Whole.tag; payload = c.in-Whole.payload.now }) c.args.tally.now (g.R.Replica.records c.args.node.now) (Ok tt) c.take.new.self (g.R.Replica.records c.take.new.node)) (ap length items) c.in_ok-take-in-Whole.ensures.takes in
+    let s = at_work (stream_by c.args.tally.now c.args.begun.now.items false) (g.R.Replica.records c.args.node.now) in
+    subst (λ (b : List ℕ). Feeds (g.R.Replica.stands c.args.node.now) s c.args.chunk.now (Ok tt) (stream_by c.take.new.self b false) (g.R.Replica.records c.take.new.node)) (sym c.clear.ensures.items)
+    (chunk_is_taken (g.R.Replica.stands c.args.node.now) c.args.tally.now c.take.new.self c.args.begun.now.items c.args.chunk.now (g.R.Replica.records c.args.node.now) (g.R.Replica.records c.take.new.node) (record { tag = c.in-Whole.tag; payload = c.in-Whole.payload.now }) (Ok tt)
+    (sym c.is_over.ensures ∙ c.if-is_over.false) c.requires.begun c.requires.some c.requires.short at takes)
+
+pub returns-clause-begun : goal.returns-clause-begun
+unfolding frame_at
+returns-clause-begun g c = rw c.clear.ensures.items refl

@@ -1,0 +1,4 @@
+pub mod Calls
+pub mod FrameHeads
+pub mod Pieces
+pub mod RecordLeaves

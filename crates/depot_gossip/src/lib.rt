@@ -1,0 +1,28 @@
+//! What nodes send one another: hellos, and streams of frames that are fed to a node.
+//!
+//! A hello is read and written in one way, and a node's hello is that of its journal. A feed takes a stream in pieces, of any
+//! lengths, and gives each frame to the node with its last byte: feed and journal are then those of the definition, which goes
+//! byte by byte, so that it doesn't matter how the stream was cut. A feed is seen as what it keeps: the bytes of the open frame,
+//! and the counts of the frames behind it.
+//!
+//! All of it goes by the trait of nodes alone. Nothing here asks whether what a frame gives is believed, or keeps a record.
+#![tactic(auto)]
+
+mod error;
+mod feed;
+mod frame;
+mod hello_text;
+mod laws;
+mod own_hello;
+mod tally;
+#[cfg(test)]
+mod tests;
+
+pub use depot_base::DecodeError;
+pub use error::FeedError;
+pub use feed::Feed;
+pub use hello_text::{decode_hello, encode_hello};
+pub use laws::{
+    hellos_are_prefix_free, hellos_are_read_in_one_way, pieces_are_one, streams_tell_all,
+};
+pub use own_hello::hello;
