@@ -1,4 +1,4 @@
-//! Texts that nodes sign.
+//! Texts that nodes sign, byte by byte as docs/FORMATS.md has them.
 
 use crate::story::{Line, Wrong};
 use depot_base::Hash32;
@@ -13,9 +13,6 @@ pub struct Named {
     pub clock: u64,
     pub id: Hash32,
 }
-
-/// The key of all updates.
-pub const KEY: &[u8] = b"k";
 
 /// SHA-256 of these bytes.
 pub fn hash_of(bytes: &[u8]) -> Hash32 {
@@ -33,6 +30,10 @@ pub fn root_of(node: u16) -> Hash32 {
     hash_of(seed_of(node).bytes())
 }
 
+fn named_at(named: &[Named], place: usize) -> Result<Named, Fail> {
+    Ok(*named.get(place).ok_or("no such line")?)
+}
+
 fn put_entry(out: &mut Vec<u8>, entry: &Named) -> Result<(), Fail> {
     out.extend_from_slice(&entry.writer.to_be_bytes())?;
     out.extend_from_slice(&entry.clock.to_be_bytes())?;
@@ -40,47 +41,16 @@ fn put_entry(out: &mut Vec<u8>, entry: &Named) -> Result<(), Fail> {
     Ok(())
 }
 
-/// The update of a place among those that are named.
-fn named_at(named: &[Named], place: usize) -> Result<Named, Fail> {
-    Ok(*named.get(place).ok_or("no such place")?)
-}
-
-fn put_entries(out: &mut Vec<u8>, named: &[Named], places: &[usize]) -> Result<(), Fail> {
-    for place in places {
-        put_entry(out, &named_at(named, *place)?)?;
-    }
-    Ok(())
-}
-
-/// The history hash of an update.
-fn history_of(alloc: Global, line: &Line, named: &[Named]) -> Result<Hash32, Fail> {
-    if let Wrong::History = line.wrong {
-        return Ok(Hash32::zeros());
-    }
-    let mut text = Vec::new(alloc);
-    put_entries(&mut text, named, line.leaves)?;
-    Ok(hash_of(text.as_slice()))
-}
-
-fn prev_of(line: &Line, named: &[Named]) -> Result<Hash32, Fail> {
-    match line.prev {
-        None => Ok(Hash32::zeros()),
-        Some(place) => Ok(named_at(named, place)?.id),
-    }
-}
-
-/// The length that an update names.
-fn length_of(line: &Line) -> Result<u32, Fail> {
-    let more = usize::from(matches!(line.wrong, Wrong::Length));
-    Ok(u32::try_from(line.value.len().checked_add(more).ok_or("too long")?)?)
-}
-
-/// The entries of an update.
-fn put_deps(out: &mut Vec<u8>, line: &Line, named: &[Named]) -> Result<(), Fail> {
-    out.extend_from_slice(&u16::try_from(line.deps.len())?.to_be_bytes())?;
-    for place in line.deps {
+/// The entries of the updates of these places, where the clock of the one at `late` is one less.
+fn put_entries(
+    out: &mut Vec<u8>,
+    named: &[Named],
+    places: &[usize],
+    late: Option<usize>,
+) -> Result<(), Fail> {
+    for (at, place) in places.iter().enumerate() {
         let mut entry = named_at(named, *place)?;
-        if let Wrong::Entry = line.wrong {
+        if late == Some(at) {
             entry.clock = entry.clock.saturating_sub(1);
         }
         put_entry(out, &entry)?;
@@ -88,17 +58,48 @@ fn put_deps(out: &mut Vec<u8>, line: &Line, named: &[Named]) -> Result<(), Fail>
     Ok(())
 }
 
+/// The history hash of an update.
+fn history_of(alloc: Global, line: &Line<'_>, named: &[Named]) -> Result<Hash32, Fail> {
+    if let Wrong::History = line.wrong {
+        return Ok(Hash32::zeros());
+    }
+    let mut text = Vec::new(alloc);
+    put_entries(&mut text, named, line.leaves, None)?;
+    Ok(hash_of(text.as_slice()))
+}
+
+fn prev_of(line: &Line<'_>, named: &[Named]) -> Result<Hash32, Fail> {
+    match line.prev {
+        None => Ok(Hash32::zeros()),
+        Some(place) => Ok(named_at(named, place)?.id),
+    }
+}
+
+/// The length that an update names.
+fn length_of(line: &Line<'_>) -> Result<u32, Fail> {
+    let more = u32::from(matches!(line.wrong, Wrong::Length));
+    Ok(u32::try_from(line.value.len())?.saturating_add(more))
+}
+
+fn put_deps(out: &mut Vec<u8>, line: &Line<'_>, named: &[Named]) -> Result<(), Fail> {
+    let late = match line.wrong {
+        Wrong::Entry(at) => Some(at),
+        _ => None,
+    };
+    out.extend_from_slice(&u16::try_from(line.deps.len())?.to_be_bytes())?;
+    put_entries(out, named, line.deps, late)
+}
+
 /// The body of an update.
-fn body_of(alloc: Global, line: &Line, named: &[Named]) -> Result<Vec<u8>, Fail> {
+fn body_of(alloc: Global, line: &Line<'_>, named: &[Named]) -> Result<Vec<u8>, Fail> {
     let history = history_of(alloc, line, named)?;
-    let mut body = Vec::new(alloc);
-    body.extend_from_slice(&[1, 1])?;
+    let mut body = Vec::from_slice(alloc, &[1, 1])?;
     body.extend_from_slice(&line.writer.to_be_bytes())?;
     body.extend_from_slice(&line.seq.to_be_bytes())?;
     body.extend_from_slice(&line.clock.to_be_bytes())?;
     body.extend_from_slice(prev_of(line, named)?.bytes())?;
-    body.push(1)?;
-    body.extend_from_slice(KEY)?;
+    body.push(u8::try_from(line.key.len())?)?;
+    body.extend_from_slice(line.key)?;
     body.extend_from_slice(hash_of(line.value).bytes())?;
     body.extend_from_slice(&length_of(line)?.to_be_bytes())?;
     put_deps(&mut body, line, named)?;
@@ -118,8 +119,7 @@ fn signature_of(writer: u16, seq: u32, body: &[u8]) -> [u8; 32] {
 
 /// The signed statement of a body: the body behind its length, and the signature behind its.
 fn sign(alloc: Global, writer: u16, seq: u32, body: &[u8]) -> Result<Vec<u8>, Fail> {
-    let mut text = Vec::new(alloc);
-    text.extend_from_slice(&u32::try_from(body.len())?.to_be_bytes())?;
+    let mut text = Vec::from_slice(alloc, &u32::try_from(body.len())?.to_be_bytes())?;
     text.extend_from_slice(body)?;
     text.extend_from_slice(&[0, 0, 0, 32])?;
     text.extend_from_slice(&signature_of(writer, seq, body))?;
@@ -127,7 +127,7 @@ fn sign(alloc: Global, writer: u16, seq: u32, body: &[u8]) -> Result<Vec<u8>, Fa
 }
 
 /// The update as its writer signs it.
-pub fn update_of(alloc: Global, line: &Line, named: &[Named]) -> Result<Vec<u8>, Fail> {
+pub fn update_of(alloc: Global, line: &Line<'_>, named: &[Named]) -> Result<Vec<u8>, Fail> {
     let body = body_of(alloc, line, named)?;
     let mut text = sign(alloc, line.writer, line.seq, body.as_slice())?;
     if let Wrong::Signature = line.wrong {
@@ -137,7 +137,7 @@ pub fn update_of(alloc: Global, line: &Line, named: &[Named]) -> Result<Vec<u8>,
 }
 
 /// These updates, each with its id. Each names only those before it.
-pub fn names_of(alloc: Global, lines: &[Line]) -> Result<Vec<Named>, Fail> {
+pub fn names_of(alloc: Global, lines: &[Line<'_>]) -> Result<Vec<Named>, Fail> {
     let mut named = Vec::new(alloc);
     for line in lines {
         let id = hash_of(body_of(alloc, line, named.as_slice())?.as_slice());
@@ -152,8 +152,7 @@ pub fn names_of(alloc: Global, lines: &[Line]) -> Result<Vec<Named>, Fail> {
 
 /// A voucher of a node for these ids, which rise.
 pub fn voucher_of(alloc: Global, node: u16, seq: u32, ids: &[Hash32]) -> Result<Vec<u8>, Fail> {
-    let mut body = Vec::new(alloc);
-    body.extend_from_slice(&[1, 2])?;
+    let mut body = Vec::from_slice(alloc, &[1, 2])?;
     body.extend_from_slice(&node.to_be_bytes())?;
     body.extend_from_slice(&seq.to_be_bytes())?;
     body.extend_from_slice(&u16::try_from(ids.len())?.to_be_bytes())?;
@@ -173,8 +172,7 @@ pub fn proof_of(alloc: Global, kind: u8, first: &[u8], second: &[u8]) -> Result<
 
 /// The text of a roster of these nodes, which rise, with trees of this height.
 pub fn roster_of(alloc: Global, height: u8, nodes: &[u16]) -> Result<Vec<u8>, Fail> {
-    let mut text = Vec::new(alloc);
-    text.extend_from_slice(&[1, 4])?;
+    let mut text = Vec::from_slice(alloc, &[1, 4])?;
     text.extend_from_slice(&u16::try_from(nodes.len())?.to_be_bytes())?;
     for node in nodes {
         text.extend_from_slice(&node.to_be_bytes())?;

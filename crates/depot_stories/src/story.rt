@@ -1,17 +1,18 @@
 //! What a story consists of.
 
-/// An update of the key `k` that another node signs. Others of the story are named by their places in its list.
+/// An update that another node signs. Others of the story are named by their places in its list.
 #[derive(Clone, Copy)]
-pub struct Line {
+pub struct Line<'a> {
     pub writer: u16,
     pub seq: u32,
     pub clock: u64,
     pub prev: Option<usize>,
-    pub value: &'static [u8],
+    pub key: &'a [u8],
+    pub value: &'a [u8],
     /// Its entries, which rise by (writer, id).
-    pub deps: &'static [usize],
+    pub deps: &'a [usize],
     /// The leaves of its past, which rise by (writer, id).
-    pub leaves: &'static [usize],
+    pub leaves: &'a [usize],
     pub wrong: Wrong,
 }
 
@@ -19,35 +20,35 @@ pub struct Line {
 #[derive(Clone, Copy)]
 pub enum Wrong {
     Nothing,
-    /// The last byte of its signature.
+    /// The last bit of its signature.
     Signature,
     /// Its history hash, which is zeros.
     History,
     /// The length of its value, which is one more.
     Length,
-    /// The clock of its first entry, which is one less.
-    Entry,
+    /// The clock of the entry of this place, from 0, which is one less.
+    Entry(usize),
 }
 
-/// What happens to the node.
+/// What happens to the node, and what is told of it, with a blank before it.
 #[derive(Clone, Copy)]
-pub enum Event {
-    /// It puts this value under the key `k`.
-    Put(&'static [u8]),
-    /// It reads the key `k`.
-    Get,
-    /// It is given the update of this place.
+pub enum Event<'a> {
+    /// It puts a value under a key: `SEQ/CLOCK`, or why it puts nothing.
+    Put(&'a [u8], &'a [u8]),
+    /// It reads a key: the latest writes in brackets, each as `WRITER/SEQ/CLOCK=VALUE`.
+    Get(&'a [u8]),
+    /// It is given the update of a place, and then its value: both answers.
     Give(usize),
+    /// It is given the update of a place alone.
+    Update(usize),
+    /// It is given this value.
+    Value(&'a [u8]),
     /// It is given a voucher of a node, with this seq, for the updates of these places, whose ids rise.
-    Vouch(u16, u32, &'static [usize]),
+    Vouch(u16, u32, &'a [usize]),
     /// It is given the proof of this kind, 1 to 3, by the updates of these two places.
     Proof(u8, usize, usize),
-    /// It is given this value.
-    Value(&'static [u8]),
-    /// It is given so many zero bytes as a value.
-    Long(usize),
     /// It is given these bytes as a statement.
-    Bytes(&'static [u8]),
+    Statement(&'a [u8]),
     /// Its records are counted.
     Count,
 }
@@ -55,11 +56,18 @@ pub enum Event {
 /// A story of node 1.
 #[derive(Clone, Copy)]
 pub struct Story<'a> {
+    pub name: &'a str,
     /// The nodes of the roster, and the height of their trees.
-    pub nodes: &'static [u16],
+    pub nodes: &'a [u16],
     pub height: u8,
-    pub lines: &'a [Line],
-    pub events: &'static [Event],
-    /// What is told at each event, with a blank before it.
-    pub told: &'static str,
+    pub lines: &'a [Line<'a>],
+    pub events: &'a [Event<'a>],
+    /// What is told at these events.
+    pub told: &'a str,
+    /// How many records the node has once it is started again from its own texts.
+    pub records: u32,
+    /// What happens to it then.
+    pub later: &'a [Event<'a>],
+    /// What is told at those events.
+    pub told_later: &'a str,
 }
