@@ -1,12 +1,7 @@
 -- What calls on the outside do.
-use Rattle.std.specs.Prelude.{◌≡◌, ◌<◌, ◌≤◌, ℕ, List, ◌++◌, take, Result, Ok, Err}
+use Rattle.std.specs.Prelude.{◌≡◌, ℕ, List, ◌++◌, take, Result, Ok, Err}
 use Rattle.depot_outside.specs.declared.error.OutError.{OutError}
 use Rattle.depot_outside.specs.declared.error.OutError.TheVariants as error
-
--- The count of faults never falls, and where the call failed it rose.
-pub record HasCause (before now : ℕ) (failed : Type 0) : Type 0 where
-  pub never_falls : before ≤ now
-  pub rose : failed → before < now
 
 -- All of the piece was added, or a front of it where the sink failed, or nothing where memory ran out.
 abbrev pub Writes : List ℕ → List ℕ → List ℕ → Result (Unit {0}) OutError → Type 0

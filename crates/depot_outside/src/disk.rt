@@ -1,6 +1,6 @@
 //! One file, as a journal sees it.
 ghost use Rattle.std.specs.Prelude.{◌≡◌, ℕ, List, Bool, IsTrue, IfOk, IsErr, length};
-ghost use Rattle.depot_outside.specs.Outside.{HasCause};
+ghost use Rattle.depot_base.specs.Faults.{HasCause};
 
 use crate::Failed;
 

@@ -16,6 +16,7 @@ mod calls;
 mod disk;
 mod error;
 mod faults;
+mod loads;
 mod mem_disk;
 mod mem_shelf;
 mod mem_sink;

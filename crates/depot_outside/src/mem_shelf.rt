@@ -3,6 +3,7 @@ ghost use Rattle.std.specs.Prelude.{◌≡◌, ◌≢◌, ℕ, List, [], Some, N
 ghost use Rattle.std.specs.BTreeMap.{get_by_text};
 
 use crate::calls::Calls;
+use crate::loads::Loads;
 use crate::{OutError, Shelf};
 use depot_base::{Bytes, Items, Memory};
 use std::alloc::Global;
@@ -14,6 +15,7 @@ pub struct MemShelf {
     alloc: Global,
     files: BTreeMap<String, Bytes>,
     calls: Calls,
+    loads: Loads,
 }
 
 impl MemShelf {
@@ -22,6 +24,7 @@ impl MemShelf {
     pub fn new(alloc: Global, fails: Items) -> MemShelf
         ensures tells { IsTrue (⟦<MemShelf as Shelf>⟧.tells result) }
         ensures empty { (name : List ℕ) → ⟦<MemShelf as Shelf>⟧.file result name ≡ None }
+        ensures loads { ⟦<MemShelf as Shelf>⟧.loads result ≡ [] }
         ensures faults { ⟦<MemShelf as Shelf>⟧.faults result ≡ 0 }
         ensures faultless { fails ≡ [] → ⟦<MemShelf as Shelf>⟧.is_faultless result }
     {
@@ -29,6 +32,7 @@ impl MemShelf {
             alloc,
             files: BTreeMap::new(alloc),
             calls: Calls::new(fails),
+            loads: Loads::new(),
         }
     }
 
@@ -40,6 +44,7 @@ impl MemShelf {
         ensures others { (other : List ℕ) → other ≢ name.now →
             ⟦<MemShelf as Shelf>⟧.file self.new other ≡ ⟦<MemShelf as Shelf>⟧.file self.old other }
         ensures memory { OnErr result (⟦<MemShelf as Shelf>⟧.file self.new ≡ ⟦<MemShelf as Shelf>⟧.file self.old) }
+        ensures loads { ⟦<MemShelf as Shelf>⟧.loads self.new ≡ ⟦<MemShelf as Shelf>⟧.loads self.old }
         ensures faults { ⟦<MemShelf as Shelf>⟧.faults self.new ≡ ⟦<MemShelf as Shelf>⟧.faults self.old }
         ensures faultless { ⟦<MemShelf as Shelf>⟧.is_faultless self.old → ⟦<MemShelf as Shelf>⟧.is_faultless self.new }
     {
@@ -55,11 +60,14 @@ impl Shelf for MemShelf {
 
     ghost file = { λ s name. get_by_text s.files name };
 
+    ghost loads = { λ s. s.loads.names };
+
     ghost faults = { λ s. s.calls.faults.number };
 
     ghost is_faultless = { λ s. s.calls.fails ≡ [] };
 
     fn load(&mut self, name: &str) -> Result<Option<Bytes>, OutError> {
+        self.loads.note(name.as_bytes());
         self.calls.begin()?;
         match self.files.get(name) {
             Some(file) => Ok(Some(file.copy()?)),

@@ -1,7 +1,8 @@
 //! The files of the system.
-ghost use Rattle.std.specs.Prelude.{◌≡◌, None, false};
+ghost use Rattle.std.specs.Prelude.{◌≡◌, [], None, false};
 
 use crate::faults::Faults;
+use crate::loads::Loads;
 use crate::transfer::{read_whole, write_whole};
 use crate::{Failed, OutError, Shelf};
 use depot_base::Bytes;
@@ -18,16 +19,19 @@ const MOST_BYTES: usize = 1_073_741_824;
 pub struct RealShelf<R> {
     rt: R,
     faults: Faults,
+    loads: Loads,
 }
 
 impl<R: Files + AllocGlobal + Drop> RealShelf<R> {
     /// The shelf of a runtime. Nothing is touched before the first call.
     pub fn new(rt: R) -> RealShelf<R>
-        ensures { ⟦<RealShelf<R> as Shelf>⟧.faults result ≡ 0 }
+        ensures loads { ⟦<RealShelf<R> as Shelf>⟧.loads result ≡ [] }
+        ensures faults { ⟦<RealShelf<R> as Shelf>⟧.faults result ≡ 0 }
     {
         RealShelf {
             rt,
             faults: Faults::new(),
+            loads: Loads::new(),
         }
     }
 }
@@ -54,9 +58,12 @@ impl<R: Files + AllocGlobal + Drop> Shelf for RealShelf<R> {
 
     ghost file = { λ _ _. None };
 
+    ghost loads = { λ s. s.loads.names };
+
     ghost faults = { λ s. s.faults.number };
 
     fn load(&mut self, name: &str) -> Result<Option<Bytes>, OutError> {
+        self.loads.note(name.as_bytes());
         let outcome = read_file(&self.rt, name);
         if let Err(OutError::Failed) = &outcome {
             self.faults.raise();

@@ -1,6 +1,6 @@
 //! Named files.
-ghost use Rattle.std.specs.Prelude.{◌≡◌, ◌≢◌, ℕ, List, Bool, IsTrue, Option, Some, OnOk, IfOk, IsErrOf};
-ghost use Rattle.depot_outside.specs.Outside.{HasCause};
+ghost use Rattle.std.specs.Prelude.{◌≡◌, ◌≢◌, ◌++◌, ◌∷◌, [], ℕ, List, Bool, IsTrue, Option, Some, OnOk, IfOk, IsErrOf};
+ghost use Rattle.depot_base.specs.Faults.{HasCause};
 
 use crate::OutError;
 use depot_base::Bytes;
@@ -13,6 +13,9 @@ pub trait Shelf {
     /// The bytes under each name.
     ghost file: { Self → List ℕ → Option (List ℕ) };
 
+    /// The names that it was asked to load, in their order, whatever was answered.
+    ghost loads: { Self → List (List ℕ) };
+
     /// How often it has failed.
     ghost faults: { Self → ℕ };
 
@@ -23,6 +26,7 @@ pub trait Shelf {
     fn load(&mut self, name: &str) -> Result<Option<Bytes>, OutError>
         ensures found { IsTrue (tells self.old) → IfOk result (λ found. found ≡ file self.old name.now) }
         ensures same { file self.new ≡ file self.old }
+        ensures loads { loads self.new ≡ loads self.old ++ name.now ∷ [] }
         ensures tells { tells self.new ≡ tells self.old }
         ensures cause { HasCause (faults self.old) (faults self.new) (IsErrOf result OutError.Failed) }
         ensures faultless { is_faultless self.old → is_faultless self.new × (faults self.new ≡ faults self.old) };
@@ -33,6 +37,7 @@ pub trait Shelf {
         ensures stored { IsTrue (tells self.old) → OnOk result (file self.new name.now ≡ Some bytes.now) }
         ensures others { (other : List ℕ) → other ≢ name.now → file self.new other ≡ file self.old other }
         ensures memory { IsErrOf result OutError.Memory → file self.new ≡ file self.old }
+        ensures loads { loads self.new ≡ loads self.old }
         ensures tells { tells self.new ≡ tells self.old }
         ensures cause { HasCause (faults self.old) (faults self.new) (IsErrOf result OutError.Failed) }
         ensures faultless { is_faultless self.old → is_faultless self.new × (faults self.new ≡ faults self.old) };

@@ -1,6 +1,7 @@
 //! Where a run writes.
 ghost use Rattle.std.specs.Prelude.{◌≡◌, ℕ, List, Bool, IsTrue, IsErrOf};
-ghost use Rattle.depot_outside.specs.Outside.{HasCause, Writes};
+ghost use Rattle.depot_base.specs.Faults.{HasCause};
+ghost use Rattle.depot_outside.specs.Outside.{Writes};
 
 use crate::OutError;
 

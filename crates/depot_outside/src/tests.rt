@@ -62,6 +62,8 @@ fn fakes_keep_what_they_are_given(rt: HostRuntime) -> Result<(), Fail> {
     shelf.put("a", b"first")?;
     shelf.store("b", b"second")?;
     shelf.put("a", b"third")?;
+    shelf.put("empty", b"")?;
+    assert!(rt; is_file(&shelf.load("empty")?, b""));
     assert!(rt; is_file(&shelf.load("a")?, b"third"));
     assert!(rt; is_file(&shelf.load("b")?, b"second"));
     assert!(rt; shelf.load("c")?.is_none());
@@ -155,7 +157,10 @@ fn transfers_go_on_to_the_end_or_to_a_fault(rt: HostRuntime) -> Result<(), Fail>
     for (turns, moved, breaks) in cases {
         let mut reader = Device::new(alloc, turns, text);
         match read_whole(alloc, 11, &mut reader) {
-            Ok(bytes) => assert_eq!(rt; bytes.as_slice(), &text[..moved], "{turns:?}"),
+            Ok(bytes) => {
+                assert!(rt; !breaks, "{turns:?}");
+                assert_eq!(rt; bytes.as_slice(), &text[..moved], "{turns:?}");
+            }
             Err(_) => assert!(rt; breaks, "{turns:?}"),
         }
         let mut writer = Device::new(alloc, turns, b"");
@@ -181,6 +186,9 @@ fn a_real_shelf_keeps_files(rt: HostRuntime) -> Result<(), Fail> {
         shelf.store(name, text)?;
         assert!(rt; is_file(&shelf.load(name)?, text));
     }
+    let long = vec![in rt.alloc(); 7u8; 1_048_577]?;
+    shelf.store(name, &long)?;
+    assert!(rt; is_file(&shelf.load(name)?, &long));
     fs::remove_file(&rt, name)?;
     assert!(rt; shelf.load(".").is_err());
     assert!(rt; shelf.store("absent/file", b"").is_err());
@@ -189,11 +197,10 @@ fn a_real_shelf_keeps_files(rt: HostRuntime) -> Result<(), Fail> {
 
 #[test]
 fn a_real_disk_is_the_journal(rt: HostRuntime) -> Result<(), Fail> {
-    let _ = fs::remove_file(&rt, "depot.journal");
-    let mut disk = RealDisk::new(rt.clone()?);
-    assert_eq!(rt; disk.length(), Ok(0));
     fs::write(&rt, "depot.journal", "four")?;
-    assert_eq!(rt; disk.length(), Ok(4));
+    assert_eq!(rt; RealDisk::new(rt.clone()?).length(), Ok(4));
+    fs::remove_file(&rt, "depot.journal")?;
+    assert_eq!(rt; RealDisk::new(rt.clone()?).length(), Ok(0));
     fs::remove_file(&rt, "depot.journal")?;
     Ok(())
 }

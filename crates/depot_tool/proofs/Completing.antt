@@ -1,23 +1,22 @@
 -- What a run comes to where nothing fails.
-use Rattle.std.proofs.Common.{◌≡◌, ℕ, ◌+◌, ◌⊎◌, List, Option, Some, None, Ok, Err, Result, refl, sym, subst, ◌∙◌, inl, inr, arith}
+use Rattle.std.proofs.Common.{◌≡◌, ℕ, ◌⊎◌, List, Option, Some, None, Err, Result, refl, subst, inl, inr, arith}
 use Rattle.std.specs.Bool.{IsTrue}
 use Rattle.std.specs.Result.{IsErrOf}
-use Rattle.depot_outside.specs.Outside.{HasCause, Writes}
+use Rattle.depot_base.specs.Faults.{HasCause}
+use Rattle.depot_outside.specs.Outside.{Writes}
 use Rattle.depot_outside.specs.declared.error.OutError.{OutError}
 use Rattle.depot_outside.specs.declared.error.OutError.TheVariants as error
-use Rattle.depot_base.specs.Format.{FirstFault, whole}
+use Rattle.depot_base.specs.Format.{whole}
 use Rattle.depot_base.specs.declared.update.Update.{Update}
 use Rattle.depot_base.specs.declared.key.RosterEntry.{RosterEntry}
-use Rattle.depot_base.proofs.Laws.{cursor, not_err}
-use Rattle.depot_base.proofs.Combined.{whole_again, whole_stops}
-use Rattle.depot_model.specs.Texts.{roster}
 use Rattle.depot_model.specs.Log.{first_orphan}
-use Rattle.depot_model.proofs.TextLaws.{roster_lawful}
+use Rattle.depot_sign.proofs.Causes.{refused_is_none}
 use Rattle.depot_model.proofs.LogLaws.{one_log, log_has_no_fault}
 use Rattle.depot_tool.specs.declared.status.Status.{Status}
 use Rattle.depot_tool.specs.declared.status.Status.TheVariants.{Done, Words, Input, Shelf, Disk, Sink, Memory, NoProof, Limit, NotLawful, Identity}
-use Rattle.depot_tool.specs.Words.{Command, scan_log, winter_key, judge_proof}
-use Rattle.depot_tool.specs.Runs.{Shelves, Sinks, HasFile, LacksFile, IsNoLog, IsOrphaned, Scans, PrintsKey, IsRosterText, IsNoRoster, HasRoster, JudgesProof, Judges, Answers, IsWell, IsWholeLog, Completes, EndsCutShort}
+use Rattle.depot_tool.specs.declared.command.Command.{Command}
+use Rattle.depot_tool.specs.declared.command.Command.TheVariants as asked
+use Rattle.depot_tool.specs.Runs.{Shelves, Loads, Sinks, HasFile, LacksFile, IsNoLog, IsOrphaned, Scans, PrintsKey, IsRosterText, IsNoRoster, HasRoster, JudgesProof, Judges, Answers, IsWell, IsWholeLog, Completes, EndsCutShort}
 
 -- a file that is there isn't lacking where the shelf is well
 not_lacking : (shelf : Shelves) (sink : Sinks) (name bytes : List ℕ) → IsWell shelf sink → shelf.file name ≡ Some bytes → LacksFile shelf name → ⊥
@@ -69,17 +68,12 @@ key_completes seed height Limit text answer = absurd answer
 key_completes seed height NotLawful text answer = absurd answer
 key_completes seed height Identity text answer = absurd answer
 
--- a roster's text has no fault
-roster_has_no_fault : (bytes : List ℕ) (r : List RosterEntry) (at : ℕ) → IsRosterText bytes r → FirstFault roster bytes at → ⊥
-roster_has_no_fault bytes r at is fault =
-    let read : whole roster (cursor 0 bytes) ≡ Ok r = rw is.is (whole_again roster 8964 roster_lawful 0 r is.fits) in
-    not_err r (0 + at) (sym read ∙ whole_stops roster 8964 roster_lawful 0 bytes at fault)
-
+-- a roster's text is not refused
 no_roster : (shelf : Shelves) (name text : List ℕ) → HasRoster shelf name → HasFile shelf name (IsNoRoster name text) → ⊥
 no_roster shelf name text good broken =
     let same = one_file shelf name good.bytes broken.bytes good.there broken.there in
     let is = subst (λ (x : List ℕ). (r : List RosterEntry) × IsRosterText x r) same good.holds in
-    roster_has_no_fault broken.bytes is.0 broken.holds.at is.1 broken.holds.fault
+    refused_is_none broken.bytes is.0 broken.holds.error is.1.fits is.1.is broken.holds.cause
 
 proof_completes : (shelf : Shelves) (sink : Sinks) (listed : List RosterEntry) (proof : List ℕ) (status : Status) (text : List ℕ) → IsWell shelf sink → JudgesProof shelf listed proof status text → HasFile shelf proof (λ bytes. Unit {0}) → (status ≡ Done) ⊎ ((status ≡ NoProof) ⊎ (status ≡ Memory))
 proof_completes shelf sink listed proof Done text well answer there = inl refl
@@ -94,17 +88,17 @@ proof_completes shelf sink listed proof Limit text well answer there = absurd an
 proof_completes shelf sink listed proof NotLawful text well answer there = absurd answer
 proof_completes shelf sink listed proof Identity text well answer there = absurd answer
 
-judge_completes : (shelf : Shelves) (sink : Sinks) (name proof : List ℕ) (status : Status) (text : List ℕ) → IsWell shelf sink → Judges shelf name proof status text → HasRoster shelf name → HasFile shelf proof (λ bytes. Unit {0}) → (status ≡ Done) ⊎ ((status ≡ NoProof) ⊎ (status ≡ Memory))
-judge_completes shelf sink name proof status text well (inl lacks) good there = absurd (not_lacking shelf sink name good.bytes well good.there lacks.1.0)
-judge_completes shelf sink name proof status text well (inr (inl broken)) good there = absurd (no_roster shelf name text good (broken.1 well.tells))
-judge_completes shelf sink name proof status text well (inr (inr judged)) good there = proof_completes shelf sink judged.0 proof status text well judged.1.1 there
+judge_completes : (shelf : Shelves) (loads : Loads) (sink : Sinks) (name proof : List ℕ) (status : Status) (text : List ℕ) → IsWell shelf sink → Judges shelf loads name proof status text → HasRoster shelf name → HasFile shelf proof (λ bytes. Unit {0}) → (status ≡ Done) ⊎ ((status ≡ NoProof) ⊎ (status ≡ Memory))
+judge_completes shelf loads sink name proof status text well (inl (loaded, (is, (lacks, line)))) good there = absurd (not_lacking shelf sink name good.bytes well good.there lacks)
+judge_completes shelf loads sink name proof status text well (inr (inl (loaded, (is, broken)))) good there = absurd (no_roster shelf name text good (broken well.tells))
+judge_completes shelf loads sink name proof status text well (inr (inr (loaded, (listed, (there_too, judged))))) good there = proof_completes shelf sink listed proof status text well judged there
 
 -- what a command answers is what it comes to
-pub completes : (shelf : Shelves) (sink : Sinks) (command : Option Command) (status : Status) (text : List ℕ) → Answers shelf command status text → IsWell shelf sink → Completes shelf command status
-completes shelf sink None status text answer well = inl answer.0
-completes shelf sink (Some (scan_log log key)) status text answer well = scan_completes shelf sink log key status text well answer
-completes shelf sink (Some (winter_key seed height)) status text answer well = key_completes seed height status text answer
-completes shelf sink (Some (judge_proof name proof)) status text answer well = judge_completes shelf sink name proof status text well answer
+pub completes : (shelf : Shelves) (loads : Loads) (sink : Sinks) (command : Option Command) (status : Status) (text : List ℕ) → Answers shelf loads command status text → IsWell shelf sink → Completes shelf command status
+completes shelf loads sink None status text (loaded, (is, line)) well = inl is
+completes shelf loads sink (Some (asked.Scan log key)) status text (loaded, answer) well = scan_completes shelf sink log key status text well answer
+completes shelf loads sink (Some (asked.Root seed height)) status text (loaded, answer) well = key_completes seed height status text answer
+completes shelf loads sink (Some (asked.Judge name proof)) status text answer well = judge_completes shelf loads sink name proof status text well answer
 
 -- a write that failed leaves a run cut short
 pub cut_short : (answers : Status → List ℕ → Type 0) (sink : Sinks) (answer : Status) (text : List ℕ) (result : Result (Unit {0}) OutError) → answers answer text → result ≡ Err error.Failed

@@ -1,30 +1,42 @@
--- Steps of a set of ids.
-use Rattle.std.proofs.Common.{◌≡◌, ℕ, List, [], ◌∷◌, ◌++◌, map, Bool, true, false, ◌||◌, ◌&&◌, cond, refl, sym, ap, ◌∙◌}
-use Rattle.std.specs.List.{list_any, list_all}
+-- Steps of a table of ids.
+use Rattle.std.proofs.Common.{◌≡◌, ℕ, List, [], ◌∷◌, ◌++◌, map, Bool, true, false, ◌||◌, ◌&&◌, cond, Option, Some, is_some, unwrap_or, refl, sym, ap, ◌∙◌}
+use Rattle.std.specs.List.{list_all}
 use Rattle.std.specs.Str.{bytes_eq}
-use Rattle.std.specs.Ordering.{is_eq, nat_cmp}
-use Rattle.std.specs.Cmp.Lexicographic.{slice_cmp}
-use Rattle.std.proofs.lemmas.Map.Text.{is_eq-slice_cmp}
+use Rattle.std.specs.HashMap.{get}
 use Rattle.depot_base.specs.declared.update.Update.{Update}
 use Rattle.depot_base.specs.declared.update.Dep.{Dep}
 use Rattle.depot_model.specs.Lists.{is_among}
 use Rattle.depot_model.specs.Order.{prevs, parents}
 use Rattle.depot_model.proofs.Members.{bytes_eq_comm, all-append, all-map, among-append}
-use Rattle.depot_tool.specs.Ids.{HasMore}
+use Rattle.depot_tool.specs.Ids.{Marks, PutsMark, is_known, is_covered, IsUncovered, HasMore}
+use Rattle.depot_tool.specs.declared.ids.Ids.{Ids}
 
--- the set's test, which compares, is the test of membership
-pub has_is_among : (h : List ℕ) (keys : List (List ℕ)) → list_any (λ k. is_eq (slice_cmp nat_cmp h k)) keys ≡ is_among h keys
-has_is_among h [] = refl
-has_is_among h (k ∷ keys) = rw (is_eq-slice_cmp h k, has_is_among h keys) refl
+known_by : (b mark : Bool) (o : Option Bool) → is_some (cond b (Some mark) o) ≡ ((b || false) || is_some o)
+known_by true mark o = refl
+known_by false mark o = refl
 
--- the set's clause on an insert
-pub more_from_updates : (id : List ℕ) (old new : List (List ℕ))
-    → ((q : List ℕ) → list_any (λ k. is_eq (slice_cmp nat_cmp q k)) new ≡ cond (is_eq (slice_cmp nat_cmp id q)) true (list_any (λ k. is_eq (slice_cmp nat_cmp q k)) old))
-    → HasMore (id ∷ []) old new
-more_from_updates id old new updates h = sym (has_is_among h new) ∙ (updates h ∙ rw (has_is_among h old, is_eq-slice_cmp id h, bytes_eq_comm id h) (either (bytes_eq h id) (is_among h old))) where
-  either : (a b : Bool) → cond a true b ≡ ((a || false) || b)
-  either true b = refl
-  either false b = refl
+covered_by : (b : Bool) (o : Option Bool) → unwrap_or (cond b (Some true) o) false ≡ ((b || false) || unwrap_or o false)
+covered_by true o = refl
+covered_by false o = refl
+
+uncovered_by : (b : Bool) (o : Option Bool) → unwrap_or o false ≡ false → unwrap_or (cond b (Some false) o) false ≡ false
+uncovered_by true o none = refl
+uncovered_by false o none = none
+
+put_at : (old new : Marks) (id : List ℕ) (mark : Bool) → PutsMark old new id mark → (h : List ℕ) → get bytes_eq new h ≡ cond (bytes_eq h id) (Some mark) (get bytes_eq old h)
+put_at old new id mark p h = p.marks h ∙ ap (λ (b : Bool). cond b (Some mark) (get bytes_eq old h)) (bytes_eq_comm id h)
+
+-- an id that was marked is known
+pub known_more : (old new : Marks) (id : List ℕ) (mark : Bool) → PutsMark old new id mark → HasMore (id ∷ []) (is_known old) (is_known new)
+known_more old new id mark p h = ap is_some (put_at old new id mark p h) ∙ known_by (bytes_eq h id) mark (get bytes_eq old h)
+
+-- an id that was marked as covered is covered
+pub covered_more : (old new : Ids) (id : List ℕ) → PutsMark old.marks new.marks id true → HasMore (id ∷ []) (is_covered old) (is_covered new)
+covered_more old new id p h = ap (λ (o : Option Bool). unwrap_or o false) (put_at old.marks new.marks id true p h) ∙ covered_by (bytes_eq h id) (get bytes_eq old.marks h)
+
+-- none is covered where it was marked as not covered
+pub uncovered_stay : (old new : Ids) (id : List ℕ) → PutsMark old.marks new.marks id false → IsUncovered old → IsUncovered new
+uncovered_stay old new id p none = record { none = λ h. ap (λ (o : Option Bool). unwrap_or o false) (put_at old.marks new.marks id false p h) ∙ uncovered_by (bytes_eq h id) (get bytes_eq old.marks h) (none.none h) }
 
 -- ---- parents
 
@@ -33,8 +45,8 @@ pub all_parents : (test : List ℕ → Bool) (u : Update) → list_all test (par
 all_parents test u = all-append test (prevs u) (map (λ d. d.id) u.deps) ∙ ap (λ (b : Bool). list_all test (prevs u) && b) (all-map test (λ (d : Dep). d.id) u.deps)
 
 -- some ids were added, and then others
-pub more_trans : (xs ys : List (List ℕ)) (old mid new : List (List ℕ)) → HasMore xs old mid → HasMore ys mid new → HasMore (xs ++ ys) old new
-more_trans xs ys old mid new a b h = b h ∙ (ap (λ (t : Bool). is_among h ys || t) (a h) ∙ (turn (is_among h xs) (is_among h ys) (is_among h old) ∙ sym (ap (λ (t : Bool). t || is_among h old) (among-append h xs ys)))) where
+pub more_trans : (xs ys : List (List ℕ)) (old mid new : List ℕ → Bool) → HasMore xs old mid → HasMore ys mid new → HasMore (xs ++ ys) old new
+more_trans xs ys old mid new a b h = b h ∙ (ap (λ (t : Bool). is_among h ys || t) (a h) ∙ (turn (is_among h xs) (is_among h ys) (old h) ∙ sym (ap (λ (t : Bool). t || old h) (among-append h xs ys)))) where
   turn : (a b c : Bool) → (b || (a || c)) ≡ ((a || b) || c)
   turn true true c = refl
   turn true false c = refl

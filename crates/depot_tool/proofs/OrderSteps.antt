@@ -1,8 +1,8 @@
 -- Steps of going through a log in its order.
-use Rattle.std.proofs.Common.{◌≡◌, ℕ, ◌+◌, ◌<◌, ◌≤◌, List, [], ◌∷◌, ◌++◌, Bool, true, false, ◌||◌, map, take, drop, length, get_or, Some, None, refl, sym, ap, subst, ◌∙◌, append_assoc}
+use Rattle.std.proofs.Common.{◌≡◌, ℕ, ◌+◌, List, [], ◌∷◌, ◌++◌, Bool, true, false, ◌||◌, map, length, Some, None, refl, sym, ap, subst, ◌∙◌, append_assoc, arith}
 use Rattle.std.specs.List.{list_all}
 use Rattle.std.specs.Str.{bytes_eq}
-use Rattle.std.proofs.lemmas.List.{take_more, drop_more, drop_all, map_push, append-nil}
+use Rattle.std.proofs.lemmas.List.{map_push, append-nil}
 use Rattle.std.proofs.lemmas.Slice.Eq.{bytes_eq-Decides}
 use Rattle.depot_base.specs.declared.update.Update.{Update}
 use Rattle.depot_model.specs.Lists.{is_among}
@@ -13,18 +13,19 @@ use Rattle.depot_model.proofs.Members.{among-append}
 use Rattle.depot_model.proofs.LogLaws.{firsts_are_causal}
 use Rattle.depot_tool.specs.Bodies.{updates}
 use Rattle.depot_tool.specs.Ids.{HasMore}
+use Rattle.depot_tool.specs.Ordering.{AreFirsts}
 use Rattle.depot_tool.specs.declared.body.Body.{Body}
 
 -- the ids of bodies
 abbrev pub ids_of : List Body → List (List ℕ)
 ids_of bodies = map (λ b. b.id) bodies
 
--- the two lists have the same ids
-pub record HaveSame (a b : List (List ℕ)) : Type 0 where
-  pub test : (h : List ℕ) → is_among h a ≡ is_among h b
+-- the table has the ids of the list
+pub record HaveSame (a : List ℕ → Bool) (b : List (List ℕ)) : Type 0 where
+  pub test : (h : List ℕ) → a h ≡ is_among h b
 
--- one more id in the set, and at the end of the list
-pub same_more : (known ids new : List (List ℕ)) (id : List ℕ) → HaveSame known ids → HasMore (id ∷ []) known new → HaveSame new (ids ++ id ∷ [])
+-- one more id in the table, and at the end of the list
+pub same_more : (known : List ℕ → Bool) (ids : List (List ℕ)) (new : List ℕ → Bool) (id : List ℕ) → HaveSame known ids → HasMore (id ∷ []) known new → HaveSame new (ids ++ id ∷ [])
 same_more known ids new id same more = record { test = λ h. more h ∙ (ap (λ (b : Bool). (bytes_eq h id || false) || b) (same.test h) ∙ (turn (bytes_eq h id) (is_among h ids) ∙ sym (among-append h ids (id ∷ [])))) } where
   turn : (a b : Bool) → ((a || false) || b) ≡ (b || (a || false))
   turn true true = refl
@@ -33,19 +34,19 @@ same_more known ids new id same more = record { test = λ h. more h ∙ (ap (λ 
   turn false false = refl
 
 -- an id that is there already
-pub same_again : (known ids new : List (List ℕ)) (id : List ℕ) → HaveSame known ids → HasMore (id ∷ []) known new → is_among id known ≡ true → HaveSame new ids
+pub same_again : (known : List ℕ → Bool) (ids : List (List ℕ)) (new : List ℕ → Bool) (id : List ℕ) → HaveSame known ids → HasMore (id ∷ []) known new → known id ≡ true → HaveSame new ids
 same_again known ids new id same more there = record { test = λ h. more h ∙ (ap (λ (b : Bool). (bytes_eq h id || false) || b) (same.test h) ∙ either h (bytes_eq h id) refl) } where
   either : (h : List ℕ) (b : Bool) → bytes_eq h id ≡ b → ((b || false) || is_among h ids) ≡ is_among h ids
   either h true e = sym (ap (λ (k : List ℕ). is_among k ids) ((bytes_eq-Decides h id).0 e) ∙ (sym (same.test id) ∙ there))
   either h false e = refl
 
 -- one of the kept bodies, or not
-pub record Kept (bodies left kept : List Body) (known : List (List ℕ)) : Type 0 where
+pub record Kept (bodies left kept : List Body) (known : List ℕ → Bool) : Type 0 where
   pub all : updates kept ++ firsts_behind (ids_of kept) (updates left) ≡ firsts (updates bodies)
   pub same : HaveSame known (ids_of kept)
 
 -- a body whose id stands earlier is left out
-pub kept_again : (bodies left kept : List Body) (b : Body) (known new : List (List ℕ)) → Kept bodies (b ∷ left) kept known → is_among b.id known ≡ true → HasMore (b.id ∷ []) known new → Kept bodies left kept new
+pub kept_again : (bodies left kept : List Body) (b : Body) (known new : List ℕ → Bool) → Kept bodies (b ∷ left) kept known → known b.id ≡ true → HasMore (b.id ∷ []) known new → Kept bodies left kept new
 unfolding firsts_behind
 kept_again bodies left kept b known new k there more =
     let among : is_among (id_of_update b.update) (ids_of kept) ≡ true = ap (λ (h : List ℕ). is_among h (ids_of kept)) (sym b.is_id) ∙ (sym (k.same.test b.id) ∙ there) in
@@ -56,7 +57,7 @@ kept_again bodies left kept b known new k there more =
     }
 
 -- another one is kept
-pub kept_more : (bodies left kept after : List Body) (b : Body) (known new : List (List ℕ)) → Kept bodies (b ∷ left) kept known → is_among b.id known ≡ false → HasMore (b.id ∷ []) known new → after ≡ kept ++ b ∷ [] → Kept bodies left after new
+pub kept_more : (bodies left kept after : List Body) (b : Body) (known new : List ℕ → Bool) → Kept bodies (b ∷ left) kept known → known b.id ≡ false → HasMore (b.id ∷ []) known new → after ≡ kept ++ b ∷ [] → Kept bodies left after new
 unfolding firsts_behind
 kept_more bodies left kept after b known new k absent more is =
     let among : is_among (id_of_update b.update) (ids_of kept) ≡ false = ap (λ (h : List ℕ). is_among h (ids_of kept)) (sym b.is_id) ∙ (sym (k.same.test b.id) ∙ absent) in
@@ -70,56 +71,79 @@ kept_more bodies left kept after b known new k absent more is =
     }
 
 -- no body is left
-pub kept_all : (bodies left kept : List Body) (known : List (List ℕ)) → Kept bodies left kept known → left ≡ [] → updates kept ≡ firsts (updates bodies)
+pub kept_all : (bodies left kept : List Body) (known : List ℕ → Bool) → Kept bodies left kept known → left ≡ [] → updates kept ≡ firsts (updates bodies)
 unfolding firsts_behind
 kept_all bodies left kept known k none =
     let end : firsts_behind (ids_of kept) (updates left) ≡ [] = rw none refl in
     sym (ap (λ (us : List Update). updates kept ++ us) end ∙ append-nil (updates kept)) ∙ k.all
 
 -- and where no body is an orphan, those that were kept are causal
-pub kept_causal : (bodies left kept : List Body) (known : List (List ℕ)) → Kept bodies left kept known → left ≡ [] → first_orphan (updates bodies) ≡ None → IsCausal [] (updates kept)
+pub kept_causal : (bodies left kept : List Body) (known : List ℕ → Bool) → Kept bodies left kept known → left ≡ [] → first_orphan (updates bodies) ≡ None → IsCausal [] (updates kept)
 kept_causal bodies left kept known k none e = subst (λ (us : List Update). IsCausal [] us) (sym (kept_all bodies left kept known k none)) (firsts_are_causal (updates bodies) e)
 
-pub all_same : (known ids hs : List (List ℕ)) → HaveSame known ids → list_all (λ h. is_among h known) hs ≡ list_all (λ h. is_among h ids) hs
+all_same : (known : List ℕ → Bool) (ids hs : List (List ℕ)) → HaveSame known ids → list_all known hs ≡ list_all (λ h. is_among h ids) hs
 all_same known ids [] same = refl
 all_same known ids (h ∷ hs) same = rw (same.test h, all_same known ids hs same) refl
 
-here : (bodies : List Body) (b : Body) (i : ℕ) → i < length bodies → b ≡ get_or bodies i b → drop i bodies ≡ b ∷ drop (i + 1) bodies
-here bodies b i lt is = drop_more bodies i b lt ∙ ap (λ (y : Body). y ∷ drop (i + 1) bodies) (sym is)
+-- The bodies that were looked at have their parents before them, and those without repeats were kept.
+pub record Ordering (bodies left kept : List Body) (known : List ℕ → Bool) (place : ℕ) : Type 0 where
+  pub firsts_kept : Kept bodies left kept known
+  pub before : List (List ℕ)
+  pub same : HaveSame known before
+  pub orphan : orphan_behind before place (updates left) ≡ first_orphan (updates bodies)
+  pub at : place + length left ≡ length bodies
 
-ids_more : (bodies : List Body) (b : Body) (i : ℕ) → i < length bodies → b ≡ get_or bodies i b → ids_of (take (i + 1) bodies) ≡ ids_of (take i bodies) ++ b.id ∷ []
-ids_more bodies b i lt is = ap ids_of (take_more bodies i b lt) ∙ (map_push (λ (x : Body). x.id) (take i bodies) (get_or bodies i b) ∙ ap (λ (y : Body). ids_of (take i bodies) ++ y.id ∷ []) (sym is))
+pub ordering_none : (bodies : List Body) (known : List ℕ → Bool) → ((h : List ℕ) → known h ≡ false) → Ordering bodies bodies [] known 0
+ordering_none bodies known none = record {
+  firsts_kept = record { all = refl; same = record { test = none } };
+  before = [];
+  same = record { test = none };
+  orphan = refl;
+  at = omega arith;
+}
 
--- no orphan was found among the first bodies, whose ids are known
-pub record Searched (bodies : List Body) (i : ℕ) (known : List (List ℕ)) : Type 0 where
-  pub left : orphan_behind (ids_of (take i bodies)) i (updates (drop i bodies)) ≡ first_orphan (updates bodies)
-  pub same : HaveSame known (ids_of (take i bodies))
-
--- the next body has its parents before it
-pub searched_more : (bodies : List Body) (b : Body) (i : ℕ) (known new : List (List ℕ)) → i < length bodies → b ≡ get_or bodies i b → Searched bodies i known → list_all (λ h. is_among h known) (parents b.update) ≡ true → HasMore (b.id ∷ []) known new → Searched bodies (i + 1) new
+-- a body whose parents stand before it
+orphan_more : (b : Body) (left : List Body) (known : List ℕ → Bool) (before : List (List ℕ)) (place : ℕ) → HaveSame known before → list_all known (parents b.update) ≡ true
+    → orphan_behind before place (updates (b ∷ left)) ≡ orphan_behind (before ++ b.id ∷ []) (place + 1) (updates left)
 unfolding orphan_behind
-searched_more bodies b i known new lt is s all more =
-    let ids = ids_more bodies b i lt is in
-    let named : list_all (λ h. is_among h (ids_of (take i bodies))) (parents b.update) ≡ true = sym (all_same known (ids_of (take i bodies)) (parents b.update) s.same) ∙ all in
-    let step : orphan_behind (ids_of (take i bodies)) i (updates (drop i bodies)) ≡ orphan_behind (ids_of (take i bodies) ++ id_of_update b.update ∷ []) (i + 1) (updates (drop (i + 1) bodies)) = rw (here bodies b i lt is) (rw named refl) in
-    let to : ids_of (take (i + 1) bodies) ≡ ids_of (take i bodies) ++ id_of_update b.update ∷ [] = ids ∙ ap (λ (h : List ℕ). ids_of (take i bodies) ++ h ∷ []) b.is_id in
-    record {
-      left = ap (λ (hs : List (List ℕ)). orphan_behind hs (i + 1) (updates (drop (i + 1) bodies))) to ∙ (sym step ∙ s.left);
-      same = subst (λ (hs : List (List ℕ)). HaveSame new hs) (sym ids) (same_more known (ids_of (take i bodies)) new b.id s.same more);
-    }
+orphan_more b left known before place same all =
+    let named : list_all (λ h. is_among h before) (parents b.update) ≡ true = sym (all_same known before (parents b.update) same) ∙ all in
+    rw named (ap (λ (h : List ℕ). orphan_behind (before ++ h ∷ []) (place + 1) (updates left)) (sym b.is_id))
 
--- the next body has a parent that doesn't stand before it
-pub searched_here : (bodies : List Body) (b : Body) (i : ℕ) (known : List (List ℕ)) → i < length bodies → b ≡ get_or bodies i b → Searched bodies i known → list_all (λ h. is_among h known) (parents b.update) ≡ false → Some i ≡ first_orphan (updates bodies)
+-- it is kept
+pub ordering_more : (bodies left kept after : List Body) (b : Body) (known new : List ℕ → Bool) (place : ℕ) → Ordering bodies (b ∷ left) kept known place → list_all known (parents b.update) ≡ true
+    → known b.id ≡ false → HasMore (b.id ∷ []) known new → after ≡ kept ++ b ∷ [] → Ordering bodies left after new (place + 1)
+ordering_more bodies left kept after b known new place o all absent more is = record {
+  firsts_kept = kept_more bodies left kept after b known new o.firsts_kept absent more is;
+  before = o.before ++ b.id ∷ [];
+  same = same_more known o.before new b.id o.same more;
+  orphan = sym (orphan_more b left known o.before place o.same all) ∙ o.orphan;
+  at = omega (arith, o.at);
+}
+
+-- its id stands earlier
+pub ordering_again : (bodies left kept : List Body) (b : Body) (known new : List ℕ → Bool) (place : ℕ) → Ordering bodies (b ∷ left) kept known place → list_all known (parents b.update) ≡ true
+    → known b.id ≡ true → HasMore (b.id ∷ []) known new → Ordering bodies left kept new (place + 1)
+ordering_again bodies left kept b known new place o all there more = record {
+  firsts_kept = kept_again bodies left kept b known new o.firsts_kept there more;
+  before = o.before ++ b.id ∷ [];
+  same = same_more known o.before new b.id o.same more;
+  orphan = sym (orphan_more b left known o.before place o.same all) ∙ o.orphan;
+  at = omega (arith, o.at);
+}
+
+-- a body with a parent that doesn't stand before it
+pub ordering_here : (bodies left kept : List Body) (b : Body) (known : List ℕ → Bool) (place : ℕ) → Ordering bodies (b ∷ left) kept known place → list_all known (parents b.update) ≡ false → first_orphan (updates bodies) ≡ Some place
 unfolding orphan_behind
-searched_here bodies b i known lt is s not_all =
-    let named : list_all (λ h. is_among h (ids_of (take i bodies))) (parents b.update) ≡ false = sym (all_same known (ids_of (take i bodies)) (parents b.update) s.same) ∙ not_all in
-    let step : orphan_behind (ids_of (take i bodies)) i (updates (drop i bodies)) ≡ Some i = rw (here bodies b i lt is) (rw named refl) in
-    sym step ∙ s.left
+ordering_here bodies left kept b known place o not_all =
+    let named : list_all (λ h. is_among h o.before) (parents b.update) ≡ false = sym (all_same known o.before (parents b.update) o.same) ∙ not_all in
+    let step : orphan_behind o.before place (updates (b ∷ left)) ≡ Some place = rw named refl in
+    sym o.orphan ∙ step
 
 -- no body is left
-pub searched_all : (bodies : List Body) (i : ℕ) (known : List (List ℕ)) → length bodies ≤ i → Searched bodies i known → None ≡ first_orphan (updates bodies)
+pub ordering_all : (bodies left kept : List Body) (known : List ℕ → Bool) (place : ℕ) → Ordering bodies left kept known place → left ≡ [] → AreFirsts (updates bodies) (updates kept)
 unfolding orphan_behind
-searched_all bodies i known le s =
-    let end : drop i bodies ≡ [] = drop_all i bodies le in
-    let none : orphan_behind (ids_of (take i bodies)) i (updates (drop i bodies)) ≡ None = rw end refl in
-    sym none ∙ s.left
+ordering_all bodies left kept known place o none =
+    let end : orphan_behind o.before place (updates left) ≡ None = rw none refl in
+    let whole : first_orphan (updates bodies) ≡ None = sym o.orphan ∙ end in
+    record { whole = whole; are = kept_all bodies left kept known o.firsts_kept none; causal = kept_causal bodies left kept known o.firsts_kept none whole }

@@ -2,36 +2,35 @@
 use Rattle.std.proofs.Common.{◌≡◌, ℕ, List, [], ◌∷◌, ◌++◌, Bool, true, false, not, ◌&&◌, reverse, refl, sym, ap, ◌∙◌}
 use Rattle.std.proofs.lemmas.List.{append_assoc, append-nil, reverse-append, map_push}
 use Rattle.depot_base.specs.declared.update.Update.{Update}
-use Rattle.depot_model.specs.Lists.{is_among}
 use Rattle.depot_model.specs.Texts.{id_of_update}
 use Rattle.depot_tool.specs.Bodies.{updates}
 use Rattle.depot_tool.specs.Covered.{writes_key, covers, uncovered, Covers}
 use Rattle.depot_tool.specs.declared.body.Body.{Body}
 
 -- these bodies are left, and the others were visited
-pub record Walked (key : List ℕ) (bodies left : List Body) (covered : List (List ℕ)) (found : List Body) : Type 0 where
+pub record Walked (key : List ℕ) (bodies left : List Body) (covered : List ℕ → Bool) (found : List Body) : Type 0 where
   pub done : List Body
   pub parts : bodies ≡ left ++ done
-  pub marks : (h : List ℕ) → is_among h covered ≡ covers key (updates done) h
+  pub marks : (h : List ℕ) → covered h ≡ covers key (updates done) h
   pub all : updates found ≡ reverse (uncovered key (updates done))
 
-pub walked_none : (key : List ℕ) (bodies : List Body) → Walked key bodies bodies [] []
+pub walked_none : (key : List ℕ) (bodies : List Body) (covered : List ℕ → Bool) → ((h : List ℕ) → covered h ≡ false) → Walked key bodies bodies covered []
 unfolding covers uncovered
-walked_none key bodies = record { done = []; parts = sym (append-nil bodies); marks = λ h. refl; all = refl }
+walked_none key bodies covered none = record { done = []; parts = sym (append-nil bodies); marks = none; all = refl }
 
-covered_more : (key : List ℕ) (b : Body) (done : List Body) (old new : List (List ℕ)) → ((h : List ℕ) → is_among h old ≡ covers key (updates done) h) → Covers key b.update old new → (h : List ℕ) → is_among h new ≡ covers key (updates (b ∷ done)) h
+covered_more : (key : List ℕ) (b : Body) (done : List Body) (old new : List ℕ → Bool) → ((h : List ℕ) → old h ≡ covers key (updates done) h) → Covers key b.update old new → (h : List ℕ) → new h ≡ covers key (updates (b ∷ done)) h
 unfolding covers
 covered_more key b done old new marks covered h = covered h ∙ rw (marks h, marks (id_of_update b.update)) refl
 
 -- what the visit says of the body
-said : (key : List ℕ) (b : Body) (done : List Body) (old : List (List ℕ)) → ((h : List ℕ) → is_among h old ≡ covers key (updates done) h) → (writes_key key b.update && not (is_among b.id old)) ≡ (writes_key key b.update && not (covers key (updates done) (id_of_update b.update)))
-said key b done old marks = ap (λ (t : Bool). writes_key key b.update && not t) (ap (λ (h : List ℕ). is_among h old) b.is_id ∙ marks (id_of_update b.update))
+said : (key : List ℕ) (b : Body) (done : List Body) (old : List ℕ → Bool) → ((h : List ℕ) → old h ≡ covers key (updates done) h) → (writes_key key b.update && not (old b.id)) ≡ (writes_key key b.update && not (covers key (updates done) (id_of_update b.update)))
+said key b done old marks = ap (λ (t : Bool). writes_key key b.update && not t) (ap old b.is_id ∙ marks (id_of_update b.update))
 
 parts_more : (bodies left before done : List Body) (b : Body) → bodies ≡ left ++ done → left ≡ before ++ b ∷ [] → bodies ≡ before ++ b ∷ done
 parts_more bodies left before done b parts is = parts ∙ (ap (λ (bs : List Body). bs ++ done) is ∙ append_assoc before (b ∷ []) done)
 
 -- a body that isn't a latest write
-pub walked_on : (key : List ℕ) (bodies left before found : List Body) (b : Body) (old new : List (List ℕ)) → Walked key bodies left old found → left ≡ before ++ b ∷ [] → (writes_key key b.update && not (is_among b.id old)) ≡ false → Covers key b.update old new → Walked key bodies before new found
+pub walked_on : (key : List ℕ) (bodies left before found : List Body) (b : Body) (old new : List ℕ → Bool) → Walked key bodies left old found → left ≡ before ++ b ∷ [] → (writes_key key b.update && not (old b.id)) ≡ false → Covers key b.update old new → Walked key bodies before new found
 unfolding uncovered
 walked_on key bodies left before found b old new w is latest covered =
     let no = sym (said key b w.done old w.marks) ∙ latest in
@@ -44,7 +43,7 @@ walked_on key bodies left before found b old new w is latest covered =
     }
 
 -- a latest write
-pub walked_found : (key : List ℕ) (bodies left before found after : List Body) (b : Body) (old new : List (List ℕ)) → Walked key bodies left old found → left ≡ before ++ b ∷ [] → (writes_key key b.update && not (is_among b.id old)) ≡ true → Covers key b.update old new → after ≡ found ++ b ∷ [] → Walked key bodies before new after
+pub walked_found : (key : List ℕ) (bodies left before found after : List Body) (b : Body) (old new : List ℕ → Bool) → Walked key bodies left old found → left ≡ before ++ b ∷ [] → (writes_key key b.update && not (old b.id)) ≡ true → Covers key b.update old new → after ≡ found ++ b ∷ [] → Walked key bodies before new after
 unfolding uncovered
 walked_found key bodies left before found after b old new w is latest covered pushed =
     let yes = sym (said key b w.done old w.marks) ∙ latest in
@@ -58,5 +57,5 @@ walked_found key bodies left before found after b old new w is latest covered pu
     }
 
 -- no body is left
-pub walked_all : (key : List ℕ) (bodies left : List Body) (covered : List (List ℕ)) (found : List Body) → Walked key bodies left covered found → left ≡ [] → updates found ≡ reverse (uncovered key (updates bodies))
+pub walked_all : (key : List ℕ) (bodies left : List Body) (covered : List ℕ → Bool) (found : List Body) → Walked key bodies left covered found → left ≡ [] → updates found ≡ reverse (uncovered key (updates bodies))
 walked_all key bodies left covered found w none = w.all ∙ ap (λ (bs : List Body). reverse (uncovered key (updates bs))) (sym (w.parts ∙ ap (λ (bs : List Body). bs ++ w.done) none))

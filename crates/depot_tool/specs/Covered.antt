@@ -21,5 +21,5 @@ uncovered key [] = []
 uncovered key (u ∷ us) = if writes_key key u && not (covers key us (id_of_update u)) then u ∷ uncovered key us else uncovered key us
 
 -- what is covered once an update was looked at: its parents too, where it writes the key or is covered
-abbrev pub Covers : List ℕ → Update → List (List ℕ) → List (List ℕ) → Type 0
-Covers key u old new = (h : List ℕ) → is_among h new ≡ ((is_among h (parents u) && (writes_key key u || is_among (id_of_update u) old)) || is_among h old)
+abbrev pub Covers : List ℕ → Update → (List ℕ → Bool) → (List ℕ → Bool) → Type 0
+Covers key u old new = (h : List ℕ) → new h ≡ ((is_among h (parents u) && (writes_key key u || old (id_of_update u))) || old h)

@@ -3,5 +3,7 @@ pub mod Bodies
 pub mod Ids
 pub mod Log
 pub mod Covered
+pub mod Ordering
 pub mod Lines
 pub mod Runs
+pub mod Statuses

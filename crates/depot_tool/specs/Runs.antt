@@ -1,5 +1,5 @@
 -- What each command answers and prints, and how a run ends.
-use Rattle.std.specs.Prelude.{◌≡◌, ◌<◌, ◌⊎◌, ℕ, List, [], ◌++◌, codes, take, Bool, IsTrue, Option, Some, None, Ok, Err}
+use Rattle.std.specs.Prelude.{◌≡◌, ◌<◌, ◌⊎◌, ℕ, List, [], ◌∷◌, ◌++◌, codes, take, Bool, IsTrue, Option, Some, None, Ok, Err}
 use Rattle.std.specs.List.{flat_map}
 use Rattle.std.specs.Fmt.{decimal}
 use Rattle.hex.specs.Hex.{encode_lower}
@@ -8,16 +8,18 @@ use Rattle.depot_base.specs.declared.key.RosterEntry.{RosterEntry}
 use Rattle.depot_model.specs.declared.judgement.Verdict.{Verdict}
 use Rattle.depot_model.specs.declared.judgement.JudgeError.{JudgeError}
 use Rattle.depot_model.specs.declared.judgement.JudgeError.TheVariants as point
-use Rattle.depot_model.specs.Texts.{IsRoster, text_of_roster, roster}
-use Rattle.depot_base.specs.Format.{FirstFault}
-use Rattle.depot_model.specs.RosterText.{roster_error}
+use Rattle.depot_model.specs.Texts.{IsRoster, text_of_roster}
+use Rattle.depot_model.specs.RosterText.{IsRefusedFor}
+use Rattle.depot_model.specs.declared.roster.RosterError.{RosterError}
 use Rattle.depot_model.specs.Order.{AreLatestIn}
 use Rattle.depot_model.specs.Log.{IsLog, IsLogFault, firsts, first_orphan}
 use Rattle.depot_model.specs.Judgement.{IsJudgementOf}
 use Rattle.depot_model.specs.Winternitz.{root_of, winternitz_verifies}
 use Rattle.depot_model.specs.Lines.{text_of_verdict, text_of_point, text_of_roster_error}
 use Rattle.depot_tool.specs.Lines.{line_of_write}
-use Rattle.depot_tool.specs.Words.{Command, scan_log, winter_key, judge_proof}
+use Rattle.depot_outside.specs.declared.shelf.Shelf.{Ghosts}
+use Rattle.depot_tool.specs.declared.command.Command.{Command}
+use Rattle.depot_tool.specs.declared.command.Command.TheVariants as asked
 use Rattle.depot_tool.specs.declared.status.Status.{Status}
 use Rattle.depot_tool.specs.declared.status.Status.TheVariants.{Done, Words, Input, Shelf, Sink, Memory, NoProof, NotLawful}
 
@@ -30,8 +32,20 @@ pub record Shelves : Type 0 where
   pub faults_before : ℕ
   pub faults_after : ℕ
 
-abbrev pub shelves : Bool → (List ℕ → Option (List ℕ)) → ℕ → ℕ → Shelves
-shelves tells file faults_before faults_after = record { tells = tells; file = file; faults_before = faults_before; faults_after = faults_after }
+abbrev pub shelves : {F : Type 0} → Ghosts F → F → F → Shelves
+shelves g old new = record { tells = g.tells old; file = g.file old; faults_before = g.faults old; faults_after = g.faults new }
+
+-- the names that the shelf was asked to load, before and after the run
+pub record Loads : Type 0 where
+  pub before : List (List ℕ)
+  pub after : List (List ℕ)
+
+abbrev pub loads : {F : Type 0} → Ghosts F → F → F → Loads
+loads g old new = record { before = g.loads old; after = g.loads new }
+
+-- the run loaded the files of these names, in this order, and no other
+abbrev pub HasLoaded : Loads → List (List ℕ) → Type 0
+HasLoaded loads names = loads.after ≡ loads.before ++ names
 
 -- the file of the name is there, and of its bytes this holds
 pub record HasFile (shelf : Shelves) (name : List ℕ) (P : List ℕ → Type 0) : Type 0 where
@@ -46,6 +60,15 @@ WhereTold shelf P = IsTrue shelf.tells → P
 -- The shelf failed in this run; else the file of the name isn't there.
 abbrev pub LacksFile : Shelves → List ℕ → Type 0
 LacksFile shelf name = (shelf.faults_before < shelf.faults_after) ⊎ WhereTold shelf (shelf.file name ≡ None)
+
+-- what a load of the name gives: the bytes of the file, or nothing
+abbrev pub IsLoaded : Shelves → List ℕ → Option (List ℕ) → Type 0
+IsLoaded shelf name (Some bytes) = WhereTold shelf (shelf.file name ≡ Some bytes) × (shelf.faults_after ≡ shelf.faults_before)
+IsLoaded shelf name None = LacksFile shelf name
+
+-- where the shelf failed nothing else is answered
+abbrev pub EndsAtFault : Shelves → Status → Type 0
+EndsAtFault shelf status = (status ≡ Shelf) ⊎ (shelf.faults_after ≡ shelf.faults_before)
 
 abbrev pub shelf_line : List ℕ → List ℕ
 shelf_line name = codes "shelf " ++ name ++ codes "\n"
@@ -105,11 +128,11 @@ pub record IsRosterText (bytes : List ℕ) (r : List RosterEntry) : Type 0 where
   pub fits : IsRoster r
   pub is : bytes ≡ text_of_roster r
 
--- the bytes are no roster's, and the text tells where they go wrong
+-- the bytes are no roster's, and the text tells why
 pub record IsNoRoster (name text bytes : List ℕ) : Type 0 where
-  pub at : ℕ
-  pub fault : FirstFault roster bytes at
-  pub is : text ≡ codes "input " ++ name ++ codes " " ++ text_of_roster_error (roster_error bytes at) ++ codes "\n"
+  pub error : RosterError
+  pub cause : IsRefusedFor bytes error
+  pub is : text ≡ codes "input " ++ name ++ codes " " ++ text_of_roster_error error ++ codes "\n"
 
 -- the roster of the name is there, and is one
 abbrev pub HasRoster : Shelves → List ℕ → Type 0
@@ -134,20 +157,20 @@ JudgesProof shelf listed proof Shelf text = LacksFile shelf proof × (text ≡ s
 JudgesProof shelf listed proof status text = ⊥
 
 -- what `judge` answers: the roster is loaded and parsed first, and then the proof
-abbrev pub Judges : Shelves → List ℕ → List ℕ → Status → List ℕ → Type 0
-Judges shelf roster proof status text =
-    ((status ≡ Shelf) × (LacksFile shelf roster × (text ≡ shelf_line roster))) ⊎
-    (((status ≡ Input) × WhereTold shelf (HasFile shelf roster (IsNoRoster roster text))) ⊎
-    ((listed : List RosterEntry) × (WhereTold shelf (HasFile shelf roster (λ bytes. IsRosterText bytes listed)) × JudgesProof shelf listed proof status text)))
+abbrev pub Judges : Shelves → Loads → List ℕ → List ℕ → Status → List ℕ → Type 0
+Judges shelf loads roster proof status text =
+    (HasLoaded loads (roster ∷ []) × ((status ≡ Shelf) × (LacksFile shelf roster × (text ≡ shelf_line roster)))) ⊎
+    ((HasLoaded loads (roster ∷ []) × ((status ≡ Input) × WhereTold shelf (HasFile shelf roster (IsNoRoster roster text)))) ⊎
+    (HasLoaded loads (roster ∷ proof ∷ []) × ((listed : List RosterEntry) × (WhereTold shelf (HasFile shelf roster (λ bytes. IsRosterText bytes listed)) × JudgesProof shelf listed proof status text))))
 
 -- ---- any command
 
--- what the command answers and prints, where memory is found and the sink doesn't fail
-abbrev pub Answers : Shelves → Option Command → Status → List ℕ → Type 0
-Answers shelf None status text = (status ≡ Words) × (text ≡ codes "words\n")
-Answers shelf (Some (scan_log log key)) status text = Scans shelf log key status text
-Answers shelf (Some (winter_key seed height)) status text = PrintsKey seed height status text
-Answers shelf (Some (judge_proof roster proof)) status text = Judges shelf roster proof status text
+-- what the command answers and prints, and which files it loads, where memory is found and the sink doesn't fail
+abbrev pub Answers : Shelves → Loads → Option Command → Status → List ℕ → Type 0
+Answers shelf loads None status text = HasLoaded loads [] × ((status ≡ Words) × (text ≡ codes "words\n"))
+Answers shelf loads (Some (asked.Scan log key)) status text = HasLoaded loads (log ∷ []) × Scans shelf log key status text
+Answers shelf loads (Some (asked.Root seed height)) status text = HasLoaded loads [] × PrintsKey seed height status text
+Answers shelf loads (Some (asked.Judge roster proof)) status text = Judges shelf loads roster proof status text
 
 -- ---- the sink as a run leaves it
 
@@ -211,6 +234,6 @@ pub record IsWholeLog (bytes : List ℕ) : Type 0 where
 -- what such a run comes to, where its files are there and in their grammars; Memory may stand in place of each status
 abbrev pub Completes : Shelves → Option Command → Status → Type 0
 Completes shelf None status = (status ≡ Words) ⊎ (status ≡ Memory)
-Completes shelf (Some (scan_log log key)) status = HasFile shelf log IsWholeLog → (status ≡ Done) ⊎ (status ≡ Memory)
-Completes shelf (Some (winter_key seed height)) status = (status ≡ Done) ⊎ (status ≡ Memory)
-Completes shelf (Some (judge_proof roster proof)) status = HasRoster shelf roster → HasFile shelf proof (λ bytes. Unit {0}) → (status ≡ Done) ⊎ ((status ≡ NoProof) ⊎ (status ≡ Memory))
+Completes shelf (Some (asked.Scan log key)) status = HasFile shelf log IsWholeLog → (status ≡ Done) ⊎ (status ≡ Memory)
+Completes shelf (Some (asked.Root seed height)) status = (status ≡ Done) ⊎ (status ≡ Memory)
+Completes shelf (Some (asked.Judge roster proof)) status = HasRoster shelf roster → HasFile shelf proof (λ bytes. Unit {0}) → (status ≡ Done) ⊎ ((status ≡ NoProof) ⊎ (status ≡ Memory))

@@ -5,6 +5,8 @@ use Rattle.std.specs.Result.{result_ok}
 use Rattle.std.specs.Str.{bytes_eq}
 use Rattle.hex.specs.Hex.{decode_of}
 use Rattle.depot_model.specs.Lists.{when}
+use Rattle.depot_tool.specs.declared.command.Command.{Command}
+use Rattle.depot_tool.specs.declared.command.Command.TheVariants.{Scan, Root, Judge}
 
 -- ---- words
 
@@ -57,15 +59,6 @@ number_word low high word = when (is_number word && nat_le low (value_behind 0 w
 
 -- ---- commands
 
--- what the words ask for
-pub data Command : Type 0 where
-  -- the name of the log, the key
-  scan_log : List ℕ → List ℕ → Command
-  -- the seed, the height
-  winter_key : List ℕ → ℕ → Command
-  -- the names of the roster and the proof
-  judge_proof : List ℕ → List ℕ → Command
-
 -- both are there
 abbrev pub both : {A B : Type 0} → Option A → Option B → (A → B → Command) → Option Command
 both None b make = None
@@ -77,15 +70,15 @@ name_word word = when (is_name word) word
 
 -- `scan LOG KEY`
 abbrev pub scan_command : List ℕ → List ℕ → Option Command
-scan_command log key = both (name_word log) (sized 1 255 (hex_word key)) (λ log key. scan_log log key)
+scan_command log key = both (name_word log) (sized 1 255 (hex_word key)) (λ log key. Scan log key)
 
 -- `key SEED HEIGHT`
 abbrev pub key_command : List ℕ → List ℕ → Option Command
-key_command seed height = both (sized 32 32 (hex_word seed)) (number_word 2 12 height) (λ seed height. winter_key seed height)
+key_command seed height = both (sized 32 32 (hex_word seed)) (number_word 2 12 height) (λ seed height. Root seed height)
 
 -- `judge ROSTER PROOF`
 abbrev pub judge_command : List ℕ → List ℕ → Option Command
-judge_command roster proof = both (name_word roster) (name_word proof) (λ roster proof. judge_proof roster proof)
+judge_command roster proof = both (name_word roster) (name_word proof) (λ roster proof. Judge roster proof)
 
 -- a command of three words
 unfoldable pub command_by : List ℕ → List ℕ → List ℕ → Option Command

@@ -1,7 +1,7 @@
 //! An update beside its id.
 ghost use Rattle.std.specs.Prelude.{◌≡◌};
 ghost use Rattle.depot_model.specs.Texts.{IsUpdate, id_of_update};
-ghost use Rattle.depot_model.proofs.UpdateProp.{IsUpdate-prop};
+ghost use Rattle.depot_model.specs.TextFacts.{IsUpdate-prop};
 
 use depot_base::{DecodeError, Hash32, Update};
 use depot_update::decode_update;

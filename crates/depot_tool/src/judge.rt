@@ -1,15 +1,16 @@
 //! `judge ROSTER PROOF`: whether a text proves a contradiction.
-ghost use Rattle.std.specs.Prelude.{◌≡◌, ◌++◌, IfOk, codes, Ok, Err, string_bytes};
+ghost use Rattle.std.specs.Prelude.{◌≡◌, ◌++◌, ◌∷◌, [], IfOk, codes, Ok, Err, string_bytes};
 ghost use Rattle.depot_model.specs.Lines.{name_of_kind, text_of_verdict, text_of_point, text_of_roster_error};
 ghost use Rattle.depot_model.specs.Judgement.{IsJudgementOf};
 ghost use Rattle.depot_model.specs.Winternitz.{winternitz_verifies};
-ghost use Rattle.depot_tool.specs.Runs.{shelves, Judges, JudgesProof, IsPoint, JudgementOf};
+ghost use Rattle.depot_tool.specs.Runs.{shelves, loads, HasLoaded, EndsAtFault, Judges, JudgesProof, IsPoint, JudgementOf};
 
+use crate::load::load;
 use crate::outcome::Outcome;
 use crate::status::Status;
 use depot_base::{Kind, Memory};
 use depot_judge::{Half, JudgeError, Verdict};
-use depot_outside::{OutError, Shelf};
+use depot_outside::Shelf;
 use depot_sign::{Roster, RosterError};
 use depot_winter::WinterScheme;
 use std::alloc::Global;
@@ -124,13 +125,14 @@ fn judge_proof<F: Shelf>(
     roster: &Roster,
     name: &str,
 ) -> Result<Outcome, Memory>
-    ensures judges { IfOk result (λ o. JudgesProof (shelves (F.tells shelf.old) (F.file shelf.old) (F.faults shelf.old) (F.faults shelf.new)) roster.now name.now o.status o.text) }
+    ensures judges { IfOk result (λ o. JudgesProof (shelves F.Shelf shelf.old shelf.new) roster.now name.now o.status o.text) }
+    ensures first_fault { IfOk result (λ o. EndsAtFault (shelves F.Shelf shelf.old shelf.new) o.status) }
+    ensures loads { HasLoaded (loads F.Shelf shelf.old shelf.new) (name.now ∷ []) }
     ensures files { F.file shelf.new ≡ F.file shelf.old }
 {
-    match shelf.load(name) {
-        Ok(Some(proof)) => judge_bytes(alloc, roster, proof.as_slice()),
-        Ok(None) | Err(OutError::Failed) => Outcome::no_file(alloc, name),
-        Err(OutError::Memory) => Err(Memory),
+    match load(shelf, name)? {
+        Some(proof) => judge_bytes(alloc, roster, proof.as_slice()),
+        None => Outcome::no_file(alloc, name),
     }
 }
 
@@ -141,13 +143,12 @@ pub fn judge<F: Shelf>(
     roster: &str,
     proof: &str,
 ) -> Result<Outcome, Memory>
-    ensures judges { IfOk result (λ o. Judges (shelves (F.tells shelf.old) (F.file shelf.old) (F.faults shelf.old) (F.faults shelf.new)) roster.now proof.now o.status o.text) }
+    ensures judges { IfOk result (λ o. Judges (shelves F.Shelf shelf.old shelf.new) (loads F.Shelf shelf.old shelf.new) roster.now proof.now o.status o.text) }
+    ensures first_fault { IfOk result (λ o. EndsAtFault (shelves F.Shelf shelf.old shelf.new) o.status) }
     ensures files { F.file shelf.new ≡ F.file shelf.old }
 {
-    let text = match shelf.load(roster) {
-        Ok(Some(text)) => text,
-        Ok(None) | Err(OutError::Failed) => return Outcome::no_file(alloc, roster),
-        Err(OutError::Memory) => return Err(Memory),
+    let Some(text) = load(shelf, roster)? else {
+        return Outcome::no_file(alloc, roster);
     };
     match Roster::parse(alloc, text.as_slice()) {
         Ok(listed) => judge_proof(alloc, shelf, &listed, proof),

@@ -8,10 +8,13 @@
 #![tactic(auto)]
 
 mod body;
+mod command;
+mod height;
 mod ids;
 mod judge;
 mod key;
 mod lines;
+mod load;
 mod log;
 mod order;
 mod outcome;
@@ -62,5 +65,5 @@ fn main(rt: HostRuntime) -> ExitCode {
         Ok(status) => status,
         Err(Memory) => Status::Memory,
     };
-    ExitCode::from(status as u8)
+    ExitCode::from(status.number())
 }

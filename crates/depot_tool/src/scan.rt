@@ -1,17 +1,19 @@
 //! `scan LOG KEY`: the latest writes of a key in a log.
-ghost use Rattle.std.specs.Prelude.{◌≡◌, ◌++◌, IfOk, codes};
+ghost use Rattle.std.specs.Prelude.{◌≡◌, ◌++◌, ◌∷◌, [], IfOk, codes};
 ghost use Rattle.std.specs.Fmt.{decimal};
-ghost use Rattle.depot_tool.specs.Runs.{shelves, Scans, ScanOf};
+ghost use Rattle.depot_tool.specs.Runs.{shelves, loads, HasLoaded, EndsAtFault, Scans, ScanOf};
 
+use crate::ids::Ids;
 use crate::lines::lines_of;
+use crate::load::load;
 use crate::log::bodies_of;
-use crate::order::{first_orphan, firsts};
+use crate::order::{Ordered, in_order};
 use crate::outcome::Outcome;
 use crate::status::Status;
 use crate::writes::latest;
 use depot_base::fault::Fault;
 use depot_base::{Bytes, Key, Memory};
-use depot_outside::{OutError, Shelf};
+use depot_outside::Shelf;
 use std::alloc::Global;
 
 /// The file of that name is no log, printed.
@@ -39,15 +41,17 @@ fn scan_bytes(alloc: Global, log: &[u8], name: &str, key: &Key) -> Result<Outcom
         Err(Fault::Memory) => return Err(Memory),
         Err(Fault::At(at)) => return no_log(alloc, name, at),
     };
-    if let Some(place) = first_orphan(alloc, &bodies)? {
-        return no_parent(alloc, place);
+    let mut ids = Ids::with_capacity(alloc, bodies.len())?;
+    match in_order(alloc, &mut ids, bodies)? {
+        Ordered::Orphan(place) => no_parent(alloc, place),
+        Ordered::InOrder(kept) => {
+            let found = latest(alloc, key.bytes(), kept, &mut ids)?;
+            Ok(Outcome {
+                status: Status::Done,
+                text: lines_of(alloc, &found)?,
+            })
+        }
     }
-    let kept = firsts(alloc, bodies)?;
-    let found = latest(alloc, key.bytes(), kept)?;
-    Ok(Outcome {
-        status: Status::Done,
-        text: lines_of(alloc, &found)?,
-    })
 }
 
 /// What a scan of the log of that name comes to.
@@ -57,12 +61,13 @@ pub fn scan<F: Shelf>(
     name: &str,
     key: &Key,
 ) -> Result<Outcome, Memory>
-    ensures scans { IfOk result (λ o. Scans (shelves (F.tells shelf.old) (F.file shelf.old) (F.faults shelf.old) (F.faults shelf.new)) name.now key.now o.status o.text) }
+    ensures scans { IfOk result (λ o. Scans (shelves F.Shelf shelf.old shelf.new) name.now key.now o.status o.text) }
+    ensures first_fault { IfOk result (λ o. EndsAtFault (shelves F.Shelf shelf.old shelf.new) o.status) }
+    ensures loads { HasLoaded (loads F.Shelf shelf.old shelf.new) (name.now ∷ []) }
     ensures files { F.file shelf.new ≡ F.file shelf.old }
 {
-    match shelf.load(name) {
-        Ok(Some(log)) => scan_bytes(alloc, log.as_slice(), name, key),
-        Ok(None) | Err(OutError::Failed) => Outcome::no_file(alloc, name),
-        Err(OutError::Memory) => Err(Memory),
+    match load(shelf, name)? {
+        Some(log) => scan_bytes(alloc, log.as_slice(), name, key),
+        None => Outcome::no_file(alloc, name),
     }
 }

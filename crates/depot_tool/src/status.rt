@@ -1,6 +1,8 @@
 //! How a run ends.
+ghost use Rattle.std.specs.Prelude.{◌≡◌};
+ghost use Rattle.depot_tool.specs.Statuses.{number_of_status};
 
-/// How a run ends. The place of the variant, from 0, is the exit status.
+/// How a run ends.
 #[derive(Clone, Copy, Debug, PartialEq, Eq)]
 pub enum Status {
     /// The command did what it says.
@@ -25,4 +27,25 @@ pub enum Status {
     NotLawful,
     /// The node is another. No command that is built yet runs one.
     Identity,
+}
+
+impl Status {
+    /// The exit status of the program.
+    pub fn number(self) -> u8
+        ensures { result ≡ number_of_status self }
+    {
+        match self {
+            Status::Done => 0,
+            Status::Words => 1,
+            Status::Input => 2,
+            Status::Shelf => 3,
+            Status::Disk => 4,
+            Status::Sink => 5,
+            Status::Memory => 6,
+            Status::NoProof => 7,
+            Status::Limit => 8,
+            Status::NotLawful => 9,
+            Status::Identity => 10,
+        }
+    }
 }

@@ -2,8 +2,11 @@
 use crate::status::Status;
 use crate::top::depot;
 use crate::word::Word;
-use depot_base::{Bytes, Items};
+use depot_base::{Bytes, Hash32, Items};
 use depot_outside::{MemDisk, MemShelf, MemSink};
+use depot_sign::Signer;
+use depot_winter::WinterSigner;
+use sha2::{Digest, Sha256};
 use std::alloc::Global;
 use std::test::Fail;
 
@@ -21,13 +24,12 @@ const KEY: &str = "key 000000000000000000000000000000000000000000000000000000000
 /// Its root, by `acceptance/make_cases.py`.
 const ROOT: &str = "80b60b73f57fe84fe1fd4077d8cc2cf136f20e85d37de8a1f0cda9a2966f32bc\n";
 
-#[derive(Drop)]
-struct Answer {
-    status: Status,
-    text: Bytes,
-}
+/// Nodes 8 and 9 with keys of height 2, of `acceptance/judge_same_prev`.
+const ROSTER: &str = "010400020008\
+025d92fbbc23d40d2955a3392b0890fd14637d7942735afaef041d679a74657029\
+000902c70aaf512f592cc5a9e6523dfb6a94c86629a8ac80f9dffe32e77976aa098491";
 
-/// The number of the call that fails, or none for 0.
+/// The numbers of the call that fails, or no number for 0.
 fn fails(alloc: Global, call: u32) -> Result<Items, Fail> {
     let mut calls = Items::new(alloc);
     if call > 0 {
@@ -36,60 +38,76 @@ fn fails(alloc: Global, call: u32) -> Result<Items, Fail> {
     Ok(calls)
 }
 
-/// Runs the words of a line over a shelf that holds the log as LOG.
-fn run(alloc: Global, line: &str, shelf_fails: u32, sink_fails: u32) -> Result<Answer, Fail> {
-    let mut words = Vec::new(alloc);
-    for word in line.split(' ') {
-        words.push(Word::new(String::from_str(alloc, word)?))?;
+/// Adds a half of a proof: a write of node 9 without parents, at this seq below 4, and its signature.
+fn push_half(alloc: Global, proof: &mut Bytes, seq: u8, value: u8) -> Result<(), Fail> {
+    let seq = seq % 4;
+    let mut body = Bytes::new(alloc);
+    body.push_all(&[1, 1, 0, 9, 0, 0, 0, seq, 0, 0, 0, 0, 0, 0, 0, seq + 1])?;
+    body.push_all(&[0; 32])?;
+    body.push_all(b"\x01k")?;
+    body.push_all(&Sha256::digest(&[value]))?;
+    body.push_all(&[0, 0, 0, 1, 0, 0])?;
+    body.push_all(&Sha256::digest(&[]))?;
+    let signer = WinterSigner::from_seed(alloc, &Hash32::new([9; 32]), 2)?;
+    let signature = signer.sign(u32::from(seq), body.as_slice())?;
+    proof.push_u32(120)?;
+    proof.push_all(body.as_slice())?;
+    proof.push_u32(2212)?;
+    proof.push_all(signature.as_slice())?;
+    Ok(())
+}
+
+/// A shelf with a log, a roster and three texts that may be a proof.
+fn files(alloc: Global, failing: u32) -> Result<MemShelf, Fail> {
+    let mut shelf = MemShelf::new(alloc, fails(alloc, failing)?);
+    shelf.put("LOG", &hex::decode(alloc, LOG)?)?;
+    shelf.put("ROSTER", &hex::decode(alloc, ROSTER)?)?;
+    let mut proof = Bytes::from_slice(alloc, &[1, 2])?;
+    push_half(alloc, &mut proof, 0, b'a')?;
+    push_half(alloc, &mut proof, 1, b'b')?;
+    shelf.put("PROOF", proof.as_slice())?;
+    // The last byte of the second signature is another.
+    let (last, front) = proof.as_slice().split_last().ok_or("no bytes")?;
+    let mut forged = Bytes::from_slice(alloc, front)?;
+    forged.push_all(&[last ^ 1])?;
+    shelf.put("FORGED", forged.as_slice())?;
+    shelf.put("EMPTY", b"")?;
+    Ok(shelf)
+}
+
+#[test]
+fn runs_end_as_their_commands_say(rt: HostRuntime) -> Result<(), Fail> {
+    use Status::{Done, Input, NoProof, Shelf, Sink};
+    let alloc = rt.alloc();
+    // The words, the calls of the shelf and the sink that fail, how the run ends, what it prints.
+    let cases: [(&str, u32, u32, Status, &str); 9] = [
+        ("scan LOG 6b", 0, 0, Done, LINE),
+        ("scan LOG 6b", 1, 0, Shelf, "shelf LOG\n"),
+        ("scan LOG 6b", 0, 1, Sink, ""),
+        (KEY, 0, 0, Done, ROOT),
+        ("judge LOG NOWHERE", 0, 0, Input, "input LOG at 0\n"),
+        ("judge ROSTER PROOF", 2, 0, Shelf, "shelf PROOF\n"),
+        ("judge ROSTER PROOF", 0, 0, Done, "9 SamePrev\n"),
+        ("judge ROSTER EMPTY", 0, 0, NoProof, "IllFormed 0\n"),
+        (
+            "judge ROSTER FORGED",
+            0,
+            0,
+            NoProof,
+            "BadSignature second\n",
+        ),
+    ];
+    for (line, shelf_fails, sink_fails, status, text) in cases {
+        let mut words = Vec::new(alloc);
+        for word in line.split(' ') {
+            words.push(Word::new(String::from_str(alloc, word)?))?;
+        }
+        let mut shelf = files(alloc, shelf_fails)?;
+        let mut disk = MemDisk::new(Bytes::new(alloc), fails(alloc, 0)?);
+        let mut sink = MemSink::new(alloc, fails(alloc, sink_fails)?);
+        let ended = depot(alloc, &words, &mut shelf, &mut disk, &mut sink);
+        assert_eq!(rt; ended, status, "{line}");
+        assert_eq!(rt; sink.bytes(), text.as_bytes(), "{line}");
     }
-    let mut shelf = MemShelf::new(alloc, fails(alloc, shelf_fails)?);
-    let log = hex::decode(alloc, LOG)?;
-    shelf.put("LOG", &log)?;
-    let mut disk = MemDisk::new(Bytes::new(alloc), fails(alloc, 0)?);
-    let mut sink = MemSink::new(alloc, fails(alloc, sink_fails)?);
-    let status = depot(alloc, &words, &mut shelf, &mut disk, &mut sink);
-    Ok(Answer {
-        status,
-        text: Bytes::from_slice(alloc, sink.bytes())?,
-    })
-}
-
-#[test]
-fn a_scan_prints_the_latest_write(rt: HostRuntime) -> Result<(), Fail> {
-    let answer = run(rt.alloc(), "scan LOG 6b", 0, 0)?;
-    assert_eq!(rt; answer.status, Status::Done);
-    assert_eq!(rt; answer.text.as_slice(), LINE.as_bytes());
-    Ok(())
-}
-
-#[test]
-fn a_shelf_that_fails_is_told(rt: HostRuntime) -> Result<(), Fail> {
-    let answer = run(rt.alloc(), "scan LOG 6b", 1, 0)?;
-    assert_eq!(rt; answer.status, Status::Shelf);
-    assert_eq!(rt; answer.text.as_slice(), b"shelf LOG\n".as_slice());
-    Ok(())
-}
-
-#[test]
-fn a_sink_that_fails_is_told(rt: HostRuntime) -> Result<(), Fail> {
-    let answer = run(rt.alloc(), "scan LOG 6b", 0, 1)?;
-    assert_eq!(rt; answer.status, Status::Sink);
-    assert_eq!(rt; answer.text.as_slice(), b"".as_slice());
-    Ok(())
-}
-
-#[test]
-fn a_key_prints_its_root(rt: HostRuntime) -> Result<(), Fail> {
-    let answer = run(rt.alloc(), KEY, 0, 0)?;
-    assert_eq!(rt; answer.status, Status::Done);
-    assert_eq!(rt; answer.text.as_slice(), ROOT.as_bytes());
-    Ok(())
-}
-
-#[test]
-fn a_roster_is_looked_at_before_a_proof(rt: HostRuntime) -> Result<(), Fail> {
-    let answer = run(rt.alloc(), "judge LOG NOWHERE", 0, 0)?;
-    assert_eq!(rt; answer.status, Status::Input);
-    assert_eq!(rt; answer.text.as_slice(), b"input LOG at 0\n".as_slice());
     Ok(())
 }

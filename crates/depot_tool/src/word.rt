@@ -1,9 +1,10 @@
 //! A word of the command line.
-ghost use Rattle.std.specs.Prelude.{◌≡◌, string_bytes};
+ghost use Rattle.std.specs.Prelude.{◌≡◌, IfOk, string_bytes};
 ghost use Rattle.std.specs.List.{list_all};
 ghost use Rattle.std.specs.Str.{bytes_eq};
 ghost use Rattle.depot_tool.specs.Words.{has_length, is_name_byte, is_name};
 
+use depot_base::Memory;
 use std::marker::Model;
 
 /// A word of the command line, seen as its bytes.
@@ -24,6 +25,13 @@ impl Word {
         ensures { result ≡ string_bytes text }
     {
         Word(text)
+    }
+
+    /// The same word, by the allocator that this one has.
+    pub fn copy(&self) -> Result<Word, Memory>
+        ensures { IfOk result (λ word. word ≡ self.now) }
+    {
+        Ok(Word(self.0.clone()?))
     }
 
     /// Its text.

@@ -1,9 +1,11 @@
 //! Reads the words of a command.
 ghost use Rattle.std.specs.Prelude.{◌≡◌, IfOk, IsTrue};
 ghost use Rattle.std.specs.List.{list_all};
-ghost use Rattle.depot_tool.specs.Words.{is_lower_digit, is_digit, hex_word, sized, has_no_leading_zero, is_number, value_behind, number_word};
+ghost use Rattle.depot_tool.specs.Words.{is_lower_digit, is_digit, hex_word, sized, has_no_leading_zero, is_number, value_behind, number_word, name_word};
 
+use crate::height::Height;
 use crate::word::{Word, has_length};
+use depot_base::limits::MOST_KEY;
 use depot_base::{Bytes, Hash32, Key, Memory};
 use hex::FromHexError;
 use std::alloc::Global;
@@ -12,7 +14,7 @@ use std::alloc::Global;
 fn is_lower_digit(b: u8) -> bool
     ensures { result ≡ is_lower_digit b }
 {
-    (48 <= b && b <= 57) || (97 <= b && b <= 102)
+    matches!(b, b'0'..=b'9' | b'a'..=b'f')
 }
 
 /// Whether all bytes are hexadecimal digits in lower case.
@@ -44,7 +46,7 @@ pub fn key_word(alloc: Global, word: &Word) -> Result<Option<Key>, Memory>
     let Some(bytes) = hex_word(alloc, word)? else {
         return Ok(None);
     };
-    if has_length(bytes.as_slice(), 1, Key::MOST) {
+    if has_length(bytes.as_slice(), 1, MOST_KEY) {
         Ok(Some(Key::from_bytes(bytes)))
     } else {
         Ok(None)
@@ -65,7 +67,7 @@ pub fn hash_word(alloc: Global, word: &Word) -> Result<Option<Hash32>, Memory>
 fn is_digit(b: u8) -> bool
     ensures { result ≡ is_digit b }
 {
-    48 <= b && b <= 57
+    matches!(b, b'0'..=b'9')
 }
 
 /// Whether all bytes are decimal digits.
@@ -104,8 +106,29 @@ fn value_of(digits: &[u8]) -> u64
     value
 }
 
+/// The name of a file that a word is.
+pub fn name_word(word: &Word) -> Result<Option<Word>, Memory>
+    ensures { IfOk result (λ name. name ≡ name_word word.now) }
+{
+    if word.is_name() {
+        Ok(Some(word.copy()?))
+    } else {
+        Ok(None)
+    }
+}
+
+/// The height from 2 to 12 that a word gives in decimal.
+pub fn height_word(word: &Word) -> Option<Height>
+    ensures { result ≡ number_word 2 12 word.now }
+{
+    match number_word(word, 2, 12) {
+        Some(number) => Some(Height::new(number as u8)),
+        None => None,
+    }
+}
+
 /// The number from low to high that a word gives in decimal, without leading zeros.
-pub fn number_word(word: &Word, low: u64, high: u64) -> Option<u64>
+fn number_word(word: &Word, low: u64, high: u64) -> Option<u64>
     ensures { result ≡ number_word low high word.now }
 {
     let bytes = word.text().as_bytes();

@@ -1,0 +1,91 @@
+//! The commands, and which words ask for them.
+ghost use Rattle.std.specs.Prelude.{◌≡◌, ◌≤◌, IfOk, None, Some, option_map};
+ghost use Rattle.depot_tool.specs.Words.{command_of, command_by, scan_command, key_command, judge_command};
+
+use crate::height::Height;
+use crate::word::Word;
+use crate::words::{hash_word, height_word, key_word, name_word};
+use depot_base::{Hash32, Key, Memory};
+use std::alloc::Global;
+
+/// What the words ask for.
+#[derive(Debug, Drop)]
+pub enum Command {
+    /// `scan LOG KEY`: the latest writes of a key in a log. The name of the log, and the key.
+    Scan(Word, Key),
+    /// `key SEED HEIGHT`: the root of a Winternitz key.
+    Root(Hash32, Height),
+    /// `judge ROSTER PROOF`: whether a text proves a contradiction. The names of the roster and of the text.
+    Judge(Word, Word),
+}
+
+/// The command of `scan`'s two words.
+fn scan_command(alloc: Global, log: &Word, key: &Word) -> Result<Option<Command>, Memory>
+    ensures { IfOk result (λ c. c ≡ scan_command log.now key.now) }
+{
+    let Some(log) = name_word(log)? else {
+        return Ok(None);
+    };
+    let Some(key) = key_word(alloc, key)? else {
+        return Ok(None);
+    };
+    Ok(Some(Command::Scan(log, key)))
+}
+
+/// The command of `key`'s two words.
+fn key_command(alloc: Global, seed: &Word, height: &Word) -> Result<Option<Command>, Memory>
+    ensures { IfOk result (λ c. c ≡ key_command seed.now height.now) }
+{
+    let Some(seed) = hash_word(alloc, seed)? else {
+        return Ok(None);
+    };
+    let Some(height) = height_word(height) else {
+        return Ok(None);
+    };
+    Ok(Some(Command::Root(seed, height)))
+}
+
+/// The command of `judge`'s two words.
+fn judge_command(roster: &Word, proof: &Word) -> Result<Option<Command>, Memory>
+    ensures { IfOk result (λ c. c ≡ judge_command roster.now proof.now) }
+{
+    let Some(roster) = name_word(roster)? else {
+        return Ok(None);
+    };
+    let Some(proof) = name_word(proof)? else {
+        return Ok(None);
+    };
+    Ok(Some(Command::Judge(roster, proof)))
+}
+
+/// The command of three words.
+#[tactic(auto, unfolding(crate::specs::Words::command_by))]
+fn three_words(
+    alloc: Global,
+    verb: &Word,
+    first: &Word,
+    second: &Word,
+) -> Result<Option<Command>, Memory>
+    ensures { IfOk result (λ c. c ≡ command_by verb.now first.now second.now) }
+{
+    if verb.is("scan") {
+        return scan_command(alloc, first, second);
+    }
+    if verb.is("key") {
+        return key_command(alloc, first, second);
+    }
+    if verb.is("judge") {
+        return judge_command(first, second);
+    }
+    Ok(None)
+}
+
+/// The command that the words are, or None where they are none.
+pub fn parse(alloc: Global, words: &[Word]) -> Result<Option<Command>, Memory>
+    ensures { IfOk result (λ c. c ≡ command_of words.now) }
+{
+    match words {
+        [verb, first, second] => three_words(alloc, verb, first, second),
+        _ => Ok(None),
+    }
+}
