@@ -113,7 +113,7 @@ class Signer:
 # ---- cases
 
 
-def case(name, args, stdout, status=0, **files):
+def case(name, args, stdout, status=0, out=None, **files):
     folder = os.path.join(HERE, name)
     shutil.rmtree(folder, ignore_errors=True)
     os.makedirs(folder)
@@ -122,14 +122,16 @@ def case(name, args, stdout, status=0, **files):
         with open(path, "wb") as out:
             out.write(data)
 
-    write(os.path.join(folder, "args"), "".join(a + "\n" for a in args).encode())
+    write(os.path.join(folder, "args"), b"".join((a if isinstance(a, bytes) else a.encode()) + b"\n" for a in args))
     write(os.path.join(folder, "stdout"), stdout.encode())
     if status:
         write(os.path.join(folder, "status"), b"%d\n" % status)
-    if files:
-        os.makedirs(os.path.join(folder, "data"))
+    if out:
+        write(os.path.join(folder, "out"), out.encode() + b"\n")
     for file, data in files.items():
-        write(os.path.join(folder, "data", file), data)
+        path = os.path.join(folder, "data", file)
+        os.makedirs(os.path.dirname(path), exist_ok=True)
+        write(path, data)
 
 
 def scans():
@@ -169,6 +171,8 @@ def scans():
     entries = update(3, 0, 2, ZEROS, b"k", b"y", [(2, 1, sha(two)), (1, 1, sha(one))])
     case("scan_entries_out_of_order", ["scan", "LOG", "6b"], "input LOG at %d\n" % (124 + 124 + 4 + 88 + 42), 2,
          LOG=log(one, two, entries))
+    case("scan_a_folder", ["scan", "LOG", "6b"], "shelf LOG\n", 3, **{"LOG/one": one})
+    case("scan_into_a_full_sink", ["scan", "LOG", "6b"], "", 5, out="/dev/full", LOG=log(one))
 
 
 def words():
@@ -190,12 +194,13 @@ def words():
         "words_seed_too_long": ["key", "0" * 65, "2"],
         "words_seed_in_capitals": ["key", "AB" * 32, "2"],
         "words_unknown_command": ["replay", "SCHEDULE"],
+        "words_that_are_no_text": ["scan", b"\xff", "6b"],
     }.items():
         case(name, args, "words\n", 1)
 
 
 def keys():
-    for name, seed, height in [("key_of_zeros", ZEROS, 2), ("key_of_height_five", bytes(range(32)), 5)]:
+    for name, seed, height in [("key_of_zeros", ZEROS, 2), ("key_of_height_five", bytes(range(32)), 5), ("key_of_the_greatest_height", ZEROS, 12)]:
         root = tree(seed, height)[-1][0]
         case(name, ["key", seed.hex(), str(height)], root.hex() + "\n")
 

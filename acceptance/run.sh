@@ -2,7 +2,9 @@
 # Runs each case of this folder on the built program, and prints 'N passed, N failed'.
 #
 # A case is a folder: args (one word a line), stdout (what the program must write), status (its exit status, 0 where there
-# is no such file), and data/ (the files that lie where it runs, if it reads any). Names of cases may be given as words.
+# is no such file), data/ (the files that lie where it runs, if it reads any) or folder (the folder of this repository that
+# they are copied from), and out (the file that it writes to in place of the one that is compared, if any). Names of cases
+# may be given as words.
 here=$(cd "$(dirname "$0")" && pwd)
 passed=0
 failed=0
@@ -13,20 +15,23 @@ trap 'rm -rf "$room"' EXIT
 "$here/../depot" >/dev/null
 
 run_case() {
-  local case=$1 place="$room/$2" status want words
+  local case=$1 place="$room/$2" written="$room/$2.stdout" status want out words
   mkdir -p "$place"
+  touch "$written"
   [ ! -d "$case/data" ] || cp -r "$case/data/." "$place"
+  [ ! -f "$case/folder" ] || cp -r "$here/../$(cat "$case/folder")/." "$place"
   mapfile -t words <"$case/args"
-  (cd "$place" && "$here/../depot" "${words[@]}" >"$room/$2.stdout" </dev/null)
+  out=$(cat "$case/out" 2>/dev/null || echo "$written")
+  (cd "$place" && "$here/../depot" "${words[@]}" >"$out" </dev/null)
   status=$?
   want=$(cat "$case/status" 2>/dev/null || echo 0)
   if [ "$status" -ne "$want" ]; then
     echo "$2: status $status, wanted $want"
     return 1
   fi
-  cmp -s "$room/$2.stdout" "$case/stdout" && return 0
+  cmp -s "$written" "$case/stdout" && return 0
   echo "$2: wrote other text than $case/stdout"
-  diff "$case/stdout" "$room/$2.stdout" | head -n 5
+  diff "$case/stdout" "$written" | head -n 5
   return 1
 }
 

@@ -11,5 +11,11 @@ for count in 10000 100000; do
   echo "scan of a chain of $count updates of one key:"
   time "$here/../depot" scan chain.log 6e6f7465
 done
+if command -v valgrind >/dev/null; then
+  python3 "$here/make_log.py" chain.log --chain 20000
+  valgrind -q --tool=callgrind --callgrind-out-file=scan.out "$here/../crates/depot_tool/out/depot_tool" scan chain.log 6e6f7465
+  echo "instructions of a scan of 20000 updates, in all and outside of SHA-256:"
+  callgrind_annotate --threshold=100 scan.out | tr -d , | awk '/PROGRAM TOTALS/ { all = $1 } /sha2::/ { hash += $1 } END { print all, all - hash }'
+fi
 echo "key of height 12:"
 time "$here/../depot" key "$(printf '0%.0s' {1..64})" 12
