@@ -1,10 +1,27 @@
 //! One file, as a journal sees it.
-ghost use Rattle.std.specs.Prelude.{◌≡◌, ℕ, List, Bool, IsTrue, IfOk, IsErr, length};
+ghost use Rattle.std.specs.Prelude.{◌≡◌, ◌+◌, ◌≤◌, ℕ, List, Bool, IsTrue, IfOk, OnOk, IsErr, length, slice_range};
+ghost use Rattle.depot_outside.specs.Disk.{Elapses, Follows, IsTorn, IsWritten, Only, Within};
 ghost use Rattle.depot_base.specs.Faults.{HasCause};
 
 use crate::Failed;
+use depot_base::Memory;
 
-/// The bytes of one file.
+/// What a call that takes a disk by value answers where it refuses: the error, and the disk.
+#[derive(Debug, Drop)]
+pub struct Back<E, D> {
+    /// Why it refused.
+    pub error: E,
+    /// The disk, as the call left it.
+    pub disk: D,
+}
+
+/// The bytes of one file, and the images of it that a stop may leave.
+///
+/// A stop may come at any moment, also within a call. Between two syncs each written range, and the part past the old end,
+/// may then hold any bytes; other bytes stay. After a sync that succeeded a stop leaves what a read gives. A disk that tells
+/// its bytes keeps to this; of one that doesn't, no image is known.
+///
+/// A call that answers `Failed` may have been stopped itself: the file then reads as one of its images.
 pub trait Disk {
     /// Which handle it is: of a disk that is lent, the loan's name. No call changes it.
     ghost handle: { Self → ℕ };
@@ -15,20 +32,108 @@ pub trait Disk {
     /// The bytes of the file, as a read gives them.
     ghost seen: { Self → List ℕ };
 
+    /// The images that a stop at this moment may leave.
+    ghost may_leave: { Self → List ℕ → Type 0 };
+
+    /// This moment, as a number that never falls.
+    ghost moment: { Self → ℕ };
+
+    /// The images that a stop at some moment from this one on might have left.
+    ghost left_since: { Self → ℕ → List ℕ → Type 0 };
+
     /// How often it has failed.
     ghost faults: { Self → ℕ };
 
     /// No call on it fails from now on. A disk that can't promise this leaves it out.
     ghost is_faultless: { Self → Type 0 } = { λ _. ⊥ };
 
-    /// How many bytes the file has. It doesn't change, whatever is answered.
+    /// How many more bytes can be written without memory.
+    ghost room_bytes: { Self → ℕ };
+
+    /// How many more writes and syncs can be made without memory.
+    ghost room_calls: { Self → ℕ };
+
+    /// How many bytes the file has. After Failed a stop may leave what it might before.
     fn length(&mut self) -> Result<u64, Failed>
         ensures length { IsTrue (tells self.old) → IfOk result (λ n. n ≡ length (seen self.old)) }
-        ensures seen { seen self.new ≡ seen self.old }
+        ensures seen { OnOk result (seen self.new ≡ seen self.old) }
+        ensures images { Within (may_leave self.old) (may_leave self.new) }
+        ensures time { Elapses (moment self.old) (moment self.new) (left_since self.old) (left_since self.new) (may_leave self.new) }
         ensures handle { handle self.new ≡ handle self.old }
         ensures tells { tells self.new ≡ tells self.old }
         ensures cause { HasCause (faults self.old) (faults self.new) (IsErr result) }
-        ensures faultless { is_faultless self.old → is_faultless self.new × (faults self.new ≡ faults self.old) };
+        ensures faultless { is_faultless self.old → is_faultless self.new × (faults self.new ≡ faults self.old) }
+        ensures room { room_bytes self.old ≤ room_bytes self.new }
+        ensures calls { room_calls self.old ≤ room_calls self.new };
+
+    /// Fills a piece with the bytes of the file from an offset on. The whole range has to stand in the file. After Failed
+    /// the piece may hold anything, and a stop may leave what it might before.
+    fn read(&mut self, at: u64, into: &mut [u8]) -> Result<(), Failed>
+        requires { IsTrue (tells self.old) → at + length into.old ≤ length (seen self.old) }
+        ensures read { OnOk result (IsTrue (tells self.old) → into.new ≡ slice_range (seen self.old) at (at + length into.old)) }
+        ensures seen { OnOk result (seen self.new ≡ seen self.old) }
+        ensures images { Within (may_leave self.old) (may_leave self.new) }
+        ensures time { Elapses (moment self.old) (moment self.new) (left_since self.old) (left_since self.new) (may_leave self.new) }
+        ensures handle { handle self.new ≡ handle self.old }
+        ensures tells { tells self.new ≡ tells self.old }
+        ensures cause { HasCause (faults self.old) (faults self.new) (IsErr result) }
+        ensures faultless { is_faultless self.old → is_faultless self.new × (faults self.new ≡ faults self.old) }
+        ensures room { room_bytes self.old ≤ room_bytes self.new }
+        ensures calls { room_calls self.old ≤ room_calls self.new };
+
+    /// Finds the memory for so many writes and syncs, which write at most so many bytes in all. It is no call on the file.
+    fn make_room(&mut self, bytes: u64, calls: u32) -> Result<(), Memory>
+        ensures room { OnOk result (bytes ≤ room_bytes self.new) }
+        ensures calls { OnOk result (calls ≤ room_calls self.new) }
+        ensures room_kept { room_bytes self.old ≤ room_bytes self.new }
+        ensures calls_kept { room_calls self.old ≤ room_calls self.new }
+        ensures seen { seen self.new ≡ seen self.old }
+        ensures images { Within (may_leave self.old) (may_leave self.new) }
+        ensures time { Elapses (moment self.old) (moment self.new) (left_since self.old) (left_since self.new) (may_leave self.new) }
+        ensures handle { handle self.new ≡ handle self.old }
+        ensures tells { tells self.new ≡ tells self.old }
+        ensures faults { faults self.new ≡ faults self.old }
+        ensures faultless { is_faultless self.old → is_faultless self.new };
+
+    /// Puts bytes at an offset, which isn't past the file's end. There has to be room for them, and for one call. After
+    /// Failed a stop may leave what it may leave after a write that succeeded.
+    fn write_at(&mut self, at: u64, bytes: &[u8]) -> Result<(), Failed>
+        requires inside { IsTrue (tells self.old) → at ≤ length (seen self.old) }
+        requires room { length bytes.now ≤ room_bytes self.old }
+        requires calls { 1 ≤ room_calls self.old }
+        ensures written { OnOk result (IsTrue (tells self.old) → IsWritten (seen self.old) at bytes.now (seen self.new)) }
+        ensures images { Follows (IsTorn at (length bytes.now)) (may_leave self.old) (may_leave self.new) }
+        ensures time { Elapses (moment self.old) (moment self.new) (left_since self.old) (left_since self.new) (may_leave self.new) }
+        ensures handle { handle self.new ≡ handle self.old }
+        ensures tells { tells self.new ≡ tells self.old }
+        ensures cause { HasCause (faults self.old) (faults self.new) (IsErr result) }
+        ensures faultless { is_faultless self.old → is_faultless self.new × (faults self.new ≡ faults self.old) }
+        ensures room_left { room_bytes self.old ≤ room_bytes self.new + length bytes.now }
+        ensures calls_left { room_calls self.old ≤ room_calls self.new + 1 };
+
+    /// Makes what was written stable: a stop then leaves what a read gives. There has to be room for one call. After Failed
+    /// a stop may leave what it might before.
+    fn sync(&mut self) -> Result<(), Failed>
+        requires { 1 ≤ room_calls self.old }
+        ensures stable { OnOk result (IsTrue (tells self.old) → Only (seen self.old) (may_leave self.new)) }
+        ensures seen { OnOk result (seen self.new ≡ seen self.old) }
+        ensures images { Within (may_leave self.old) (may_leave self.new) }
+        ensures time { Elapses (moment self.old) (moment self.new) (left_since self.old) (left_since self.new) (may_leave self.new) }
+        ensures handle { handle self.new ≡ handle self.old }
+        ensures tells { tells self.new ≡ tells self.old }
+        ensures cause { HasCause (faults self.old) (faults self.new) (IsErr result) }
+        ensures faultless { is_faultless self.old → is_faultless self.new × (faults self.new ≡ faults self.old) }
+        ensures room { room_bytes self.old ≤ room_bytes self.new }
+        ensures calls_left { room_calls self.old ≤ room_calls self.new + 1 };
+
+    /// As it reads, the file is one of its images.
+    ghost reads_as_image: { (d : Self) → IsTrue (tells d) → may_leave d (seen d) };
+
+    /// This moment is one of those since an earlier one.
+    ghost counts_now: { (d : Self) (t : ℕ) (image : List ℕ) → t ≤ moment d → may_leave d image → left_since d t image };
+
+    /// Since this moment there is no other.
+    ghost only_now: { (d : Self) (image : List ℕ) → left_since d (moment d) image → may_leave d image };
 }
 
 /// A disk that is lent is a disk.
@@ -39,11 +144,43 @@ impl<D: Disk> Disk for &mut D {
 
     ghost seen = { λ d. D.seen d.now };
 
+    ghost may_leave = { λ d image. D.may_leave d.now image };
+
+    ghost moment = { λ d. D.moment d.now };
+
+    ghost left_since = { λ d t image. D.left_since d.now t image };
+
     ghost faults = { λ d. D.faults d.now };
 
     ghost is_faultless = { λ d. D.is_faultless d.now };
 
+    ghost room_bytes = { λ d. D.room_bytes d.now };
+
+    ghost room_calls = { λ d. D.room_calls d.now };
+
     fn length(&mut self) -> Result<u64, Failed> {
         (**self).length()
     }
+
+    fn read(&mut self, at: u64, into: &mut [u8]) -> Result<(), Failed> {
+        (**self).read(at, into)
+    }
+
+    fn make_room(&mut self, bytes: u64, calls: u32) -> Result<(), Memory> {
+        (**self).make_room(bytes, calls)
+    }
+
+    fn write_at(&mut self, at: u64, bytes: &[u8]) -> Result<(), Failed> {
+        (**self).write_at(at, bytes)
+    }
+
+    fn sync(&mut self) -> Result<(), Failed> {
+        (**self).sync()
+    }
+
+    ghost reads_as_image = { λ d t. D.reads_as_image d.now t };
+
+    ghost counts_now = { λ d t image le now. D.counts_now d.now t image le now };
+
+    ghost only_now = { λ d image left. D.only_now d.now image left };
 }

@@ -1,21 +1,22 @@
 //! What stands outside a run: a shelf of named files, a sink, and a disk.
 //!
 //! Each is a trait, with a fake in memory and the real adapter. A shelf is a map from names to bytes, a sink is the
-//! list of the bytes written to it, and a disk is the bytes of one file, each where it tells them.
+//! list of the bytes written to it, and a disk is the bytes of one file, each where it tells them. Of a disk contracts also
+//! see what a stop may leave of its file, now and at each moment since an earlier one.
 //!
 //! - A fake tells its content. Its calls are numbered from 1, and those of the numbers given to `new` fail.
 //! - A real adapter tells nothing of content: what the system does with the bytes is no fact of a proof.
 //! - Each object has a count of its faults, which contracts alone see. It never falls, and a call answers `Failed` only
 //!   where it rose in that call. So a caller that hands a fault on can say whose it is.
 //!
-//! No call is made again after a fault, and nothing here keeps a copy of what stands outside. Of a disk's calls there is
-//! `length` alone.
+//! No call is made again after a fault, and nothing here keeps a copy of what stands outside.
 #![tactic(auto)]
 
 mod calls;
 mod disk;
 mod error;
 mod faults;
+mod history;
 mod loads;
 mod mem_disk;
 mod mem_shelf;
@@ -29,7 +30,7 @@ mod sink;
 mod tests;
 mod transfer;
 
-pub use disk::Disk;
+pub use disk::{Back, Disk};
 pub use error::{Failed, OutError};
 pub use mem_disk::MemDisk;
 pub use mem_shelf::MemShelf;

@@ -1,6 +1,8 @@
 //! Which calls of a fake fail, the loops over broken readers and writers, and the real adapters.
 
-use super::transfer::{read_whole, write_whole};
+ghost use Rattle.std.specs.Prelude.{◌≡◌, length};
+
+use super::transfer::{fill, read_whole, write_whole};
 use super::*;
 use depot_base::{Bytes, Items, Memory};
 use std::alloc::Global;
@@ -31,7 +33,6 @@ fn fakes_fail_at_the_given_calls(rt: HostRuntime) -> Result<(), Fail> {
     for failing in 0..4 {
         let mut shelf = MemShelf::new(alloc, only(alloc, failing)?);
         let mut sink = MemSink::new(alloc, only(alloc, failing)?);
-        let mut disk = MemDisk::new(Bytes::new(alloc), only(alloc, failing)?);
         shelf.put("a", b"first")?;
         for call in 1..4 {
             let fails = call == failing;
@@ -41,7 +42,6 @@ fn fakes_fail_at_the_given_calls(rt: HostRuntime) -> Result<(), Fail> {
                 assert_eq!(rt; shelf.load("a").is_err(), fails, "{failing}");
             }
             assert_eq!(rt; sink.write(b"piece").is_err(), fails, "{failing}");
-            assert_eq!(rt; (&mut disk).length().is_err(), fails, "{failing}");
         }
         let written = if failing == 0 { 15 } else { 10 };
         assert_eq!(rt; sink.bytes().len(), written, "{failing}");
@@ -51,6 +51,37 @@ fn fakes_fail_at_the_given_calls(rt: HostRuntime) -> Result<(), Fail> {
             b"second"
         };
         assert!(rt; is_file(&shelf.load("a")?, kept), "{failing}");
+    }
+    Ok(())
+}
+
+/// Makes the five calls on a disk whose file has four bytes, up to the first that fails.
+fn make_calls(disk: &mut MemDisk) -> Result<u64, Failed>
+    requires { length (⟦<MemDisk as Disk>⟧.seen disk.old) ≡ 4 }
+{
+    let mut piece = [0u8; 2];
+    if disk.make_room(2, 2).is_err() {
+        return Ok(0);
+    }
+    (&mut *disk).length()?;
+    disk.read(1, &mut piece)?;
+    disk.write_at(2, b"te")?;
+    disk.sync()?;
+    disk.length()
+}
+
+#[test]
+fn a_disk_in_memory_fails_at_the_given_call(rt: HostRuntime) -> Result<(), Fail> {
+    let alloc = rt.alloc();
+    for failing in 0..6 {
+        let fails = only(alloc, failing)?;
+        let mut disk = MemDisk::new(Bytes::from_slice(alloc, b"file")?, fails);
+        let outcome = make_calls(&mut disk);
+        let expected = if failing == 0 { Ok(4) } else { Err(Failed) };
+        assert_eq!(rt; outcome, expected, "{failing}");
+        let is_written = failing == 0 || failing > 3;
+        let file = if is_written { b"fite" } else { b"file" };
+        assert_eq!(rt; disk.bytes(), file.as_slice(), "{failing}");
     }
     Ok(())
 }
@@ -71,9 +102,6 @@ fn fakes_keep_what_they_are_given(rt: HostRuntime) -> Result<(), Fail> {
     sink.write(b"wri")?;
     sink.write(b"tten")?;
     assert_eq!(rt; sink.bytes(), b"written".as_slice());
-    let mut disk = MemDisk::new(Bytes::from_slice(alloc, b"file")?, Items::new(alloc));
-    assert_eq!(rt; disk.length(), Ok(4));
-    assert_eq!(rt; disk.bytes(), b"file".as_slice());
     Ok(())
 }
 
@@ -171,6 +199,13 @@ fn transfers_go_on_to_the_end_or_to_a_fault(rt: HostRuntime) -> Result<(), Fail>
         );
         assert_eq!(rt; writer.taken.as_slice(), &text[..moved], "{turns:?}");
     }
+    for (turns, moved, breaks) in cases {
+        let mut piece = [0u8; 11];
+        let mut reader = Device::new(alloc, turns, text);
+        let filled = fill(&mut reader, &mut piece);
+        assert_eq!(rt; filled.is_ok(), moved == 11 && !breaks, "{turns:?}");
+        assert_eq!(rt; &piece[..moved], &text[..moved], "{turns:?}");
+    }
     let mut long = Device::new(alloc, &[Move(5), Move(6)], text);
     assert!(rt; read_whole(alloc, 10, &mut long).is_err());
     Ok(())
@@ -198,7 +233,17 @@ fn a_real_shelf_keeps_files(rt: HostRuntime) -> Result<(), Fail> {
 #[test]
 fn a_real_disk_is_the_journal(rt: HostRuntime) -> Result<(), Fail> {
     fs::write(&rt, "depot.journal", "four")?;
-    assert_eq!(rt; RealDisk::new(rt.clone()?).length(), Ok(4));
+    let mut disk = RealDisk::new(rt.clone()?);
+    let mut piece = [0u8; 4];
+    disk.make_room(5, 2)?;
+    assert_eq!(rt; disk.length(), Ok(4));
+    assert_eq!(rt; disk.write_at(2, b"lders"), Ok(()));
+    assert_eq!(rt; disk.sync(), Ok(()));
+    assert_eq!(rt; disk.length(), Ok(7));
+    assert_eq!(rt; disk.read(3, &mut piece), Ok(()));
+    assert_eq!(rt; piece.as_slice(), b"ders".as_slice());
+    // A read past the end is a fault of a disk that doesn't tell its bytes.
+    assert!(rt; disk.read(4, &mut piece).is_err());
     fs::remove_file(&rt, "depot.journal")?;
     assert_eq!(rt; RealDisk::new(rt.clone()?).length(), Ok(0));
     fs::remove_file(&rt, "depot.journal")?;
