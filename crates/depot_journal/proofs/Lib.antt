@@ -1,0 +1,9 @@
+pub mod Appends
+pub mod Blocks
+pub mod Crash
+pub mod Examples
+pub mod Mirrors
+pub mod Moments
+pub mod OneList
+pub mod Parsing
+pub mod Walk

@@ -1,0 +1,48 @@
+-- The records of a list that are appended one by one.
+use Rattle.std.proofs.Common.{◌≡◌, ◌<◌, ◌≤◌, ◌⊎◌, inl, inr, ℕ, ◌+◌, List, [], ◌∷◌, ◌++◌, length, length-append, take, drop, get_or, refl, sym, ◌∙◌, ap, subst, arith, append_assoc, append-nil, take-append-drop}
+use Rattle.std.proofs.lemmas.List.{take_more}
+use Rattle.depot_journal.specs.File.{StandsFor, blocks, framed}
+use Rattle.depot_journal.specs.Steps.{IsBeforeOrAfter, StandsBetween, StandsTo}
+use Rattle.depot_journal.proofs.Blocks.{one_longer}
+
+pub blocks-append : (a b : List (List ℕ)) → length (blocks (a ++ b)) ≡ length (blocks a) + length (blocks b)
+blocks-append [] b = omega arith
+blocks-append (x ∷ a) b = omega (arith, blocks-append a b, length-append (framed x) (blocks (a ++ b)), length-append (framed x) (blocks a))
+
+-- one record more of those that are counted
+pub blocks_next : (texts : List (List ℕ)) (i : ℕ) → i < length texts → length (blocks (take (i + 1) texts)) ≡ length (blocks (take i texts)) + (5 + length (get_or texts i []))
+blocks_next texts i h = sym (one_longer (length (blocks (take i texts))) (get_or texts i []) (take i texts) (take (i + 1) texts) refl (take_more texts i [] h))
+
+-- a front is no longer than all
+pub blocks_front : (texts : List (List ℕ)) (i : ℕ) → length (blocks (take i texts)) ≤ length (blocks texts)
+blocks_front texts i = omega (arith, ap (λ (l : List (List ℕ)). length (blocks l)) (sym (take-append-drop i texts)), blocks-append (take i texts) (drop i texts))
+
+-- the next record is the text at hand
+pub next_text : (texts : List (List ℕ)) (i : ℕ) (item text : List ℕ) → i < length texts → item ≡ get_or texts i item → text ≡ item → take (i + 1) texts ≡ take i texts ++ text ∷ []
+next_text texts i item text h is same = take_more texts i item h ∙ ap (λ (x : List ℕ). take i texts ++ x ∷ []) (sym (same ∙ is))
+
+pub next_long : (texts : List (List ℕ)) (i : ℕ) (item text : List ℕ) → i < length texts → item ≡ get_or texts i item → text ≡ item → length (blocks (take (i + 1) texts)) ≡ length (blocks (take i texts)) + (5 + length text)
+next_long texts i item text h is same = sym (one_longer (length (blocks (take i texts))) text (take i texts) (take (i + 1) texts) refl (next_text texts i item text h is same))
+
+pub stands_of : (file : List ℕ) (bodies : List (List ℕ)) (end : ℕ) → StandsTo file bodies end → StandsFor file bodies
+stands_of file bodies end (gate, rest, closed, parts, at) = (gate, rest, closed, parts)
+
+-- before the first of them
+pub between_first : (file image : List ℕ) (old new : List (List ℕ)) (end : ℕ) → StandsTo file old end → image ≡ file → StandsBetween old new image
+between_first file image old new end stands e = record {
+  count = 0;
+  stands = subst (λ (l : List ℕ). StandsFor l (old ++ [])) (sym e) (subst (λ (l : List (List ℕ)). StandsFor file l) (sym (append-nil old)) (stands_of file old end stands));
+}
+
+-- with the next of them, or without it
+pub next_stands : (image : List ℕ) (old new texts : List (List ℕ)) (text : List ℕ) (i : ℕ) → texts ≡ old ++ take i new → take (i + 1) new ≡ take i new ++ text ∷ [] → IsBeforeOrAfter texts text image → StandsFor image texts ⊎ StandsFor image (old ++ take (i + 1) new)
+next_stands image old new texts text i was next (inl s) = inl s
+next_stands image old new texts text i was next (inr s) =
+    inr (subst (λ (l : List (List ℕ)). StandsFor image l) (ap (λ (l : List (List ℕ)). l ++ text ∷ []) was ∙ append_assoc old (take i new) (text ∷ []) ∙ ap (λ (l : List (List ℕ)). old ++ l) (sym next)) s)
+
+-- at the next of them
+pub between : (image : List ℕ) (old new texts : List (List ℕ)) (text : List ℕ) (i : ℕ) → texts ≡ old ++ take i new → take (i + 1) new ≡ take i new ++ text ∷ [] → IsBeforeOrAfter texts text image → StandsBetween old new image
+between image old new texts text i was next s = elim (next_stands image old new texts text i was next s) [
+  | inl p ↦ record { count = i; stands = subst (λ (l : List (List ℕ)). StandsFor image l) was p }
+  | inr p ↦ record { count = i + 1; stands = p }
+]

@@ -1,0 +1,27 @@
+-- What an append does, step by step.
+use Rattle.std.specs.Prelude.{◌≡◌, ◌≢◌, ◌⊎◌, ◌<◌, ℕ, ◌+◌, List, [], ◌∷◌, ◌++◌, ◌^◌, length, take}
+use Rattle.depot_journal.specs.File.{StandsFor, blocks, framed}
+
+-- These records stand in the file up to this offset, where a closed gate stands.
+abbrev pub StandsTo : List ℕ → List (List ℕ) → ℕ → Type 0
+StandsTo file bodies end = (gate : ℕ) × (rest : List ℕ) × (gate ≢ 1) × (file ≡ blocks bodies ++ gate ∷ rest) × (end ≡ length (blocks bodies))
+
+-- the file has one record more, or not
+abbrev pub IsBeforeOrAfter : List (List ℕ) → List ℕ → List ℕ → Type 0
+IsBeforeOrAfter bodies body file = StandsFor file bodies ⊎ StandsFor file (bodies ++ body ∷ [])
+
+-- the file stands for these records and so many of the new ones
+pub record StandsBetween (bodies new : List (List ℕ)) (file : List ℕ) : Type 0 where
+  pub count : ℕ
+  pub stands : StandsFor file (bodies ++ take count new)
+
+-- Of the new records those before the failing one were kept, and a stop now leaves these, or these and the failing one.
+pub record FailsAt (bodies new kept : List (List ℕ)) (told : Type 0) (images : List ℕ → Type 0) : Type 0 where
+  pub count : ℕ
+  pub fewer : count < length new
+  pub front : kept ≡ bodies ++ take count new
+  pub stable : told → (image : List ℕ) → images image → StandsFor image kept ⊎ StandsFor image (bodies ++ take (count + 1) new)
+
+-- No whole record stands behind an open gate here.
+abbrev pub HoldsNoRecord : List ℕ → Type 0
+HoldsNoRecord rest = (body : List ℕ) (gate : ℕ) (more : List ℕ) → length body < 2 ^ 32 → rest ≡ 1 ∷ (framed body ++ gate ∷ more) → ⊥

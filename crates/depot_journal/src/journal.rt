@@ -1,0 +1,214 @@
+//! The calls of a journal.
+ghost use Rattle.std.specs.Prelude.{◌≡◌, ◌⊎◌, ◌↔◌, ◌++◌, ◌+◌, ◌*◌, ◌<◌, ◌≤◌, ◌∷◌, [], List, ℕ, true, false, IsTrue, IsOk, OnOk, IfOk, IfErr, IsErrOf, Some, length, slice_get};
+ghost use Rattle.depot_base.specs.Faults.{HasCause};
+ghost use Rattle.depot_outside.specs.Disk.{Elapses, LeavesOnly, Only, Within};
+ghost use Rattle.depot_journal.specs.File.{AreWithinLimits, HasFront, HasRoom, IsCutShort, IsFileOf, PassesLimit, StartLeaves, blocks};
+ghost use Rattle.depot_journal.specs.View.{Covers};
+ghost use Rattle.depot_journal.specs.Answers.{IsDamage, KeepsLimits, SaysDamaged, UnlessDisk};
+
+use crate::error::{AppendError, JournalError};
+use crate::mirror::{Mirror, append_each};
+use crate::room::{Room, bytes_of, find_room, room_for};
+use crate::start::{Found, start_on};
+use depot_base::{Bytes, Full, Memory};
+use depot_outside::{Back, Disk};
+use std::alloc::Global;
+use std::marker::Model;
+
+/// Records on a disk, in their order. Contracts see them, the disk, whether the journal is stopped, and for how many more
+/// records and bytes of bodies memory was found.
+///
+/// While it isn't stopped, the file of the disk has these records, and a stop leaves that file.
+#[derive(Drop)]
+pub struct Journal<D: Disk> {
+    mirror: Mirror<D>,
+    room: Room,
+    stopped: bool,
+}
+
+impl<D: Disk> Model for Journal<D> {
+    ghost use Rattle.std.specs.Prelude.{◌≡◌, IsTrue, false, length, vec_len, vec_capacity};
+    ghost use Rattle.depot_outside.specs.Disk.{Only};
+    ghost use Rattle.depot_journal.specs.View.{IsReserved, View, view_code};
+    ghost use Rattle.depot_journal.specs.File.{AreWithinLimits};
+    ghost use Rattle.depot_journal.specs.Mirrored.{IsMirror, bodies_at};
+    ghost use Rattle.depot_journal.specs.Steps.{StandsTo};
+
+    ghost Value = { View D };
+
+    ghost coded = { view_code D.code };
+
+    ghost view = { λ j. record { records = bodies_at j.mirror.bytes.items j.mirror.spans.items; disk = j.mirror.disk; is_stopped = j.stopped; room_records = j.room.records; room_bytes = j.room.bytes } };
+
+    ghost invariant = { λ j. IsMirror j.mirror.bytes.items j.mirror.spans.items × AreWithinLimits (bodies_at j.mirror.bytes.items j.mirror.spans.items)
+        × IsReserved j.room.records j.room.bytes (vec_len j.mirror.spans) (vec_len j.mirror.bytes) (vec_capacity j.mirror.spans) (vec_capacity j.mirror.bytes) (D.room_bytes j.mirror.disk) (D.room_calls j.mirror.disk)
+        × (j.stopped ≡ false → IsTrue (D.tells j.mirror.disk) → StandsTo (D.seen j.mirror.disk) (bodies_at j.mirror.bytes.items j.mirror.spans.items) (vec_len j.mirror.bytes) × Only (D.seen j.mirror.disk) (D.may_leave j.mirror.disk)) };
+}
+
+impl<D: Disk> Journal<D> {
+    /// How many records there are.
+    pub fn count(&self) -> u32
+        ensures { result ≡ length self.now.records }
+    {
+        self.mirror.spans.len() as u32
+    }
+
+    /// The text of the record at a place, counted from 0.
+    pub fn text(&self, place: u32) -> &[u8]
+        requires { place < length self.now.records }
+        ensures { slice_get self.now.records place ≡ Some result.now }
+    {
+        let span = self.mirror.spans[place as usize];
+        &self.mirror.bytes[span.start as usize..span.end as usize]
+    }
+
+    /// Whether an append failed on the disk. The journal then touches the disk no more; it is started again from it.
+    pub fn is_stopped(&self) -> bool
+        ensures { result ≡ self.now.is_stopped }
+    {
+        self.stopped
+    }
+
+    /// The disk as it stands, also of a stopped journal. It takes no memory.
+    pub fn into_disk(self) -> D
+        ensures { result ≡ self.disk }
+    {
+        self.mirror.disk
+    }
+
+    /// Whether so many records, with so many bytes of bodies in all, keep to the limits; a record takes 5 bytes more than its
+    /// body.
+    pub fn room(&self, records: u32, bytes: u32) -> Result<(), Full>
+        ensures room { OnOk result (HasRoom self.now.records records (bytes + 5 * records)) }
+        ensures full { IfErr result (λ full. PassesLimit self.now.records records (bytes + 5 * records) full.what full.number) }
+    {
+        room_for(
+            self.count(),
+            self.mirror.bytes.len() as u64,
+            records as u64,
+            bytes as u64 + 5 * records as u64,
+        )
+    }
+
+    /// Finds the memory for so many more records, with so many bytes of bodies in all: to append them answers no Memory then.
+    /// No record and no byte of the file changes, whatever is answered.
+    pub fn reserve(&mut self, records: u32, bytes: u32) -> Result<(), Memory>
+        ensures records { OnOk result (records ≤ self.new.room_records) }
+        ensures bytes { OnOk result (bytes ≤ self.new.room_bytes) }
+        ensures records_kept { self.old.room_records ≤ self.new.room_records }
+        ensures bytes_kept { self.old.room_bytes ≤ self.new.room_bytes }
+        ensures found { records ≤ self.old.room_records → bytes ≤ self.old.room_bytes → IsOk result }
+        ensures same { self.new.records ≡ self.old.records }
+        ensures running { self.new.is_stopped ≡ self.old.is_stopped }
+        ensures seen { D.seen self.new.disk ≡ D.seen self.old.disk }
+        ensures images { Within (D.may_leave self.old.disk) (D.may_leave self.new.disk) }
+        ensures time { Elapses (D.moment self.old.disk) (D.moment self.new.disk) (D.left_since self.old.disk) (D.left_since self.new.disk) (D.may_leave self.new.disk) }
+        ensures handle { D.handle self.new.disk ≡ D.handle self.old.disk }
+        ensures tells { D.tells self.new.disk ≡ D.tells self.old.disk }
+        ensures faults { D.faults self.new.disk ≡ D.faults self.old.disk }
+        ensures faultless { D.is_faultless self.old.disk → D.is_faultless self.new.disk }
+    {
+        find_room(&mut self.mirror, &mut self.room, records, bytes)
+    }
+}
+
+impl<D: Disk> Journal<D> {
+    /// Appends records. Memory and limits are settled for all of them before the first write; where memory was found for them
+    /// before, none is wanting. After `Disk` the records before the failing one are stable, the failing one may be, and the
+    /// journal is stopped.
+    pub fn append_all(&mut self, texts: &[Bytes]) -> Result<(), AppendError>
+        ensures ok { OnOk result (self.new.records ≡ self.old.records ++ texts.now) }
+        ensures unchanged { UnlessDisk result ((self.new.records ≡ self.old.records) × (self.new.is_stopped ≡ self.old.is_stopped)) }
+        ensures disk { IsErrOf result AppendError.Disk → IsCutShort self.old.records texts.now self.new.records (IsTrue (D.tells self.old.disk)) (D.may_leave self.new.disk) }
+        ensures running { OnOk result (self.new.is_stopped ≡ false) }
+        ensures stops { IsErrOf result AppendError.Disk → self.new.is_stopped ≡ true }
+        ensures stopped { IsErrOf result AppendError.Stopped ↔ (self.old.is_stopped ≡ true) }
+        ensures limits { KeepsLimits self.old.records (length texts.now) (length (blocks texts.now)) result }
+        ensures memory { Covers self.old texts.now → IsErrOf result AppendError.Memory → ⊥ }
+        ensures room_records { OnOk result (self.old.room_records ≤ self.new.room_records + length texts.now) }
+        ensures room_bytes { OnOk result (self.old.room_bytes + 5 * length texts.now ≤ self.new.room_bytes + length (blocks texts.now)) }
+        ensures handle { D.handle self.new.disk ≡ D.handle self.old.disk }
+        ensures tells { D.tells self.new.disk ≡ D.tells self.old.disk }
+        ensures file { IsTrue (D.tells self.old.disk) → self.new.is_stopped ≡ false → IsFileOf (D.seen self.new.disk) self.new.records }
+        ensures stable { IsTrue (D.tells self.old.disk) → self.new.is_stopped ≡ false → Only (D.seen self.new.disk) (D.may_leave self.new.disk) }
+        // A stop at any moment leaves the records from before the call, and then a front of the new ones.
+        ensures any_moment { IsTrue (D.tells self.old.disk) → self.old.is_stopped ≡ false → LeavesOnly D.moment D.left_since self.old.disk self.new.disk (HasFront self.old.records texts.now) }
+        ensures untouched { self.old.is_stopped ≡ true → self.new.disk ≡ self.old.disk }
+        ensures cause { HasCause (D.faults self.old.disk) (D.faults self.new.disk) (IsErrOf result AppendError.Disk) }
+        ensures faultless { D.is_faultless self.old.disk → D.is_faultless self.new.disk × (D.faults self.new.disk ≡ D.faults self.old.disk) }
+    {
+        if self.stopped {
+            return Err(AppendError::Stopped);
+        }
+        let long = bytes_of(texts);
+        if let Err(full) = room_for(
+            self.count(),
+            self.mirror.bytes.len() as u64,
+            texts.len() as u64,
+            long,
+        ) {
+            return Err(AppendError::Full(full));
+        }
+        let records = texts.len() as u32;
+        let bytes = long as u32 - 5 * records;
+        if find_room(&mut self.mirror, &mut self.room, records, bytes).is_err() {
+            return Err(AppendError::Memory);
+        }
+        self.stopped = true;
+        if append_each(&mut self.mirror, texts).is_err() {
+            self.room = Room {
+                records: 0,
+                bytes: 0,
+            };
+            return Err(AppendError::Disk);
+        }
+        self.room.records -= records;
+        self.room.bytes -= bytes;
+        self.stopped = false;
+        Ok(())
+    }
+}
+
+impl<D: Disk> Journal<D> {
+    /// Reads the records of a disk, which it syncs first. A file of at most one byte has none, and gets a closed gate.
+    ///
+    /// `Damaged` comes exactly where the file is damaged, with the offset; the file then reads as before. Of a file that is
+    /// longer than a journal may be its first bytes alone are read.
+    pub fn start(alloc: Global, disk: D) -> Result<Journal<D>, Back<JournalError, D>>
+        ensures running { IfOk result (λ j. j.is_stopped ≡ false) }
+        // The records are those of the file, and the file as it stands now has them, stably.
+        ensures read { IfOk result (λ j. IsTrue (D.tells disk) → IsFileOf (D.seen disk) j.records) }
+        ensures file { IfOk result (λ j. IsTrue (D.tells disk) → IsFileOf (D.seen j.disk) j.records) }
+        ensures within { IfOk result (λ j. AreWithinLimits j.records) }
+        ensures stable { IfOk result (λ j. IsTrue (D.tells disk) → Only (D.seen j.disk) (D.may_leave j.disk)) }
+
+        ensures damaged { IfErr result (λ b. IsTrue (D.tells disk) → IsDamage (D.seen disk) b.error) }
+        ensures unchanged { IfErr result (λ b. SaysDamaged b.error → D.seen b.disk ≡ D.seen disk) }
+        ensures cause { IfErr result (λ b. HasCause (D.faults disk) (D.faults b.disk) (b.error ≡ JournalError.Disk)) }
+        ensures calm { IfOk result (λ j. D.faults j.disk ≡ D.faults disk) }
+
+        // Images of the moments of the call.
+        ensures any_moment { IfOk result (λ j. IsTrue (D.tells disk) → LeavesOnly D.moment D.left_since disk j.disk (StartLeaves (D.may_leave disk) (D.seen disk))) }
+        ensures any_moment_back { IfErr result (λ b. IsTrue (D.tells disk) → LeavesOnly D.moment D.left_since disk b.disk (StartLeaves (D.may_leave disk) (D.seen disk))) }
+
+        ensures handle { IfOk result (λ j. D.handle j.disk ≡ D.handle disk) }
+        ensures handle_back { IfErr result (λ b. D.handle b.disk ≡ D.handle disk) }
+        ensures tells { IfOk result (λ j. D.tells j.disk ≡ D.tells disk) }
+        ensures tells_back { IfErr result (λ b. D.tells b.disk ≡ D.tells disk) }
+        ensures faultless { IfOk result (λ j. D.is_faultless disk → D.is_faultless j.disk) }
+        ensures faultless_back { IfErr result (λ b. D.is_faultless disk → D.is_faultless b.disk × (D.faults b.disk ≡ D.faults disk)) }
+    {
+        let mut disk = disk;
+        match start_on(alloc, &mut disk) {
+            Ok(Found { bytes, spans }) => Ok(Journal {
+                mirror: Mirror { disk, bytes, spans },
+                room: Room {
+                    records: 0,
+                    bytes: 0,
+                },
+                stopped: false,
+            }),
+            Err(error) => Err(Back { error, disk }),
+        }
+    }
+}

@@ -1,0 +1,27 @@
+//! A journal: records on a disk, to which stable ones are added at the end.
+//!
+//! The file is a list of records, each a gate byte, the length of its body as four bytes, and the body, and behind the last
+//! one the gate of the next. A gate of 1 is open; at any other the list ends. An append writes a record and a closed gate
+//! behind the closed gate, syncs, opens the gate, and syncs again. So a stop at any moment leaves the records with the new
+//! one or without it, and after the last sync it leaves the new one.
+//!
+//! A journal is seen as its records, its disk, whether it is stopped, and for how many more records memory was found. While
+//! it isn't stopped its file has these records, within the limits, and nothing is unsynced. After a fault of the disk it is
+//! stopped, and touches the disk no more.
+//!
+//! What the records mean is no matter here, and no record is ever changed or taken back.
+#![tactic(auto)]
+
+mod error;
+mod journal;
+mod laws;
+mod mirror;
+mod parse;
+mod room;
+mod span;
+mod start;
+mod write;
+
+pub use error::{AppendError, JournalError};
+pub use journal::Journal;
+pub use laws::{damage_has_one_place, files_have_one_list, good_files_are_undamaged};

@@ -1,0 +1,50 @@
+//! What an append does to the disk.
+ghost use Rattle.std.specs.Prelude.{◌≡◌, ◌++◌, ◌+◌, ◌<◌, ◌≤◌, ◌⊎◌, ◌^◌, ◌∷◌, [], List, ℕ, IsTrue, IsErr, OnOk, length};
+ghost use Rattle.depot_base.specs.Faults.{HasCause};
+ghost use Rattle.depot_outside.specs.Disk.{IsTorn, IsWritten, LeavesOnly, Only};
+ghost use Rattle.depot_journal.specs.File.{closed_block};
+ghost use Rattle.depot_journal.specs.Steps.{IsBeforeOrAfter, StandsTo};
+
+use depot_outside::{Disk, Failed};
+
+/// Writes, and syncs. A stop at any moment leaves what stood there, or that with some bytes of the write.
+pub fn write_synced<D: Disk>(disk: &mut D, at: u64, bytes: &[u8]) -> Result<(), Failed>
+    requires room { length bytes.now ≤ D.room_bytes disk.old }
+    requires calls { 2 ≤ D.room_calls disk.old }
+    requires inside { IsTrue (D.tells disk.old) → at ≤ length (D.seen disk.old) }
+    ensures handle { D.handle disk.new ≡ D.handle disk.old }
+    ensures tells { D.tells disk.new ≡ D.tells disk.old }
+    ensures ok { OnOk result (IsTrue (D.tells disk.old) → IsWritten (D.seen disk.old) at bytes.now (D.seen disk.new)) }
+    ensures stable { OnOk result (IsTrue (D.tells disk.old) → Only (D.seen disk.new) (D.may_leave disk.new)) }
+    ensures any_moment { (base : List ℕ) → Only base (D.may_leave disk.old) → LeavesOnly D.moment D.left_since disk.old disk.new (λ c. (c ≡ base) ⊎ IsTorn at (length bytes.now) base c) }
+    ensures cause { HasCause (D.faults disk.old) (D.faults disk.new) (IsErr result) }
+    ensures faultless { D.is_faultless disk.old → D.is_faultless disk.new × (D.faults disk.new ≡ D.faults disk.old) }
+    ensures room_left { D.room_bytes disk.old ≤ D.room_bytes disk.new + length bytes.now }
+    ensures calls_left { D.room_calls disk.old ≤ D.room_calls disk.new + 2 }
+{
+    disk.write_at(at, bytes)?;
+    disk.sync()
+}
+
+/// Writes a record's block behind the closed gate, and then opens the gate.
+pub fn append_on<D: Disk>(disk: &mut D, gate: u64, block: &[u8]) -> Result<(), Failed>
+    requires room { length block.now + 1 ≤ D.room_bytes disk.old }
+    requires calls { 4 ≤ D.room_calls disk.old }
+    requires gate { gate < 2 ^ 60 }
+    requires inside { IsTrue (D.tells disk.old) → gate < length (D.seen disk.old) }
+    ensures handle { D.handle disk.new ≡ D.handle disk.old }
+    ensures tells { D.tells disk.new ≡ D.tells disk.old }
+    ensures ok { OnOk result ((bodies : List (List ℕ)) (body : List ℕ) → IsTrue (D.tells disk.old) → block.now ≡ closed_block body → StandsTo (D.seen disk.old) bodies gate
+        → StandsTo (D.seen disk.new) (bodies ++ body ∷ []) (gate + (5 + length body))) }
+    ensures stable { OnOk result (IsTrue (D.tells disk.old) → Only (D.seen disk.new) (D.may_leave disk.new)) }
+    // A stop at any moment leaves the records from before the call, with the new one or without.
+    ensures any_moment { (bodies : List (List ℕ)) (body : List ℕ) → IsTrue (D.tells disk.old) → block.now ≡ closed_block body → StandsTo (D.seen disk.old) bodies gate
+        → Only (D.seen disk.old) (D.may_leave disk.old) → LeavesOnly D.moment D.left_since disk.old disk.new (IsBeforeOrAfter bodies body) }
+    ensures cause { HasCause (D.faults disk.old) (D.faults disk.new) (IsErr result) }
+    ensures faultless { D.is_faultless disk.old → D.is_faultless disk.new × (D.faults disk.new ≡ D.faults disk.old) }
+    ensures room_left { D.room_bytes disk.old ≤ D.room_bytes disk.new + (length block.now + 1) }
+    ensures calls_left { D.room_calls disk.old ≤ D.room_calls disk.new + 4 }
+{
+    write_synced(disk, gate + 1, block)?;
+    write_synced(disk, gate, &[1])
+}
