@@ -33,7 +33,7 @@ use Rattle.depot_laws.proofs.RisingBytes.{rising_rises, rising_short, rising_som
 
 -- ---- ids
 
-foreign_is_digest : (me : ℕ) (us : List Update) (h : List ℕ) → is_foreign me us h ≡ true → digest.fits h
+pub foreign_is_digest : (me : ℕ) (us : List Update) (h : List ℕ) → is_foreign me us h ≡ true → digest.fits h
 foreign_is_digest me us h e =
     let t = any_to (λ (t : Update). bytes_eq (id_of_update t) h && not (eqb t.writer me)) us e in
     let p = and_parts (bytes_eq (id_of_update t.0) h) _ t.1.1 in
@@ -58,7 +58,7 @@ unfolding number
 count_fits n some few = (some, few)
 
 -- a voucher of a sized group has a text
-voucher_fits : (me n : ℕ) (g : List (List ℕ)) → node_number.fits me → n ≤ 4294967295 → IsSized 256 g → ((h : List ℕ) → IsIn h g → digest.fits h) → IsRecord (OwnVoucher (record { node = me; seq = n; ids = rising g }))
+pub voucher_fits : (me n : ℕ) (g : List (List ℕ)) → node_number.fits me → n ≤ 4294967295 → IsSized 256 g → ((h : List ℕ) → IsIn h g → digest.fits h) → IsRecord (OwnVoucher (record { node = me; seq = n; ids = rising g }))
 unfolding record_text tagged voucher_body voucher_fields list_of
 voucher_fits me n g node seq sized fit =
     let follow = digests_follow (rising g) (rising_rises g) (λ x on. fit x (from_rising x g on)) in

@@ -1,6 +1,6 @@
 -- What is kept, with one record more.
-use Rattle.std.proofs.Common.{◌≡◌, ℕ, ◌+◌, List, [], ◌∷◌, ◌++◌, length, max, refl, sym, subst, ◌∙◌, append_assoc}
-use Rattle.std.specs.Prelude.{Result, Ok, Err, IsOk, OnErr}
+use Rattle.std.proofs.Common.{◌≡◌, ℕ, ◌+◌, List, [], ◌∷◌, ◌++◌, length, max, refl, sym, ap, subst, ◌∙◌, append_assoc}
+use Rattle.std.specs.Prelude.{Result, Ok, Err, IsOk, OnOk, OnErr}
 use Rattle.sha2.specs.Sha256.{sha256}
 use Rattle.depot_base.specs.declared.proof.Proof.{Proof}
 use Rattle.depot_base.specs.declared.record.Record.{Record}
@@ -18,8 +18,8 @@ use Rattle.depot_model.specs.Roster.{Verifies}
 use Rattle.depot_model.specs.Texts.{id_of_update}
 use Rattle.depot_values.specs.Values as values
 use Rattle.depot_values.specs.declared.values.Values.{Values}
-use Rattle.depot_accept.specs.View.{View, IsStateOf, setting}
-use Rattle.depot_store.specs.StoreParts.{IsKept, StillKeeps}
+use Rattle.depot_accept.specs.View.{View, IsAsBefore, IsStateOf, setting}
+use Rattle.depot_store.specs.StoreParts.{IsKept, Keeps, MayKeep, StillKeeps}
 use Rattle.depot_store.specs.RoomByCounts.{leaves_then, leaves_with}
 use Rattle.depot_store.specs.Totals.{AreTotals, AreTaken}
 use Rattle.depot_store.specs.Holdings.{Holding, standing}
@@ -48,10 +48,36 @@ still_keeps verifies v w old new t stays state same = λ J k. same_kept verifies
 pub same_state : {S : Type 0} (v w : View S) → w ≡ v → (J : List Record) → IsStateOf J v → IsStateOf J w
 same_state {S} v w same J is = subst (λ (x : View S). IsStateOf J x) (sym same) is
 
+-- ---- room for own vouchers
+
+-- where only the room is another, all is kept of the same journals
+pub kept_still : {S : Type 0} (J : List Record) (v w : View S) (kept : Values) (t : Totals) → IsAsBefore v w → IsKept J v kept t → IsKept J w kept t
+kept_still {S} J v w kept t same k = subst (λ (x : View S). IsKept J x kept t) (sym same) (record {
+  state = record { accepted = k.state.accepted; foreign = k.state.foreign; own_vouchers = k.state.own_vouchers; vouched = k.state.vouched; convicted = k.state.convicted };
+  values = k.values;
+  totals = k.totals;
+})
+
+pub same_setting : {S : Type 0} (verifies : Verifies) (v w : View S) → IsAsBefore v w → setting verifies w ≡ setting verifies v
+same_setting {S} verifies v w same = ap (λ (x : View S). setting verifies x) same
+
+pub may_still : {S : Type 0} (verifies : Verifies) (v w : View S) (kept : Values) (t : Totals) (new : List Record) → IsAsBefore v w → MayKeep verifies v kept t new → MayKeep verifies w kept t new
+may_still verifies v w kept t new same may = (may.0, (kept_still may.0 v w kept t same may.1.0, subst (λ (here : Setting). IsLawful here (may.0 ++ new)) (sym (same_setting verifies v w same)) may.1.1))
+
+pub keeps_still : {S : Type 0} (verifies : Verifies) (v w z : View S) (kept kept_then : Values) (t u : Totals) (new : List Record) → IsAsBefore v w → Keeps verifies w kept t new z kept_then u → Keeps verifies v kept t new z kept_then u
+keeps_still verifies v w z kept kept_then t u new same keeps = λ J k l. keeps J (kept_still J v w kept t same k) (subst (λ (here : Setting). IsLawful here (J ++ new)) (sym (same_setting verifies v w same)) l)
+
+-- ---- answers
+
 -- what holds whatever is answered holds at an error
 pub on_err : {T E : Type 0} (r : Result T E) {P : Type 0} → P → OnErr r P
 on_err (Ok x) p = tt
 on_err (Err e) p = p
+
+-- and at a good answer
+pub on_ok : {T E : Type 0} (r : Result T E) {P : Type 0} → P → OnOk r P
+on_ok (Ok x) p = p
+on_ok (Err e) p = tt
 
 -- a birth
 pub birth_kept : {S : Type 0} (J : List Record) (node : ℕ) (roster : List ℕ) (v : View S) (kept : Values) (t : Totals) → IsKept J v kept t → IsKept (J ++ Birth node roster ∷ []) v kept t

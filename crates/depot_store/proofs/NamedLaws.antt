@@ -8,6 +8,7 @@ use Rattle.std.specs.Str.{bytes_eq}
 use Rattle.std.specs.declared.cmp.Ordering.{Ordering}
 use Rattle.std.specs.declared.cmp.Ordering.TheVariants.{Less, Equal, Greater}
 use Rattle.std.proofs.lemmas.Bool.{and_parts, and_from, ltb-true, ne_eqb, eqb-true}
+use Rattle.std.proofs.lemmas.Grind.{flat_map-append}
 use Rattle.std.proofs.lemmas.List.{append-nil}
 use Rattle.std.proofs.lemmas.List.Folds.{list_any-append}
 use Rattle.std.proofs.lemmas.Map.Text.{is_eq-slice_cmp}
@@ -21,12 +22,14 @@ use Rattle.depot_base.specs.declared.statement.Statement.TheVariants as statemen
 use Rattle.depot_base.specs.declared.update.Update.{Update}
 use Rattle.depot_model.specs.Journal.{accepted, accepted_by, is_wanted, update_in}
 use Rattle.depot_laws.proofs.Splits.{accepted_push, silent}
-use Rattle.depot_store.specs.NewRecords.{records_in}
+use Rattle.depot_model.specs.Vouching.{records_of}
+use Rattle.depot_store.specs.NewRecords.{records_in, vouchers_of}
 use Rattle.depot_store.specs.Named.{is_named, is_name, name_of, name_in_statement, name_in_record, name_in, Marks, compare_names, is_marked, has_mark, PutsMark, names, has_room, AreNamed}
 use Rattle.depot_store.specs.declared.growth.News.{News}
-use Rattle.depot_store.specs.declared.growth.News.TheVariants.{Nothing, One, Convicting}
+use Rattle.depot_store.specs.declared.growth.News.TheVariants.{Nothing, One, Convicting, Vouchers}
 use Rattle.depot_store.specs.declared.named.NamedValue.{NamedValue}
 use Rattle.depot_store.specs.declared.named.NamedValues.{NamedValues}
+use Rattle.depot_store.proofs.VoucherRecords.{none_accepted, none_named}
 
 -- ---- the order of names
 
@@ -59,7 +62,7 @@ name_is a hash size e =
 pub puts_mark : (old new : Marks) (name : NamedValue) (mark : Bool) → ((q : NamedValue) → get compare_names new q ≡ cond (is_eq (compare_names name q)) (Some mark) (get compare_names old q)) → PutsMark old new name mark
 puts_mark old new name mark updates = record { marks = λ q. updates q ∙ ap (λ (b : Bool). cond b (Some mark) (get compare_names old q)) (same_name name q) }
 
-or_false : (b : Bool) → b ≡ (b || false)
+pub or_false : (b : Bool) → b ≡ (b || false)
 or_false true = refl
 or_false false = refl
 
@@ -133,6 +136,11 @@ growth_names J (Convicting p s id) hash size =
     ap (λ (K : List Record). is_wanted (accepted K) hash size) (sym (append_assoc J (Conviction p ∷ []) (Foreign s ∷ [])))
     ∙ record_names (J ++ Conviction p ∷ []) (Foreign s) hash size
     ∙ ap (λ (us : List Update). is_wanted us hash size || is_name (name_in_statement s.statement) hash size) (silent accepted_by J (Conviction p) refl)
+growth_names J (Vouchers xs) hash size =
+    let new : List Record = records_of (vouchers_of xs) in
+    ap (λ (us : List Update). is_wanted us hash size) (flat_map-append accepted_by J new ∙ ap (λ (us : List Update). accepted J ++ us) (none_accepted (vouchers_of xs)) ∙ append-nil (accepted J))
+    ∙ or_false (is_wanted (accepted J) hash size)
+    ∙ ap (λ (n : Option NamedValue). is_wanted (accepted J) hash size || is_name n hash size) (sym (none_named (vouchers_of xs)))
 
 -- what is named grows with the records
 pub named_grows : (J : List Record) (news : News) (old mid new : NamedValues) → ((hash : List ℕ) (size : ℕ) → names mid hash size ≡ names old hash size)

@@ -1,7 +1,10 @@
 -- The limit that a growth would pass, from what is counted of a journal.
-use Rattle.std.proofs.Common.{◌≡◌, ℕ, ◌+◌, ◌≤◌, ◌^◌, ltb, eqb, eq-eqb, Bool, true, false, ◌&&◌, List, [], ◌∷◌, ◌++◌, length, Option, None, Ok, refl, sym, ap, ◌∙◌, arith, length-append, inl, inr}
+use Rattle.std.proofs.Common.{◌≡◌, ℕ, ◌+◌, ◌*◌, ◌≤◌, ◌^◌, ltb, eqb, eq-eqb, Bool, true, false, ◌&&◌, List, [], ◌∷◌, ◌++◌, length, Option, None, Ok, refl, sym, ap, ◌∙◌, arith, length-append, inl, inr}
 use Rattle.std.proofs.lemmas.Bool.{both_ways}
 use Rattle.std.proofs.lemmas.Bool.Decides.{nat_tests}
+use Rattle.std.proofs.lemmas.List.{length-map}
+use Rattle.std.proofs.lemmas.List.Sums.{sum_by-cons}
+use Rattle.std.specs.List.{AllByRecursion}
 use Rattle.depot_base.specs.declared.check.Full.{Full}
 use Rattle.depot_base.specs.declared.check.FullOf.TheVariants as full_of
 use Rattle.depot_base.specs.declared.proof.Proof.{Proof}
@@ -10,21 +13,25 @@ use Rattle.depot_base.specs.declared.record.Record.TheVariants.{Birth, OwnPut, O
 use Rattle.depot_base.specs.declared.statement.Signed.{Signed}
 use Rattle.depot_base.specs.declared.statement.Statement.{Statement}
 use Rattle.depot_base.specs.declared.statement.Statement.TheVariants as statements
+use Rattle.depot_base.specs.declared.update.Update.{Update}
+use Rattle.depot_base.specs.declared.voucher.Voucher.{Voucher}
 use Rattle.depot_model.specs.declared.taken.Taken.TheVariants.{New}
 use Rattle.depot_model.specs.Lists.{when}
 use Rattle.depot_model.specs.Checks.{Setting, given_statement, answer_to}
 use Rattle.depot_model.specs.Journal.{accepted}
 use Rattle.depot_model.specs.Lawful.{IsLawful}
-use Rattle.depot_model.specs.Records.{journal_bytes}
+use Rattle.depot_model.specs.Records.{IsRecord, journal_bytes, text_of_record}
 use Rattle.depot_model.specs.Room.{foreign_leaves, takes_update, take_an_update, full_with, full_by}
+use Rattle.depot_model.specs.Vouching.{records_of}
 use Rattle.depot_laws.proofs.Counts.{bytes_more, leaves_behind, taken_count}
 use Rattle.depot_laws.proofs.Limits.{within_from_room}
 use Rattle.depot_laws.proofs.Splits.{lawful_from_end}
-use Rattle.depot_store.specs.NewRecords.{records_in, IsGrowth, AreNew}
+use Rattle.depot_store.specs.NewRecords.{bytes_of, records_in, vouchers_of, IsGrowth, AreNew}
 use Rattle.depot_store.specs.RoomByCounts.{limit, leaves_then, leaves_with_record, leaves_with, writers_full}
 use Rattle.depot_store.specs.declared.growth.News.{News}
-use Rattle.depot_store.specs.declared.growth.News.TheVariants.{Nothing, One, Convicting}
+use Rattle.depot_store.specs.declared.growth.News.TheVariants.{Nothing, One, Convicting, Vouchers}
 use Rattle.depot_store.proofs.RecordTextLaws.{record_short}
+use Rattle.depot_store.proofs.VoucherRecords.{no_leaves, none_taken}
 
 -- a lawful journal has at most 2^30 bytes
 pub lawful_is_small : (here : Setting) (J : List Record) → IsLawful here J → journal_bytes J ≤ 2 ^ 30
@@ -60,6 +67,10 @@ writers_with here J (Foreign s) l new = writers_then here J s l (new s (inl refl
 writers_with here J (Conviction p) l new = writers_none here.me J (Conviction p) refl
 writers_with here J (Held value) l new = writers_none here.me J (Held value) refl
 
+-- own vouchers count no leaf
+writers_of_vouchers : (me : ℕ) (J : List Record) (vs : List Voucher) (us : List Update) (count : ℕ) (leaves : Option ℕ) → leaves ≡ leaves_with us count (records_of vs) → writers me J (records_of vs) ≡ writers_full (length (foreign_leaves me J)) leaves
+writers_of_vouchers me J vs us count leaves then = rw (none_taken vs) (ap (writers_full (length (foreign_leaves me J))) (sym (then ∙ no_leaves us count vs)))
+
 -- ---- all three
 
 -- the limit that is passed is that of the counts
@@ -83,25 +94,39 @@ full_with_growth here J (Convicting p s id) texts bytes leaves l new g some then
     (omega (arith, length-append J (Conviction p ∷ Foreign s ∷ []), ap length g.made.are))
     (omega (arith, bytes_more J (Conviction p ∷ Foreign s ∷ []), g.sum))
     (writers_behind here.me J p (Foreign s ∷ []) ∙ writers_then here J s l (new s (inr (inl refl))) ∙ ap (writers_full (length (foreign_leaves here.me J))) (sym then))
+full_with_growth here J (Vouchers []) texts bytes leaves l new g some then = absurd (some (ap length g.made.are))
+full_with_growth here J (Vouchers (x ∷ xs)) texts bytes leaves l new g some then =
+    let more : List Record = records_of (vouchers_of (x ∷ xs)) in
+    full_is_limit here.me J more (length J + length texts) (journal_bytes J + bytes) leaves
+    (omega (arith, length-append J more, ap length g.made.are, length-map more text_of_record))
+    (omega (arith, bytes_more J more, g.sum))
+    (writers_of_vouchers here.me J (vouchers_of (x ∷ xs)) (accepted J) (length (foreign_leaves here.me J)) leaves then)
 
 -- nothing passes no limit
 pub full_with_nothing : (me : ℕ) (J : List Record) (news : News) (texts : List (List ℕ)) (bytes : ℕ) → IsGrowth news texts bytes → length texts ≡ 0 → full_by me J (records_in news) ≡ None
 full_with_nothing me J Nothing texts bytes g none = refl
 full_with_nothing me J (One r hash) texts bytes g none = let one = ap length g.made.are in absurd (omega (arith, one, none))
 full_with_nothing me J (Convicting p s id) texts bytes g none = let two = ap length g.made.are in absurd (omega (arith, two, none))
+full_with_nothing me J (Vouchers []) texts bytes g none = refl
+full_with_nothing me J (Vouchers (x ∷ xs)) texts bytes g none = let some = ap length g.made.are in absurd (omega (arith, some, none))
 
--- a growth has at most two records, and so few bytes
+-- ---- how large a growth may be
+
+-- a record takes at most 108,928 bytes
+bytes_short : (rs : List Record) → AllByRecursion IsRecord rs → bytes_of rs ≤ 108928 * length rs
+bytes_short [] fit = omega arith
+bytes_short (r ∷ rs) fit = let rest = bytes_short rs fit.1 in omega (arith, sum_by-cons (λ (x : Record). 5 + length (text_of_record x)) r rs, record_short r fit.0, rest)
+
+-- a growth has no more records than a journal may have, and so few bytes
 pub record IsSmall (texts : List (List ℕ)) (bytes : ℕ) : Type 0 where
-  pub few : length texts ≤ 2
-  pub small : bytes ≤ 217856
+  pub few : length texts ≤ 131072
+  pub small : bytes ≤ 2 ^ 34
 
 pub growth_is_small : (news : News) (texts : List (List ℕ)) (bytes : ℕ) → IsGrowth news texts bytes → IsSmall texts bytes
-growth_is_small Nothing texts bytes g = record { few = omega (arith, ap length g.made.are); small = omega (arith, g.sum) }
-growth_is_small (One r hash) texts bytes g = record { few = omega (arith, ap length g.made.are); small = omega (arith, g.sum, record_short r g.made.fit.0) }
-growth_is_small (Convicting p s id) texts bytes g = record {
-  few = omega (arith, ap length g.made.are);
-  small = omega (arith, g.sum, record_short (Conviction p) g.made.fit.0, record_short (Foreign s) g.made.fit.1.0);
-}
+growth_is_small news texts bytes g =
+    let short = bytes_short (records_in news) g.made.fit in
+    let many : length texts ≡ length (records_in news) = ap length g.made.are ∙ length-map (records_in news) text_of_record in
+    record { few = g.few; small = omega (arith, g.sum, g.few, short, many) }
 
 -- ---- the test whether there is anything
 

@@ -3,5 +3,7 @@ pub mod RecordTexts
 pub mod Totals
 pub mod RoomByCounts
 pub mod NewRecords
-pub mod StoreParts
 pub mod Named
+pub mod Places
+pub mod OwnIds
+pub mod StoreParts

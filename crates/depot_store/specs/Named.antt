@@ -36,7 +36,7 @@ name_in_record (OwnPut u value) = Some (name_of u)
 name_in_record (Foreign s) = name_in_statement s.statement
 name_in_record r = None
 
--- the value that up to two records name, of which the last may be an accepted update
+-- the value that a journal's new records name: own vouchers, or up to two records, of which the last may bring an update
 abbrev pub name_in : List Record → Option NamedValue
 name_in [] = None
 name_in (r ∷ []) = name_in_record r

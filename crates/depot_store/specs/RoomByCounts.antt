@@ -35,7 +35,7 @@ abbrev pub leaves_with_record : List Update → ℕ → Record → Option ℕ
 leaves_with_record us leaves (Foreign s) = leaves_then us leaves s.statement
 leaves_with_record us leaves r = None
 
--- and with what a journal grows by: up to two records, of which the last may bring an update
+-- and with what a journal grows by: own vouchers, or up to two records, of which the last may bring an update
 abbrev pub leaves_with : List Update → ℕ → List Record → Option ℕ
 leaves_with us leaves [] = None
 leaves_with us leaves (r ∷ []) = leaves_with_record us leaves r

@@ -1,13 +1,17 @@
 -- What a store keeps of its records.
 use Rattle.std.specs.Prelude.{◌≡◌, ℕ, List, ◌++◌}
 use Rattle.depot_base.specs.declared.record.Record.{Record}
-use Rattle.depot_model.specs.Journal.{held, value_with}
+use Rattle.depot_model.specs.Journal.{accepted, held, value_with}
 use Rattle.depot_model.specs.Lawful.{IsLawful}
 use Rattle.depot_model.specs.Roster.{Verifies}
 use Rattle.depot_accept.specs.View.{View, IsStateOf, setting}
 use Rattle.depot_values.specs.Values as values
 use Rattle.depot_values.specs.declared.values.Values.{Values}
+use Rattle.depot_store.specs.Named.{AreNamed}
+use Rattle.depot_store.specs.OwnIds.{AreMine}
+use Rattle.depot_store.specs.Places.{accept_places}
 use Rattle.depot_store.specs.Totals.{AreTotals}
+use Rattle.depot_store.specs.declared.named.NamedValues.{NamedValues}
 use Rattle.depot_store.specs.declared.totals.Totals.{Totals}
 
 -- What is kept is that of these records.
@@ -27,3 +31,11 @@ Keeps verifies v kept t new w kept_then u = (J : List Record) → IsKept J v kep
 -- Of whichever journal it was kept, it is kept of that still.
 abbrev pub StillKeeps : {S : Type 0} → View S → Values → Totals → View S → Values → Totals → Type 0
 StillKeeps v kept t w kept_then u = (J : List Record) → IsKept J v kept t → IsKept J w kept_then u
+
+-- All that a store keeps beside its records is that of the records: what the checks look at, the values, the counts, the values
+-- that updates name, the places of the records that accepted the updates, and the ids that own vouchers name.
+pub record IsStored {S : Type 0} (J : List Record) (v : View S) (kept : Values) (t : Totals) (named : NamedValues) (places : List ℕ) (ids : List (List ℕ)) : Type 0 where
+  pub read : IsKept J v kept t
+  pub names : AreNamed (accepted J) named
+  pub accepting : places ≡ accept_places J
+  pub mine : AreMine J ids

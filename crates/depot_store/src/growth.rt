@@ -1,18 +1,21 @@
 //! What a journal grows by in one call.
-ghost use Rattle.std.specs.Prelude.{◌≡◌, [], ◌∷◌, IfOk};
-ghost use Rattle.depot_base.specs.declared.record.Record.TheVariants.{Foreign, Conviction};
+ghost use Rattle.std.specs.Prelude.{◌≡◌, ◌≤◌, [], ◌∷◌, length, IfOk};
+ghost use Rattle.std.specs.List.{AllByRecursion};
+ghost use Rattle.depot_base.specs.declared.limits.TheConstants.{MOST_RECORDS};
+ghost use Rattle.depot_base.specs.declared.record.Record.TheVariants.{OwnVoucher, Foreign, Conviction};
 ghost use Rattle.depot_model.specs.Records.{IsRecord};
 ghost use Rattle.depot_model.specs.Texts.{IsProof, id_of_statement};
-ghost use Rattle.depot_store.specs.NewRecords.{IsHashOf};
+ghost use Rattle.depot_model.specs.Vouching.{records_of};
+ghost use Rattle.depot_store.specs.NewRecords.{IsHashOf, HasOwnId};
 ghost use Rattle.depot_store.specs.RecordTexts.{IsTextOf};
 
 use crate::list::size_of;
-use depot_base::{Bytes, Hash32, Memory, Proof, Record, Signed};
-use depot_update::{encode_conviction, encode_record};
+use depot_base::{Bytes, Hash32, Memory, Proof, Record, Sequence, Signed, Voucher};
+use depot_update::{encode_conviction, encode_record, id_in_own_voucher};
 use std::alloc::Global;
 use std::marker::Model;
 
-/// What a journal grows by in one call: up to two records. Each comes decoded, with its text and with the hash that keeping it
+/// What a journal grows by in one call: up to two records, or own vouchers. Each comes decoded, with its text and with the hash that keeping it
 /// needs, so that nothing is encoded or hashed again when it is appended. It is seen as the list of the records.
 #[derive(Drop)]
 pub struct Growth {
@@ -30,6 +33,15 @@ pub enum News {
     One(Record, Hash32),
     /// The conviction of a writer, and after it a statement, with its id.
     Convicting(Proof, Signed, Hash32),
+    /// Own vouchers.
+    Vouchers(Sequence<NewVoucher>),
+}
+
+/// An own voucher, and its id.
+#[derive(Drop)]
+pub struct NewVoucher {
+    pub(crate) voucher: Voucher,
+    pub(crate) id: Hash32,
 }
 
 impl Model for Growth {
@@ -103,5 +115,60 @@ impl Growth {
             texts,
             bytes,
         })
+    }
+
+    /// Own vouchers, no more than a journal may have records. Each is encoded once, and hashed once.
+    pub fn vouchers(alloc: Global, vouchers: Vec<Voucher>) -> Result<Growth, Memory>
+        requires texts { AllByRecursion (λ v. IsRecord (OwnVoucher v)) vouchers.items }
+        requires few { length vouchers.items ≤ MOST_RECORDS }
+        ensures { IfOk result (λ g. g ≡ records_of vouchers.items) }
+    {
+        let mut items = Vec::with_capacity(alloc, vouchers.len())?;
+        let mut texts = Vec::with_capacity(alloc, vouchers.len())?;
+        let mut bytes = 0;
+        for voucher in vouchers {
+            let Encoded { item, text } = encode_own(alloc, Record::OwnVoucher { voucher })?;
+            bytes += size_of(&text);
+            items.push(item)?;
+            texts.push(text)?;
+        }
+        Ok(Growth {
+            news: News::Vouchers(Sequence::from_vec(items)),
+            texts,
+            bytes,
+        })
+    }
+}
+
+/// An own voucher as it is kept, and the text of its record.
+#[derive(Drop)]
+struct Encoded {
+    item: NewVoucher,
+    text: Bytes,
+}
+
+/// Encodes the record of an own voucher.
+fn encode_own(alloc: Global, item: Record) -> Result<Encoded, Memory>
+    requires { IsRecord item }
+    ensures voucher { IfOk result (λ made. item ≡ OwnVoucher made.item.voucher) }
+    ensures id { IfOk result (λ made. HasOwnId made.item) }
+    ensures text { IfOk result (λ made. IsTextOf item made.text) }
+{
+    let text = encode_record(alloc, &item)?;
+    let id = id_in_own_voucher(text.as_slice());
+    let voucher = voucher_of(item)?;
+    Ok(Encoded {
+        item: NewVoucher { voucher, id },
+        text,
+    })
+}
+
+/// The voucher of an own voucher's record. No other record is given.
+fn voucher_of(item: Record) -> Result<Voucher, Memory>
+    ensures { IfOk result (λ v. item ≡ OwnVoucher v) }
+{
+    match item {
+        Record::OwnVoucher { voucher } => Ok(voucher),
+        _ => Err(Memory),
     }
 }

@@ -1,24 +1,28 @@
 //! What is read off the records of a journal.
-ghost use Rattle.std.specs.Prelude.{◌≡◌, ◌≤◌, [], ◌∷◌, List, OnOk, OnErr};
+ghost use Rattle.std.specs.Prelude.{◌≡◌, ◌<◌, ◌≤◌, ◌+◌, [], ◌∷◌, List, length, OnOk, OnErr};
+ghost use Rattle.std.specs.List.{AllByRecursion};
 ghost use Rattle.sha2.specs.Sha256.{sha256};
 ghost use Rattle.depot_base.specs.declared.record.Record.{Record};
 ghost use Rattle.depot_base.specs.declared.record.Record.TheVariants.{OwnPut, OwnVoucher, Foreign, Conviction, Held};
-ghost use Rattle.depot_base.specs.declared.statement.Statement.TheVariants as statements;
 ghost use Rattle.depot_model.specs.Texts.{id_of_statement, id_of_update};
+ghost use Rattle.depot_model.specs.Vouching.{records_of};
+ghost use Rattle.depot_vouch.specs.Vouching.{AreWithin};
 ghost use Rattle.depot_accept.specs.View.{setting};
 ghost use Rattle.depot_laws.specs.Leaves.{follows_leaf};
-ghost use Rattle.depot_store.specs.NewRecords.{records_in, IsHashOf, AreHashed};
+ghost use Rattle.depot_store.specs.NewRecords.{records_in, vouchers_of, IsHashOf, HasOwnId, AreHashed};
+ghost use Rattle.depot_store.specs.OwnIds.{AddsMine, HaveRoom};
 ghost use Rattle.depot_store.specs.StoreParts.{IsKept, MayKeep, Keeps, StillKeeps};
 ghost use Rattle.depot_store.specs.RoomByCounts.{leaves_then, leaves_with_record, leaves_with};
 ghost use Rattle.depot_store.specs.Totals.{AreTaken};
 
-use crate::growth::News;
+use crate::growth::{NewVoucher, News};
 use crate::totals::Totals;
 use depot_accept::State;
-use depot_base::{Hash32, Memory, Proof, Record, Signed, Statement, Update, Value, Voucher};
+use depot_base::{Hash32, Memory, Proof, Record, Sequence, Signed, Statement, Update, Value};
 use depot_graph::Graph;
 use depot_model::{Past, Scheme};
 use depot_values::Values;
+use depot_vouch::VouchedIds;
 
 /// What is read off the records of a journal: what the checks look at, the values by their hash, and counts. It says of no
 /// journal that it is its own: each call says what it makes of what is kept of any.
@@ -30,36 +34,54 @@ pub struct Kept<S: Scheme> {
 }
 
 impl<S: Scheme> Kept<S> {
-    /// Keeps the records of a growth: all, or after Memory none. With them there are so many leaves of other writers, where they
-    /// bring an update of another.
-    pub(crate) fn keep(&mut self, news: News, leaves: Option<u32>) -> Result<(), Memory>
+    /// Keeps the records of a growth, and the ids that its own vouchers name: all, or after Memory none. With them there are so
+    /// many leaves of other writers, where they bring an update of another.
+    pub(crate) fn keep(
+        &mut self,
+        news: News,
+        leaves: Option<u32>,
+        mine: &mut VouchedIds,
+    ) -> Result<(), Memory>
         requires hashed { AreHashed news }
         requires leaves { leaves ≡ leaves_with self.old.state.accepted self.old.totals.leaves (records_in news) }
         requires may { MayKeep S.verifies self.old.state self.old.values self.old.totals (records_in news) }
         ensures ok { OnOk result (Keeps S.verifies self.old.state self.old.values self.old.totals (records_in news) self.new.state self.new.values self.new.totals) }
         ensures err { OnErr result (StillKeeps self.old.state self.old.values self.old.totals self.new.state self.new.values self.new.totals) }
         ensures stays { setting S.verifies self.new.state ≡ setting S.verifies self.old.state }
+        ensures mine { OnOk result (AddsMine mine.old.ids (records_in news) mine.new.ids) }
+        ensures mine_err { OnErr result (mine.new.ids ≡ mine.old.ids) }
     {
         match news {
             News::Nothing => Ok(()),
-            News::One(item, hash) => self.keep_one(item, hash, leaves),
+            News::One(item, hash) => self.keep_one(item, hash, leaves, mine),
             News::Convicting(proof, signed, id) => self.keep_convicting(&proof, signed, id, leaves),
+            News::Vouchers(vouchers) => self.keep_vouchers(vouchers, mine),
         }
     }
 
     /// Keeps a record.
-    fn keep_one(&mut self, item: Record, hash: Hash32, leaves: Option<u32>) -> Result<(), Memory>
+    fn keep_one(
+        &mut self,
+        item: Record,
+        hash: Hash32,
+        leaves: Option<u32>,
+        mine: &mut VouchedIds,
+    ) -> Result<(), Memory>
         requires hash { IsHashOf item hash }
         requires leaves { leaves ≡ leaves_with_record self.old.state.accepted self.old.totals.leaves item }
         requires may { MayKeep S.verifies self.old.state self.old.values self.old.totals (item ∷ []) }
         ensures ok { OnOk result (Keeps S.verifies self.old.state self.old.values self.old.totals (item ∷ []) self.new.state self.new.values self.new.totals) }
         ensures err { OnErr result (StillKeeps self.old.state self.old.values self.old.totals self.new.state self.new.values self.new.totals) }
         ensures stays { setting S.verifies self.new.state ≡ setting S.verifies self.old.state }
+        ensures mine { OnOk result (AddsMine mine.old.ids (item ∷ []) mine.new.ids) }
+        ensures mine_err { OnErr result (mine.new.ids ≡ mine.old.ids) }
     {
         match item {
             Record::Birth { .. } => Ok(()),
             Record::OwnPut { update, value } => self.keep_put(update, hash, value),
-            Record::OwnVoucher { voucher } => self.keep_voucher(voucher, hash),
+            Record::OwnVoucher { voucher } => {
+                self.keep_voucher(NewVoucher { voucher, id: hash }, mine)
+            }
             Record::Foreign { signed } => self.keep_foreign(signed, hash, leaves),
             Record::Conviction { proof } => {
                 self.convict(&proof);
@@ -89,16 +111,73 @@ impl<S: Scheme> Kept<S> {
     }
 
     /// Keeps an own voucher.
-    fn keep_voucher(&mut self, voucher: Voucher, id: Hash32) -> Result<(), Memory>
-        requires id { id ≡ id_of_statement (statements.Voucher voucher) }
-        requires may { MayKeep S.verifies self.old.state self.old.values self.old.totals (OwnVoucher voucher ∷ []) }
-        ensures ok { OnOk result (Keeps S.verifies self.old.state self.old.values self.old.totals (OwnVoucher voucher ∷ []) self.new.state self.new.values self.new.totals) }
+    fn keep_voucher(&mut self, item: NewVoucher, mine: &mut VouchedIds) -> Result<(), Memory>
+        requires id { HasOwnId item }
+        requires may { MayKeep S.verifies self.old.state self.old.values self.old.totals (OwnVoucher item.voucher ∷ []) }
+        ensures ok { OnOk result (Keeps S.verifies self.old.state self.old.values self.old.totals (OwnVoucher item.voucher ∷ []) self.new.state self.new.values self.new.totals) }
         ensures err { OnErr result (StillKeeps self.old.state self.old.values self.old.totals self.new.state self.new.values self.new.totals) }
         ensures stays { setting S.verifies self.new.state ≡ setting S.verifies self.old.state }
+        ensures mine { OnOk result (AddsMine mine.old.ids (OwnVoucher item.voucher ∷ []) mine.new.ids) }
+        ensures mine_err { OnErr result (mine.new.ids ≡ mine.old.ids) }
     {
-        self.state.add_own(Statement::Voucher(voucher), id)?;
-        self.totals.own += 1;
+        mine.reserve(&item.voucher.ids)?;
+        self.state.reserve_vouchers(1)?;
+        self.add_voucher(item, mine);
         Ok(())
+    }
+
+    /// Keeps own vouchers: all, or after Memory none.
+    fn keep_vouchers(
+        &mut self,
+        vouchers: Sequence<NewVoucher>,
+        mine: &mut VouchedIds,
+    ) -> Result<(), Memory>
+        requires ids { AllByRecursion HasOwnId vouchers }
+        requires may { MayKeep S.verifies self.old.state self.old.values self.old.totals (records_of (vouchers_of vouchers)) }
+        ensures ok { OnOk result (Keeps S.verifies self.old.state self.old.values self.old.totals (records_of (vouchers_of vouchers)) self.new.state self.new.values self.new.totals) }
+        ensures err { OnErr result (StillKeeps self.old.state self.old.values self.old.totals self.new.state self.new.values self.new.totals) }
+        ensures stays { setting S.verifies self.new.state ≡ setting S.verifies self.old.state }
+        ensures mine { OnOk result (AddsMine mine.old.ids (records_of (vouchers_of vouchers)) mine.new.ids) }
+        ensures mine_err { OnErr result (mine.new.ids ≡ mine.old.ids) }
+    {
+        let vouchers = vouchers.into_vec();
+        reserve_ids(mine, vouchers.as_slice())?;
+        self.state.reserve_vouchers(vouchers.len() as u32)?;
+        self.add_vouchers(vouchers, mine);
+        Ok(())
+    }
+
+    /// Keeps own vouchers that memory was found for. It takes none.
+    fn add_vouchers(&mut self, vouchers: Vec<NewVoucher>, mine: &mut VouchedIds)
+        requires ids { AllByRecursion HasOwnId vouchers.items }
+        requires may { MayKeep S.verifies self.old.state self.old.values self.old.totals (records_of (vouchers_of vouchers.items)) }
+        requires room { length vouchers.items ≤ self.old.state.voucher_room }
+        requires mine_room { HaveRoom vouchers.items mine.old.room }
+        ensures kept { Keeps S.verifies self.old.state self.old.values self.old.totals (records_of (vouchers_of vouchers.items)) self.new.state self.new.values self.new.totals }
+        ensures stays { setting S.verifies self.new.state ≡ setting S.verifies self.old.state }
+        ensures mine { AddsMine mine.old.ids (records_of (vouchers_of vouchers.items)) mine.new.ids }
+    {
+        for item in vouchers {
+            self.add_voucher(item, mine);
+        }
+    }
+
+    /// Keeps an own voucher that memory was found for. It takes none.
+    fn add_voucher(&mut self, item: NewVoucher, mine: &mut VouchedIds)
+        requires id { HasOwnId item }
+        requires may { MayKeep S.verifies self.old.state self.old.values self.old.totals (OwnVoucher item.voucher ∷ []) }
+        requires room { 0 < self.old.state.voucher_room }
+        requires mine_room { AreWithin item.voucher.ids mine.old.room }
+        ensures kept { Keeps S.verifies self.old.state self.old.values self.old.totals (OwnVoucher item.voucher ∷ []) self.new.state self.new.values self.new.totals }
+        ensures stays { setting S.verifies self.new.state ≡ setting S.verifies self.old.state }
+        ensures room { self.new.state.voucher_room + 1 ≡ self.old.state.voucher_room }
+        ensures mine { AddsMine mine.old.ids (OwnVoucher item.voucher ∷ []) mine.new.ids }
+        ensures mine_room { AreWithin mine.old.room mine.new.room }
+    {
+        let NewVoucher { voucher, id } = item;
+        let _ = mine.add(&voucher.ids);
+        let _ = self.state.add_own(Statement::Voucher(voucher), id);
+        self.totals.own += 1;
     }
 
     /// Keeps another's statement.
@@ -181,6 +260,7 @@ impl<S: Scheme> Kept<S> {
     }
 
     /// How many leaves of other writers there are once a growth is taken, where it takes an update of another.
+    #[tactic(auto, using(crate::proofs::VoucherRecords::no_leaves))]
     pub(crate) fn leaves_with(&self, news: &News) -> Option<u32>
         requires { self.now.totals.leaves ≤ 131072 }
         ensures { result ≡ leaves_with self.now.state.accepted self.now.totals.leaves (records_in news.now) }
@@ -189,6 +269,7 @@ impl<S: Scheme> Kept<S> {
             News::Nothing => None,
             News::One(item, _) => self.leaves_with_record(item),
             News::Convicting(_, signed, _) => self.leaves_then(&signed.statement),
+            News::Vouchers(_) => None,
         }
     }
 
@@ -217,6 +298,17 @@ impl<S: Scheme> Kept<S> {
             Some(self.totals.leaves + 1)
         }
     }
+}
+
+/// Finds the memory for the ids that these vouchers name. The ids in the set stay.
+fn reserve_ids(mine: &mut VouchedIds, vouchers: &[NewVoucher]) -> Result<(), Memory>
+    ensures room { OnOk result (HaveRoom vouchers.now mine.new.room) }
+    ensures ids { mine.new.ids ≡ mine.old.ids }
+{
+    for item in vouchers {
+        mine.reserve(&item.voucher.ids)?;
+    }
+    Ok(())
 }
 
 /// Whether the prev of an update is a leaf.

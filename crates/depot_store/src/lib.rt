@@ -15,6 +15,7 @@ mod growth;
 mod kept;
 mod list;
 mod named;
+mod places;
 mod room;
 mod store;
 mod totals;

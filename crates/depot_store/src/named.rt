@@ -93,6 +93,7 @@ impl NamedValues {
 }
 
 /// The value that the records of a growth name as accepted updates, of which they bring one at most.
+#[tactic(auto, using(crate::proofs::VoucherRecords::none_named))]
 pub(crate) fn name_in(news: &News) -> Option<NamedValue>
     ensures { result ≡ name_in (records_in news.now) }
 {
@@ -100,6 +101,7 @@ pub(crate) fn name_in(news: &News) -> Option<NamedValue>
         News::Nothing => None,
         News::One(item, _) => name_in_record(item),
         News::Convicting(_, signed, _) => name_in_statement(&signed.statement),
+        News::Vouchers(_) => None,
     }
 }
 

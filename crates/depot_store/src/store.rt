@@ -4,21 +4,25 @@ ghost use Rattle.depot_model.specs.Journal.{accepted, held, is_wanted, value_wit
 ghost use Rattle.depot_model.specs.Lawful.{IsLawful};
 ghost use Rattle.depot_model.specs.Records.{text_of_record};
 ghost use Rattle.depot_model.specs.Room.{foreign_leaves};
+ghost use Rattle.depot_model.specs.Vouching.{is_mine_vouched};
 ghost use Rattle.depot_accept.specs.View.{IsStateOf, setting};
 ghost use Rattle.depot_store.specs.RoomByCounts.{leaves_with};
 ghost use Rattle.depot_store.specs.Holdings.{standing, with_records};
+ghost use Rattle.depot_store.specs.Places.{accept_places};
 ghost use Rattle.depot_store.specs.Totals.{AreTotals};
 
 use crate::growth::Growth;
 use crate::kept::Kept;
 use crate::list::RecordList;
 use crate::named::{NamedValues, name_in};
+use crate::places::{AcceptPlaces, accept_place};
 use crate::totals::Totals;
 use depot_accept::State;
 use depot_base::{Hash32, Memory, NodeId, Texts};
 use depot_model::Scheme;
 use depot_sign::Roster;
 use depot_values::Values;
+use depot_vouch::VouchedIds;
 use std::alloc::Global;
 use std::marker::Model;
 
@@ -27,20 +31,20 @@ use std::marker::Model;
 pub struct Store<S: Scheme> {
     pub(crate) kept: Kept<S>,
     pub(crate) named: NamedValues,
+    pub(crate) places: AcceptPlaces,
+    pub(crate) mine: VouchedIds,
     pub(crate) list: RecordList,
 }
 
 impl<S: Scheme> Model for Store<S> {
     ghost use Rattle.depot_store.specs.Holdings.{Holding};
-    ghost use Rattle.depot_model.specs.Journal.{accepted};
-    ghost use Rattle.depot_store.specs.StoreParts.{IsKept};
-    ghost use Rattle.depot_store.specs.Named.{AreNamed};
+    ghost use Rattle.depot_store.specs.StoreParts.{IsStored};
 
     ghost Value = { Holding };
 
     ghost view = { λ s. record { me = s.kept.state.me; listed = s.kept.state.listed; records = s.list.records } };
 
-    ghost invariant = { λ s. IsKept s.list.records s.kept.state s.kept.values s.kept.totals × AreNamed (accepted s.list.records) s.named };
+    ghost invariant = { λ s. IsStored s.list.records s.kept.state s.kept.values s.kept.totals s.named s.places.places s.mine.ids };
 }
 
 impl<S: Scheme> Store<S> {
@@ -56,6 +60,8 @@ impl<S: Scheme> Store<S> {
         Ok(Store {
             kept,
             named: NamedValues::new(alloc),
+            places: AcceptPlaces::new(alloc),
+            mine: VouchedIds::new(alloc),
             list: RecordList::new(alloc),
         })
     }
@@ -80,10 +86,13 @@ impl<S: Scheme> Store<S> {
     {
         let Growth { news, texts, bytes } = new;
         let name = name_in(&news);
+        let place = accept_place(&news, self.list.count() as u32);
         self.list.reserve(texts.len())?;
         self.named.reserve(&name)?;
-        self.kept.keep(news, leaves)?;
+        self.places.reserve(place)?;
+        self.kept.keep(news, leaves, &mut self.mine)?;
         self.named.add(name);
+        self.places.add(place);
         self.list.append_all(texts, bytes);
         Ok(())
     }
@@ -111,6 +120,13 @@ impl<S: Scheme> Store<S> {
         &self.kept.totals
     }
 
+    /// The places, from 0, of the records that accepted the updates, in the order of the accepted updates. It takes no memory.
+    pub fn places(&self) -> &[u32]
+        ensures { result.now ≡ accept_places self.now.records }
+    {
+        self.places.as_slice()
+    }
+
     /// The records. It takes no memory.
     pub fn list(&self) -> &RecordList
         ensures { result.now.records ≡ self.now.records }
@@ -130,6 +146,13 @@ impl<S: Scheme> Store<S> {
         ensures { result ≡ is_wanted (accepted self.now.records) hash.now size }
     {
         self.named.names(hash, size)
+    }
+
+    /// Whether one of the node's own vouchers names this id. It takes no memory.
+    pub fn is_mine_vouched(&self, id: &Hash32) -> bool
+        ensures { result ≡ is_mine_vouched self.now.records id.now }
+    {
+        self.mine.contains(id)
     }
 
     /// The texts of the records. It takes no memory.

@@ -23,4 +23,5 @@ invariant_of-result c = record {
   };
   sum = omega (arith, c.size_of.ensures.size, c.size_of-2.ensures.size, ap length c.in_ok-proof_text.ensures, ap length c.requires.text.is);
   hashed = c.requires.id;
+  few = omega (arith, ap length c.in_ok-texts.ensures.items);
 }

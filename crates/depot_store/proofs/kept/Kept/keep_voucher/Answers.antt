@@ -1,27 +1,31 @@
-use Rattle.std.proofs.Common.{[], refl, arith}
+use Rattle.std.proofs.Common.{[], ◌∷◌, refl, ◌∙◌}
 use Rattle.depot_base.specs.declared.record.Record.TheVariants.{OwnVoucher}
-use Rattle.depot_laws.proofs.Splits.{lawful_last}
-use Rattle.depot_store.proofs.BoundLaws.{few_of_own, few_updates}
-use Rattle.depot_store.proofs.KeptLaws.{voucher_kept, on_err, still_keeps, same_state}
-use Rattle.depot_store.proofs.StateGrowth.{fits_behind, voucher_is_statement}
+use Rattle.depot_vouch.proofs.SlotLaws.{added_together}
+use Rattle.depot_store.specs.StoreParts.{StillKeeps}
+use Rattle.depot_store.proofs.KeptLaws.{keeps_still, may_still, on_err, same_setting, same_state, still_keeps}
+use Rattle.depot_store.proofs.OwnIdLaws.{adds_behind}
 use Rattle.depot_store.proofs.kept.Kept.keep_voucher.Goals as goal
 
-pub add_own-requires-clause-text : goal.add_own-requires-clause-text
-add_own-requires-clause-text g c = voucher_is_statement c.args.voucher (lawful_last _ c.requires.may.0 (OwnVoucher c.args.voucher) c.requires.may.1.1).text
+pub returns-in_err-reserve-clause-err : goal.returns-in_err-reserve-clause-err
+returns-in_err-reserve-clause-err g c = let same : StillKeeps c.args.self.now.state c.args.self.now.values c.args.self.now.totals c.args.self.now.state c.args.self.now.values c.args.self.now.totals = λ J k. k in on_err _ same
 
-pub add_own-requires-clause-fits : goal.add_own-requires-clause-fits
-add_own-requires-clause-fits g c = fits_behind _ c.requires.may.0 (OwnVoucher c.args.voucher) [] _ c.requires.may.1.1 refl c.requires.may.1.0.state.accepted
+pub returns-in_err-reserve_vouchers-clause-err : goal.returns-in_err-reserve_vouchers-clause-err
+returns-in_err-reserve_vouchers-clause-err g c = on_err _ (still_keeps g.S.Scheme.verifies _ _ _ _ _ (same_setting g.S.Scheme.verifies c.args.self.now.state c.reserve_vouchers.new.self c.reserve_vouchers.ensures.same) (same_state _ _ c.in_err-reserve_vouchers.ensures.err) (λ h. refl))
 
-pub add_own-requires-clause-few : goal.add_own-requires-clause-few
-add_own-requires-clause-few g c = few_updates _ c.requires.may.0 (OwnVoucher c.args.voucher) _ c.requires.may.1.1 c.requires.may.1.0.state.accepted
+pub returns-in_err-reserve_vouchers-clause-stays : goal.returns-in_err-reserve_vouchers-clause-stays
+returns-in_err-reserve_vouchers-clause-stays g c = same_setting g.S.Scheme.verifies c.args.self.now.state c.reserve_vouchers.new.self c.reserve_vouchers.ensures.same
 
-pub returns-in_err-add_own-clause-err : goal.returns-in_err-add_own-clause-err
-returns-in_err-add_own-clause-err g c = on_err _ (still_keeps g.S.Scheme.verifies _ _ _ _ _ c.in_err-add_own.ensures.stays (same_state _ _ c.in_err-add_own.ensures.err) (λ h. refl))
+pub add_voucher-requires-clause-may : goal.add_voucher-requires-clause-may
+add_voucher-requires-clause-may g c = may_still g.S.Scheme.verifies c.args.self.now.state c.reserve_vouchers.new.self _ _ (OwnVoucher c.args.item.voucher ∷ []) c.reserve_vouchers.ensures.same c.requires.may
 
-pub overflow_add-self : goal.overflow_add-self
-overflow_add-self g c =
-    let few = few_of_own _ _ c.requires.may.0 (OwnVoucher c.args.voucher) c.args.self.now.totals c.requires.may.1.1 c.requires.may.1.0.totals in
-    omega (arith, few)
+pub add_voucher-requires-clause-mine_room : goal.add_voucher-requires-clause-mine_room
+add_voucher-requires-clause-mine_room g c = added_together _ _ _ c.in_ok-reserve.ensures.ok
 
 pub returns-clause-ok : goal.returns-clause-ok
-returns-clause-ok g c = λ J k l. voucher_kept g.S.Scheme.verifies J c.args.voucher _ _ _ _ c.in_ok-add_own.ensures.stays (c.in_ok-add_own.ensures.ok J (OwnVoucher c.args.voucher) refl k.state) k
+returns-clause-ok g c = keeps_still g.S.Scheme.verifies c.args.self.now.state c.reserve_vouchers.new.self _ _ _ _ _ (OwnVoucher c.args.item.voucher ∷ []) c.reserve_vouchers.ensures.same c.add_voucher.ensures.kept
+
+pub returns-clause-stays : goal.returns-clause-stays
+returns-clause-stays g c = c.add_voucher.ensures.stays ∙ same_setting g.S.Scheme.verifies c.args.self.now.state c.reserve_vouchers.new.self c.reserve_vouchers.ensures.same
+
+pub returns-clause-mine : goal.returns-clause-mine
+returns-clause-mine g c = adds_behind _ _ _ (OwnVoucher c.args.item.voucher ∷ []) c.reserve.ensures.ids c.add_voucher.ensures.mine

@@ -1,0 +1,42 @@
+use Rattle.std.proofs.Common.{◌≡◌, List, [], length, refl, sym, ap, subst, ◌∙◌, arith}
+use Rattle.depot_store.specs.NewRecords.{IsGrowth, vouchers_of}
+use Rattle.depot_model.specs.Vouching.{records_of}
+use Rattle.depot_store.specs.declared.growth.NewVoucher.{NewVoucher}
+use Rattle.depot_store.specs.declared.growth.News.TheVariants.{Vouchers}
+use Rattle.depot_base.specs.declared.record.Record.TheVariants.{OwnVoucher}
+use Rattle.depot_store.proofs.VoucherTexts.{all_encoded, all_vouchers, encoded_as, few_bytes, next_fits, none_encoded, one_encoded, voucher_inj}
+use Rattle.depot_store.proofs.VoucherRecords.{none_left}
+use Rattle.depot_store.proofs.growth.Growth.vouchers.Goals as goal
+
+pub loop-voucher-init : goal.loop-voucher-init
+loop-voucher-init c =
+    let made = c.into_iter-voucher-iterator.ensures.into_iter_gives in
+    record {
+      count = omega (arith, ap length made.0, made.1, c.args.vouchers.ok.0);
+      encoded = none_encoded _ _ _ _ made.0 c.in_ok-items.ensures.items c.in_ok-texts.ensures.items;
+    }
+
+pub encode_own-requires : goal.encode_own-requires
+encode_own-requires c = next_fits _ _ _ _ _ _ c.in-Some.voucher c.requires.texts c.in-Some.ensures.steps.0 c.loop-voucher.invariant.encoded
+
+pub size_of-bytes-requires : goal.size_of-bytes-requires
+size_of-bytes-requires c = (OwnVoucher c.in-Some.voucher, c.in_ok-item.ensures.text)
+
+pub overflow_add-bytes : goal.overflow_add-bytes
+overflow_add-bytes c = omega (arith, c.size_of-bytes.ensures.small, few_bytes _ _ _ _ _ _ c.in-Some.voucher c.requires.few c.in-Some.ensures.steps.0 c.loop-voucher.invariant.encoded)
+
+pub loop-voucher-preserved : goal.loop-voucher-preserved
+loop-voucher-preserved c =
+    let same : c.in_ok-item.field-0.item.voucher ≡ c.in-Some.voucher = sym (voucher_inj c.in_ok-item.ensures.voucher) in
+    let next = one_encoded _ _ _ _ _ _ c.size_of-bytes.result c.in-Some.voucher c.in_ok-item.field-0.item _ c.in-Some.ensures.steps.0 c.loop-voucher.invariant.encoded same c.in_ok-item.ensures.id c.in_ok-item.ensures.text c.size_of-bytes.ensures.size c.size_of-bytes.ensures.small in
+    record {
+      count = omega (arith, ap length c.in-Some.ensures.steps.0, c.in-Some.ensures.steps.1, c.loop-voucher.invariant.count);
+      encoded = encoded_as _ _ _ _ _ _ _ next c.in_ok-push.ensures.items c.in_ok-push-2.ensures.items;
+    }
+
+pub invariant_of-result : goal.invariant_of-result
+invariant_of-result c = subst (λ (xs : List NewVoucher). IsGrowth (Vouchers xs) c.loop-voucher.texts.items c.loop-voucher.bytes) (sym c.from_vec.ensures)
+    (all_encoded _ _ _ _ _ c.requires.texts c.requires.few (none_left _ (sym c.loop-voucher.invariant.count ∙ c.in-None.ensures.steps.0)) c.loop-voucher.invariant.encoded)
+
+pub returns : goal.returns
+returns c = ap (λ (xs : List NewVoucher). records_of (vouchers_of xs)) c.from_vec.ensures ∙ ap records_of (all_vouchers _ _ _ _ _ (none_left _ (sym c.loop-voucher.invariant.count ∙ c.in-None.ensures.steps.0)) c.loop-voucher.invariant.encoded)
