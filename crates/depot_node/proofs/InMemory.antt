@@ -4,6 +4,8 @@ use Rattle.depot_base.specs.declared.key.PublicKey.{PublicKey}
 use Rattle.depot_base.specs.declared.check.Check.{Check}
 use Rattle.depot_base.specs.declared.check.Full.{Full}
 use Rattle.depot_base.specs.declared.record.Record.{Record}
+use Rattle.depot_model.specs.declared.bundle.VoucherError.{VoucherError}
+use Rattle.depot_model.specs.declared.bundle.VoucherError.TheVariants as voucher_error
 use Rattle.depot_model.specs.declared.taken.Taken.{Taken}
 use Rattle.depot_model.specs.declared.taken.TakeError.{TakeError}
 use Rattle.depot_model.specs.declared.taken.TakeError.TheVariants as take_error
@@ -11,6 +13,7 @@ use Rattle.depot_model.specs.Bundle.{Signs}
 use Rattle.depot_model.specs.Checks.{Setting}
 use Rattle.depot_model.specs.Replicas.{IsSameNode, StopsBy, KeepsDisk}
 use Rattle.depot_node.specs.Deciding.{IsCarriedOut}
+use Rattle.depot_node.specs.PlannedVouchers.{AreRefused}
 use Rattle.depot_node.specs.Putting.{IsRefused}
 use Rattle.depot_node.specs.Running.{IsRunning}
 use Rattle.depot_node.specs.declared.answer.PutDone.{PutDone}
@@ -72,3 +75,21 @@ refused_runs here J key value (put_error.Spent n) r = record { works = λ is. ab
 refused_runs here J key value (put_error.Tips n) r = record { works = λ is. absurd cc; runs = λ is. absurd cc }
 refused_runs here J key value (put_error.Collides h) r = record { works = λ is. absurd cc; runs = λ is. absurd cc }
 refused_runs here J key value (put_error.Full full) r = absurd r
+
+-- ---- vouchers
+
+pub vouched_runs : (done : Unit {0}) → IsRunning {T = Unit {0}} {E = VoucherError} (Ok done) voucher_error.Disk voucher_error.Stopped
+vouched_runs done = record { works = λ is. absurd cc; runs = λ is. absurd cc }
+
+pub no_memory_vouches : IsRunning {T = Unit {0}} {E = VoucherError} (Err voucher_error.Memory) voucher_error.Disk voucher_error.Stopped
+no_memory_vouches = record { works = λ is. absurd cc; runs = λ is. absurd cc }
+
+pub full_vouches : (full : Full) → IsRunning {T = Unit {0}} {E = VoucherError} (Err (voucher_error.Full full)) voucher_error.Disk voucher_error.Stopped
+full_vouches full = record { works = λ is. absurd cc; runs = λ is. absurd cc }
+
+pub refused_vouchers_run : (here : Setting) (J : List Record) (ids : List (List ℕ)) (e : VoucherError) → AreRefused here J ids e → IsRunning {T = Unit {0}} {E = VoucherError} (Err e) voucher_error.Disk voucher_error.Stopped
+refused_vouchers_run here J ids voucher_error.Memory r = record { works = λ is. absurd cc; runs = λ is. absurd cc }
+refused_vouchers_run here J ids voucher_error.Disk r = absurd r
+refused_vouchers_run here J ids voucher_error.Stopped r = absurd r
+refused_vouchers_run here J ids (voucher_error.Full full) r = absurd r
+refused_vouchers_run here J ids (voucher_error.Spent n) r = record { works = λ is. absurd cc; runs = λ is. absurd cc }

@@ -13,3 +13,12 @@ pub mod TextWalk
 pub mod Started
 pub mod ReadLaws
 pub mod InMemory
+pub mod LackingValues
+pub mod ForeignIds
+pub mod StatementTexts
+pub mod CoveredItems
+pub mod BesidePlaces
+pub mod LeafInserts
+pub mod RisingIds
+pub mod VoucherGroups
+pub mod VoucherPlans

@@ -3,3 +3,5 @@ pub mod Deciding
 pub mod Starting
 pub mod Keyed
 pub mod Running
+pub mod Telling
+pub mod PlannedVouchers

@@ -9,18 +9,28 @@
 //!
 //! What is put or taken is decided over the `Store` of `depot_store` as it stands, which appends nothing (`put`, `statement`,
 //! `proof`, `value`), and then carried out by one call, `Store::commit`, by which alone the journal grows once it is started;
-//! `take` does the one and then the other, `start` has the starts, and `node` puts them together.
+//! `take` does the one and then the other, `start` has the starts, and `node` puts them together. So are the node's own vouchers
+//! for what it took from others (`vouch`).
+//!
+//! What others are told of a journal is read off the store: whom the node convicted and what values it lacks (`tell`), the
+//! leaves (`leaf_places`), the updates that a reader lacks (`candidates`), and their signed statements (`signed_text`).
 #![tactic(auto)]
 
 mod answer;
+mod candidates;
 mod decision;
+mod leaf_places;
 mod node;
+mod peer;
 mod proof;
 mod put;
+mod signed_text;
 mod start;
 mod statement;
 mod take;
+mod tell;
 mod value;
+mod vouch;
 
 pub use answer::{PutDone, PutError, StartError};
 pub use depot_model::{TakeError, Taken};

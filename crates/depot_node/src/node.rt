@@ -29,9 +29,9 @@ use std::alloc::Global;
 /// A node that keeps its journal in memory. The journal is lawful, and the roster has the signer's key for the node.
 #[derive(Drop)]
 pub struct Node<S: Scheme, G: Signer<Of = S>> {
-    alloc: Global,
-    store: Store<S>,
-    signer: G,
+    pub(crate) alloc: Global,
+    pub(crate) store: Store<S>,
+    pub(crate) signer: G,
     ghost lawful: { IsLawful (standing S.verifies store) store.records } by { IsLawful-prop (standing S.verifies store) store.records },
     ghost some: { is_empty store.records ≡ false },
     ghost formed: { IsRoster store.listed } by { IsRoster-prop store.listed },

@@ -84,7 +84,7 @@ fn decide_put<S: Scheme>(
 
 /// Whether the node has a leaf of this number to sign by.
 #[tactic(auto, unfolding(depot_model::specs::Own::leaf_count))]
-fn has_leaf<S: Scheme>(store: &Store<S>, leaf: u32) -> bool
+pub fn has_leaf<S: Scheme>(store: &Store<S>, leaf: u32) -> bool
     ensures { result ≡ nat_lt leaf (leaf_count store.now.listed store.now.me) }
 {
     let state = store.state();

@@ -1,0 +1,49 @@
+//! What a node tells others of its journal, and the vouchers that it makes for them.
+
+use crate::candidates::candidates;
+use crate::leaf_places::leaf_places;
+use crate::node::Node;
+use crate::signed_text::signed_text;
+use crate::tell::{convicted, is_foreign, wanted};
+use crate::vouch::own_vouchers;
+use depot_base::{Bytes, Hash32, Ids, Items, Memory, NodeId, Nodes};
+use depot_model::{Peer, Scheme, Signer, VoucherError};
+
+impl<S: Scheme, G: Signer<Of = S>> Peer for Node<S, G> {
+    fn convicted(&self) -> Result<Nodes, Memory> {
+        convicted(self.alloc, &self.store)
+    }
+
+    fn leaf_places(&self) -> Result<Items, Memory> {
+        leaf_places(self.alloc, &self.store)
+    }
+
+    fn wanted(&self) -> Result<Ids, Memory> {
+        wanted(self.alloc, &self.store)
+    }
+
+    fn candidates(&self, leaves: &Ids, reader: NodeId) -> Result<Items, Memory> {
+        candidates(self.alloc, &self.store, leaves, reader)
+    }
+
+    fn signed_text(&self, place: u32) -> Result<Bytes, Memory> {
+        signed_text(self.alloc, &self.store, &self.signer, place)
+    }
+
+    fn held(&self, hash: &Hash32) -> Option<&[u8]> {
+        self.store.value(hash)
+    }
+
+    fn is_foreign(&self, id: &Hash32) -> bool {
+        is_foreign(&self.store, id)
+    }
+
+    fn is_mine_vouched(&self, id: &Hash32) -> bool {
+        self.store.is_mine_vouched(id)
+    }
+
+    #[tactic(auto, using(crate::proofs::InMemory::in_memory))]
+    fn own_vouchers(&mut self, ids: &Ids) -> Result<(), VoucherError> {
+        own_vouchers(self.alloc, &mut self.store, ids)
+    }
+}

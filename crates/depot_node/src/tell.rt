@@ -1,0 +1,76 @@
+//! What a node tells of whom it knows convicted, of the values that it lacks, and of the updates that it took.
+ghost use Rattle.std.specs.Prelude.{◌≡◌, IfOk};
+ghost use Rattle.depot_model.specs.Hello.{convicted_nodes, lacking, wanted_of};
+ghost use Rattle.depot_model.specs.Journal.{accepted, holds, is_foreign};
+ghost use Rattle.depot_store.specs.Holdings.{standing};
+
+use depot_base::limits::MOST_WANTED;
+use depot_base::{Hash32, Ids, Memory, Nodes};
+use depot_model::{Past, Scheme};
+use depot_store::Store;
+use std::alloc::Global;
+use std::collections::BTreeSet;
+
+/// The convicted nodes, in rising order.
+pub fn convicted<S: Scheme>(alloc: Global, store: &Store<S>) -> Result<Nodes, Memory>
+    ensures { IfOk result (λ nodes. nodes ≡ convicted_nodes (standing S.verifies store.now) store.now.records) }
+{
+    let state = store.state();
+    let mut nodes = Nodes::new(alloc);
+    for entry in state.roster().entries() {
+        if state.is_convicted(entry.node) {
+            nodes.push(entry.node)?;
+        }
+    }
+    Ok(nodes)
+}
+
+/// The hashes of values that accepted updates name and that aren't held in their length, the first 1,024 in rising order.
+pub fn wanted<S: Scheme>(alloc: Global, store: &Store<S>) -> Result<Ids, Memory>
+    ensures { IfOk result (λ hashes. hashes ≡ wanted_of store.now.records) }
+{
+    let hashes = lacking(alloc, store)?;
+    let first: Vec<Hash32> = hashes
+        .iter()
+        .copied()
+        .take(MOST_WANTED as usize)
+        .collect(alloc)?;
+    Ok(Ids::from_vec(first))
+}
+
+/// All these hashes, in rising order. It takes logarithmic time for each accepted update.
+fn lacking<S: Scheme>(alloc: Global, store: &Store<S>) -> Result<BTreeSet<Hash32>, Memory>
+    ensures { IfOk result (λ hashes. hashes.keys ≡ lacking store.now.records) }
+{
+    let graph = store.state().graph();
+    let mut hashes = BTreeSet::new(alloc);
+    for item in (0..graph.count()).rev() {
+        let update = graph.update(item);
+        if !holds(store, &update.value_hash, update.value_len) {
+            hashes.insert(update.value_hash)?;
+        }
+    }
+    Ok(hashes)
+}
+
+/// Whether a value of this hash and of so many bytes is held.
+fn holds<S: Scheme>(store: &Store<S>, hash: &Hash32, size: u32) -> bool
+    ensures { result ≡ holds store.now.records hash.now size }
+{
+    match store.value(hash) {
+        Some(value) => value.len() == size as usize,
+        None => false,
+    }
+}
+
+/// Whether an accepted update of another node has this id. It takes no memory.
+pub fn is_foreign<S: Scheme>(store: &Store<S>, id: &Hash32) -> bool
+    ensures { result ≡ is_foreign store.now.me (accepted store.now.records) id.now }
+{
+    let state = store.state();
+    let graph = state.graph();
+    match graph.find(id) {
+        Some(item) => graph.update(item).writer != state.me(),
+        None => false,
+    }
+}
