@@ -1,5 +1,13 @@
+pub mod ApartLaws
+pub mod BundleAnswers
 pub mod CallLaws
+pub mod ChoiceLaws
 pub mod ChunkLaws
+pub mod FitLaws
+pub mod FrontLaws
 pub mod GivenLaws
+pub mod HashLaws
 pub mod LeafPlaces
 pub mod PieceLaws
+pub mod StreamLaws
+pub mod ValueLaws

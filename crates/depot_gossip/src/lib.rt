@@ -5,24 +5,33 @@
 //! byte by byte, so that it doesn't matter how the stream was cut. A feed is seen as what it keeps: the bytes of the open frame,
 //! and the counts of the frames behind it.
 //!
+//! A bundle is the stream that a node sends for a hello. What is sent is chosen first, candidate by candidate as long as there is
+//! room; the vouchers for it are journaled; and only then are the frames in front made up from the journal.
+//!
 //! All of it goes by the trait of nodes alone. Nothing here asks whether what a frame gives is believed, or keeps a record.
 #![tactic(auto)]
 
+mod candidate;
+mod choose;
 mod error;
 mod feed;
 mod frame;
+mod frame_text;
+mod front;
+mod hashes;
 mod hello_text;
 mod laws;
+mod own_bundle;
 mod own_hello;
+mod sending;
 mod tally;
-#[cfg(test)]
-mod tests;
 
 pub use depot_base::DecodeError;
-pub use error::FeedError;
+pub use error::{BundleError, FeedError};
 pub use feed::Feed;
 pub use hello_text::{decode_hello, encode_hello};
 pub use laws::{
     hellos_are_prefix_free, hellos_are_read_in_one_way, pieces_are_one, streams_tell_all,
 };
+pub use own_bundle::{Bundled, bundle};
 pub use own_hello::hello;

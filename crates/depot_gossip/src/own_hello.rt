@@ -16,7 +16,7 @@ use sha2::{Digest, Sha256};
 use std::alloc::Global;
 
 /// The record with this text, which is one's: nothing but memory can be wanting.
-fn record_of(alloc: Global, text: &[u8]) -> Result<Record, Memory>
+pub(crate) fn record_of(alloc: Global, text: &[u8]) -> Result<Record, Memory>
     requires { (r : Record) × (IsRecord r × (text.now ≡ text_of_record r)) }
     ensures { IfOk result (λ item. (r : Record) → IsRecord r → text.now ≡ text_of_record r → item ≡ r) }
 {

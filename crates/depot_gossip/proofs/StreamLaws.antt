@@ -1,0 +1,188 @@
+-- The stream of a bundle, and what is answered once its vouchers are journaled.
+use Rattle.std.proofs.Common.{◌≡◌, ℕ, List, [], ◌∷◌, ◌++◌, length, map, Bool, true, false, ltb, Option, Some, None, Result, Ok, Err, refl, sym, ap, subst, ◌∙◌, inl, inr, arith}
+use Rattle.std.specs.Prelude.{IsErrOf}
+use Rattle.std.specs.List.{flat_map}
+use Rattle.std.proofs.lemmas.Grind.{flat_map-append}
+use Rattle.depot_base.specs.declared.record.Record.{Record}
+use Rattle.depot_model.specs.declared.hello.Hello.{Hello}
+use Rattle.depot_model.specs.declared.bundle.VoucherError.{VoucherError}
+use Rattle.depot_model.specs.declared.bundle.VoucherError.TheVariants as refused
+use Rattle.depot_model.specs.Checks.{Setting}
+use Rattle.depot_model.specs.Frames.{Frame, text_of_frame}
+use Rattle.depot_model.specs.Limits.{Limit}
+use Rattle.depot_model.specs.Replicas.{StopsBy, KeepsDisk}
+use Rattle.depot_model.specs.Vouching.{Vouches, new_vouchers, limit_of_vouchers}
+use Rattle.depot_model.specs.Bundle.{Signs, Parcel, frames_of, proof_frame, end_frame, proofs_for, vouchers_for, sent_foreign, sent_for, parcels, unvouched, with_vouchers, bundled_within, bundle_of, bundle_frames, bundle_answer}
+use Rattle.depot_laws.proofs.Splits.{flat_push}
+use Rattle.depot_gossip.specs.declared.front.Front.{Front}
+use Rattle.depot_gossip.specs.declared.sending.Sending.{Sending}
+use Rattle.depot_gossip.specs.declared.own_bundle.Bundled.{Bundled}
+use Rattle.depot_gossip.specs.declared.own_bundle.Prepared.{Prepared}
+use Rattle.depot_gossip.specs.declared.error.BundleError.{BundleError}
+use Rattle.depot_gossip.specs.declared.error.BundleError.TheVariants as error
+use Rattle.depot_gossip.specs.Errors.{from_vouching}
+use Rattle.depot_gossip.specs.Choosing.{Holds}
+use Rattle.depot_gossip.specs.Fronts.{IsFront, IsStream, IsJoined, voucher_frame}
+use Rattle.depot_gossip.specs.Bundling.{Bundles, IsPrepared, Prepares}
+
+-- ---- the stream
+
+-- the front and what is sent make up the stream
+pub joined_is_stream : (sign : Signs) (K : List Record) (h : Hello) (s : Sending) (f : Front) (b : Bundled) → IsFront sign K h s.ids f → IsJoined f s b → IsStream sign K h s b
+joined_is_stream sign K h s f b front joined =
+    let rest = s.frames ++ text_of_frame (end_frame s.more) in
+    record {
+      bytes = joined.bytes ∙ ap (λ (p : List ℕ). p ++ (f.vouchers ++ rest)) front.proofs ∙ ap (λ (v : List ℕ). flat_map text_of_frame (map proof_frame (proofs_for K h)) ++ (v ++ rest)) front.vouchers;
+      proofs = joined.proofs ∙ front.proof_count;
+      vouchers = joined.vouchers ∙ front.voucher_count;
+      updates = joined.updates;
+      values = joined.values;
+      more = joined.more;
+    }
+
+text_parts : (A B C : List Frame) (e : Frame) → flat_map text_of_frame (A ++ (B ++ (C ++ e ∷ []))) ≡ flat_map text_of_frame A ++ (flat_map text_of_frame B ++ (flat_map text_of_frame C ++ text_of_frame e))
+text_parts A B C e =
+    flat_map-append text_of_frame A (B ++ (C ++ e ∷ []))
+    ∙ ap (λ (t : List ℕ). flat_map text_of_frame A ++ t) (flat_map-append text_of_frame B (C ++ e ∷ []) ∙ ap (λ (t : List ℕ). flat_map text_of_frame B ++ t) (flat_push text_of_frame C e))
+
+-- the stream of what is sent is that of the bundle
+bytes_are : (me : ℕ) (sign : Signs) (K : List Record) (h : Hello) (xs : List Parcel) (s : Sending) (b : Bundled) (more : Bool) → Holds me xs s → s.more ≡ more → IsStream sign K h s b → b.bytes ≡ flat_map text_of_frame (bundle_frames me sign K h xs more)
+unfolding bundle_frames
+bytes_are me sign K h xs s b more holds is stream =
+    let ids = holds.ids in
+    let P = flat_map text_of_frame (map proof_frame (proofs_for K h)) in
+    stream.bytes
+    ∙ ap (λ (hs : List (List ℕ)). P ++ (flat_map text_of_frame (map (voucher_frame sign) (vouchers_for K hs)) ++ (s.frames ++ text_of_frame (end_frame s.more)))) ids
+    ∙ ap (λ (t : List ℕ). P ++ (flat_map text_of_frame (map (voucher_frame sign) (vouchers_for K (sent_foreign me xs))) ++ (t ++ text_of_frame (end_frame s.more)))) holds.frames
+    ∙ ap (λ (m : Bool). P ++ (flat_map text_of_frame (map (voucher_frame sign) (vouchers_for K (sent_foreign me xs))) ++ (flat_map text_of_frame (flat_map frames_of xs) ++ text_of_frame (end_frame m)))) is
+    ∙ sym (text_parts (map proof_frame (proofs_for K h)) (map (voucher_frame sign) (vouchers_for K (sent_foreign me xs))) (flat_map frames_of xs) (end_frame more))
+
+module _ (here : Setting) (sign : Signs) (J : List Record) (stopped : Bool) (text : List ℕ) where
+  -- ---- before any voucher is made
+
+  -- what isn't prepared isn't bundled, and the journal is as before
+  pub not_bundled : (e : BundleError) → Prepares here sign J stopped text (Err e) → Bundles here sign J stopped text (Err e) J
+  not_bundled error.Memory p = inl refl
+  not_bundled error.Disk p = absurd p
+  not_bundled error.Stopped p = (p, refl)
+  not_bundled (error.IllFormed at) p = (p.1, refl)
+  not_bundled (error.OtherRoster given mine) p = (p.1.0, (p.1.1, refl))
+  not_bundled (error.Spent n) p = absurd p
+  not_bundled (error.Full what) p = absurd p
+
+  -- nor does it stop a node
+  pub not_prepared_stops : (e : BundleError) → Prepares here sign J stopped text (Err e) → StopsBy stopped stopped (IsErrOf {T = Bundled} (Err e) error.Stopped) (IsErrOf {T = Bundled} (Err e) error.Disk)
+  not_prepared_stops error.Stopped p = record { answered = (λ e. p, λ e. refl); left = (λ e. inl e, λ e. p) }
+  not_prepared_stops error.Memory p = record { answered = (λ e. absurd cc, λ e. absurd (let no : false ≡ true = sym p ∙ e in cc)); left = (λ e. inl e, λ e. elim e [ inl was ↦ was | inr failed ↦ absurd cc ]) }
+  not_prepared_stops error.Disk p = absurd p
+  not_prepared_stops (error.IllFormed at) p = record { answered = (λ e. absurd cc, λ e. absurd (let no : false ≡ true = sym p.0 ∙ e in cc)); left = (λ e. inl e, λ e. elim e [ inl was ↦ was | inr failed ↦ absurd cc ]) }
+  not_prepared_stops (error.OtherRoster given mine) p = record { answered = (λ e. absurd cc, λ e. absurd (let no : false ≡ true = sym p.0 ∙ e in cc)); left = (λ e. inl e, λ e. elim e [ inl was ↦ was | inr failed ↦ absurd cc ]) }
+  not_prepared_stops (error.Spent n) p = absurd p
+  not_prepared_stops (error.Full what) p = absurd p
+
+  no_disk : (e : BundleError) → Prepares here sign J stopped text (Err e) → IsErrOf {T = Bundled} (Err e) error.Disk → ⊥
+  no_disk error.Disk p is = p
+  no_disk error.Memory p is = cc
+  no_disk error.Stopped p is = cc
+  no_disk (error.IllFormed at) p is = cc
+  no_disk (error.OtherRoster given mine) p is = cc
+  no_disk (error.Spent n) p is = p
+  no_disk (error.Full what) p is = p
+
+  -- nor does it use its disk
+  pub not_prepared_keeps : (e : BundleError) (handle count : ℕ) (faultless : Type 0) → Prepares here sign J stopped text (Err e) → KeepsDisk handle handle count count faultless faultless (IsErrOf {T = Bundled} (Err e) error.Disk)
+  not_prepared_keeps e handle count faultless p = record {
+    same = refl;
+    cause = record { never_falls = omega arith; rose = λ is. absurd (no_disk e p is); only = λ lt. absurd (omega (arith, lt)) };
+    calm = λ f. (f, refl);
+  }
+
+  -- ---- once the vouchers are made
+
+  -- the vouchers for the ids of what was prepared
+  vouched_for : (p : Prepared) (r : Result (Unit {0}) VoucherError) (then : List Record) → IsPrepared here sign J stopped text p → Vouches here J p.unvouched r then → Vouches here J (unvouched here.me J (sent_for sign J p.hello)) r then
+  vouched_for p r then is v = subst (λ (ids : List (List ℕ)). Vouches here J ids r then) is.ids v
+
+  within : (p : Prepared) (o : Option Limit) → IsPrepared here sign J stopped text p → limit_of_vouchers here J (unvouched here.me J (sent_for sign J p.hello)) ≡ o → bundle_answer here sign J text ≡ bundled_within o (bundle_of here.me sign J p.hello)
+  within p o is e = is.heard ∙ ap (λ (l : Option Limit). bundled_within l (bundle_of here.me sign J p.hello)) e
+
+  -- they aren't made
+  pub not_vouched : (p : Prepared) (e : VoucherError) (then : List Record) → IsPrepared here sign J stopped text p → (e ≡ refused.Stopped → stopped ≡ true) → Vouches here J p.unvouched (Err e) then → Bundles here sign J stopped text (Err (from_vouching e)) then
+  unfolding bundle_of
+  not_vouched p refused.Memory then is stops v = inl v
+  not_vouched p refused.Stopped then is stops v = (stops refl, v)
+  not_vouched p refused.Disk then is stops v =
+      let w = vouched_for p (Err refused.Disk) then is v in
+      record { bundle = bundle_of here.me sign J p.hello; is = within p None is w.0; cut = w.1 }
+  not_vouched p (refused.Spent n) then is stops v = let w = vouched_for p (Err (refused.Spent n)) then is v in (within p (Some _) is w.0, w.1)
+  not_vouched p (refused.Full what) then is stops v = let w = vouched_for p (Err (refused.Full what)) then is v in (within p (Some _) is w.0, w.1)
+
+  -- they are made, and memory is wanting for the stream
+  pub only_vouched : (p : Prepared) (then : List Record) → IsPrepared here sign J stopped text p → Vouches here J p.unvouched (Ok tt) then → Bundles here sign J stopped text (Err error.Memory) then
+  unfolding bundle_of
+  only_vouched p then is v =
+      let w = vouched_for p (Ok tt) then is v in
+      inr (record { bundle = bundle_of here.me sign J p.hello; is = within p None is w.0; grown = w.1 })
+
+  -- the bundle is made
+  pub all_bundled : (p : Prepared) (b : Bundled) (then : List Record) → IsPrepared here sign J stopped text p → Vouches here J p.unvouched (Ok tt) then → IsStream sign then p.hello p.sending b → Bundles here sign J stopped text (Ok b) then
+  unfolding bundle_of
+  all_bundled p b then is v stream =
+      let w = vouched_for p (Ok tt) then is v in
+      let xs = sent_for sign J p.hello in
+      let more = ltb (length xs) (length (parcels sign J p.hello)) in
+      let K = with_vouchers J (new_vouchers here.me J (unvouched here.me J xs)) in
+      let st : IsStream sign K p.hello p.sending b = subst (λ (T : List Record). IsStream sign T p.hello p.sending b) w.1 stream in
+      record {
+        bundle = bundle_of here.me sign J p.hello;
+        is = within p None is w.0;
+        bytes = bytes_are here.me sign K p.hello xs p.sending b more is.holds is.more st;
+        counts = λ i. record {
+          proofs = st.proofs i;
+          vouchers = (st.vouchers ∙ ap (λ (hs : List (List ℕ)). length (vouchers_for K hs)) is.holds.ids) i;
+          updates = (st.updates ∙ is.holds.updates) i;
+          values = (st.values ∙ is.holds.values) i;
+        };
+        more = st.more ∙ is.more;
+        grown = w.1;
+      }
+
+-- ---- as the trait of nodes says it
+
+-- answers of one meaning
+pub stops_alike : (before now : Bool) (a b c d : Type 0) → (a → c) → (c → a) → (b → d) → (d → b) → StopsBy before now a b → StopsBy before now c d
+stops_alike before now a b c d ac ca bd db s = record {
+  answered = (λ x. s.answered.0 (ca x), λ e. ac (s.answered.1 e));
+  left = (λ e. elim (s.left.0 e) [ inl was ↦ inl was | inr failed ↦ inr (bd failed) ], λ e. elim e [ inl was ↦ s.left.1 (inl was) | inr failed ↦ s.left.1 (inr (db failed)) ]);
+}
+
+pub keeps_alike : (d0 d1 n0 n1 : ℕ) (f0 f1 : Type 0) (a b : Type 0) → (a → b) → (b → a) → KeepsDisk d0 d1 n0 n1 f0 f1 a → KeepsDisk d0 d1 n0 n1 f0 f1 b
+keeps_alike d0 d1 n0 n1 f0 f1 a b ab ba k = record { same = k.same; cause = record { never_falls = k.cause.never_falls; rose = λ e. k.cause.rose (ba e); only = λ lt. ab (k.cause.only lt) }; calm = k.calm }
+
+-- a fault of the vouchers is told as it is
+pub record IsSameFault (e : VoucherError) : Type 0 where
+  pub stopped : IsErrOf {T = Unit {0}} (Err e) refused.Stopped → IsErrOf {T = Bundled} (Err (from_vouching e)) error.Stopped
+  pub was_stopped : IsErrOf {T = Bundled} (Err (from_vouching e)) error.Stopped → IsErrOf {T = Unit {0}} (Err e) refused.Stopped
+  pub disk : IsErrOf {T = Unit {0}} (Err e) refused.Disk → IsErrOf {T = Bundled} (Err (from_vouching e)) error.Disk
+  pub was_disk : IsErrOf {T = Bundled} (Err (from_vouching e)) error.Disk → IsErrOf {T = Unit {0}} (Err e) refused.Disk
+
+pub same_fault : (e : VoucherError) → IsSameFault e
+same_fault refused.Memory = record { stopped = λ e. absurd cc; was_stopped = λ e. absurd cc; disk = λ e. absurd cc; was_disk = λ e. absurd cc }
+same_fault refused.Disk = record { stopped = λ e. absurd cc; was_stopped = λ e. absurd cc; disk = λ e. refl; was_disk = λ e. refl }
+same_fault refused.Stopped = record { stopped = λ e. refl; was_stopped = λ e. refl; disk = λ e. absurd cc; was_disk = λ e. absurd cc }
+same_fault (refused.Full what) = record { stopped = λ e. absurd cc; was_stopped = λ e. absurd cc; disk = λ e. absurd cc; was_disk = λ e. absurd cc }
+same_fault (refused.Spent n) = record { stopped = λ e. absurd cc; was_stopped = λ e. absurd cc; disk = λ e. absurd cc; was_disk = λ e. absurd cc }
+
+-- the vouchers were made, and memory is wanting
+pub memory_stops : (before now : Bool) → StopsBy before now (IsErrOf {T = Unit {0}} {E = VoucherError} (Ok tt) refused.Stopped) (IsErrOf {T = Unit {0}} {E = VoucherError} (Ok tt) refused.Disk) → StopsBy before now (IsErrOf {T = Bundled} (Err error.Memory) error.Stopped) (IsErrOf {T = Bundled} (Err error.Memory) error.Disk)
+memory_stops before now s = stops_alike before now _ _ _ _ (λ e. absurd cc) (λ e. absurd cc) (λ e. absurd cc) (λ e. absurd cc) s
+
+pub memory_keeps : (d0 d1 n0 n1 : ℕ) (f0 f1 : Type 0) → KeepsDisk d0 d1 n0 n1 f0 f1 (IsErrOf {T = Unit {0}} {E = VoucherError} (Ok tt) refused.Disk) → KeepsDisk d0 d1 n0 n1 f0 f1 (IsErrOf {T = Bundled} (Err error.Memory) error.Disk)
+memory_keeps d0 d1 n0 n1 f0 f1 k = keeps_alike d0 d1 n0 n1 f0 f1 _ _ (λ e. absurd cc) (λ e. absurd cc) k
+
+-- the vouchers were made, and so was the bundle
+pub good_stops : (before now : Bool) (b : Bundled) → StopsBy before now (IsErrOf {T = Unit {0}} {E = VoucherError} (Ok tt) refused.Stopped) (IsErrOf {T = Unit {0}} {E = VoucherError} (Ok tt) refused.Disk) → StopsBy before now (IsErrOf {E = BundleError} (Ok b) error.Stopped) (IsErrOf {E = BundleError} (Ok b) error.Disk)
+good_stops before now b s = stops_alike before now _ _ _ _ (λ e. absurd cc) (λ e. absurd cc) (λ e. absurd cc) (λ e. absurd cc) s
+
+pub good_keeps : (d0 d1 n0 n1 : ℕ) (f0 f1 : Type 0) (b : Bundled) → KeepsDisk d0 d1 n0 n1 f0 f1 (IsErrOf {T = Unit {0}} {E = VoucherError} (Ok tt) refused.Disk) → KeepsDisk d0 d1 n0 n1 f0 f1 (IsErrOf {E = BundleError} (Ok b) error.Disk)
+good_keeps d0 d1 n0 n1 f0 f1 b k = keeps_alike d0 d1 n0 n1 f0 f1 _ _ (λ e. absurd cc) (λ e. absurd cc) k

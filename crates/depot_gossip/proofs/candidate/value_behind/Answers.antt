@@ -1,0 +1,18 @@
+use Rattle.std.proofs.Common.{sym, ◌∙◌, arith}
+use Rattle.depot_gossip.proofs.ValueLaws.{none_named, sent_before, not_held, held_here, held_otherwise}
+use Rattle.depot_gossip.proofs.candidate.value_behind.Goals as goal
+
+pub returns-in_err-update : goal.returns-in_err-update
+returns-in_err-update g c = rw c.from_residual.ensures (none_named (g.R.Replica.records c.args.node.now) c.args.hashes.now.keys c.args.item.now c.in_err-update.ensures)
+
+pub returns-then-has_hash : goal.returns-then-has_hash
+returns-then-has_hash g c = sent_before (g.R.Replica.records c.args.node.now) c.args.hashes.now.keys c.args.item.now c.in_ok-update.update.now c.in_ok-update.ensures (sym c.has_hash.ensures ∙ c.if-has_hash.true)
+
+pub returns-in_err-value : goal.returns-in_err-value
+returns-in_err-value g c = rw c.from_residual-in_err-value.ensures (not_held (g.R.Replica.records c.args.node.now) c.args.hashes.now.keys c.args.item.now c.in_ok-update.update.now c.in_ok-update.ensures c.in_err-value.ensures)
+
+pub returns-then-value-update : goal.returns-then-value-update
+returns-then-value-update g c = held_here (g.R.Replica.records c.args.node.now) c.args.hashes.now.keys c.args.item.now c.in_ok-update.update.now c.in_ok-value.value.now c.in_ok-update.ensures (sym c.has_hash.ensures ∙ c.if-has_hash.false) c.in_ok-value.ensures (omega arith)
+
+pub returns-else-value-update : goal.returns-else-value-update
+returns-else-value-update g c = held_otherwise (g.R.Replica.records c.args.node.now) c.args.hashes.now.keys c.args.item.now c.in_ok-update.update.now c.in_ok-value.value.now c.in_ok-update.ensures c.in_ok-value.ensures (λ e. absurd (omega (arith, e)))

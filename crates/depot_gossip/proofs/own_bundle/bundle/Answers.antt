@@ -1,0 +1,102 @@
+use Rattle.std.proofs.Common.{◌≡◌, ℕ, List, true, false, Err, refl, sym, ap, subst}
+use Rattle.std.specs.List.{AllByRecursion}
+use Rattle.std.proofs.lemmas.Result.{err_from_is_err_and}
+use Rattle.depot_model.specs.Bundle.{Signs, sent_for}
+use Rattle.depot_model.specs.Journal.{accepted, is_foreign}
+use Rattle.depot_model.specs.Lists.{AreApart}
+use Rattle.depot_model.specs.Vouching.{is_mine_vouched}
+use Rattle.depot_gossip.specs.Fronts.{IsStream}
+use Rattle.depot_gossip.proofs.ApartLaws.{unvouched_apart, unvouched_foreign, unvouched_fresh}
+use Rattle.depot_gossip.proofs.StreamLaws.{not_bundled, not_prepared_stops, not_prepared_keeps, not_vouched, only_vouched, all_bundled, stops_alike, keeps_alike, same_fault, memory_stops, memory_keeps, good_stops, good_keeps}
+use Rattle.depot_gossip.proofs.own_bundle.bundle.Goals as goal
+
+-- ---- before any voucher is made
+
+pub returns-in_err-chosen-clause-bundles : goal.returns-in_err-chosen-clause-bundles
+returns-in_err-chosen-clause-bundles g c =
+    let p = err_from_is_err_and c.from_residual.result c.from_residual.ensures.1 in
+    rw (p.1, p.2) (not_bundled (g.R.Replica.stands c.args.node.now) (g.R.Replica.signature_of c.args.node.now) (g.R.Replica.records c.args.node.now) (g.R.Replica.stopped c.args.node.now) c.args.hello.now c.in_err-chosen.field-0.0 c.in_err-chosen.ensures)
+
+pub returns-in_err-chosen-clause-stays : goal.returns-in_err-chosen-clause-stays
+returns-in_err-chosen-clause-stays g c = record { stands = refl; key = refl; signs = refl }
+
+pub returns-in_err-chosen-clause-stops : goal.returns-in_err-chosen-clause-stops
+returns-in_err-chosen-clause-stops g c =
+    let p = err_from_is_err_and c.from_residual.result c.from_residual.ensures.1 in
+    rw (p.1, p.2) (not_prepared_stops (g.R.Replica.stands c.args.node.now) (g.R.Replica.signature_of c.args.node.now) (g.R.Replica.records c.args.node.now) (g.R.Replica.stopped c.args.node.now) c.args.hello.now c.in_err-chosen.field-0.0 c.in_err-chosen.ensures)
+
+pub returns-in_err-chosen-clause-disk : goal.returns-in_err-chosen-clause-disk
+returns-in_err-chosen-clause-disk g c =
+    let p = err_from_is_err_and c.from_residual.result c.from_residual.ensures.1 in
+    rw (p.1, p.2) (not_prepared_keeps (g.R.Replica.stands c.args.node.now) (g.R.Replica.signature_of c.args.node.now) (g.R.Replica.records c.args.node.now) (g.R.Replica.stopped c.args.node.now) c.args.hello.now c.in_err-chosen.field-0.0 (g.R.Replica.handle c.args.node.now) (g.R.Replica.faults c.args.node.now) (g.R.Replica.is_faultless c.args.node.now) c.in_err-chosen.ensures)
+
+-- ---- the vouchers
+
+pub own_vouchers-requires : goal.own_vouchers-requires
+own_vouchers-requires g c =
+    let here = g.R.Replica.stands c.args.node.now in
+    let sign = g.R.Replica.signature_of c.args.node.now in
+    let J = g.R.Replica.records c.args.node.now in
+    let h = c.in_ok-chosen.chosen.hello in
+    let ids = sym c.in_ok-chosen.ensures.ids in
+    record {
+      apart = subst (λ (hs : List (List ℕ)). AreApart hs) ids (unvouched_apart here sign J h (g.met.R.Replica.lawful c.args.node.now));
+      foreign = subst (λ (hs : List (List ℕ)). AllByRecursion (λ i. is_foreign here.me (accepted J) i ≡ true) hs) ids (unvouched_foreign here sign J h);
+      fresh = subst (λ (hs : List (List ℕ)). AllByRecursion (λ i. is_mine_vouched J i ≡ false) hs) ids (unvouched_fresh here.me J (sent_for sign J h));
+    }
+
+pub returns-in_err-own_vouchers-clause-bundles : goal.returns-in_err-own_vouchers-clause-bundles
+returns-in_err-own_vouchers-clause-bundles g c =
+    let p = err_from_is_err_and c.from_residual-in_err-own_vouchers.result c.from_residual-in_err-own_vouchers.ensures.1 in
+    rw (p.1, p.2) (not_vouched (g.R.Replica.stands c.args.node.now) (g.R.Replica.signature_of c.args.node.now) (g.R.Replica.records c.args.node.now) (g.R.Replica.stopped c.args.node.now) c.args.hello.now c.in_ok-chosen.chosen c.in_err-own_vouchers.field-0.0 (g.R.Replica.records c.own_vouchers.new.self) c.in_ok-chosen.ensures
+    (λ is. c.in_err-own_vouchers.ensures.stops.answered.0 (ap (λ x. Err x) is)) c.in_err-own_vouchers.ensures.vouches)
+
+pub returns-in_err-own_vouchers-clause-stays : goal.returns-in_err-own_vouchers-clause-stays
+returns-in_err-own_vouchers-clause-stays g c = c.own_vouchers.ensures.stays
+
+pub returns-in_err-own_vouchers-clause-stops : goal.returns-in_err-own_vouchers-clause-stops
+returns-in_err-own_vouchers-clause-stops g c =
+    let p = err_from_is_err_and c.from_residual-in_err-own_vouchers.result c.from_residual-in_err-own_vouchers.ensures.1 in
+    let f = same_fault c.in_err-own_vouchers.field-0.0 in
+    rw (p.1, p.2) (stops_alike (g.R.Replica.stopped c.args.node.now) (g.R.Replica.stopped c.own_vouchers.new.self) _ _ _ _ f.stopped f.was_stopped f.disk f.was_disk c.in_err-own_vouchers.ensures.stops)
+
+pub returns-in_err-own_vouchers-clause-disk : goal.returns-in_err-own_vouchers-clause-disk
+returns-in_err-own_vouchers-clause-disk g c =
+    let p = err_from_is_err_and c.from_residual-in_err-own_vouchers.result c.from_residual-in_err-own_vouchers.ensures.1 in
+    let f = same_fault c.in_err-own_vouchers.field-0.0 in
+    rw (p.1, p.2) (keeps_alike _ _ _ _ _ _ _ _ f.disk f.was_disk c.in_err-own_vouchers.ensures.disk)
+
+-- ---- the stream
+
+pub returns-in_err-told_of-clause-bundles : goal.returns-in_err-told_of-clause-bundles
+returns-in_err-told_of-clause-bundles g c =
+    let p = err_from_is_err_and c.from_residual-in_err-told_of.result c.from_residual-in_err-told_of.ensures.1 in
+    rw (p.1, p.2) (only_vouched (g.R.Replica.stands c.args.node.now) (g.R.Replica.signature_of c.args.node.now) (g.R.Replica.records c.args.node.now) (g.R.Replica.stopped c.args.node.now) c.args.hello.now c.in_ok-chosen.chosen (g.R.Replica.records c.own_vouchers.new.self) c.in_ok-chosen.ensures c.in_ok-own_vouchers.ensures.vouches)
+
+pub returns-in_err-told_of-clause-stays : goal.returns-in_err-told_of-clause-stays
+returns-in_err-told_of-clause-stays g c = c.own_vouchers.ensures.stays
+
+pub returns-in_err-told_of-clause-stops : goal.returns-in_err-told_of-clause-stops
+returns-in_err-told_of-clause-stops g c =
+    let p = err_from_is_err_and c.from_residual-in_err-told_of.result c.from_residual-in_err-told_of.ensures.1 in
+    rw (p.1, p.2) (memory_stops (g.R.Replica.stopped c.args.node.now) (g.R.Replica.stopped c.own_vouchers.new.self) c.in_ok-own_vouchers.ensures.stops)
+
+pub returns-in_err-told_of-clause-disk : goal.returns-in_err-told_of-clause-disk
+returns-in_err-told_of-clause-disk g c =
+    let p = err_from_is_err_and c.from_residual-in_err-told_of.result c.from_residual-in_err-told_of.ensures.1 in
+    rw (p.1, p.2) (memory_keeps (g.R.Replica.handle c.args.node.now) (g.R.Replica.handle c.own_vouchers.new.self) (g.R.Replica.faults c.args.node.now) (g.R.Replica.faults c.own_vouchers.new.self) (g.R.Replica.is_faultless c.args.node.now) (g.R.Replica.is_faultless c.own_vouchers.new.self) c.in_ok-own_vouchers.ensures.disk)
+
+pub returns-clause-bundles : goal.returns-clause-bundles
+returns-clause-bundles g c =
+    let then = g.R.Replica.records c.own_vouchers.new.self in
+    all_bundled (g.R.Replica.stands c.args.node.now) (g.R.Replica.signature_of c.args.node.now) (g.R.Replica.records c.args.node.now) (g.R.Replica.stopped c.args.node.now) c.args.hello.now c.in_ok-chosen.chosen c.in_ok-told_of.field-0 then c.in_ok-chosen.ensures c.in_ok-own_vouchers.ensures.vouches
+    (subst (λ (sign : Signs). IsStream sign then c.in_ok-chosen.chosen.hello c.in_ok-chosen.chosen.sending c.in_ok-told_of.field-0) c.own_vouchers.ensures.stays.signs c.in_ok-told_of.ensures)
+
+pub returns-clause-stays : goal.returns-clause-stays
+returns-clause-stays g c = c.own_vouchers.ensures.stays
+
+pub returns-clause-stops : goal.returns-clause-stops
+returns-clause-stops g c = good_stops (g.R.Replica.stopped c.args.node.now) (g.R.Replica.stopped c.own_vouchers.new.self) c.in_ok-told_of.field-0 c.in_ok-own_vouchers.ensures.stops
+
+pub returns-clause-disk : goal.returns-clause-disk
+returns-clause-disk g c = good_keeps (g.R.Replica.handle c.args.node.now) (g.R.Replica.handle c.own_vouchers.new.self) (g.R.Replica.faults c.args.node.now) (g.R.Replica.faults c.own_vouchers.new.self) (g.R.Replica.is_faultless c.args.node.now) (g.R.Replica.is_faultless c.own_vouchers.new.self) c.in_ok-told_of.field-0 c.in_ok-own_vouchers.ensures.disk
