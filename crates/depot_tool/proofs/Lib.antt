@@ -4,6 +4,5 @@ pub mod OrderSteps
 pub mod CoveredLaws
 pub mod WalkSteps
 pub mod ListedOrder
-pub mod Numbers
 pub mod Completing
 pub mod Printing

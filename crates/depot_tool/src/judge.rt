@@ -1,6 +1,6 @@
 //! `judge ROSTER PROOF`: whether a text proves a contradiction.
 ghost use Rattle.std.specs.Prelude.{◌≡◌, ◌++◌, ◌∷◌, [], IfOk, codes, Ok, Err, string_bytes};
-ghost use Rattle.depot_model.specs.Lines.{name_of_kind, text_of_verdict, text_of_point, text_of_roster_error};
+ghost use Rattle.depot_model.specs.Lines.{text_of_verdict, text_of_point, text_of_roster_error};
 ghost use Rattle.depot_model.specs.Judgement.{IsJudgementOf};
 ghost use Rattle.depot_model.specs.Winternitz.{winternitz_verifies};
 ghost use Rattle.depot_tool.specs.Runs.{shelves, loads, HasLoaded, EndsAtFault, Judges, JudgesProof, IsPoint, JudgementOf};
@@ -8,23 +8,13 @@ ghost use Rattle.depot_tool.specs.Runs.{shelves, loads, HasLoaded, EndsAtFault, 
 use crate::load::load;
 use crate::outcome::Outcome;
 use crate::status::Status;
-use depot_base::{Kind, Memory};
+use depot_base::Memory;
 use depot_judge::{Half, JudgeError, Verdict};
 use depot_outside::Shelf;
+use depot_schedule::spelling::name_of_kind;
 use depot_sign::{Roster, RosterError};
 use depot_winter::WinterScheme;
 use std::alloc::Global;
-
-/// The name of a kind.
-fn name_of_kind(kind: Kind) -> &'static str
-    ensures { result.now ≡ name_of_kind kind }
-{
-    match kind {
-        Kind::SameNumber => "SameNumber",
-        Kind::SamePrev => "SamePrev",
-        Kind::Backward => "Backward",
-    }
-}
 
 /// A failed point, and what it carries.
 fn text_of_point(alloc: Global, point: &JudgeError) -> Result<String, Memory>

@@ -2,9 +2,11 @@
 ghost use Rattle.std.specs.Prelude.{◌≡◌, IfOk, string_bytes};
 ghost use Rattle.std.specs.List.{list_all};
 ghost use Rattle.std.specs.Str.{bytes_eq};
-ghost use Rattle.depot_tool.specs.Words.{has_length, is_name_byte, is_name};
+ghost use Rattle.depot_schedule.specs.Spelling.{is_word_byte};
+ghost use Rattle.depot_tool.specs.Words.{is_name};
 
 use depot_base::Memory;
+use depot_schedule::spelling::has_length;
 use std::marker::Model;
 
 /// A word of the command line, seen as its bytes.
@@ -53,27 +55,20 @@ impl Word {
         ensures { result ≡ is_name self.now }
     {
         let bytes = self.0.as_bytes();
-        has_length(bytes, 1, 4096) && are_name_bytes(bytes)
+        has_length(bytes, 1, 4096) && are_word_bytes(bytes)
     }
 }
 
-/// Whether the bytes are at least `low` and at most `high`.
-pub fn has_length(bytes: &[u8], low: usize, high: usize) -> bool
-    ensures { result ≡ has_length low high bytes.now }
-{
-    low <= bytes.len() && bytes.len() <= high
-}
-
-/// Whether the byte may stand in a name.
-fn is_name_byte(b: u8) -> bool
-    ensures { result ≡ is_name_byte b }
+/// Whether the byte is neither a space nor LF.
+fn is_word_byte(b: u8) -> bool
+    ensures { result ≡ is_word_byte b }
 {
     !(b == b' ' || b == b'\n')
 }
 
-/// Whether all bytes may stand in a name.
-fn are_name_bytes(bytes: &[u8]) -> bool
-    ensures { result ≡ list_all is_name_byte bytes.now }
+/// Whether no byte is a space or LF.
+fn are_word_bytes(bytes: &[u8]) -> bool
+    ensures { result ≡ list_all is_word_byte bytes.now }
 {
-    bytes.iter().all(|b| is_name_byte(*b))
+    bytes.iter().all(|b| is_word_byte(*b))
 }

@@ -1,15 +1,11 @@
 -- Reading decimal digits one after the other.
-use Rattle.std.proofs.Common.{◌≡◌, ℕ, ◌+◌, ◌-◌, ◌*◌, ◌^◌, ◌<◌, ◌≤◌, Bool, true, false, ◌&&◌, leb, List, length, get_or, drop, refl, arith, add-one, drop-cons}
+use Rattle.std.proofs.Common.{◌≡◌, ℕ, zero, suc, ◌+◌, ◌-◌, ◌*◌, ◌^◌, ◌<◌, ◌≤◌, Bool, true, false, ◌&&◌, leb, List, length, get_or, drop, refl, arith, add-one, drop-cons}
 use Rattle.std.specs.List.{list_all}
 use Rattle.std.proofs.Math.Nat.{pow-suc}
-use Rattle.std.proofs.lemmas.Bool.{leb-true}
+use Rattle.std.proofs.lemmas.Bool.{leb-true, and_parts}
 use Rattle.std.proofs.lemmas.List.{drop_all}
 use Rattle.std.proofs.lemmas.List.Folds.{list_all_at}
-use Rattle.depot_tool.specs.Words.{is_digit, is_number, has_length, has_no_leading_zero, value_behind}
-
-both : (a b : Bool) → (a && b) ≡ true → (a ≡ true) × (b ≡ true)
-both true b e = (refl, e)
-both false b e = absurd cc
+use Rattle.depot_schedule.specs.Spelling.{is_digit, is_within, is_number, has_no_leading_zero, value_behind}
 
 unless_false : (b : Bool) → (b ≡ false → ⊥) → b ≡ true
 unless_false true h = refl
@@ -18,10 +14,10 @@ unless_false false h = absurd (h refl)
 -- each byte of a number is a digit
 digit_at : (word : List ℕ) (i : ℕ) → is_number word ≡ true → i < length word → (48 ≤ get_or word i 0) × (get_or word i 0 ≤ 57)
 digit_at word i number lt =
-    let front = both (has_length 1 10 word && list_all is_digit word) (has_no_leading_zero word) number in
-    let all = both (has_length 1 10 word) (list_all is_digit word) front.0 in
+    let front = and_parts (is_within 1 19 (length word) && list_all is_digit word) (has_no_leading_zero word) number in
+    let all = and_parts (is_within 1 19 (length word)) (list_all is_digit word) front.0 in
     let is = unless_false (is_digit (get_or word i 0)) (λ no. let none : list_all is_digit word ≡ false = list_all_at is_digit word i 0 lt no in cc) in
-    let range = both (leb 48 (get_or word i 0)) (leb (get_or word i 0) 57) is in
+    let range = and_parts (leb 48 (get_or word i 0)) (leb (get_or word i 0) 57) is in
     (leb-true _ _ range.0, leb-true _ _ range.1)
 
 -- one digit more
@@ -40,3 +36,17 @@ reads_next word i value lt = rw (add-one, drop-cons word i 0) refl
 pub reads_all : (word : List ℕ) (i value : ℕ) → length word ≤ i → value_behind value (drop i word) ≡ value
 unfolding value_behind
 reads_all word i value le = rw (drop_all i word le) refl
+
+power_le : (i k : ℕ) → 10 ^ i ≤ 10 ^ (i + k)
+power_le i zero = let z : i + 0 ≡ i = omega arith in rw z (omega arith)
+power_le i (suc k) = let z : i + suc k ≡ suc (i + k) = omega arith in rw (z, pow-suc) (omega (arith, power_le i k))
+
+-- a number of at most 18 digits leaves room for another
+pub room_for_digit : (value i : ℕ) (word : List ℕ) → is_number word ≡ true → i < length word → value < 10 ^ i → value < 10 ^ 18
+room_for_digit value i word number lt below =
+    let front = and_parts (is_within 1 19 (length word) && list_all is_digit word) (has_no_leading_zero word) number in
+    let sized = and_parts (is_within 1 19 (length word)) (list_all is_digit word) front.0 in
+    let le : length word ≤ 19 = leb-true _ _ (and_parts (leb 1 (length word)) (leb (length word) 19) sized.0).1 in
+    let k : i + (18 - i) ≡ 18 = omega arith in
+    let top : 10 ^ i ≤ 10 ^ 18 = rw k at (power_le i (18 - i)) in
+    omega (arith, top, below)

@@ -1,6 +1,6 @@
 use Rattle.std.proofs.Common.{◌≡◌, ◌^◌, ◌<◌, drop}
-use Rattle.depot_tool.specs.Words.{value_behind}
-use Rattle.depot_tool.proofs.words.value_of.Given as goal
+use Rattle.depot_schedule.specs.Spelling.{value_behind}
+use Rattle.depot_schedule.proofs.spelling.value_of.Given as goal
 
 abbrev pub invariant-loop-digit : goal.invariant-loop-digit
 invariant-loop-digit l = record {

@@ -1,0 +1,13 @@
+pub mod Splitting
+pub mod LanguageLaws
+pub mod NumberLaws
+pub mod HexWords
+pub mod VocabularyLaws
+pub mod EventLineLaws
+pub mod ScheduleLaws
+pub mod ParseLaws
+pub mod PartSteps
+pub mod DigitSteps
+pub mod GatherSteps
+pub mod LabelSteps
+pub mod WrittenSteps

@@ -1,0 +1,286 @@
+-- The words of the lines of schedules are lawful.
+use Rattle.std.proofs.Common.{◌≡◌, ℕ, zero, suc, ◌+◌, ◌-◌, ◌^◌, ◌<◌, ◌≤◌, ◌⊎◌, Bool, true, false, not, cond, ltb, leb, eqb, ◌&&◌, ◌||◌, List, [], ◌∷◌, ◌++◌, length, map, Option, Some, None, is_some, Result, Ok, Err, codes, refl, sym, ap, subst, ◌∙◌, arith, inl, inr}
+use Rattle.std.specs.List.{list_all}
+use Rattle.std.specs.Fmt.{decimal}
+use Rattle.std.specs.Str.{bytes_eq}
+use Rattle.std.proofs.lemmas.Bool.{leb-true, ltb-true, lt-ltb, and_parts, and_from, false_from_ne_true, ne_eqb, or_cases}
+use Rattle.hex.specs.Hex.{encode_lower, lower_digits}
+use Rattle.hex.proofs.HexLemmas.{length-encode_with}
+use Rattle.depot_base.specs.declared.proof.Kind.{Kind}
+use Rattle.depot_base.specs.declared.proof.Kind.TheVariants.{SameNumber, SamePrev, Backward}
+use Rattle.depot_model.specs.Lines.{name_of_kind}
+use Rattle.depot_schedule.specs.declared.fault.LineFault.{LineFault}
+use Rattle.depot_schedule.specs.declared.fault.LineFault.TheVariants as is
+use Rattle.depot_schedule.specs.declared.event.Ref.{Ref}
+use Rattle.depot_schedule.specs.declared.event.Ref.TheVariants as ref
+use Rattle.depot_schedule.specs.declared.event.HistoryWord.{HistoryWord}
+use Rattle.depot_schedule.specs.declared.event.HistoryWord.TheVariants.{Right, Given}
+use Rattle.depot_schedule.specs.declared.schedule.Schedule.{Schedule}
+use Rattle.depot_schedule.specs.Spelling.{is_word, is_word_byte, is_label, is_label_byte, is_letter, is_digit, is_within}
+use Rattle.depot_schedule.specs.Language.{◌>>=◌, split, join, Word, or_none, or_empty, FitAll, with_parts, read_parts, parts_of}
+use Rattle.depot_schedule.specs.Vocabulary.{id, correct, faulty, seq, clock, any_u32, to_million, image, digest, label, new_label, made_label, update_label, signed_label, is_correct, is_faulty, named_by, is_update, is_signed, kind_named, kind, history, FitsHistory, text_of_history, FitsRef, text_of_ref, ref_of, reference, references}
+use Rattle.depot_schedule.proofs.LanguageLaws.{LawfulWord, bind_ok, need_ok, if_some, or_fault_ok, ok_is, is_same, such_that_lawful, or_none_lawful, or_empty_lawful}
+use Rattle.depot_schedule.proofs.Splitting.{lacks, split_none, split_at, split_join, join_split, split_some, all_weaker, all_append, all_join}
+use Rattle.depot_schedule.proofs.NumberLaws.{number_or_lawful, number_lawful, plain_decimal, digits_of_decimal}
+use Rattle.depot_schedule.proofs.HexWords.{digest_lawful}
+
+-- ---- ids and numbers
+
+pub id_lawful : {C : Type 0} → LawfulWord (id {C = C})
+id_lawful = number_lawful 1 65535 (omega arith)
+
+pub correct_lawful : LawfulWord correct
+correct_lawful = such_that_lawful id (λ s n. is_correct s.members n) is.Node id_lawful
+
+pub faulty_lawful : LawfulWord faulty
+faulty_lawful = such_that_lawful id (λ s n. is_faulty s.members n) is.Node id_lawful
+
+pub any_u32_lawful : {C : Type 0} → LawfulWord (any_u32 {C = C})
+any_u32_lawful = number_lawful 0 4294967295 (omega arith)
+
+pub seq_lawful : LawfulWord seq
+seq_lawful = such_that_lawful any_u32 (λ s q. ltb q (2 ^ s.height)) is.Number any_u32_lawful
+
+pub clock_lawful : {C : Type 0} → LawfulWord (clock {C = C})
+clock_lawful = number_lawful 1 9223372036854775807 (omega arith)
+
+pub to_million_lawful : {C : Type 0} → LawfulWord (to_million {C = C})
+to_million_lawful = number_lawful 1 1000000 (omega arith)
+
+pub image_lawful : {C : Type 0} → LawfulWord (image {C = C})
+image_lawful = number_or_lawful is.Label 0 2 (omega arith)
+
+-- ---- labels
+
+letter_bounds : (b : ℕ) → is_letter b ≡ true → (97 ≤ b) × (b ≤ 122)
+letter_bounds b e = let p = and_parts (leb 97 b) (leb b 122) e in (leb-true _ _ p.0, leb-true _ _ p.1)
+
+label_byte_bounds : (b : ℕ) → is_label_byte b ≡ true → 48 ≤ b
+label_byte_bounds b e = elim (or_cases (is_letter b) (is_digit b) e) [
+  | inl l ↦ let p = letter_bounds b l in omega (arith, p.0)
+  | inr d ↦ leb-true _ _ (and_parts (leb 48 b) (leb b 57) d).0
+]
+
+-- bytes from 48 on are neither space nor LF, comma nor dot
+above_is_plain : (b : ℕ) → 48 ≤ b → is_word_byte b ≡ true
+above_is_plain b ge = rw (ne_eqb b 32 (λ x. omega arith), ne_eqb b 10 (λ x. omega arith)) refl
+
+above_is_no : (c b : ℕ) → c < 48 → 48 ≤ b → not (eqb b c) ≡ true
+above_is_no c b lt ge = rw (ne_eqb b c (λ x. omega arith)) refl
+
+label_bytes : (l : List ℕ) → is_label l ≡ true → (0 < length l) × (list_all is_label_byte l ≡ true)
+label_bytes [] e = absurd cc
+label_bytes (b ∷ bs) e =
+    let p = and_parts (is_letter b && list_all is_label_byte bs) (leb (length bs) 31) e in
+    let q = and_parts (is_letter b) (list_all is_label_byte bs) p.0 in
+    (omega arith, and_from (is_label_byte b) (list_all is_label_byte bs) (rw q.0 refl) q.1)
+
+pub label_lacks : (c : ℕ) → c < 48 → (l : List ℕ) → is_label l ≡ true → lacks c l ≡ true
+label_lacks c lt l e = all_weaker is_label_byte (λ b. not (eqb b c)) (λ b is. above_is_no c b lt (label_byte_bounds b is)) l (label_bytes l e).1
+
+plain_label : (l : List ℕ) → is_label l ≡ true → is_word l ≡ true
+plain_label l e =
+    let p = label_bytes l e in
+    and_from _ _ (lt-ltb _ _ p.0) (all_weaker is_label_byte is_word_byte (λ b is. above_is_plain b (label_byte_bounds b is)) l p.1)
+
+pub label_lawful : {C : Type 0} → LawfulWord (label {C = C})
+label_lawful {C = C} = record {
+  takes = λ c t l e.
+      let n = need_ok (is_label t) (Ok t) is.Label l e in
+      subst (λ (x : List ℕ). (is_label x ≡ true) × (t ≡ x)) (ok_is t l n.1) (n.0, refl);
+  again = λ c l fits. rw fits refl;
+  plain = λ c l fits. plain_label l fits;
+}
+
+pub new_label_lawful : LawfulWord new_label
+new_label_lawful = such_that_lawful label (λ s l. not (is_some (named_by s.events l))) is.Label label_lawful
+
+pub made_label_lawful : LawfulWord made_label
+made_label_lawful = such_that_lawful label (λ s l. is_some (named_by s.events l)) is.Label label_lawful
+
+pub update_label_lawful : LawfulWord update_label
+update_label_lawful = such_that_lawful label (λ s l. is_update (named_by s.events l)) is.Label label_lawful
+
+pub signed_label_lawful : LawfulWord signed_label
+signed_label_lawful = such_that_lawful label (λ s l. is_signed (named_by s.events l)) is.Label label_lawful
+
+-- ---- names
+
+kind_is : (t : List ℕ) (k : Kind) → kind_named t ≡ Some k → t ≡ name_of_kind k
+kind_is t k e =
+    elim (if_some (bytes_eq t (codes "SameNumber")) SameNumber _ k e) [
+      | inl a ↦ rw (← a.1) (is_same t _ a.0)
+      | inr a ↦ elim (if_some (bytes_eq t (codes "SamePrev")) SamePrev _ k a.1) [
+        | inl b ↦ rw (← b.1) (is_same t _ b.0)
+        | inr b ↦ elim (if_some (bytes_eq t (codes "Backward")) Backward None k b.1) [
+          | inl d ↦ rw (← d.1) (is_same t _ d.0)
+          | inr d ↦ absurd cc
+        ]
+      ]
+    ]
+
+kind_again : {C : Type 0} (c : C) (k : Kind) → kind.read c (name_of_kind k) ≡ Ok k
+kind_again c SameNumber = refl
+kind_again c SamePrev = refl
+kind_again c Backward = refl
+
+kind_plain : (k : Kind) → is_word (name_of_kind k) ≡ true
+kind_plain SameNumber = refl
+kind_plain SamePrev = refl
+kind_plain Backward = refl
+
+pub kind_lawful : {C : Type 0} → LawfulWord (kind {C = C})
+kind_lawful {C = C} = record {
+  takes = λ c t k e. (tt, kind_is t k (or_fault_ok (kind_named t) is.Label k e));
+  again = λ c k fits. kind_again c k;
+  plain = λ c k fits. kind_plain k;
+}
+
+history_takes : (t : List ℕ) (h : HistoryWord) (b : Bool) → bytes_eq t (codes "right") ≡ b → cond b (Ok Right) ((digest {C = Unit {0}}).read tt t >>= λ h. Ok (Given h)) ≡ Ok h → FitsHistory h × (t ≡ text_of_history h)
+history_takes t h true test e = subst (λ (x : HistoryWord). FitsHistory x × (t ≡ text_of_history x)) (ok_is Right h e) (tt, is_same t _ test)
+history_takes t h false test e =
+    let b = bind_ok ((digest {C = Unit {0}}).read tt t) (λ h. Ok (Given h)) h e in
+    let d = (digest_lawful {C = Unit {0}}).takes tt t b.0 b.1 in
+    subst (λ (x : HistoryWord). FitsHistory x × (t ≡ text_of_history x)) (ok_is (Given b.0) h b.2) d
+
+not_right : (h : List ℕ) → is_within 32 32 (length h) ≡ true → bytes_eq (encode_lower h) (codes "right") ≡ false
+not_right h test = false_from_ne_true _ (λ e.
+    let len : 32 ≤ length h = leb-true _ _ (and_parts (leb 32 (length h)) (leb (length h) 32) test).0 in
+    let d : length (encode_lower h) ≡ 5 = ap (λ (t : List ℕ). length t) (is_same (encode_lower h) (codes "right") e) in
+    omega (arith, len, d, length-encode_with lower_digits h))
+
+history_again : {C : Type 0} (c : C) (h : HistoryWord) → FitsHistory h → history.read c (text_of_history h) ≡ Ok h
+history_again c Right fits = refl
+history_again c (Given h) fits = rw (not_right h fits.0, (digest_lawful {C = Unit {0}}).again tt h fits) refl
+
+history_plain : (h : HistoryWord) → FitsHistory h → is_word (text_of_history h) ≡ true
+history_plain Right fits = refl
+history_plain (Given h) fits = (digest_lawful {C = Unit {0}}).plain tt h fits
+
+pub history_lawful : {C : Type 0} → LawfulWord (history {C = C})
+history_lawful {C = C} = record {
+  takes = λ c t h e. history_takes t h (bytes_eq t (codes "right")) refl e;
+  again = history_again;
+  plain = λ c h fits. history_plain h fits;
+}
+
+-- ---- references
+
+digits_lack : (c n : ℕ) → c < 48 → n < 10 ^ 19 → lacks c (decimal n) ≡ true
+digits_lack c n lt small = all_weaker is_digit (λ b. not (eqb b c)) (λ b e. above_is_no c b lt (leb-true _ _ (and_parts (leb 48 b) (leb b 57) e).0)) (decimal n) (digits_of_decimal n small)
+
+ref_takes : (s : Schedule) (t : List ℕ) (parts : List (List ℕ)) (r : Ref) → join 46 parts ≡ t → ref_of s parts ≡ Ok r → FitsRef s r × (t ≡ text_of_ref r)
+ref_takes s t [] r j e = absurd cc
+ref_takes s t (l ∷ []) r j e =
+    let b = bind_ok (update_label.read s l) (λ l. Ok (ref.Label l)) r e in
+    let k = update_label_lawful.takes s l b.0 b.1 in
+    subst (λ (x : Ref). FitsRef s x × (t ≡ text_of_ref x)) (ok_is (ref.Label b.0) r b.2) (k.0, sym j ∙ k.1)
+ref_takes s t (n ∷ q ∷ []) r j e =
+    let b = bind_ok (id.read s n) (λ n. seq.read s q >>= λ q. cond (is_correct s.members n) (Ok (ref.Own n q)) (Err is.Node)) r e in
+    let d = bind_ok (seq.read s q) (λ q. cond (is_correct s.members b.0) (Ok (ref.Own b.0 q)) (Err is.Node)) r b.2 in
+    let m = need_ok (is_correct s.members b.0) (Ok (ref.Own b.0 d.0)) is.Node r d.2 in
+    let k = (id_lawful {C = Schedule}).takes s n b.0 b.1 in
+    let l = seq_lawful.takes s q d.0 d.1 in
+    let text : t ≡ decimal b.0 ++ (46 ∷ decimal d.0) = sym j ∙ ap (λ (x : List ℕ). x ++ (46 ∷ q)) k.1 ∙ ap (λ (x : List ℕ). decimal b.0 ++ (46 ∷ x)) l.1 in
+    subst (λ (x : Ref). FitsRef s x × (t ≡ text_of_ref x)) (ok_is (ref.Own b.0 d.0) r m.1) (((k.0, m.0), l.0), text)
+ref_takes s t (n ∷ q ∷ x ∷ xs) r j e = absurd cc
+
+ref_again : (s : Schedule) (r : Ref) → FitsRef s r → reference.read s (text_of_ref r) ≡ Ok r
+ref_again s (ref.Label l) fits = rw (split_none 46 l (label_lacks 46 (omega arith) l fits.0), update_label_lawful.again s l fits) refl
+ref_again s (ref.Own n q) fits =
+    let first : split 46 (decimal n ++ (46 ∷ decimal q)) ≡ decimal n ∷ split 46 (decimal q) = split_at 46 (decimal n) (decimal q) (digits_lack 46 n (omega arith) (omega (arith, fits.0.0.1))) in
+    let second : split 46 (decimal q) ≡ decimal q ∷ [] = split_none 46 (decimal q) (digits_lack 46 q (omega arith) (omega (arith, fits.1.0.1))) in
+    rw (first, second, (id_lawful {C = Schedule}).again s n fits.0.0, seq_lawful.again s q fits.1, fits.0.1) refl
+
+ref_plain : (s : Schedule) (r : Ref) → FitsRef s r → is_word (text_of_ref r) ≡ true
+ref_plain s (ref.Label l) fits = plain_label l fits.0
+ref_plain s (ref.Own n q) fits =
+    let a = and_parts (ltb 0 (length (decimal n))) (list_all is_word_byte (decimal n)) (plain_decimal n (omega (arith, fits.0.0.1))) in
+    let b = and_parts (ltb 0 (length (decimal q))) (list_all is_word_byte (decimal q)) (plain_decimal q (omega (arith, fits.1.0.1))) in
+    let some : 0 < length (decimal n ++ (46 ∷ decimal q)) = omega (arith, Rattle.std.proofs.Common.length-append (decimal n) (46 ∷ decimal q)) in
+    and_from _ _ (lt-ltb _ _ some) (all_append is_word_byte (decimal n) (46 ∷ decimal q) a.1 b.1)
+
+-- no comma stands in a reference
+ref_lacks : (s : Schedule) (r : Ref) → FitsRef s r → lacks 44 (text_of_ref r) ≡ true
+ref_lacks s (ref.Label l) fits = label_lacks 44 (omega arith) l fits.0
+ref_lacks s (ref.Own n q) fits =
+    all_append (λ b. not (eqb b 44)) (decimal n) (46 ∷ decimal q) (digits_lack 44 n (omega arith) (omega (arith, fits.0.0.1))) (digits_lack 44 q (omega arith) (omega (arith, fits.1.0.1)))
+
+pub reference_lawful : LawfulWord reference
+reference_lawful = record {
+  takes = λ s t r e. ref_takes s t (split 46 t) r (join_split 46 t) e;
+  again = ref_again;
+  plain = ref_plain;
+}
+
+-- ---- parts
+
+parts_ok : {A : Type 0} (a : Result A LineFault) (rest : Result (List A) LineFault) (list : List A) → with_parts a rest ≡ Ok list → (x : A) × (xs : List A) × (a ≡ Ok x) × (rest ≡ Ok xs) × (x ∷ xs ≡ list)
+parts_ok (Ok x) (Ok xs) list e = (x, xs, refl, refl, ok_is (x ∷ xs) list e)
+parts_ok (Ok x) (Err g) list e = absurd cc
+parts_ok (Err f) (Ok xs) list e = absurd cc
+parts_ok (Err f) (Err g) list e = absurd cc
+
+parts_take : {C A : Type 0} (first : Word C A) → LawfulWord first → (c : C) (ws : List (List ℕ)) (list : List A) → read_parts (first.read c) ws ≡ Ok list → FitAll (first.fits c) list × (ws ≡ map first.text list)
+parts_take {A = A} first l c [] list e = subst (λ (x : List A). FitAll (first.fits c) x × ([] ≡ map first.text x)) (ok_is [] list e) (tt, refl)
+parts_take {A = A} first l c (w ∷ ws) list e =
+    let p = parts_ok (first.read c w) (read_parts (first.read c) ws) list e in
+    let t = l.takes c w p.0 p.2 in
+    let r = parts_take first l c ws p.1 p.3 in
+    let words : w ∷ ws ≡ first.text p.0 ∷ map first.text p.1 = ap (λ (x : List ℕ). x ∷ ws) t.1 ∙ ap (λ (x : List (List ℕ)). first.text p.0 ∷ x) r.1 in
+    subst (λ (x : List A). FitAll (first.fits c) x × (w ∷ ws ≡ map first.text x)) p.4 ((t.0, r.0), words)
+
+parts_again : {C A : Type 0} (first : Word C A) → LawfulWord first → (c : C) (list : List A) → FitAll (first.fits c) list → read_parts (first.read c) (map first.text list) ≡ Ok list
+parts_again first l c [] fits = refl
+parts_again first l c (a ∷ rest) fits = rw (l.again c a fits.0, parts_again first l c rest fits.1) refl
+
+fit_all : {C A : Type 0} (first : Word C A) (p : List ℕ → Bool) (c : C) → ((a : A) → first.fits c a → p (first.text a) ≡ true) → (list : List A) → FitAll (first.fits c) list → list_all p (map first.text list) ≡ true
+fit_all first p c to [] fits = refl
+fit_all first p c to (a ∷ rest) fits = and_from _ _ (to a fits.0) (fit_all first p c to rest fits.1)
+
+word_bytes : (w : List ℕ) → is_word w ≡ true → list_all is_word_byte w ≡ true
+word_bytes w e = (and_parts (ltb 0 (length w)) (list_all is_word_byte w) e).1
+
+some_map : {A B : Type 0} (f : A → B) (xs : List A) → 0 < length xs → 0 < length (map f xs)
+some_map f [] some = absurd (omega arith)
+some_map f (x ∷ xs) some = omega arith
+
+some_from_map : {A B : Type 0} (f : A → B) (xs : List A) → 0 < length (map f xs) → 0 < length xs
+some_from_map f [] some = absurd (omega arith)
+some_from_map f (x ∷ xs) some = omega arith
+
+word_length : (w : List ℕ) → is_word w ≡ true → 0 < length w
+word_length w e = ltb-true _ _ (and_parts (ltb 0 (length w)) (list_all is_word_byte w) e).0
+
+join_some : (w : List ℕ) (ws : List (List ℕ)) → 0 < length w → 0 < length (join 44 (w ∷ ws))
+join_some w [] some = some
+join_some w (v ∷ vs) some = omega (arith, Rattle.std.proofs.Common.length-append w (44 ∷ join 44 (v ∷ vs)))
+
+parts_plain : {C A : Type 0} (first : Word C A) → LawfulWord first → (c : C) (list : List A) → 0 < length list → FitAll (first.fits c) list → is_word (join 44 (map first.text list)) ≡ true
+parts_plain first l c [] some fits = absurd (omega arith)
+parts_plain first l c (a ∷ rest) some fits =
+    let front : 0 < length (first.text a) = word_length (first.text a) (l.plain c a fits.0) in
+    let bytes = fit_all first (list_all is_word_byte) c (λ b f. word_bytes (first.text b) (l.plain c b f)) (a ∷ rest) fits in
+    and_from _ _ (lt-ltb _ _ (join_some (first.text a) (map first.text rest) front)) (all_join is_word_byte 44 refl (map first.text (a ∷ rest)) bytes)
+
+pub parts_lawful : {C A : Type 0} (first : Word C A) → LawfulWord first → ((c : C) (a : A) → first.fits c a → lacks 44 (first.text a) ≡ true) → LawfulWord (parts_of first)
+parts_lawful {A = A} first l bare = record {
+  takes = λ c t list e.
+      let p = parts_take first l c (split 44 t) list e in
+      let text : t ≡ join 44 (map first.text list) = sym (join_split 44 t) ∙ ap (λ (x : List (List ℕ)). join 44 x) p.1 in
+      let some : 0 < length list = some_from_map first.text list (subst (λ (x : List (List ℕ)). 0 < length x) p.1 (split_some 44 t)) in
+      ((some, p.0), text);
+  again = λ c list fits.
+      let none = fit_all first (lacks 44) c (bare c) list fits.1 in
+      rw (split_join 44 (map first.text list) (some_map first.text list fits.0) none) (parts_again first l c list fits.1);
+  plain = λ c list fits. parts_plain first l c list fits.0 fits.1;
+}
+
+pub references_lawful : (most : ℕ) → LawfulWord (references most)
+references_lawful most = such_that_lawful (parts_of reference) (λ s rs. leb (length rs) most) is.Label (parts_lawful reference reference_lawful ref_lacks)
+
+pub prev_lawful : LawfulWord (or_none reference)
+prev_lawful = or_none_lawful reference reference_lawful (λ s. (is.Label, refl))
+
+pub deps_lawful : LawfulWord (or_empty (references 1024))
+deps_lawful = or_empty_lawful (references 1024) (references_lawful 1024) (λ s fits. omega (arith, fits.0.0)) (λ s. (is.Label, refl))

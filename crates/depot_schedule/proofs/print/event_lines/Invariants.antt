@@ -1,0 +1,7 @@
+use Rattle.std.proofs.Common.{◌≡◌, ◌++◌, take}
+use Rattle.std.specs.List.{flat_map}
+use Rattle.depot_schedule.specs.Schedules.{text_of_line, event_words}
+use Rattle.depot_schedule.proofs.print.event_lines.Given as goal
+
+abbrev pub invariant-loop-event : goal.invariant-loop-event
+invariant-loop-event l = l.out ≡ l.initial.out ++ flat_map (λ e. text_of_line (event_words e)) (take l.event-index l.events)

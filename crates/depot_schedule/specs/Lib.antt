@@ -1,0 +1,7 @@
+pub mod Spelling
+pub mod Language
+pub mod Vocabulary
+pub mod EventLines
+pub mod Schedules
+pub mod LabelTable
+pub mod Readers

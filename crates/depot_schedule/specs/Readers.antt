@@ -1,0 +1,119 @@
+-- What the readers of words, lines and schedules answer, and what the writers write.
+use Rattle.std.specs.Prelude.{◌≡◌, ℕ, List, [], ◌∷◌, ◌++◌, Option, Some, None, Result, Ok, Err, length, Bool, true, false, ◌≤◌, ◌<◌, ◌⊎◌}
+use Rattle.std.specs.List.{flat_map}
+use Rattle.std.specs.Borrow.{Bor}
+use Rattle.depot_schedule.specs.declared.fault.LineFault.{LineFault}
+use Rattle.depot_schedule.specs.declared.fault.LineFault.TheVariants as is
+use Rattle.depot_schedule.specs.declared.fault.LineError.{LineError}
+use Rattle.depot_schedule.specs.declared.fault.LineError.TheVariants.{Memory, In}
+use Rattle.depot_schedule.specs.declared.fault.ScheduleError.{ScheduleError}
+use Rattle.depot_schedule.specs.declared.fault.ScheduleError.TheVariants as error
+use Rattle.depot_schedule.specs.declared.schedule.Schedule.{Schedule}
+use Rattle.depot_schedule.specs.Spelling.{is_within}
+use Rattle.depot_schedule.specs.Language.{split, earlier}
+use Rattle.depot_schedule.specs.Schedules.{IsSchedule, text_of_schedule, lines_of_parts, read_all, read_second, read_rest}
+
+-- ---- parts of a text
+
+-- the parts that are left of a text
+abbrev pub parts_left : ℕ → Option (Bor (List ℕ)) → List (List ℕ)
+parts_left separator None = []
+parts_left separator (Some text) = split separator text.now
+
+-- the next part, or nothing where none is left
+abbrev pub TakesPart : List (List ℕ) → Option (List ℕ) → List (List ℕ) → Type 0
+TakesPart old (Some part) new = old ≡ part ∷ new
+TakesPart old None new = (old ≡ []) × (new ≡ [])
+
+-- the next word of a line, or that the line has too few
+abbrev pub TakesWord : List (List ℕ) → Result (Bor (List ℕ)) LineError → List (List ℕ) → Type 0
+TakesWord old (Ok word) new = old ≡ word.now ∷ new
+TakesWord old (Err e) new = (old ≡ []) × (e ≡ In is.Fields)
+
+-- ---- words and lines
+
+-- What a reader answers is this reading, unless memory ran out.
+abbrev pub Gives : {A : Type 0} → Result A LineError → Result A LineFault → Type 0
+Gives (Ok a) reading = reading ≡ Ok a
+Gives (Err Memory) reading = Unit {0}
+Gives (Err (In f)) reading = reading ≡ Err f
+
+-- the same of a reader that takes words from a line, and leaves these
+abbrev pub Reads : {A : Type 0} → Result A LineError → List (List ℕ) → Result (A × List (List ℕ)) LineFault → Type 0
+Reads (Ok a) left reading = reading ≡ Ok (a, left)
+Reads (Err Memory) left reading = Unit {0}
+Reads (Err (In f)) left reading = reading ≡ Err f
+
+-- whether there are low to high words
+abbrev pub Counts : ℕ → ℕ → List (List ℕ) → Result (Unit {0}) LineError → Type 0
+Counts low high words (Ok done) = is_within low high (length words) ≡ true
+Counts low high words (Err e) = (is_within low high (length words) ≡ false) × (e ≡ In is.Fields)
+
+-- ---- parts of a word that are read one after the other
+
+-- the fault that is looked for first, of one so far and another
+abbrev pub first_fault : Option LineFault → LineFault → Option LineFault
+first_fault None g = Some g
+first_fault (Some f) g = Some (earlier f g)
+
+-- what the parts so far, and those behind them, come to
+abbrev pub gathered : {A : Type 0} → Option LineFault → List A → Result (List A) LineFault → Result (List A) LineFault
+gathered None front (Ok rest) = Ok (front ++ rest)
+gathered None front (Err g) = Err g
+gathered (Some f) front (Ok rest) = Err f
+gathered (Some f) front (Err g) = Err (earlier f g)
+
+-- one part more
+abbrev pub GathersMore : {A : Type 0} → Option LineFault → List A → Result A LineFault → Option LineFault → List A → Type 0
+GathersMore fault front (Ok a) fault2 front2 = (fault2 ≡ fault) × (front2 ≡ front ++ a ∷ [])
+GathersMore fault front (Err g) fault2 front2 = (fault2 ≡ first_fault fault g) × (front2 ≡ front)
+
+-- ---- lines of a text
+
+-- the next line, or nothing where none is left
+abbrev pub TakesLine : List (List ℕ) → Option (Bor (List ℕ) × Bool) → List (List ℕ) → Type 0
+TakesLine old (Some line) new = lines_of_parts old ≡ record { text = line.0.now; ended = line.1 } ∷ lines_of_parts new
+TakesLine old None new = lines_of_parts old ≡ []
+
+-- whether the words of the line of this number are looked at
+abbrev pub Allows : ℕ → Bool → Result (Unit {0}) ScheduleError → Type 0
+Allows n ended (Ok done) = (ended ≡ true) × (n ≤ 100000)
+Allows n ended (Err error.Memory) = ⊥
+Allows n ended (Err (error.Line m f)) = (m ≡ n) × (((ended ≡ false) × (f ≡ is.End)) ⊎ ((ended ≡ true) × (100000 < n) × (f ≡ is.Long)))
+
+-- a fault in the line of this number
+abbrev pub InLine : {A : Type 0} → ℕ → Result A LineError → Result A ScheduleError → Type 0
+InLine n (Ok a) result = result ≡ Ok a
+InLine n (Err Memory) result = result ≡ Err error.Memory
+InLine n (Err (In f)) result = result ≡ Err (error.Line n f)
+
+-- what reading the first line says of reading them all
+abbrev pub TakesFirst : List (List ℕ) → Result (Unit {0}) ScheduleError → List (List ℕ) → Type 0
+TakesFirst old (Ok done) new = read_all (lines_of_parts old) ≡ read_second (lines_of_parts new)
+TakesFirst old (Err error.Memory) new = Unit {0}
+TakesFirst old (Err (error.Line n f)) new = read_all (lines_of_parts old) ≡ Err (n, f)
+
+-- what reading the second line says of reading it and those behind it
+abbrev pub TakesSecond : List (List ℕ) → Result Schedule ScheduleError → List (List ℕ) → Type 0
+TakesSecond old (Ok s) new = read_second (lines_of_parts old) ≡ read_rest 3 s (lines_of_parts new)
+TakesSecond old (Err error.Memory) new = Unit {0}
+TakesSecond old (Err (error.Line n f)) new = read_second (lines_of_parts old) ≡ Err (n, f)
+
+-- ---- whole texts
+
+-- What parsing answers: the schedule of the text, or the first faulty line and its first fault, unless memory ran out.
+abbrev pub Parses : Result Schedule ScheduleError → Result Schedule (ℕ × LineFault) → Type 0
+Parses (Ok s) reading = reading ≡ Ok s
+Parses (Err error.Memory) reading = Unit {0}
+Parses (Err (error.Line n f)) reading = reading ≡ Err (n, f)
+
+-- the text is that of this schedule, which has one
+pub record IsTextOf (text : List ℕ) (s : Schedule) : Type 0 where
+  pub has : IsSchedule s
+  pub is : text ≡ text_of_schedule s
+
+-- ---- writing
+
+-- words, each behind a space (32)
+abbrev pub behind_spaces : List (List ℕ) → List ℕ
+behind_spaces words = flat_map (λ word. 32 ∷ word) words

@@ -1,0 +1,253 @@
+-- The words of the lines of schedules.
+use Rattle.std.specs.Prelude.{◌≡◌, ℕ, ◌^◌, ◌≤◌, Bool, true, false, not, ◌&&◌, List, [], ◌∷◌, ◌++◌, length, Option, Some, None, is_some, Result, Ok, Err, nat_lt, nat_le, ◌==◌, codes, if◌then◌else◌}
+use Rattle.std.specs.List.{list_any}
+use Rattle.std.specs.Fmt.{decimal}
+use Rattle.std.specs.Str.{bytes_eq}
+use Rattle.hex.specs.Hex.{encode_lower, IsBytes}
+use Rattle.depot_base.specs.declared.proof.Kind.{Kind}
+use Rattle.depot_base.specs.declared.proof.Kind.TheVariants.{SameNumber, SamePrev, Backward}
+use Rattle.depot_model.specs.Lists.{when}
+use Rattle.depot_model.specs.Lines.{name_of_kind}
+use Rattle.depot_schedule.specs.declared.fault.LineFault.{LineFault}
+use Rattle.depot_schedule.specs.declared.fault.LineFault.TheVariants as is
+use Rattle.depot_schedule.specs.declared.member.Member.{Member}
+use Rattle.depot_schedule.specs.declared.event.Event.{Event}
+use Rattle.depot_schedule.specs.declared.event.Event.TheVariants as event
+use Rattle.depot_schedule.specs.declared.event.Ref.{Ref}
+use Rattle.depot_schedule.specs.declared.event.Ref.TheVariants as ref
+use Rattle.depot_schedule.specs.declared.event.HistoryWord.{HistoryWord}
+use Rattle.depot_schedule.specs.declared.event.HistoryWord.TheVariants.{Right, Given}
+use Rattle.depot_schedule.specs.declared.schedule.Schedule.{Schedule}
+use Rattle.depot_schedule.specs.declared.verb.Made.{Made}
+use Rattle.depot_schedule.specs.declared.verb.Made.TheVariants as made
+use Rattle.depot_schedule.specs.Spelling.{is_within, number_word, hex_word, sized, is_label}
+use Rattle.depot_schedule.specs.Language.{◌>>=◌, or_fault, split, Word, such_that, or_empty, parts_of}
+
+-- ---- what the schedule so far says of nodes and labels
+
+-- whether a node is declared
+abbrev pub is_declared : List Member → ℕ → Bool
+is_declared members node = list_any (λ m. m.node == node) members
+
+-- whether a node is declared as correct
+abbrev pub is_correct : List Member → ℕ → Bool
+is_correct members node = list_any (λ m. m.node == node && m.correct) members
+
+-- whether a node is declared as faulty
+abbrev pub is_faulty : List Member → ℕ → Bool
+is_faulty members node = list_any (λ m. m.node == node && not m.correct) members
+
+-- the label that an event makes, and what it makes it name
+abbrev pub label_made : Event → Option (List ℕ × Made)
+label_made (event.Put _ _ _) = None
+label_made (event.Get _ _) = None
+label_made (event.Hello _ label) = Some (label, made.Bytes)
+label_made (event.Bundle _ _ label) = Some (label, made.Bytes)
+label_made (event.Give _ _ _) = None
+label_made (event.Restart _) = None
+label_made (event.Update label _ _ _ _ _ _ _ _) = Some (label, made.Update)
+label_made (event.Voucher label _ _ _) = Some (label, made.Voucher)
+label_made (event.Proof label _ _ _) = Some (label, made.Bytes)
+label_made (event.Judge _) = None
+label_made (event.Raw label _) = Some (label, made.Bytes)
+label_made (event.Cut label _ _ _) = Some (label, made.Bytes)
+label_made (event.Flip label _ _) = Some (label, made.Bytes)
+label_made (event.Join label _ _) = Some (label, made.Bytes)
+label_made (event.Stop _ _ _) = None
+
+-- what this label names, if it is that one
+abbrev pub if_named : List ℕ → Option (List ℕ × Made) → Option Made
+if_named label None = None
+if_named label (Some made) = when (bytes_eq label made.0) made.1
+
+-- the first if there is one, else the second
+abbrev pub first_or : {X : Type 0} → Option X → Option X → Option X
+first_or None y = y
+first_or (Some x) y = Some x
+
+-- what some events made a label name, the last of them first
+unfoldable pub named_by : List Event → List ℕ → Option Made
+named_by [] label = None
+named_by (e ∷ es) label = first_or (named_by es label) (if_named label (label_made e))
+
+-- whether a label names an update
+abbrev pub is_update : Option Made → Bool
+is_update (Some made.Update) = true
+is_update (Some made.Voucher) = false
+is_update (Some made.Bytes) = false
+is_update None = false
+
+-- whether a label names an update or a voucher
+abbrev pub is_signed : Option Made → Bool
+is_signed (Some made.Update) = true
+is_signed (Some made.Voucher) = true
+is_signed (Some made.Bytes) = false
+is_signed None = false
+
+-- ---- numbers
+
+-- a number from low to high in decimal; any other word has this fault
+abbrev pub number_or : {C : Type 0} → LineFault → ℕ → ℕ → Word C ℕ
+number_or fault low high = record {
+  fits = λ c n. (low ≤ n) × (n ≤ high);
+  text = decimal;
+  read = λ c word. or_fault (number_word low high word) fault;
+}
+
+-- a number from low to high in decimal
+abbrev pub number : {C : Type 0} → ℕ → ℕ → Word C ℕ
+number low high = number_or is.Number low high
+
+-- the id of a node
+abbrev pub id : {C : Type 0} → Word C ℕ
+id = number 1 65535
+
+-- the id of a correct node
+abbrev pub correct : Word Schedule ℕ
+correct = such_that id (λ s node. is_correct s.members node) is.Node
+
+-- the id of a faulty node
+abbrev pub faulty : Word Schedule ℕ
+faulty = such_that id (λ s node. is_faulty s.members node) is.Node
+
+-- any number of 32 bits
+abbrev pub any_u32 : {C : Type 0} → Word C ℕ
+any_u32 = number 0 4294967295
+
+-- the number of a statement of a node: it is below the number of its leaves
+abbrev pub seq : Word Schedule ℕ
+seq = such_that any_u32 (λ s n. nat_lt n (2 ^ s.height)) is.Number
+
+-- a clock, from 1 to 2^63 - 1
+abbrev pub clock : {C : Type 0} → Word C ℕ
+clock = number 1 9223372036854775807
+
+-- the size of a piece in bytes, or which call of a disk stops
+abbrev pub to_million : {C : Type 0} → Word C ℕ
+to_million = number 1 1000000
+
+-- the number of an image of a disk
+abbrev pub image : {C : Type 0} → Word C ℕ
+image = number_or is.Label 0 2
+
+-- ---- bytes
+
+-- bytes in lower-case hexadecimal, as many as the test allows
+abbrev pub hex : {C : Type 0} → (ℕ → Bool) → Word C (List ℕ)
+hex test = record {
+  fits = λ c bytes. (test (length bytes) ≡ true) × IsBytes bytes;
+  text = encode_lower;
+  read = λ c word. or_fault (sized test (hex_word word)) is.Hex;
+}
+
+-- a key: 1 to 255 bytes
+abbrev pub key : {C : Type 0} → Word C (List ℕ)
+key = hex (is_within 1 255)
+
+-- a value: at most 65,536 bytes
+abbrev pub value : {C : Type 0} → Word C (List ℕ)
+value = or_empty (hex (is_within 1 65536))
+
+-- bytes as they are, however many
+abbrev pub raw_bytes : {C : Type 0} → Word C (List ℕ)
+raw_bytes = or_empty (hex (nat_le 1))
+
+-- a digest of 32 bytes
+abbrev pub digest : {C : Type 0} → Word C (List ℕ)
+digest = hex (is_within 32 32)
+
+-- ---- labels
+
+abbrev pub label : {C : Type 0} → Word C (List ℕ)
+label = record {
+  fits = λ c l. is_label l ≡ true;
+  text = λ l. l;
+  read = λ c word. if is_label word then Ok word else Err is.Label;
+}
+
+-- a label that no event before made
+abbrev pub new_label : Word Schedule (List ℕ)
+new_label = such_that label (λ s l. not (is_some (named_by s.events l))) is.Label
+
+-- a label that an event before made
+abbrev pub made_label : Word Schedule (List ℕ)
+made_label = such_that label (λ s l. is_some (named_by s.events l)) is.Label
+
+-- a label that an event before made for an update
+abbrev pub update_label : Word Schedule (List ℕ)
+update_label = such_that label (λ s l. is_update (named_by s.events l)) is.Label
+
+-- a label that an event before made for an update or a voucher
+abbrev pub signed_label : Word Schedule (List ℕ)
+signed_label = such_that label (λ s l. is_signed (named_by s.events l)) is.Label
+
+-- ---- names
+
+-- the kind of contradiction of this name
+abbrev pub kind_named : List ℕ → Option Kind
+kind_named word =
+    if bytes_eq word (codes "SameNumber") then Some SameNumber else
+    if bytes_eq word (codes "SamePrev") then Some SamePrev else
+    if bytes_eq word (codes "Backward") then Some Backward else None
+
+-- a kind of contradiction
+abbrev pub kind : {C : Type 0} → Word C Kind
+kind = record {
+  fits = λ c k. Unit {0};
+  text = name_of_kind;
+  read = λ c word. or_fault (kind_named word) is.Label;
+}
+
+abbrev pub FitsHistory : HistoryWord → Type 0
+FitsHistory Right = Unit {0}
+FitsHistory (Given hash) = (digest {C = Unit {0}}).fits tt hash
+
+abbrev pub text_of_history : HistoryWord → List ℕ
+text_of_history Right = codes "right"
+text_of_history (Given hash) = encode_lower hash
+
+-- `right`, or a digest
+abbrev pub history : {C : Type 0} → Word C HistoryWord
+history = record {
+  fits = λ c h. FitsHistory h;
+  text = text_of_history;
+  read = λ c word. if bytes_eq word (codes "right") then Ok Right else (digest.read c word >>= λ hash. Ok (Given hash));
+}
+
+-- ---- references
+
+abbrev pub FitsRef : Schedule → Ref → Type 0
+FitsRef s (ref.Label l) = update_label.fits s l
+FitsRef s (ref.Own node n) = correct.fits s node × seq.fits s n
+
+-- a label as it is, and an own update as `NODE.SEQ`, with a dot (46)
+abbrev pub text_of_ref : Ref → List ℕ
+text_of_ref (ref.Label l) = l
+text_of_ref (ref.Own node n) = decimal node ++ (46 ∷ decimal n)
+
+-- the reference that a word without a dot is
+abbrev pub label_ref : Schedule → List ℕ → Result Ref LineFault
+label_ref s word = update_label.read s word >>= λ l. Ok (ref.Label l)
+
+-- the reference that the words round a dot are: both numbers are looked at before the node is
+abbrev pub own_ref : Schedule → List ℕ → List ℕ → Result Ref LineFault
+own_ref s node_word seq_word = id.read s node_word >>= λ node. seq.read s seq_word >>= λ n. if is_correct s.members node then Ok (ref.Own node n) else Err is.Node
+
+-- the reference that the parts between dots are
+abbrev pub ref_of : Schedule → List (List ℕ) → Result Ref LineFault
+ref_of s [] = Err is.Label
+ref_of s (l ∷ []) = label_ref s l
+ref_of s (node ∷ n ∷ []) = own_ref s node n
+ref_of s (node ∷ n ∷ more ∷ rest) = Err is.Number
+
+-- what names an update: the label of an update, or an own update of a correct node
+abbrev pub reference : Word Schedule Ref
+reference = record {
+  fits = FitsRef;
+  text = text_of_ref;
+  read = λ s word. ref_of s (split 46 word);
+}
+
+-- one reference or more, and at most so many, as written
+abbrev pub references : ℕ → Word Schedule (List Ref)
+references most = such_that (parts_of reference) (λ s refs. nat_le (length refs) most) is.Label

@@ -1,0 +1,318 @@
+//! Reads the words behind the name of an event: one function a line of the table.
+ghost use Rattle.std.specs.Prelude.{◌==◌, length, Ok, Err, if◌then◌else◌};
+ghost use Rattle.depot_schedule.specs.declared.fault.LineFault.TheVariants as is;
+ghost use Rattle.depot_schedule.specs.Language.{nothing, last};
+ghost use Rattle.depot_schedule.specs.Vocabulary.{to_million};
+ghost use Rattle.depot_schedule.specs.EventLines.{put, get, hello, bundle, give, restart, update, voucher, proof, judge, raw, cut, flip, join, stop, line_of};
+ghost use Rattle.depot_schedule.specs.Readers.{Gives, Counts};
+
+use crate::draft::Draft;
+use crate::event::Event;
+use crate::fault::{LineError, LineFault};
+use crate::parts::Parts;
+use crate::references::{deps, prev, references};
+use crate::verb::Verb;
+use crate::vocabulary::{
+    any_u32, clock, correct, faulty, history, image, key, kind, made_label, new_label, number_of,
+    raw_bytes, seq, signed_label, to_million, value,
+};
+use std::alloc::Global;
+
+/// The event that the words made, where none is left.
+fn made(words: &Parts<'_>, event: Event) -> Result<Event, LineError>
+    ensures { Gives result (if length words.now == 0 then Ok event else Err is.Fields) }
+{
+    if words.is_done() {
+        Ok(event)
+    } else {
+        Err(LineError::In(LineFault::Fields))
+    }
+}
+
+/// Whether low to high words are left.
+fn counted(words: &Parts<'_>, low: usize, high: usize) -> Result<(), LineError>
+    ensures { Counts low high words.now result }
+{
+    let count = words.count();
+    if low <= count && count <= high {
+        Ok(())
+    } else {
+        Err(LineError::In(LineFault::Fields))
+    }
+}
+
+/// `put N KEY VALUE`
+#[tactic(auto, unfolding(crate::specs::EventLines::put))]
+fn put(alloc: Global, words: &mut Parts<'_>, behind: &Draft) -> Result<Event, LineError>
+    ensures { Gives result (put.read behind.now words.old) }
+{
+    counted(words, 3, 3)?;
+    let node = correct(words, behind)?;
+    let key = key(alloc, words)?;
+    let value = value(alloc, words)?;
+    made(words, Event::Put { node, key, value })
+}
+
+/// `get N KEY`
+#[tactic(auto, unfolding(crate::specs::EventLines::get))]
+fn get(alloc: Global, words: &mut Parts<'_>, behind: &Draft) -> Result<Event, LineError>
+    ensures { Gives result (get.read behind.now words.old) }
+{
+    counted(words, 2, 2)?;
+    let node = correct(words, behind)?;
+    let key = key(alloc, words)?;
+    made(words, Event::Get { node, key })
+}
+
+/// `hello N LABEL`
+#[tactic(auto, unfolding(crate::specs::EventLines::hello))]
+fn hello(alloc: Global, words: &mut Parts<'_>, behind: &Draft) -> Result<Event, LineError>
+    ensures { Gives result (hello.read behind.now words.old) }
+{
+    counted(words, 2, 2)?;
+    let node = correct(words, behind)?;
+    let label = new_label(alloc, words, behind)?;
+    made(words, Event::Hello { node, label })
+}
+
+/// `bundle N HELLO LABEL`
+#[tactic(auto, unfolding(crate::specs::EventLines::bundle))]
+fn bundle(alloc: Global, words: &mut Parts<'_>, behind: &Draft) -> Result<Event, LineError>
+    ensures { Gives result (bundle.read behind.now words.old) }
+{
+    counted(words, 3, 3)?;
+    let node = correct(words, behind)?;
+    let hello = made_label(alloc, words, behind)?;
+    let label = new_label(alloc, words, behind)?;
+    made(words, Event::Bundle { node, hello, label })
+}
+
+/// The last word as the size of a piece, if there is one.
+fn last_size(words: &mut Parts<'_>) -> Result<Option<u32>, LineError>
+    ensures { Gives result (last (to_million.read nothing) words.old) }
+{
+    let Some(word) = words.next() else {
+        return Ok(None);
+    };
+    let size = number_of(word, 1, 1_000_000)?;
+    if words.is_done() {
+        Ok(Some(size as u32))
+    } else {
+        Err(LineError::In(LineFault::Fields))
+    }
+}
+
+/// `give N LABEL` or `give N LABEL SIZE`
+#[tactic(auto, unfolding(crate::specs::EventLines::give))]
+fn give(alloc: Global, words: &mut Parts<'_>, behind: &Draft) -> Result<Event, LineError>
+    ensures { Gives result (give.read behind.now words.old) }
+{
+    counted(words, 2, 3)?;
+    let node = correct(words, behind)?;
+    let label = made_label(alloc, words, behind)?;
+    let size = last_size(words)?;
+    Ok(Event::Give { node, label, size })
+}
+
+/// `restart N`
+#[tactic(auto, unfolding(crate::specs::EventLines::restart))]
+fn restart(words: &mut Parts<'_>, behind: &Draft) -> Result<Event, LineError>
+    ensures { Gives result (restart.read behind.now words.old) }
+{
+    counted(words, 1, 1)?;
+    let node = correct(words, behind)?;
+    made(words, Event::Restart { node })
+}
+
+/// `update LABEL W SEQ CLOCK PREV KEY VALUE DEPS HISTORY`
+#[tactic(auto, unfolding(crate::specs::EventLines::update))]
+fn update(alloc: Global, words: &mut Parts<'_>, behind: &Draft) -> Result<Event, LineError>
+    ensures { Gives result (update.read behind.now words.old) }
+{
+    counted(words, 9, 9)?;
+    let label = new_label(alloc, words, behind)?;
+    let writer = faulty(words, behind)?;
+    let seq = seq(words, behind)?;
+    let clock = clock(words)?;
+    let prev = prev(alloc, words, behind)?;
+    let key = key(alloc, words)?;
+    let value = value(alloc, words)?;
+    let deps = deps(alloc, words, behind)?;
+    let history = history(alloc, words)?;
+    made(
+        words,
+        Event::Update {
+            label,
+            writer,
+            seq,
+            clock,
+            prev,
+            key,
+            value,
+            deps,
+            history,
+        },
+    )
+}
+
+/// `voucher LABEL W SEQ REFS`
+#[tactic(auto, unfolding(crate::specs::EventLines::voucher))]
+fn voucher(alloc: Global, words: &mut Parts<'_>, behind: &Draft) -> Result<Event, LineError>
+    ensures { Gives result (voucher.read behind.now words.old) }
+{
+    counted(words, 4, 4)?;
+    let label = new_label(alloc, words, behind)?;
+    let writer = faulty(words, behind)?;
+    let seq = seq(words, behind)?;
+    let refs = references(alloc, words, behind, 256)?;
+    made(
+        words,
+        Event::Voucher {
+            label,
+            writer,
+            seq,
+            refs,
+        },
+    )
+}
+
+/// `proof LABEL KIND A B`
+#[tactic(auto, unfolding(crate::specs::EventLines::proof))]
+fn proof(alloc: Global, words: &mut Parts<'_>, behind: &Draft) -> Result<Event, LineError>
+    ensures { Gives result (proof.read behind.now words.old) }
+{
+    counted(words, 4, 4)?;
+    let label = new_label(alloc, words, behind)?;
+    let kind = kind(words)?;
+    let first = signed_label(alloc, words, behind)?;
+    let second = signed_label(alloc, words, behind)?;
+    made(
+        words,
+        Event::Proof {
+            label,
+            kind,
+            first,
+            second,
+        },
+    )
+}
+
+/// `judge LABEL`
+#[tactic(auto, unfolding(crate::specs::EventLines::judge))]
+fn judge(alloc: Global, words: &mut Parts<'_>, behind: &Draft) -> Result<Event, LineError>
+    ensures { Gives result (judge.read behind.now words.old) }
+{
+    counted(words, 1, 1)?;
+    let label = made_label(alloc, words, behind)?;
+    made(words, Event::Judge { label })
+}
+
+/// `raw LABEL HEX`
+#[tactic(auto, unfolding(crate::specs::EventLines::raw))]
+fn raw(alloc: Global, words: &mut Parts<'_>, behind: &Draft) -> Result<Event, LineError>
+    ensures { Gives result (raw.read behind.now words.old) }
+{
+    counted(words, 2, 2)?;
+    let label = new_label(alloc, words, behind)?;
+    let bytes = raw_bytes(alloc, words)?;
+    made(words, Event::Raw { label, bytes })
+}
+
+/// `cut LABEL FROM START COUNT`
+#[tactic(auto, unfolding(crate::specs::EventLines::cut))]
+fn cut(alloc: Global, words: &mut Parts<'_>, behind: &Draft) -> Result<Event, LineError>
+    ensures { Gives result (cut.read behind.now words.old) }
+{
+    counted(words, 4, 4)?;
+    let label = new_label(alloc, words, behind)?;
+    let source = made_label(alloc, words, behind)?;
+    let start = any_u32(words)?;
+    let count = any_u32(words)?;
+    made(
+        words,
+        Event::Cut {
+            label,
+            source,
+            start,
+            count,
+        },
+    )
+}
+
+/// `flip LABEL FROM PLACE`
+#[tactic(auto, unfolding(crate::specs::EventLines::flip))]
+fn flip(alloc: Global, words: &mut Parts<'_>, behind: &Draft) -> Result<Event, LineError>
+    ensures { Gives result (flip.read behind.now words.old) }
+{
+    counted(words, 3, 3)?;
+    let label = new_label(alloc, words, behind)?;
+    let source = made_label(alloc, words, behind)?;
+    let place = any_u32(words)?;
+    made(
+        words,
+        Event::Flip {
+            label,
+            source,
+            place,
+        },
+    )
+}
+
+/// `join LABEL A B`
+#[tactic(auto, unfolding(crate::specs::EventLines::join))]
+fn join(alloc: Global, words: &mut Parts<'_>, behind: &Draft) -> Result<Event, LineError>
+    ensures { Gives result (join.read behind.now words.old) }
+{
+    counted(words, 3, 3)?;
+    let label = new_label(alloc, words, behind)?;
+    let first = made_label(alloc, words, behind)?;
+    let second = made_label(alloc, words, behind)?;
+    made(
+        words,
+        Event::Join {
+            label,
+            first,
+            second,
+        },
+    )
+}
+
+/// `stop N K IMAGE`
+#[tactic(auto, unfolding(crate::specs::EventLines::stop))]
+fn stop(words: &mut Parts<'_>, behind: &Draft) -> Result<Event, LineError>
+    ensures { Gives result (stop.read behind.now words.old) }
+{
+    counted(words, 3, 3)?;
+    let node = correct(words, behind)?;
+    let call = to_million(words)?;
+    let image = image(words)?;
+    made(words, Event::Stop { node, call, image })
+}
+
+/// The event of the words behind its name.
+pub fn event_of(
+    alloc: Global,
+    verb: Verb,
+    words: &mut Parts<'_>,
+    behind: &Draft,
+) -> Result<Event, LineError>
+    ensures { Gives result ((line_of verb).read behind.now words.old) }
+{
+    match verb {
+        Verb::Put => put(alloc, words, behind),
+        Verb::Get => get(alloc, words, behind),
+        Verb::Hello => hello(alloc, words, behind),
+        Verb::Bundle => bundle(alloc, words, behind),
+        Verb::Give => give(alloc, words, behind),
+        Verb::Restart => restart(words, behind),
+        Verb::Update => update(alloc, words, behind),
+        Verb::Voucher => voucher(alloc, words, behind),
+        Verb::Proof => proof(alloc, words, behind),
+        Verb::Judge => judge(alloc, words, behind),
+        Verb::Raw => raw(alloc, words, behind),
+        Verb::Cut => cut(alloc, words, behind),
+        Verb::Flip => flip(alloc, words, behind),
+        Verb::Join => join(alloc, words, behind),
+        Verb::Stop => stop(words, behind),
+    }
+}

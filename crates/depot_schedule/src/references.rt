@@ -1,0 +1,196 @@
+//! Reads references to updates, and lists of them.
+ghost use Rattle.std.specs.Prelude.{◌≡◌, ◌++◌, [], ◌∷◌, Option, Some, None, Ok, IfOk};
+ghost use Rattle.depot_schedule.specs.Language.{next, rank_of, earlier, read_parts, split, or_none, or_empty};
+ghost use Rattle.depot_schedule.specs.Vocabulary.{label_ref, own_ref, reference, references};
+ghost use Rattle.depot_schedule.specs.Readers.{Gives, Reads, gathered, first_fault, GathersMore};
+
+use crate::draft::Draft;
+use crate::event::{Ref, Refs};
+use crate::fault::{LineError, LineFault};
+use crate::parts::Parts;
+use crate::spelling::is;
+use crate::vocabulary::{id_of, seq_of, update_label_of};
+use depot_base::limits::MOST_ENTRIES;
+use depot_base::{Memory, Sequence};
+use std::alloc::Global;
+
+/// The own update that the words round a dot name.
+fn own_ref(node_word: &[u8], seq_word: &[u8], behind: &Draft) -> Result<Ref, LineError>
+    ensures { Gives result (own_ref behind.now node_word.now seq_word.now) }
+{
+    let node = id_of(node_word)?;
+    let seq = seq_of(seq_word, behind)?;
+    if behind.is_correct(node) {
+        Ok(Ref::Own { node, seq })
+    } else {
+        Err(LineError::In(LineFault::Node))
+    }
+}
+
+/// The update that a word without a dot names.
+fn label_ref(alloc: Global, word: &[u8], behind: &Draft) -> Result<Ref, LineError>
+    ensures { Gives result (label_ref behind.now word.now) }
+{
+    Ok(Ref::Label(update_label_of(alloc, word, behind)?))
+}
+
+/// The reference that a word is.
+fn reference_of(alloc: Global, word: &[u8], behind: &Draft) -> Result<Ref, LineError>
+    ensures { Gives result (reference.read behind.now word.now) }
+{
+    let mut parts = Parts::new(word, b'.');
+    let Some(first) = parts.next() else {
+        return Err(LineError::In(LineFault::Label));
+    };
+    let Some(second) = parts.next() else {
+        return label_ref(alloc, first, behind);
+    };
+    if parts.is_done() {
+        own_ref(first, second, behind)
+    } else {
+        Err(LineError::In(LineFault::Number))
+    }
+}
+
+/// The rank of a fault, in the order in which faults are looked for.
+fn rank_of(fault: LineFault) -> u8
+    ensures { result ≡ rank_of fault }
+{
+    match fault {
+        LineFault::End => 0,
+        LineFault::Long => 1,
+        LineFault::Header => 2,
+        LineFault::Word => 3,
+        LineFault::Fields => 4,
+        LineFault::Number => 5,
+        LineFault::Hex => 6,
+        LineFault::Node => 7,
+        LineFault::Label => 8,
+    }
+}
+
+/// The one that is looked for first.
+fn earlier(first: LineFault, second: LineFault) -> LineFault
+    ensures { result ≡ earlier first second }
+{
+    if rank_of(first) <= rank_of(second) {
+        first
+    } else {
+        second
+    }
+}
+
+/// The references so far, and of their faults the one that is looked for first.
+#[derive(Drop)]
+struct Gathered {
+    refs: Refs,
+    fault: Option<LineFault>,
+}
+
+impl Gathered {
+    /// One reference more.
+    fn with_ref(self, reference: Ref) -> Result<Gathered, Memory>
+        ensures { IfOk result (λ g. (g.refs ≡ self.refs ++ reference ∷ []) × (g.fault ≡ self.fault)) }
+    {
+        let mut gathered = self;
+        gathered.refs.push(reference)?;
+        Ok(gathered)
+    }
+
+    /// One fault more.
+    fn with_fault(self, fault: LineFault) -> Gathered
+        ensures { (result.refs ≡ self.refs) × (result.fault ≡ first_fault self.fault fault) }
+    {
+        let fault = match self.fault {
+            None => fault,
+            Some(first) => earlier(first, fault),
+        };
+        Gathered {
+            refs: self.refs,
+            fault: Some(fault),
+        }
+    }
+
+    /// One part of the word more.
+    fn with_part(self, alloc: Global, part: &[u8], behind: &Draft) -> Result<Gathered, Memory>
+        ensures { IfOk result (λ g. GathersMore self.fault self.refs (reference.read behind.now part.now) g.fault g.refs) }
+    {
+        match reference_of(alloc, part, behind) {
+            Ok(reference) => self.with_ref(reference),
+            Err(LineError::Memory) => Err(Memory),
+            Err(LineError::In(fault)) => Ok(self.with_fault(fault)),
+        }
+    }
+
+    /// What they come to.
+    fn end(self) -> Result<Refs, LineError>
+        ensures { Gives result (gathered self.fault self.refs (Ok [])) }
+    {
+        match self.fault {
+            None => Ok(self.refs),
+            Some(fault) => Err(LineError::In(fault)),
+        }
+    }
+}
+
+/// The references between the commas of a word.
+fn all_references(alloc: Global, word: &[u8], behind: &Draft) -> Result<Refs, LineError>
+    ensures { Gives result (read_parts (reference.read behind.now) (split 44 word.now)) }
+{
+    let mut gathered = Gathered {
+        refs: Sequence::new(alloc),
+        fault: None,
+    };
+    let mut parts = Parts::new(word, b',');
+    while let Some(part) = parts.next() {
+        gathered = gathered.with_part(alloc, part, behind)?;
+    }
+    gathered.end()
+}
+
+/// The references of a word, at most so many.
+fn references_of(alloc: Global, word: &[u8], behind: &Draft, most: usize) -> Result<Refs, LineError>
+    ensures { Gives result ((references most).read behind.now word.now) }
+{
+    let refs = all_references(alloc, word, behind)?;
+    if refs.as_slice().len() <= most {
+        Ok(refs)
+    } else {
+        Err(LineError::In(LineFault::Label))
+    }
+}
+
+/// The next word of a line, as one reference or more and at most so many.
+pub fn references(
+    alloc: Global,
+    words: &mut Parts<'_>,
+    behind: &Draft,
+    most: usize,
+) -> Result<Refs, LineError>
+    ensures { Reads result words.new (next ((references most).read behind.now) words.old) }
+{
+    let word = words.word()?;
+    references_of(alloc, word, behind, most)
+}
+
+/// The next word of a line, as a reference or none.
+pub fn prev(alloc: Global, words: &mut Parts<'_>, behind: &Draft) -> Result<Option<Ref>, LineError>
+    ensures { Reads result words.new (next ((or_none reference).read behind.now) words.old) }
+{
+    let word = words.word()?;
+    if is(word, "-") {
+        return Ok(None);
+    }
+    Ok(Some(reference_of(alloc, word, behind)?))
+}
+
+/// The next word of a line, as the references of an update: none or more, and at most 1,024.
+pub fn deps(alloc: Global, words: &mut Parts<'_>, behind: &Draft) -> Result<Refs, LineError>
+    ensures { Reads result words.new (next ((or_empty (references 1024)).read behind.now) words.old) }
+{
+    let word = words.word()?;
+    if is(word, "-") {
+        return Ok(Sequence::new(alloc));
+    }
+    references_of(alloc, word, behind, MOST_ENTRIES as usize)
+}

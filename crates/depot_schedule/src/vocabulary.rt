@@ -1,0 +1,307 @@
+//! Reads the next word of a line, each kind of word by a function of its own.
+ghost use Rattle.std.specs.Prelude.{◌≡◌, ◌≤◌, ◌<◌, ◌^◌, length, Option, Some, None, Ok, IfOk};
+ghost use Rattle.depot_schedule.specs.Spelling.{is_within, number_word, is_label};
+ghost use Rattle.depot_schedule.specs.Language.{nothing, next};
+ghost use Rattle.depot_schedule.specs.Vocabulary.{number, id, correct, faulty, any_u32, seq, clock, to_million, image, hex, key, value, raw_bytes, label, new_label, made_label, update_label, signed_label, is_update, is_signed, kind, history};
+ghost use Rattle.depot_schedule.specs.Readers.{Gives, Reads};
+
+use crate::draft::Draft;
+use crate::event::HistoryWord;
+use crate::fault::{LineError, LineFault};
+use crate::label::{Label, is_label};
+use crate::parts::Parts;
+use crate::spelling::{has_length, hex_word, is, number_word};
+use crate::verb::Made;
+use depot_base::limits::{MOST_KEY, MOST_VALUE};
+use depot_base::{Bytes, Hash32, Key, Kind, NodeId, Value};
+use std::alloc::Global;
+
+/// The number from low to high that a word is.
+pub fn number_of(word: &[u8], low: u64, high: u64) -> Result<u64, LineError>
+    ensures gives { Gives result ((number low high).read nothing word.now) }
+    ensures range { IfOk result (λ n. (low ≤ n) × (n ≤ high)) }
+{
+    match number_word(word, low, high) {
+        Some(n) => Ok(n),
+        None => Err(LineError::In(LineFault::Number)),
+    }
+}
+
+/// The node whose number a word is.
+pub fn id_of(word: &[u8]) -> Result<NodeId, LineError>
+    ensures { Gives result (id.read nothing word.now) }
+{
+    let n = number_of(word, 1, 65535)?;
+    match NodeId::new(n as u16) {
+        Some(node) => Ok(node),
+        None => Err(LineError::In(LineFault::Number)),
+    }
+}
+
+/// How many leaves a tree of this height has.
+fn leaves(height: u8) -> u32
+    requires { height ≤ 12 }
+    ensures { result ≡ 2 ^ height }
+{
+    2u32.pow(height as u32)
+}
+
+/// The number of a statement that a word is.
+pub fn seq_of(word: &[u8], behind: &Draft) -> Result<u32, LineError>
+    ensures { Gives result (seq.read behind.now word.now) }
+{
+    let n = number_of(word, 0, 4_294_967_295)?;
+    if (n as u32) < leaves(behind.height()) {
+        Ok(n as u32)
+    } else {
+        Err(LineError::In(LineFault::Number))
+    }
+}
+
+/// A correct node.
+pub fn correct(words: &mut Parts<'_>, behind: &Draft) -> Result<NodeId, LineError>
+    ensures { Reads result words.new (next (correct.read behind.now) words.old) }
+{
+    let word = words.word()?;
+    let node = id_of(word)?;
+    if behind.is_correct(node) {
+        Ok(node)
+    } else {
+        Err(LineError::In(LineFault::Node))
+    }
+}
+
+/// A faulty node.
+pub fn faulty(words: &mut Parts<'_>, behind: &Draft) -> Result<NodeId, LineError>
+    ensures { Reads result words.new (next (faulty.read behind.now) words.old) }
+{
+    let word = words.word()?;
+    let node = id_of(word)?;
+    if behind.is_faulty(node) {
+        Ok(node)
+    } else {
+        Err(LineError::In(LineFault::Node))
+    }
+}
+
+/// The number of a statement, below the number of leaves.
+pub fn seq(words: &mut Parts<'_>, behind: &Draft) -> Result<u32, LineError>
+    ensures { Reads result words.new (next (seq.read behind.now) words.old) }
+{
+    let word = words.word()?;
+    seq_of(word, behind)
+}
+
+/// A clock, from 1 to `2^63 - 1`.
+pub fn clock(words: &mut Parts<'_>) -> Result<u64, LineError>
+    ensures { Reads result words.new (next (clock.read nothing) words.old) }
+{
+    let word = words.word()?;
+    number_of(word, 1, 9_223_372_036_854_775_807)
+}
+
+/// A number of 32 bits.
+pub fn any_u32(words: &mut Parts<'_>) -> Result<u32, LineError>
+    ensures { Reads result words.new (next (any_u32.read nothing) words.old) }
+{
+    let word = words.word()?;
+    let n = number_of(word, 0, 4_294_967_295)?;
+    Ok(n as u32)
+}
+
+/// A number from 1 to 1,000,000.
+pub fn to_million(words: &mut Parts<'_>) -> Result<u32, LineError>
+    ensures { Reads result words.new (next (to_million.read nothing) words.old) }
+{
+    let word = words.word()?;
+    let n = number_of(word, 1, 1_000_000)?;
+    Ok(n as u32)
+}
+
+/// The number of an image, 0, 1 or 2.
+pub fn image(words: &mut Parts<'_>) -> Result<u8, LineError>
+    ensures { Reads result words.new (next (image.read nothing) words.old) }
+{
+    let word = words.word()?;
+    match number_word(word, 0, 2) {
+        Some(n) => Ok(n as u8),
+        None => Err(LineError::In(LineFault::Label)),
+    }
+}
+
+/// So many bytes as a word is in lower-case hexadecimal.
+fn hex_of(alloc: Global, word: &[u8], low: usize, high: usize) -> Result<Bytes, LineError>
+    ensures gives { Gives result ((hex (is_within low high)).read nothing word.now) }
+    ensures range { IfOk result (λ bytes. (low ≤ length bytes) × (length bytes ≤ high)) }
+{
+    let Some(bytes) = hex_word(alloc, word)? else {
+        return Err(LineError::In(LineFault::Hex));
+    };
+    if has_length(bytes.as_slice(), low, high) {
+        Ok(bytes)
+    } else {
+        Err(LineError::In(LineFault::Hex))
+    }
+}
+
+/// A key, of 1 to 255 bytes.
+pub fn key(alloc: Global, words: &mut Parts<'_>) -> Result<Key, LineError>
+    ensures { Reads result words.new (next (key.read nothing) words.old) }
+{
+    let word = words.word()?;
+    let bytes = hex_of(alloc, word, 1, MOST_KEY)?;
+    Ok(Key::from_bytes(bytes))
+}
+
+/// A value, of at most 65,536 bytes.
+pub fn value(alloc: Global, words: &mut Parts<'_>) -> Result<Value, LineError>
+    ensures { Reads result words.new (next (value.read nothing) words.old) }
+{
+    let word = words.word()?;
+    if is(word, "-") {
+        return Ok(Value::from_bytes(Bytes::new(alloc)));
+    }
+    let bytes = hex_of(alloc, word, 1, MOST_VALUE)?;
+    Ok(Value::from_bytes(bytes))
+}
+
+/// Bytes as they are.
+pub fn raw_bytes(alloc: Global, words: &mut Parts<'_>) -> Result<Bytes, LineError>
+    ensures { Reads result words.new (next (raw_bytes.read nothing) words.old) }
+{
+    let word = words.word()?;
+    if is(word, "-") {
+        return Ok(Bytes::new(alloc));
+    }
+    let Some(bytes) = hex_word(alloc, word)? else {
+        return Err(LineError::In(LineFault::Hex));
+    };
+    if 1 <= bytes.as_slice().len() {
+        Ok(bytes)
+    } else {
+        Err(LineError::In(LineFault::Hex))
+    }
+}
+
+/// `right`, or a digest.
+pub fn history(alloc: Global, words: &mut Parts<'_>) -> Result<HistoryWord, LineError>
+    ensures { Reads result words.new (next (history.read nothing) words.old) }
+{
+    let word = words.word()?;
+    if is(word, "right") {
+        return Ok(HistoryWord::Right);
+    }
+    let bytes = hex_of(alloc, word, 32, 32)?;
+    match Hash32::from_slice(bytes.as_slice()) {
+        Some(hash) => Ok(HistoryWord::Given(hash)),
+        None => Err(LineError::In(LineFault::Hex)),
+    }
+}
+
+/// A kind of contradiction.
+pub fn kind(words: &mut Parts<'_>) -> Result<Kind, LineError>
+    ensures { Reads result words.new (next (kind.read nothing) words.old) }
+{
+    let word = words.word()?;
+    if is(word, "SameNumber") {
+        Ok(Kind::SameNumber)
+    } else if is(word, "SamePrev") {
+        Ok(Kind::SamePrev)
+    } else if is(word, "Backward") {
+        Ok(Kind::Backward)
+    } else {
+        Err(LineError::In(LineFault::Label))
+    }
+}
+
+/// The label that a word is.
+fn label_of(alloc: Global, word: &[u8]) -> Result<Label, LineError>
+    ensures { Gives result (label.read nothing word.now) }
+{
+    if !is_label(word) {
+        return Err(LineError::In(LineFault::Label));
+    }
+    match Label::new(Bytes::from_slice(alloc, word)?) {
+        Some(label) => Ok(label),
+        None => Err(LineError::In(LineFault::Label)),
+    }
+}
+
+/// Whether this is an update.
+fn is_update(made: Option<Made>) -> bool
+    ensures { result ≡ is_update made }
+{
+    match made {
+        Some(Made::Update) => true,
+        Some(Made::Voucher) => false,
+        Some(Made::Bytes) => false,
+        None => false,
+    }
+}
+
+/// Whether this is an update or a voucher.
+fn is_signed(made: Option<Made>) -> bool
+    ensures { result ≡ is_signed made }
+{
+    match made {
+        Some(Made::Update) => true,
+        Some(Made::Voucher) => true,
+        Some(Made::Bytes) => false,
+        None => false,
+    }
+}
+
+/// The label of an update that a word is.
+pub fn update_label_of(alloc: Global, word: &[u8], behind: &Draft) -> Result<Label, LineError>
+    ensures { Gives result (update_label.read behind.now word.now) }
+{
+    let label = label_of(alloc, word)?;
+    if is_update(behind.named(label.bytes())) {
+        Ok(label)
+    } else {
+        Err(LineError::In(LineFault::Label))
+    }
+}
+
+/// A label that no event before made.
+pub fn new_label(alloc: Global, words: &mut Parts<'_>, behind: &Draft) -> Result<Label, LineError>
+    ensures { Reads result words.new (next (new_label.read behind.now) words.old) }
+{
+    let word = words.word()?;
+    let label = label_of(alloc, word)?;
+    if behind.named(label.bytes()).is_none() {
+        Ok(label)
+    } else {
+        Err(LineError::In(LineFault::Label))
+    }
+}
+
+/// A label that an event before made.
+pub fn made_label(alloc: Global, words: &mut Parts<'_>, behind: &Draft) -> Result<Label, LineError>
+    ensures { Reads result words.new (next (made_label.read behind.now) words.old) }
+{
+    let word = words.word()?;
+    let label = label_of(alloc, word)?;
+    if behind.named(label.bytes()).is_some() {
+        Ok(label)
+    } else {
+        Err(LineError::In(LineFault::Label))
+    }
+}
+
+/// A label that an event before made for an update or a voucher.
+pub fn signed_label(
+    alloc: Global,
+    words: &mut Parts<'_>,
+    behind: &Draft,
+) -> Result<Label, LineError>
+    ensures { Reads result words.new (next (signed_label.read behind.now) words.old) }
+{
+    let word = words.word()?;
+    let label = label_of(alloc, word)?;
+    if is_signed(behind.named(label.bytes())) {
+        Ok(label)
+    } else {
+        Err(LineError::In(LineFault::Label))
+    }
+}
