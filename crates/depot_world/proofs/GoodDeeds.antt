@@ -1,0 +1,178 @@
+-- What the events of correct nodes do is as a world asks.
+use Rattle.std.proofs.Common.{◌≡◌, ℕ, ◌<◌, ◌≤◌, Bool, true, false, not, cond, List, [], ◌∷◌, ◌++◌, take, length, map, Option, Some, None, Result, Ok, Err, refl, sym, ap, subst, inl, inr, arith}
+use Rattle.std.specs.Str.{bytes_eq}
+use Rattle.std.proofs.Math.Seq.{take-length}
+use Rattle.depot_base.specs.Format.{whole}
+use Rattle.depot_base.specs.Sized.{IsKey, IsValue}
+use Rattle.depot_base.specs.declared.record.Record.{Record}
+use Rattle.depot_base.specs.declared.record.Record.TheVariants.{OwnPut}
+use Rattle.depot_base.specs.declared.update.Update.{Update}
+use Rattle.depot_model.specs.declared.hello.Hello.{Hello}
+use Rattle.depot_model.specs.Bundle.{Signs, Bundle, bundled, bad_hello, other_roster, sent_for, unvouched, bundle_of, bundled_within, answer_to_hello, bundle_answer}
+use Rattle.depot_model.specs.Checks.{Setting}
+use Rattle.depot_model.specs.Feeding.{feeding_from, feed_of}
+use Rattle.depot_model.specs.Hello.{hello, hello_of, text_of_hello}
+use Rattle.depot_model.specs.Journal.{accepted}
+use Rattle.depot_model.specs.Lawful.{IsLawful, is_empty}
+use Rattle.depot_model.specs.Limits.{Limit, limit_of_own, limit_of_put}
+use Rattle.depot_model.specs.Lists.{IsIn}
+use Rattle.depot_model.specs.Order.{AreLatestIn}
+use Rattle.depot_model.specs.Own.{next_own}
+use Rattle.depot_model.specs.Roster.{has_node}
+use Rattle.depot_model.specs.Texts.{hash_of_roster}
+use Rattle.depot_model.specs.Vouching.{records_of, limit_of_vouchers}
+use Rattle.depot_model.specs.World.{Correct, Read, Shown, IsRead, NeverFall, value_under}
+use Rattle.depot_model.proofs.LimitLaws.{unlimited_from}
+use Rattle.depot_model.proofs.Members.{from_map, in_pushed, all_push}
+use Rattle.depot_laws.proofs.Causes.{lawful_is_causal}
+use Rattle.depot_laws.proofs.LawfulFeeds.{feed_keeps}
+use Rattle.depot_laws.proofs.NewVouchers.{new_are_lawful}
+use Rattle.depot_laws.proofs.OwnTexts.{own_put_is_lawful}
+use Rattle.depot_laws.proofs.Tests.{all_both}
+use Rattle.depot_world.specs.Answers.{text_of_limit}
+use Rattle.depot_world.specs.Deeds.{idle, grown, text_of_put, put_by, shown_of, read_of, get_by, hello_by, bundle_with, bundle_by, fed_by, give_by, restart_by}
+use Rattle.depot_world.specs.Latest.{latest_in}
+use Rattle.depot_world.specs.Stops.{Deed}
+use Rattle.depot_world.specs.Suite.{Stage, stands_on}
+use Rattle.depot_world.proofs.OnlyBytes.{OnlyBytes, by_places}
+use Rattle.depot_world.proofs.ByteBundles.{unvouched_are_foreign, bundle_vouchers_hold, bundle_holds}
+use Rattle.depot_world.proofs.ByteFeeds.{Extends, extends_self, feed_grows}
+use Rattle.depot_world.proofs.ByteJournals.{HoldsBytes, AllHold}
+use Rattle.depot_world.proofs.ByteOwn.{only_next_own, only_own_hello}
+use Rattle.depot_world.proofs.ByteSignatures.{SignsBytes}
+use Rattle.depot_world.proofs.GoodNodes.{IsGoodNode, IsGoodDeed, read_grows}
+use Rattle.depot_world.proofs.LatestWrites.{latest_are_listed}
+
+-- an event that leaves the node as it is
+same_is_good : (stage : Stage) (c : Correct) (calls : ℕ) (answer : List ℕ) (bytes : List ℕ) → IsGoodNode stage c → OnlyBytes bytes → IsGoodDeed stage c (record { journal = c.journal; reads = c.reads; calls = calls; answer = answer; behind = []; bytes = bytes })
+same_is_good stage c calls answer bytes g only = record { grown = extends_self c.journal; lawful = g.lawful; reads = g.reads; in_order = g.in_order; holds = g.holds; bytes = only }
+
+-- an event by which the journal grows
+more_is_good : (stage : Stage) (c : Correct) (d : Deed) → IsGoodNode stage c → Extends c.journal d.journal → d.reads ≡ c.reads → IsLawful (stands_on stage c.node) d.journal → AllHold d.journal → OnlyBytes d.bytes → IsGoodDeed stage c d
+more_is_good stage c d g e same lawful holds only = record {
+  grown = e;
+  lawful = lawful;
+  reads = λ r on. read_grows c.journal d.journal r e (g.reads r (subst (λ (rs : List Read). IsIn r rs) same on));
+  in_order = subst NeverFall (sym same) g.in_order;
+  holds = holds;
+  bytes = only;
+}
+
+-- ---- puts
+
+pub put_is_good : (stage : Stage) (c : Correct) (key value : List ℕ) → IsGoodNode stage c → IsKey key → IsValue value → OnlyBytes key → OnlyBytes value → IsGoodDeed stage c (put_by (stands_on stage c.node) c key value)
+unfolding put_by limit_of_put
+put_is_good stage c key value g is_key is_value only_key only_value = by_limit (limit_of_own here J u new) refl where
+  here : Setting
+  here = stands_on stage c.node
+
+  J : List Record
+  J = c.journal
+
+  u : Update
+  u = next_own c.node J key value
+
+  new : List Record
+  new = OwnPut u value ∷ []
+
+  put_lawful : limit_of_own here J u new ≡ None → IsLawful here (J ++ new)
+  put_lawful is = let free = unlimited_from here J u new is in own_put_is_lawful here J u key value g.lawful g.begun is_key is_value refl free.fresh free.tips free.leaf free.room
+
+  by_limit : (o : Option Limit) → limit_of_own here J u new ≡ o → IsGoodDeed stage c (elim o as (λ x. Deed) [ Some limit ↦ idle c (text_of_limit limit) | None ↦ grown c (J ++ new) (text_of_put u) [] ])
+  by_limit (Some limit) is = same_is_good stage c 0 _ [] g tt
+  by_limit None is = more_is_good stage c (grown c (J ++ new) (text_of_put u) []) g (record { more = new; is = refl }) refl (put_lawful is) (all_both HoldsBytes J new g.holds ((only_next_own c.node J key value only_key, only_value), tt)) tt
+
+-- ---- reads
+
+read_is : (here : Setting) (J : List Record) (key : List ℕ) → IsLawful here J → is_empty J ≡ false → IsRead J (read_of J key)
+read_is here J key l some =
+    let whole_J : take (length J) J ≡ J = take-length J in
+    let us = latest_in key (accepted J) in
+    record {
+      begun = long J some;
+      within = omega arith;
+      latest = subst (λ (K : List Record). AreLatestIn key (accepted K) (map (λ (s : Shown). s.update) (shown_of J key))) (sym whole_J)
+          (subst (λ (vs : List Update). AreLatestIn key (accepted J) vs) (sym (updates_shown us)) (latest_are_listed key (accepted J) (lawful_is_causal here J l)));
+      values = λ s on. subst (λ (K : List Record). s.value ≡ value_under K key s.update) (sym whole_J) (told s (from_map (λ (u : Update). record { update = u; value = value_under J key u }) s us on));
+    } where
+      long : (K : List Record) → is_empty K ≡ false → 0 < length K
+      long [] e = absurd cc
+      long (r ∷ K) e = omega arith
+
+      updates_shown : (us : List Update) → map (λ (s : Shown). s.update) (map (λ (u : Update). record { update = u; value = value_under J key u }) us) ≡ us
+      updates_shown [] = refl
+      updates_shown (u ∷ us) = ap (λ (vs : List Update). u ∷ vs) (updates_shown us)
+
+      told : (s : Shown) → (u : Update) × (IsIn u (latest_in key (accepted J)) × (record { update = u; value = value_under J key u } ≡ s)) → s.value ≡ value_under J key s.update
+      told s t = subst (λ (x : Shown). x.value ≡ value_under J key x.update) t.1.1 refl
+
+-- a read that is made now falls behind none before it
+never_falls : (rs : List Read) (r : Read) → NeverFall rs → ((s : Read) → IsIn s rs → s.at ≤ r.at) → NeverFall (rs ++ r ∷ [])
+never_falls [] r falls low = (tt, tt)
+never_falls (s ∷ rs) r falls low = (all_push (λ (t : Read). s.at ≤ t.at) rs r falls.0 (low s (inl refl)), never_falls rs r falls.1 (λ t on. low t (inr on)))
+
+pub get_is_good : (stage : Stage) (c : Correct) (key : List ℕ) → IsGoodNode stage c → IsGoodDeed stage c (get_by c key)
+unfolding get_by
+get_is_good stage c key g = record {
+  grown = extends_self c.journal;
+  lawful = g.lawful;
+  reads = λ r on. elim (in_pushed r c.reads (read_of c.journal key) on) [
+    | inl old ↦ g.reads r old
+    | inr now ↦ subst (λ (x : Read). IsRead c.journal x) now (read_is (stands_on stage c.node) c.journal key g.lawful g.begun)
+  ];
+  in_order = never_falls c.reads (read_of c.journal key) g.in_order (λ s on. (g.reads s on).within);
+  holds = g.holds;
+  bytes = tt;
+}
+
+-- ---- hellos and bundles
+
+pub hello_is_good : (stage : Stage) (c : Correct) → IsGoodNode stage c → IsGoodDeed stage c (hello_by (stands_on stage c.node) c)
+unfolding hello_by
+hello_is_good stage c g = same_is_good stage c _ _ (text_of_hello (hello_of (stands_on stage c.node) c.journal)) g (only_own_hello (stands_on stage c.node) c.journal g.holds)
+
+vouched : (stage : Stage) (c : Correct) (sign : Signs) (h : Hello) → IsGoodNode stage c → limit_of_vouchers (stands_on stage c.node) c.journal (unvouched c.node c.journal (sent_for sign c.journal h)) ≡ None
+    → IsLawful (stands_on stage c.node) (c.journal ++ records_of (bundle_of c.node sign c.journal h).vouchers)
+unfolding bundle_of
+vouched stage c sign h g free = new_are_lawful (stands_on stage c.node) c.journal (unvouched c.node c.journal (sent_for sign c.journal h)) g.lawful g.begun (unvouched_are_foreign c.node sign c.journal h) free
+
+bundled_is_good : (stage : Stage) (c : Correct) (sign : Signs) (h : Hello) → IsGoodNode stage c → SignsBytes sign → limit_of_vouchers (stands_on stage c.node) c.journal (unvouched c.node c.journal (sent_for sign c.journal h)) ≡ None
+    → IsGoodDeed stage c (bundle_with c (bundled (bundle_of c.node sign c.journal h)))
+bundled_is_good stage c sign h g signs is =
+    let new = records_of (bundle_of c.node sign c.journal h).vouchers in
+    more_is_good stage c (bundle_with c (bundled (bundle_of c.node sign c.journal h))) g (record { more = new; is = refl }) refl (vouched stage c sign h g is)
+    (all_both HoldsBytes c.journal new g.holds (bundle_vouchers_hold c.node sign c.journal h)) (bundle_holds c.node sign c.journal h signs g.holds)
+
+answered_is_good : (stage : Stage) (c : Correct) (sign : Signs) (r : Result Hello ℕ) → IsGoodNode stage c → SignsBytes sign → IsGoodDeed stage c (bundle_with c (answer_to_hello (stands_on stage c.node) sign c.journal r))
+answered_is_good stage c sign (Err at) g signs = same_is_good stage c 0 _ [] g tt
+answered_is_good stage c sign (Ok h) g signs = by_tests (not (bytes_eq h.roster (hash_of_roster stage.listed))) (not (has_node stage.listed h.node)) (limit_of_vouchers here c.journal (unvouched c.node c.journal (sent_for sign c.journal h))) refl where
+  here : Setting
+  here = stands_on stage c.node
+
+  b : Bundle
+  b = bundle_of c.node sign c.journal h
+
+  by_tests : (other unknown : Bool) (o : Option Limit) → limit_of_vouchers here c.journal (unvouched c.node c.journal (sent_for sign c.journal h)) ≡ o
+      → IsGoodDeed stage c (bundle_with c (cond other (other_roster h.roster) (cond unknown (bad_hello 2) (bundled_within o b))))
+  by_tests true unknown o is = same_is_good stage c 0 _ [] g tt
+  by_tests false true o is = same_is_good stage c 0 _ [] g tt
+  by_tests false false (Some limit) is = same_is_good stage c 0 _ [] g tt
+  by_tests false false None is = bundled_is_good stage c sign h g signs is
+
+pub bundle_is_good : (stage : Stage) (c : Correct) (sign : Signs) (text : List ℕ) → IsGoodNode stage c → SignsBytes sign → IsGoodDeed stage c (bundle_by (stands_on stage c.node) sign c text)
+unfolding bundle_by bundle_answer
+bundle_is_good stage c sign text g signs = answered_is_good stage c sign (whole hello (record { at = 0; rest = text })) g signs
+
+-- ---- feeds, and starting again
+
+pub give_is_good : (stage : Stage) (c : Correct) (stream : List ℕ) → IsGoodNode stage c → OnlyBytes stream → IsGoodDeed stage c (give_by (stands_on stage c.node) c stream)
+unfolding give_by
+give_is_good stage c stream g only =
+    let here = stands_on stage c.node in
+    let f = feed_grows here c.journal stream only g.holds in
+    let kept = feed_keeps here (feeding_from c.journal) stream (by_places stream only) (record { lawful = g.lawful; some = g.begun; bytes = λ i. omega arith }) in
+    more_is_good stage c (fed_by c (feed_of here c.journal stream)) g f.grown refl kept.lawful f.holds tt
+
+pub restart_is_good : (stage : Stage) (c : Correct) → IsGoodNode stage c → IsGoodDeed stage c (restart_by c)
+unfolding restart_by
+restart_is_good stage c g = same_is_good stage c 3 _ [] g tt

@@ -1,0 +1,103 @@
+-- Each event of a schedule keeps a run that makes a world.
+use Rattle.std.proofs.Common.{◌≡◌, ℕ, List, [], ◌∷◌, ◌++◌, take, drop, Option, Some, None, Result, Ok, Err, codes, refl, subst, inl, inr}
+use Rattle.depot_base.specs.declared.proof.Proof.{Proof}
+use Rattle.depot_base.specs.declared.update.Update.{Update}
+use Rattle.depot_base.proofs.Combined.{whole_takes}
+use Rattle.depot_model.specs.Bundle.{Signs}
+use Rattle.depot_model.specs.Judgement.{first_failed_point, verdict_of}
+use Rattle.depot_model.specs.Lines.{text_of_point, text_of_verdict}
+use Rattle.depot_model.specs.Texts.{IsProof, proof}
+use Rattle.depot_model.specs.declared.judgement.JudgeError.{JudgeError}
+use Rattle.depot_model.proofs.Members.{in_pushed}
+use Rattle.depot_model.proofs.TextLaws.{proof_lawful}
+use Rattle.depot_schedule.specs.declared.event.Event.{Event}
+use Rattle.depot_schedule.specs.declared.event.Event.TheVariants as event
+use Rattle.depot_world.specs.Answers.{spaced}
+use Rattle.depot_world.specs.Deeds.{put_by, get_by, hello_by, bundle_by, give_by, restart_by}
+use Rattle.depot_world.specs.Run.{Station, Run, station_in, bytes_of, seen_with, with_station}
+use Rattle.depot_world.specs.Signing.{counted_bytes, no_reference, update_text, updated, vouched_text, proof_text, proof_in, flip_at}
+use Rattle.depot_world.specs.Stops.{Deed}
+use Rattle.depot_world.specs.Suite.{Stage, stands_on, signs_on}
+use Rattle.depot_world.specs.Transcript.{Done, armed_at, done_by_update, judged_with, done}
+use Rattle.depot_world.proofs.OnlyBytes.{OnlyBytes, by_places, only_both, only_take, only_drop}
+use Rattle.depot_world.proofs.ByteLabels.{IsByteUpdate, bytes_hold, updated_holds, none_holds, counted_holds, update_text_holds, vouched_text_holds, proof_text_holds, flip_holds}
+use Rattle.depot_world.proofs.ByteSignatures.{SignsBytes}
+use Rattle.depot_world.proofs.EventFacts.{BringsBytes}
+use Rattle.depot_world.proofs.GoodDeeds.{put_is_good, get_is_good, hello_is_good, bundle_is_good, give_is_good, restart_is_good}
+use Rattle.depot_world.proofs.GoodNodes.{IsGoodDeed}
+use Rattle.depot_world.proofs.GoodRuns.{IsGoodRun, IsJudged, found_is, station_keeps, text_keeps, seen_keeps, node_keeps}
+
+-- ---- stops
+
+armed_keeps : (stage : Stage) (run : Run) (node call image : ℕ) → IsGoodRun stage run → IsGoodRun stage (armed_at run node call image).run
+unfolding armed_at
+armed_keeps stage run node call image g = by_station (station_in run.stations node) refl where
+  by_station : (o : Option Station) → station_in run.stations node ≡ o
+      → IsGoodRun stage (elim o as (λ x. Done) [ None ↦ record { answer = []; behind = []; run = run } | Some s ↦ record { answer = codes " armed"; behind = []; run = with_station run (record { correct = s.correct; armed = Some (record { call = call; image = image }) }) } ]).run
+  by_station None none = g
+  by_station (Some s) is = station_keeps stage run (record { correct = s.correct; armed = Some (record { call = call; image = image }) }) g (g.stations s (found_is run.stations node s is).on)
+
+-- ---- faulty updates, and the judge
+
+update_keeps : (stage : Stage) (sign : Signs) (run : Run) (label value : List ℕ) (o : Option Update) → IsGoodRun stage run → SignsBytes sign → OnlyBytes value → IsByteUpdate o → IsGoodRun stage (done_by_update sign run label value o).run
+update_keeps stage sign run label value None g signs value_only only = text_keeps stage run label no_reference g none_holds
+update_keeps stage sign run label value (Some u) g signs value_only only =
+    text_keeps stage (record run { seen = seen_with run.seen (u ∷ []) }) label (update_text sign u value) (seen_keeps stage run (seen_with run.seen (u ∷ [])) g) (update_text_holds sign u value signs only value_only)
+
+verdict_keeps : (stage : Stage) (run : Run) (p : Proof) → IsGoodRun stage run → IsJudged stage p → IsGoodRun stage (record run { judged = run.judged ++ p ∷ [] })
+verdict_keeps stage run p g is = record {
+  distinct = g.distinct;
+  stations = g.stations;
+  labels = g.labels;
+  judged = λ q on. elim (in_pushed q run.judged p on) [ inl old ↦ g.judged q old | inr now ↦ subst (λ (x : Proof). IsJudged stage x) now is ];
+}
+
+read_keeps : (stage : Stage) (run : Run) (read : Result Proof ℕ) → IsGoodRun stage run → ((p : Proof) → read ≡ Ok p → IsProof p) → IsGoodRun stage (judged_with stage run read).run
+read_keeps stage run (Err at) g formed = g
+read_keeps stage run (Ok p) g formed = by_point (first_failed_point stage.suite.verifies stage.listed p) refl where
+  by_point : (o : Option JudgeError) → first_failed_point stage.suite.verifies stage.listed p ≡ o
+      → IsGoodRun stage (elim o as (λ x. Done) [ Some f ↦ record { answer = spaced (text_of_point f); behind = []; run = run } | None ↦ record { answer = spaced (text_of_verdict (verdict_of p)); behind = []; run = record run { judged = run.judged ++ p ∷ [] } } ]).run
+  by_point (Some f) is = g
+  by_point None is = verdict_keeps stage run p g (record { formed = formed p refl; judged = is })
+
+judge_keeps : (stage : Stage) (run : Run) (label : List ℕ) → IsGoodRun stage run → IsGoodRun stage (judged_with stage run (proof_in (bytes_of run label))).run
+judge_keeps stage run label g =
+    let payload = drop 5 (bytes_of run label) in
+    read_keeps stage run (proof_in (bytes_of run label)) g
+    (λ p is. (whole_takes proof _ proof_lawful (record { at = 0; rest = payload }) p (by_places payload (only_drop 5 (bytes_of run label) (bytes_hold run label g.labels))) is).0)
+
+-- ---- all events
+
+-- what is good for a node where it stands is good for the node of that number
+at_number : (stage : Stage) (s : Station) (node : ℕ) (deed : ℕ → Deed) → s.correct.node ≡ node → IsGoodDeed stage s.correct (deed s.correct.node) → IsGoodDeed stage s.correct (deed node)
+at_number stage s node deed same good = subst (λ (n : ℕ). IsGoodDeed stage s.correct (deed n)) same good
+
+-- each event, on a stage whose members sign bytes
+pub event_keeps : (stage : Stage) (run : Run) (e : Event) → ((node : ℕ) → SignsBytes (signs_on stage node)) → BringsBytes e → IsGoodRun stage run → IsGoodRun stage (done stage run e).run
+unfolding done
+event_keeps stage run (event.Put node key value) signs only g = node_keeps stage run node None (λ s. put_by (stands_on stage node) s.correct key value) g
+    (λ s same good. at_number stage s node (λ n. put_by (stands_on stage n) s.correct key value) same (put_is_good stage s.correct key value good only.0.sized only.1.sized only.0.only only.1.only))
+event_keeps stage run (event.Get node key) signs only g = node_keeps stage run node None (λ s. get_by s.correct key) g (λ s same good. get_is_good stage s.correct key good)
+event_keeps stage run (event.Hello node label) signs only g = node_keeps stage run node (Some label) (λ s. hello_by (stands_on stage node) s.correct) g
+    (λ s same good. at_number stage s node (λ n. hello_by (stands_on stage n) s.correct) same (hello_is_good stage s.correct good))
+event_keeps stage run (event.Bundle node hello label) signs only g = node_keeps stage run node (Some label) (λ s. bundle_by (stands_on stage node) (signs_on stage node) s.correct (bytes_of run hello)) g
+    (λ s same good. at_number stage s node (λ n. bundle_by (stands_on stage n) (signs_on stage node) s.correct (bytes_of run hello)) same (bundle_is_good stage s.correct (signs_on stage node) (bytes_of run hello) good (signs node)))
+event_keeps stage run (event.Give node label size) signs only g = node_keeps stage run node None (λ s. give_by (stands_on stage node) s.correct (bytes_of run label)) g
+    (λ s same good. at_number stage s node (λ n. give_by (stands_on stage n) s.correct (bytes_of run label)) same (give_is_good stage s.correct (bytes_of run label) good (bytes_hold run label g.labels)))
+event_keeps stage run (event.Restart node) signs only g = node_keeps stage run node None (λ s. restart_by s.correct) g (λ s same good. restart_is_good stage s.correct good)
+event_keeps stage run (event.Update label writer seq clock prev key value deps history) signs only g =
+    update_keeps stage (signs_on stage writer) run label value (updated (signs_on stage writer) run writer seq clock prev key value deps history) g (signs writer) only.1.0.only
+    (updated_holds (signs_on stage writer) run writer seq clock prev key value deps history only.0.only only.1.1)
+event_keeps stage run (event.Voucher label writer seq refs) signs only g = text_keeps stage run label (vouched_text (signs_on stage writer) run writer seq refs) g (vouched_text_holds (signs_on stage writer) run writer seq refs (signs writer))
+event_keeps stage run (event.Proof label kind first second) signs only g = text_keeps stage run label (proof_text run kind first second) g (proof_text_holds run kind first second g.labels)
+event_keeps stage run (event.Judge label) signs only g = judge_keeps stage run label g
+event_keeps stage run (event.Raw label bytes) signs only g = text_keeps stage run label (counted_bytes bytes) g (counted_holds bytes only)
+event_keeps stage run (event.Cut label source start count) signs only g =
+    let part = take count (drop start (bytes_of run source)) in
+    text_keeps stage run label (counted_bytes part) g (counted_holds part (only_take count (drop start (bytes_of run source)) (only_drop start (bytes_of run source) (bytes_hold run source g.labels))))
+event_keeps stage run (event.Flip label source place) signs only g =
+    text_keeps stage run label (counted_bytes (flip_at place (bytes_of run source))) g (counted_holds (flip_at place (bytes_of run source)) (flip_holds place (bytes_of run source) (bytes_hold run source g.labels)))
+event_keeps stage run (event.Join label first second) signs only g =
+    text_keeps stage run label (counted_bytes (bytes_of run first ++ bytes_of run second)) g
+    (counted_holds (bytes_of run first ++ bytes_of run second) (only_both (bytes_of run first) (bytes_of run second) (bytes_hold run first g.labels) (bytes_hold run second g.labels)))
+event_keeps stage run (event.Stop node call image) signs only g = armed_keeps stage run node call image g

@@ -1,0 +1,114 @@
+-- What is printed of answers.
+use Rattle.std.specs.Prelude.{ℕ, List, [], ◌∷◌, ◌++◌, length, Bool, true, false, Option, Some, None, codes}
+use Rattle.std.specs.Fmt.{decimal}
+use Rattle.hex.specs.Hex.{encode_lower}
+use Rattle.depot_base.specs.declared.check.Check.{Check}
+use Rattle.depot_base.specs.declared.check.Check.TheVariants as check
+use Rattle.depot_base.specs.declared.check.Full.{Full}
+use Rattle.depot_base.specs.declared.check.FullOf.{FullOf}
+use Rattle.depot_base.specs.declared.check.FullOf.TheVariants as full_of
+use Rattle.depot_model.specs.declared.bundle.Counts.{Counts}
+use Rattle.depot_model.specs.declared.bundle.Refusal.{Refusal}
+use Rattle.depot_model.specs.declared.hello.Hello.{Hello}
+use Rattle.depot_model.specs.Feeding.{Feeding, Closing, ill_formed, out_of_room, report_of}
+use Rattle.depot_model.specs.declared.bundle.Ending.{Ending}
+use Rattle.depot_model.specs.declared.bundle.Ending.TheVariants as ending
+use Rattle.depot_model.specs.Limits.{Limit, spent, tips, collides, full}
+use Rattle.depot_model.specs.Lines.{name_of_kind}
+use Rattle.depot_model.specs.World.{Shown}
+
+-- a text behind a space
+abbrev pub spaced : List ℕ → List ℕ
+spaced text = 32 ∷ text
+
+-- a name, and a number behind it
+abbrev pub numbered : List ℕ → ℕ → List ℕ
+numbered name n = name ++ spaced (decimal n)
+
+-- ---- checks
+
+-- a check by its number, its name, and what it carries where that is a number or a kind
+unfoldable pub text_of_check : Check → List ℕ
+text_of_check (check.IllFormed at) = numbered (codes "1 IllFormed") at
+text_of_check (check.UnknownWriter node) = numbered (codes "2 UnknownWriter") node
+text_of_check (check.NotMine id) = codes "3 NotMine"
+text_of_check (check.BadSignature node) = numbered (codes "4 BadSignature") node
+text_of_check (check.Missing id) = codes "5 Missing"
+text_of_check (check.WrongDep place) = numbered (codes "6 WrongDep") place
+text_of_check (check.Backward id) = codes "7 Backward"
+text_of_check (check.ClockLow id) = codes "8 ClockLow"
+text_of_check (check.ClockFar greatest) = numbered (codes "9 ClockFar") greatest
+text_of_check (check.BadHistory given right) = codes "10 BadHistory"
+text_of_check (check.Forked kept came kind) = codes "11 Forked" ++ spaced (name_of_kind kind)
+text_of_check (check.Convicted node) = numbered (codes "12 Convicted") node
+text_of_check (check.VoucherConvicted node) = numbered (codes "13 VoucherConvicted") node
+text_of_check (check.Unwanted hash) = codes "14 Unwanted"
+text_of_check check.NotContradictory = codes "15 NotContradictory"
+text_of_check check.AgainstMe = codes "16 AgainstMe"
+
+-- ---- limits
+
+abbrev pub name_of_full : FullOf → List ℕ
+name_of_full full_of.Records = codes "full records"
+name_of_full full_of.Bytes = codes "full bytes"
+name_of_full full_of.Writers = codes "full writers"
+
+-- what is full, and the number now
+abbrev pub text_of_full : Full → List ℕ
+text_of_full f = numbered (name_of_full f.what) f.number
+
+unfoldable pub text_of_limit : Limit → List ℕ
+text_of_limit (spent n) = numbered (codes "Spent") n
+text_of_limit (tips n) = numbered (codes "Tips") n
+text_of_limit (collides id) = codes "Collides"
+text_of_limit (full f) = text_of_full f
+
+-- ---- writes
+
+abbrev pub text_of_value : Option (List ℕ) → List ℕ
+text_of_value None = codes "?"
+text_of_value (Some value) = encode_lower value
+
+-- a write that a read shows: `WRITER/SEQ/CLOCK=VALUE`
+abbrev pub text_of_write : Shown → List ℕ
+text_of_write s = decimal s.update.writer ++ codes "/" ++ decimal s.update.seq ++ codes "/" ++ decimal s.update.clock ++ codes "=" ++ text_of_value s.value
+
+-- ---- hellos, bundles, reports
+
+-- how many nodes are convicted, and how many leaves and wanted values are named
+abbrev pub text_of_named : Hello → List ℕ
+text_of_named h = numbered (codes "convicted") (length h.convicted) ++ spaced (numbered (codes "leaves") (length h.leaves)) ++ spaced (numbered (codes "wanted") (length h.wanted))
+
+abbrev pub name_of_more : Bool → List ℕ
+name_of_more true = codes "more"
+name_of_more false = codes "whole"
+
+abbrev pub text_of_counts : Counts → List ℕ
+text_of_counts c = numbered (codes "proofs") c.proofs ++ spaced (numbered (codes "vouchers") c.vouchers) ++ spaced (numbered (codes "updates") c.updates) ++ spaced (numbered (codes "values") c.values)
+
+-- why a feed was closed: where no frame stands, or what is full
+abbrev pub text_of_closing : Closing → List ℕ
+text_of_closing (ill_formed at) = numbered (codes "ill-formed") at
+text_of_closing (out_of_room f) = text_of_full f
+
+-- how a stream ended that didn't close its feed
+abbrev pub text_of_ending : Ending → List ℕ
+text_of_ending ending.Closed = []
+text_of_ending ending.Whole = codes "whole"
+text_of_ending ending.More = codes "more"
+text_of_ending ending.Bare = codes "bare"
+text_of_ending (ending.Cut bytes) = numbered (codes "cut") bytes
+
+abbrev pub text_of_end : Feeding → List ℕ
+text_of_end s = elim s.closed [
+  | Some why ↦ text_of_closing why
+  | None ↦ text_of_ending (report_of s).ending
+]
+
+-- how many frames were new, known and refused, and how the stream ended
+unfoldable pub text_of_report : Feeding → List ℕ
+text_of_report s = numbered (codes "accepted") s.accepted ++ spaced (numbered (codes "known") s.known) ++ spaced (numbered (codes "refused") (length s.refused)) ++ spaced (text_of_end s)
+
+-- a refusal, on a line of its own: the number of the frame, and the check
+abbrev pub text_of_refusal : Refusal → List ℕ
+text_of_refusal r = spaced (numbered (codes "refused") r.frame ++ spaced (text_of_check r.check))

@@ -1,0 +1,99 @@
+-- What the events of correct nodes do.
+use Rattle.std.specs.Prelude.{ℕ, ◌-◌, List, [], ◌∷◌, ◌++◌, length, map, Some, None, codes}
+use Rattle.std.specs.List.{flat_map}
+use Rattle.std.specs.Fmt.{decimal}
+use Rattle.depot_base.specs.declared.record.Record.{Record}
+use Rattle.depot_base.specs.declared.record.Record.TheVariants.{OwnPut}
+use Rattle.depot_base.specs.declared.update.Update.{Update}
+use Rattle.depot_model.specs.Bundle.{Signs, BundleAnswer, bundled, bad_hello, other_roster, limited, bundle_answer, bytes_of_bundle}
+use Rattle.depot_model.specs.Checks.{Setting}
+use Rattle.depot_model.specs.Feeding.{Feeding, feed_of}
+use Rattle.depot_model.specs.Hello.{hello_of, text_of_hello}
+use Rattle.depot_model.specs.Journal.{accepted}
+use Rattle.depot_model.specs.Limits.{limit_of_put}
+use Rattle.depot_model.specs.Own.{next_own}
+use Rattle.depot_model.specs.Vouching.{records_of}
+use Rattle.depot_model.specs.World.{Correct, Read, Shown, value_under}
+use Rattle.depot_world.specs.Answers.{spaced, numbered, text_of_limit, text_of_write, text_of_named, text_of_counts, name_of_more, text_of_report, text_of_refusal}
+use Rattle.depot_world.specs.Latest.{latest_in}
+use Rattle.depot_world.specs.Stops.{Deed, calls_to_append}
+
+-- an event that leaves the node as it is
+abbrev pub idle : Correct → List ℕ → Deed
+idle c answer = record { journal = c.journal; reads = c.reads; calls = 0; answer = spaced answer; behind = []; bytes = [] }
+
+-- an event by which the journal grows to another, and which gives a label these bytes
+abbrev pub grown : Correct → List Record → List ℕ → List ℕ → Deed
+grown c longer answer bytes = record { journal = longer; reads = c.reads; calls = calls_to_append (length longer - length c.journal); answer = spaced answer; behind = []; bytes = bytes }
+
+-- ---- writing and reading
+
+-- an update's seq and clock
+abbrev pub text_of_put : Update → List ℕ
+text_of_put u = decimal u.seq ++ codes "/" ++ decimal u.clock
+
+-- a put: the next own update, unless it meets a limit
+unfoldable pub put_by : Setting → Correct → List ℕ → List ℕ → Deed
+put_by here c key value = elim (limit_of_put here c.journal key value) [
+  | Some limit ↦ idle c (text_of_limit limit)
+  | None ↦ grown c (c.journal ++ OwnPut (next_own c.node c.journal key value) value ∷ []) (text_of_put (next_own c.node c.journal key value)) []
+]
+
+-- the latest writes of a key among what a journal accepted, each with the value that is held
+abbrev pub shown_of : List Record → List ℕ → List Shown
+shown_of J key = map (λ u. record { update = u; value = value_under J key u }) (latest_in key (accepted J))
+
+-- a read of a key at the end of a journal
+abbrev pub read_of : List Record → List ℕ → Read
+read_of J key = record { at = length J; key = key; answer = shown_of J key }
+
+-- a read: it is kept, and the writes are printed, each behind a space
+unfoldable pub get_by : Correct → List ℕ → Deed
+get_by c key = record {
+  journal = c.journal;
+  reads = c.reads ++ read_of c.journal key ∷ [];
+  calls = 0;
+  answer = flat_map (λ w. spaced (text_of_write w)) (shown_of c.journal key);
+  behind = [];
+  bytes = [];
+}
+
+-- ---- telling and taking
+
+-- a hello
+unfoldable pub hello_by : Setting → Correct → Deed
+hello_by here c = grown c c.journal (text_of_named (hello_of here c.journal)) (text_of_hello (hello_of here c.journal))
+
+-- what a node answers to the bytes of a hello
+abbrev pub bundle_with : Correct → BundleAnswer → Deed
+bundle_with c (bundled b) = grown c (c.journal ++ records_of b.vouchers) (text_of_counts b.counts ++ spaced (name_of_more b.more)) (bytes_of_bundle b)
+bundle_with c (bad_hello at) = idle c (numbered (codes "IllFormed") at)
+bundle_with c (other_roster given) = idle c (codes "OtherRoster")
+bundle_with c (limited limit) = idle c (text_of_limit limit)
+
+unfoldable pub bundle_by : Setting → Signs → Correct → List ℕ → Deed
+bundle_by here sign c hello = bundle_with c (bundle_answer here sign c.journal hello)
+
+-- a node takes a stream; it doesn't matter in which pieces
+abbrev pub fed_by : Correct → Feeding → Deed
+fed_by c s = record {
+  journal = s.journal;
+  reads = c.reads;
+  calls = calls_to_append (length s.journal - length c.journal);
+  answer = spaced (text_of_report s);
+  behind = map text_of_refusal s.refused;
+  bytes = [];
+}
+
+unfoldable pub give_by : Setting → Correct → List ℕ → Deed
+give_by here c stream = fed_by c (feed_of here c.journal stream)
+
+-- ---- starting again
+
+-- how many records a journal has
+abbrev pub text_of_records : List Record → List ℕ
+text_of_records J = numbered (codes "records") (length J)
+
+-- A node is started again from its disk: a sync, a look at the file's length, and a read of its bytes.
+unfoldable pub restart_by : Correct → Deed
+restart_by c = record { journal = c.journal; reads = c.reads; calls = 3; answer = spaced (text_of_records c.journal); behind = []; bytes = [] }

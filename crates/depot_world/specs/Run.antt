@@ -1,0 +1,110 @@
+-- A run of a schedule as it stands between two events.
+use Rattle.std.specs.Prelude.{ℕ, ◌==◌, List, [], ◌∷◌, ◌++◌, map, filter, Option, Some, None, option_and_then, if◌then◌else◌}
+use Rattle.std.specs.List.{flat_map}
+use Rattle.std.specs.Option.{option_map_or}
+use Rattle.std.specs.Str.{bytes_eq}
+use Rattle.depot_base.specs.declared.update.Update.{Update}
+use Rattle.depot_base.specs.declared.statement.Signed.{Signed}
+use Rattle.depot_base.specs.declared.proof.Proof.{Proof}
+use Rattle.depot_base.specs.declared.record.Record.{Record}
+use Rattle.depot_base.specs.declared.record.Record.TheVariants.{Birth}
+use Rattle.depot_model.specs.Journal.{accepted, own, update_in, has_id}
+use Rattle.depot_model.specs.Texts.{id_of_update, hash_of_roster}
+use Rattle.depot_model.specs.World.{World, Correct}
+use Rattle.depot_schedule.specs.declared.event.Ref.{Ref}
+use Rattle.depot_schedule.specs.declared.event.Ref.TheVariants as ref
+use Rattle.depot_schedule.specs.declared.member.Member.{Member}
+use Rattle.depot_world.specs.Suite.{Stage}
+
+-- ---- what a run keeps
+
+-- A stop that waits on a node's disk: at which call from now on it falls, from 1, and which image the disk then holds.
+pub record Armed : Type 0 where
+  pub call : ℕ
+  pub image : ℕ
+
+-- a correct node at work, and the stop that waits on its disk, if one does
+pub record Station : Type 0 where
+  pub correct : Correct
+  pub armed : Option Armed
+
+-- What an event made under a label: its bytes, and the signed statement where it made one. A label whose event was refused or
+-- stopped holds no bytes.
+pub record Made : Type 0 where
+  pub label : List ℕ
+  pub bytes : List ℕ
+  pub signed : Option Signed
+
+-- The nodes in the order of their lines, the labels, the proofs that were judged with a verdict, and the updates that a right history is
+-- computed over: those that events made and those that correct nodes accepted, each id once, in the order in which they came.
+pub record Run : Type 0 where
+  pub stations : List Station
+  pub labels : List Made
+  pub judged : List Proof
+  pub seen : List Update
+
+-- a node that was just started on an empty disk
+abbrev pub born : Stage → ℕ → Station
+born stage node = record { correct = record { node = node; journal = Birth node (hash_of_roster stage.listed) ∷ []; reads = [] }; armed = None }
+
+-- the run before its first event
+unfoldable pub run_of : Stage → List Member → Run
+run_of stage members = record { stations = map (λ m. born stage m.node) (filter (λ m. m.correct) members); labels = []; judged = []; seen = [] }
+
+-- the world that a run has made so far
+unfoldable pub world_by : Stage → Run → World
+world_by stage run = record { verifies = stage.suite.verifies; listed = stage.listed; nodes = map (λ s. s.correct) run.stations; judged = run.judged }
+
+-- ---- what is found in a run
+
+-- the first station of a node
+unfoldable pub station_in : List Station → ℕ → Option Station
+station_in [] node = None
+station_in (s ∷ ss) node = if s.correct.node == node then Some s else station_in ss node
+
+-- what a label names
+unfoldable pub made_in : List Made → List ℕ → Option Made
+made_in [] label = None
+made_in (m ∷ ms) label = if bytes_eq m.label label then Some m else made_in ms label
+
+-- the bytes of a label
+abbrev pub bytes_of : Run → List ℕ → List ℕ
+bytes_of run label = option_map_or (λ m. m.bytes) (made_in run.labels label) []
+
+-- the signed statement of a label
+abbrev pub signed_of : Run → List ℕ → Option Signed
+signed_of run label = option_and_then (λ m. m.signed) (made_in run.labels label)
+
+-- the first update of a list
+abbrev pub first_update : List Update → Option Update
+first_update [] = None
+first_update (u ∷ us) = Some u
+
+-- the own update with this seq, if there is one
+abbrev pub own_update : List Record → ℕ → Option Update
+own_update J seq = first_update (filter (λ u. u.seq == seq) (flat_map update_in (own J)))
+
+-- the update that a reference names: that of a label, or the own update of a node with a seq
+unfoldable pub referred : Run → Ref → Option Update
+referred run (ref.Label label) = option_and_then (λ s. first_update (update_in s.statement)) (signed_of run label)
+referred run (ref.Own node seq) = option_and_then (λ s. own_update s.correct.journal seq) (station_in run.stations node)
+
+-- ---- how a run goes on
+
+-- updates put behind those that were seen, but for those whose id was
+unfoldable pub seen_with : List Update → List Update → List Update
+seen_with seen [] = seen
+seen_with seen (u ∷ us) = seen_with (if has_id seen (id_of_update u) then seen else seen ++ u ∷ []) us
+
+-- one more label
+abbrev pub with_label : Run → List ℕ → List ℕ → Option Signed → Run
+with_label run label bytes signed = record run { labels = run.labels ++ record { label = label; bytes = bytes; signed = signed } ∷ [] }
+
+-- a node's station in place of the one before
+unfoldable pub put_station : Station → List Station → List Station
+put_station s [] = []
+put_station s (t ∷ ts) = if t.correct.node == s.correct.node then s ∷ ts else t ∷ put_station s ts
+
+-- the run with a station as an event left it, whose accepted updates were seen
+unfoldable pub with_station : Run → Station → Run
+with_station run s = record run { stations = put_station s run.stations; seen = seen_with run.seen (accepted s.correct.journal) }

@@ -1,0 +1,127 @@
+-- What a schedule makes happen, event by event: the world and the transcript.
+use Rattle.std.specs.Prelude.{ℕ, List, [], ◌∷◌, ◌++◌, take, drop, Option, Some, None, Result, Ok, Err, codes}
+use Rattle.std.specs.List.{flat_map}
+use Rattle.depot_base.specs.declared.proof.Proof.{Proof}
+use Rattle.depot_base.specs.declared.update.Update.{Update}
+use Rattle.depot_model.specs.Bundle.{Signs}
+use Rattle.depot_model.specs.Judgement.{verdict_of}
+use Rattle.depot_model.specs.Lines.{text_of_point, text_of_verdict}
+use Rattle.depot_model.specs.World.{World}
+use Rattle.depot_schedule.specs.Language.{join}
+use Rattle.depot_schedule.specs.Schedules.{event_words}
+use Rattle.depot_schedule.specs.declared.event.Event.{Event}
+use Rattle.depot_schedule.specs.declared.event.Event.TheVariants as event
+use Rattle.depot_schedule.specs.declared.schedule.Schedule.{Schedule}
+use Rattle.depot_world.specs.Answers.{spaced}
+use Rattle.depot_world.specs.Deeds.{put_by, get_by, hello_by, bundle_by, give_by, restart_by}
+use Rattle.depot_world.specs.Run.{Run, Station, run_of, world_by, station_in, bytes_of, seen_with, with_label, with_station}
+use Rattle.depot_world.specs.Signing.{Text, no_reference, counted_bytes, updated, update_text, vouched_text, proof_text, proof_in, point_by, flip_at}
+use Rattle.depot_world.specs.Stops.{Deed, Went, went}
+use Rattle.depot_world.specs.Suite.{Stage, stage_of, stands_on, signs_on}
+
+-- an event that was done: what is printed behind the arrow, the lines behind that line, and the run after it
+pub record Done : Type 0 where
+  pub answer : List ℕ
+  pub behind : List (List ℕ)
+  pub run : Run
+
+-- ---- events of correct nodes
+
+-- what a node's event comes to, and the label that its bytes are given
+abbrev pub done_by_node : Run → Option (List ℕ) → Went → Done
+done_by_node run None w = record { answer = w.answer; behind = w.behind; run = with_station run w.station }
+done_by_node run (Some label) w = record { answer = w.answer; behind = w.behind; run = with_label (with_station run w.station) label w.bytes None }
+
+-- an event of a node, by what it does; nothing where there is no such node, which no schedule has
+unfoldable pub by_node : Run → ℕ → Option (List ℕ) → (Station → Deed) → Done
+by_node run node label deed = elim (station_in run.stations node) [
+  | None ↦ record { answer = []; behind = []; run = run }
+  | Some s ↦ done_by_node run label (went s (deed s))
+]
+
+-- a stop is set on a node's disk; one that waits there falls away
+unfoldable pub armed_at : Run → ℕ → ℕ → ℕ → Done
+armed_at run node call image = elim (station_in run.stations node) [
+  | None ↦ record { answer = []; behind = []; run = run }
+  | Some s ↦ record { answer = codes " armed"; behind = []; run = with_station run (record { correct = s.correct; armed = Some (record { call = call; image = image }) }) }
+]
+
+-- ---- events that no correct node takes part in
+
+-- a label is given what an event made
+abbrev pub done_by_text : Run → List ℕ → Text → Done
+done_by_text run label t = record { answer = spaced t.answer; behind = []; run = with_label run label t.bytes t.signed }
+
+-- a faulty node's update, which is seen from now on
+abbrev pub done_by_update : Signs → Run → List ℕ → List ℕ → Option Update → Done
+done_by_update sign run label value None = done_by_text run label no_reference
+done_by_update sign run label value (Some u) = done_by_text (record run { seen = seen_with run.seen (u ∷ []) }) label (update_text sign u value)
+
+-- a judge's answer: a point, or a verdict, whose proof was judged from now on
+abbrev pub judged_with : Stage → Run → Result Proof ℕ → Done
+judged_with stage run read = elim (point_by stage read) [
+  | Some p ↦ record { answer = spaced (text_of_point p); behind = []; run = run }
+  | None ↦ elim read [
+    | Err at ↦ record { answer = []; behind = []; run = run }
+    | Ok p ↦ record { answer = spaced (text_of_verdict (verdict_of p)); behind = []; run = record run { judged = run.judged ++ p ∷ [] } }
+  ]
+]
+
+-- ---- one event
+
+unfoldable pub done : Stage → Run → Event → Done
+done stage run (event.Put node key value) = by_node run node None (λ s. put_by (stands_on stage node) s.correct key value)
+done stage run (event.Get node key) = by_node run node None (λ s. get_by s.correct key)
+done stage run (event.Hello node label) = by_node run node (Some label) (λ s. hello_by (stands_on stage node) s.correct)
+done stage run (event.Bundle node hello label) = by_node run node (Some label) (λ s. bundle_by (stands_on stage node) (signs_on stage node) s.correct (bytes_of run hello))
+done stage run (event.Give node label size) = by_node run node None (λ s. give_by (stands_on stage node) s.correct (bytes_of run label))
+done stage run (event.Restart node) = by_node run node None (λ s. restart_by s.correct)
+done stage run (event.Update label writer seq clock prev key value deps history) =
+    done_by_update (signs_on stage writer) run label value (updated (signs_on stage writer) run writer seq clock prev key value deps history)
+done stage run (event.Voucher label writer seq refs) = done_by_text run label (vouched_text (signs_on stage writer) run writer seq refs)
+done stage run (event.Proof label kind first second) = done_by_text run label (proof_text run kind first second)
+done stage run (event.Judge label) = judged_with stage run (proof_in (bytes_of run label))
+done stage run (event.Raw label bytes) = done_by_text run label (counted_bytes bytes)
+done stage run (event.Cut label source start count) = done_by_text run label (counted_bytes (take count (drop start (bytes_of run source))))
+done stage run (event.Flip label source place) = done_by_text run label (counted_bytes (flip_at place (bytes_of run source)))
+done stage run (event.Join label first second) = done_by_text run label (counted_bytes (bytes_of run first ++ bytes_of run second))
+done stage run (event.Stop node call image) = armed_at run node call image
+
+-- ---- its lines
+
+-- how many of an event's words stand before the arrow
+abbrev pub head_count : Event → ℕ
+head_count (event.Put node key value) = 3
+head_count (event.Get node key) = 3
+head_count (event.Hello node label) = 3
+head_count (event.Bundle node hello label) = 4
+head_count (event.Give node label size) = 3
+head_count other = 2
+
+-- a line with its LF
+abbrev pub ended : List ℕ → List ℕ
+ended line = line ++ 10 ∷ []
+
+-- the lines of an event
+unfoldable pub lines_of : Event → Done → List ℕ
+lines_of e d = ended (join 32 (take (head_count e) (event_words e)) ++ codes " ->" ++ d.answer) ++ flat_map ended d.behind
+
+-- ---- all events
+
+-- the run after these events
+unfoldable pub run_after : Stage → Run → List Event → Run
+run_after stage run [] = run
+run_after stage run (e ∷ es) = run_after stage (done stage run e).run es
+
+-- what they print
+unfoldable pub printed : Stage → Run → List Event → List ℕ
+printed stage run [] = []
+printed stage run (e ∷ es) = let d = done stage run e in lines_of e d ++ printed stage d.run es
+
+-- the world that a schedule makes
+unfoldable pub world_of : Schedule → World
+world_of s = let stage = stage_of s in world_by stage (run_after stage (run_of stage s.members) s.events)
+
+-- its transcript
+unfoldable pub transcript_of : Schedule → List ℕ
+transcript_of s = let stage = stage_of s in printed stage (run_of stage s.members) s.events
