@@ -193,6 +193,3 @@ fn list_marks(table: &mut Table, statement: &Statement, id: &Hash32, place: u32)
     table.add(Mark::Prev(update.writer, update.prev), place);
     table.add(Mark::Id(*id), place);
 }
-
-#[cfg(test)]
-mod tests;

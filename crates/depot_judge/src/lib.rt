@@ -12,8 +12,6 @@
 mod contradiction;
 mod judging;
 mod making;
-#[cfg(test)]
-mod tests;
 
 pub use contradiction::{contradicts, kind_of};
 pub use depot_model::{Half, JudgeError, Verdict};

@@ -15,8 +15,6 @@
 mod plain;
 mod roster;
 mod signed;
-#[cfg(test)]
-mod tests;
 mod text;
 
 pub use depot_model::{RosterError, Scheme, Signer};

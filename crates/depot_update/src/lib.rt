@@ -13,8 +13,6 @@ mod proof;
 mod record;
 mod signed;
 mod statement;
-#[cfg(test)]
-mod tests;
 mod update;
 mod voucher;
 

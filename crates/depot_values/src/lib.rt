@@ -7,8 +7,6 @@
 //! Values are never taken out, and nothing here asks whether an update names them.
 #![tactic(auto)]
 
-#[cfg(test)]
-mod tests;
 mod values;
 
 pub use values::Values;

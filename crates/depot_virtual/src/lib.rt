@@ -167,6 +167,3 @@ pub fn one_chain_is_one_path()
     ensures started { (prevs : List (Option ℕ)) (chain : ℕ) → chain < number_of_chains prevs → (a : ℕ) × IsAt prevs a chain 0 }
     ensures counted { (prevs : List (Option ℕ)) (chain place a : ℕ) → IsAt prevs a chain place → chain < number_of_chains prevs }
 {}
-
-#[cfg(test)]
-mod tests;

@@ -102,6 +102,3 @@ fn insert_node(known: &mut IndexSet<NodeId>, node: NodeId)
 {
     let _ = known.insert(node);
 }
-
-#[cfg(test)]
-mod tests;

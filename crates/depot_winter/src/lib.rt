@@ -22,8 +22,6 @@ mod layout;
 mod leaf;
 mod scheme;
 mod signer;
-#[cfg(test)]
-mod tests;
 mod tree;
 
 pub use base16::{digits, smaller_digit};

@@ -1,9 +1,9 @@
 //! What no clause says: values that were computed apart from this crate, and that no signature verifies once a part is changed.
 ghost use Rattle.std.specs.Prelude.{◌^◌, ◌<◌, IfOk, IsTrue};
 
-use crate::{WinterScheme, WinterSigner, digits, smaller_digit};
 use depot_base::{Bytes, Hash32, Memory, PublicKey};
 use depot_model::{Scheme, Signer};
+use depot_winter::{WinterScheme, WinterSigner, digits, smaller_digit};
 use sha2::{Digest, Sha256};
 use std::alloc::{AllocError, Global};
 use std::test::Fail;

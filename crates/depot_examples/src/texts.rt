@@ -1,8 +1,9 @@
 //! Texts and offsets from outside: a worked body, and a table of faults for each format.
 ghost use Rattle.depot_model.specs.Records.{IsRecord};
 
-use crate::*;
+use crate::hex::bytes;
 use depot_base::{Bytes, Hash32, Memory, Record};
+use depot_update::*;
 use std::alloc::Global;
 use std::test::Fail;
 
@@ -44,24 +45,6 @@ const PROOF: &str = "0102 0000002a 0102 0007 00000005 0001 \
     0000002a 0102 0007 00000005 0001 \
     4444444444444444444444444444444444444444444444444444444444444444 00000002 ccdd";
 
-/// The bytes of a text in hexadecimal digits, two a byte; other characters are skipped.
-fn bytes(alloc: Global, hex: &str) -> Result<Vec<u8>, Fail> {
-    let mut out = Vec::new(alloc);
-    let mut high = None;
-    for digit in hex.bytes() {
-        let digit = match digit {
-            b'0'..=b'9' => digit - b'0',
-            b'a'..=b'f' => digit - b'a' + 10,
-            _ => continue,
-        };
-        match high.take() {
-            None => high = Some(digit),
-            Some(high) => out.push((high << 4) | digit)?,
-        }
-    }
-    Ok(out)
-}
-
 /// The same with another byte at one place.
 fn changed(alloc: Global, hex: &str, place: usize, byte: u8) -> Result<Vec<u8>, Fail> {
     let mut out = bytes(alloc, hex)?;
@@ -97,16 +80,10 @@ fn a_cut_body_goes_wrong_at_the_cut_field(rt: HostRuntime) -> Result<(), Fail> {
             _ => 88,
         };
         let cut = body.get(..n).ok_or("a shorter text")?;
-        assert_eq!(rt;
-            fault(decode_statement(rt.alloc(), cut)),
-            Some(at),
-            "{n} bytes"
-        );
-        assert_eq!(rt;
-            fault(decode_update(rt.alloc(), cut)),
-            Some(at),
-            "{n} bytes"
-        );
+        for kind in [Kind::Statement, Kind::Update] {
+            let told = fault_of(rt.alloc(), kind, cut);
+            assert_eq!(rt; told, Some(at), "{n} bytes of a {kind:?}");
+        }
     }
     body.push(0)?;
     assert_eq!(rt;
@@ -116,98 +93,100 @@ fn a_cut_body_goes_wrong_at_the_cut_field(rt: HostRuntime) -> Result<(), Fail> {
     Ok(())
 }
 
-#[test]
-fn a_faulty_field_of_an_update_is_told(rt: HostRuntime) -> Result<(), Fail> {
-    for (place, byte, at) in [
-        (0, 2, 0),
-        (1, 0, 1),
-        (1, 3, 1),
-        (3, 0, 2),
-        (15, 0, 8),
-        (48, 0, 48),
-        (83, 1, 82),
-        (86, 5, 86),
-        (89, 0, 88),
-        (89, 1, 88),
-        (89, 3, 130),
-        (131, 1, 130),
-        (171, 0x11, 130),
-        (171, 0x10, 130),
-        (87, 3, 182),
-        (87, 1, 162),
-    ] {
-        let text = changed(rt.alloc(), JOINING, place, byte)?;
-        let told = fault(decode_statement(rt.alloc(), text.as_slice()));
-        assert_eq!(rt; told, Some(at), "{byte} at {place}");
-        let told = fault(decode_update(rt.alloc(), text.as_slice()));
-        assert_eq!(rt; told, Some(at), "{byte} at {place}");
-    }
-    let text = bytes(rt.alloc(), VOUCHER)?;
-    assert_eq!(rt; fault(decode_update(rt.alloc(), text.as_slice())), Some(1));
-    Ok(())
+/// What a text is read as.
+#[derive(Clone, Copy, Debug)]
+enum Kind {
+    Statement,
+    Update,
+    Signed,
+    Proof,
 }
 
-#[test]
-fn a_faulty_field_of_a_voucher_is_told(rt: HostRuntime) -> Result<(), Fail> {
-    for (place, byte, at) in [
-        (0, 0, 0),
-        (1, 3, 1),
-        (3, 0, 2),
-        (9, 0, 8),
-        (8, 1, 8),
-        (9, 1, 42),
-        (9, 3, 74),
-        (73, 0x33, 42),
-        (73, 0x32, 42),
-    ] {
-        let text = changed(rt.alloc(), VOUCHER, place, byte)?;
-        let told = fault(decode_statement(rt.alloc(), text.as_slice()));
-        assert_eq!(rt; told, Some(at), "{byte} at {place}");
+/// The offset at which a text goes wrong.
+fn fault_of(alloc: Global, kind: Kind, text: &[u8]) -> Option<u32> {
+    match kind {
+        Kind::Statement => fault(decode_statement(alloc, text)),
+        Kind::Update => fault(decode_update(alloc, text)),
+        Kind::Signed => fault(decode_signed(alloc, text)),
+        Kind::Proof => fault(decode_proof(alloc, text)),
     }
-    Ok(())
 }
 
-#[test]
-fn a_faulty_field_of_a_signed_statement_is_told(rt: HostRuntime) -> Result<(), Fail> {
-    for (place, byte, at) in [
-        (1, 1, 0),
-        (2, 1, 4),
-        (3, 43, 46),
-        (3, 41, 14),
-        (4, 2, 4),
-        (5, 3, 5),
-        (7, 0, 6),
-        (13, 0, 12),
-        (47, 1, 46),
-        (49, 3, 50),
-        (49, 1, 51),
-    ] {
-        let text = changed(rt.alloc(), SIGNED, place, byte)?;
-        let told = fault(decode_signed(rt.alloc(), text.as_slice()));
-        assert_eq!(rt; told, Some(at), "{byte} at {place}");
-    }
-    Ok(())
-}
+/// Texts with another byte at one place, and the offset at which each goes wrong.
+static FAULTS: [(Kind, &str, usize, u8, u32); 65] = [
+    (Kind::Statement, JOINING, 0, 2, 0),
+    (Kind::Statement, JOINING, 1, 0, 1),
+    (Kind::Statement, JOINING, 1, 3, 1),
+    (Kind::Statement, JOINING, 3, 0, 2),
+    (Kind::Statement, JOINING, 15, 0, 8),
+    (Kind::Statement, JOINING, 48, 0, 48),
+    (Kind::Statement, JOINING, 83, 1, 82),
+    (Kind::Statement, JOINING, 86, 5, 86),
+    (Kind::Statement, JOINING, 89, 0, 88),
+    (Kind::Statement, JOINING, 89, 1, 88),
+    (Kind::Statement, JOINING, 89, 3, 130),
+    (Kind::Statement, JOINING, 131, 1, 130),
+    (Kind::Statement, JOINING, 171, 0x11, 130),
+    (Kind::Statement, JOINING, 171, 0x10, 130),
+    (Kind::Statement, JOINING, 87, 3, 182),
+    (Kind::Update, JOINING, 0, 2, 0),
+    (Kind::Update, JOINING, 1, 0, 1),
+    (Kind::Update, JOINING, 1, 3, 1),
+    (Kind::Update, JOINING, 3, 0, 2),
+    (Kind::Update, JOINING, 15, 0, 8),
+    (Kind::Update, JOINING, 48, 0, 48),
+    (Kind::Update, JOINING, 83, 1, 82),
+    (Kind::Update, JOINING, 86, 5, 86),
+    (Kind::Update, JOINING, 89, 0, 88),
+    (Kind::Update, JOINING, 89, 1, 88),
+    (Kind::Update, JOINING, 89, 3, 130),
+    (Kind::Update, JOINING, 131, 1, 130),
+    (Kind::Update, JOINING, 171, 0x11, 130),
+    (Kind::Update, JOINING, 171, 0x10, 130),
+    (Kind::Update, JOINING, 87, 3, 182),
+    (Kind::Update, JOINING, 87, 1, 162),
+    (Kind::Update, VOUCHER, 0, 1, 1),
+    (Kind::Statement, JOINING, 87, 1, 162),
+    (Kind::Statement, VOUCHER, 0, 0, 0),
+    (Kind::Statement, VOUCHER, 1, 3, 1),
+    (Kind::Statement, VOUCHER, 3, 0, 2),
+    (Kind::Statement, VOUCHER, 9, 0, 8),
+    (Kind::Statement, VOUCHER, 8, 1, 8),
+    (Kind::Statement, VOUCHER, 9, 1, 42),
+    (Kind::Statement, VOUCHER, 9, 3, 74),
+    (Kind::Statement, VOUCHER, 73, 0x33, 42),
+    (Kind::Statement, VOUCHER, 73, 0x32, 42),
+    (Kind::Signed, SIGNED, 1, 1, 0),
+    (Kind::Signed, SIGNED, 2, 1, 4),
+    (Kind::Signed, SIGNED, 3, 43, 46),
+    (Kind::Signed, SIGNED, 3, 41, 14),
+    (Kind::Signed, SIGNED, 4, 2, 4),
+    (Kind::Signed, SIGNED, 5, 3, 5),
+    (Kind::Signed, SIGNED, 7, 0, 6),
+    (Kind::Signed, SIGNED, 13, 0, 12),
+    (Kind::Signed, SIGNED, 47, 1, 46),
+    (Kind::Signed, SIGNED, 49, 3, 50),
+    (Kind::Signed, SIGNED, 49, 1, 51),
+    (Kind::Proof, PROOF, 0, 2, 0),
+    (Kind::Proof, PROOF, 1, 0, 1),
+    (Kind::Proof, PROOF, 1, 4, 1),
+    (Kind::Proof, PROOF, 3, 1, 2),
+    (Kind::Proof, PROOF, 4, 1, 6),
+    (Kind::Proof, PROOF, 9, 0, 8),
+    (Kind::Proof, PROOF, 49, 1, 48),
+    (Kind::Proof, PROOF, 55, 1, 54),
+    (Kind::Proof, PROOF, 56, 1, 58),
+    (Kind::Proof, PROOF, 59, 3, 59),
+    (Kind::Proof, PROOF, 103, 3, 104),
+    (Kind::Proof, PROOF, 103, 1, 105),
+];
 
 #[test]
-fn a_faulty_field_of_a_proof_is_told(rt: HostRuntime) -> Result<(), Fail> {
-    for (place, byte, at) in [
-        (0, 2, 0),
-        (1, 0, 1),
-        (1, 4, 1),
-        (3, 1, 2),
-        (4, 1, 6),
-        (9, 0, 8),
-        (49, 1, 48),
-        (55, 1, 54),
-        (56, 1, 58),
-        (59, 3, 59),
-        (103, 3, 104),
-        (103, 1, 105),
-    ] {
-        let text = changed(rt.alloc(), PROOF, place, byte)?;
-        let told = fault(decode_proof(rt.alloc(), text.as_slice()));
-        assert_eq!(rt; told, Some(at), "{byte} at {place}");
+fn a_faulty_field_is_told(rt: HostRuntime) -> Result<(), Fail> {
+    for (kind, hex, place, byte, at) in FAULTS.iter() {
+        let text = changed(rt.alloc(), hex, *place, *byte)?;
+        let told = fault_of(rt.alloc(), *kind, text.as_slice());
+        assert_eq!(rt; told, Some(*at), "{byte} at {place} of a {kind:?}");
     }
     Ok(())
 }

@@ -1,5 +1,5 @@
-use super::*;
-use depot_base::{Bytes, Ids, NodeId, Voucher};
+use depot_base::{Bytes, Hash32, Ids, NodeId, Signed, Statement, Voucher};
+use depot_fork::*;
 use std::test::Fail;
 
 // A signed statement that may be kept has the text of its statement as its body, as only a decoder gives it, and the decoders

@@ -1,4 +1,6 @@
-use super::*;
+use depot_base::{Hash32, Ids, NodeId};
+use depot_vouch::*;
+use std::alloc::Global;
 use std::test::Fail;
 
 fn ids(alloc: Global, bytes: &[u8]) -> Result<Ids, Fail> {

@@ -1,7 +1,7 @@
 ghost use Rattle.std.specs.Prelude.{◌<◌, ◌^◌, IfOk, IsTrue};
 
-use super::*;
 use depot_base::{Bytes, Hash32, Ids, Memory, NodeId, PublicKey, Signed, Statement, Voucher};
+use depot_sign::*;
 use std::alloc::Global;
 use std::process::Abort;
 use std::test::Fail;

@@ -1,4 +1,4 @@
-use super::*;
+use depot_virtual::*;
 use std::test::Fail;
 
 fn at(chain: u32, place: u32) -> Spot {

@@ -1,6 +1,6 @@
-use super::*;
 use depot_base::{Hash32, Value};
 use depot_model::Taken;
+use depot_values::*;
 use sha2::Digest;
 use std::test::Fail;
 

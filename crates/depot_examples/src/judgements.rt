@@ -1,0 +1,236 @@
+//! A fork of node 9 before a judge, by the plain scheme. The texts are made by Python's hashlib, apart from the program.
+ghost use Rattle.std.specs.Prelude.{IfOk};
+ghost use Rattle.depot_model.specs.Texts.{IsSigned};
+
+use crate::hex::bytes;
+use depot_base::{Kind, Signed};
+use depot_judge::*;
+use depot_sign::{PlainScheme, Roster};
+use depot_update::{decode_signed, encode_proof};
+use std::alloc::Global;
+use std::test::Fail;
+
+/// The roster of nodes 1 and 9, whose seeds are 31 zero bytes and the node's number.
+const ROSTER: &str =
+    "01040002000104ec4916dd28fc4c10d78e287ca5d9cc51ee1ae73cbfde08c6b37324cbfaac8bc5000904887bf140ce0b \
+    6a497ed8db5c7498a45454f0b2bd644b0313f7a82acc084d0027";
+
+/// The first write of node 9: key `k`, value `a`, no entries.
+const X: &str =
+    "000000780101000900000000000000000000000100000000000000000000000000000000000000000000000000000000 \
+    00000000016bca978112ca1bbdcafac231b39a23dc4da786eff8147c4e72b9807785afee48bb000000010000e3b0c442 \
+    98fc1c149afbf4c8996fb92427ae41e4649b934ca495991b7852b85500000020814b6a17b7c7b435aa3bd8ecdb6f5dcc \
+    636673e28273464d42e3a55d81dabc17";
+
+/// Another first write of it: a fork.
+const Y: &str =
+    "000000780101000900000001000000000000000200000000000000000000000000000000000000000000000000000000 \
+    00000000016b3e23e8160039594a33894f6564e1b1348bbd7a0088d42c4acb73eeaed59c009d000000010000e3b0c442 \
+    98fc1c149afbf4c8996fb92427ae41e4649b934ca495991b7852b85500000020a931f9245d0e9f9abed98a536803de61 \
+    12fc3efcdb6b4b76bc019afe1acc31fb";
+
+/// A write of it that comes after the first, as it should.
+const Z: &str =
+    "00000078010100090000000200000000000000036987d4efd8ae6788ff84ffb9e6078bbf49b79e3f7fdd8a0cb7b7f942 \
+    ed78d984016b2e7d2c03a9507ae265ecf5b5356885a53393a2029d241394997265a1a25aefc6000000010000e3b0c442 \
+    98fc1c149afbf4c8996fb92427ae41e4649b934ca495991b7852b8550000002027057de46ce0ffddd57407987fe0e150 \
+    bb9ca8d94b5430a9902d045cfacee1eb";
+
+/// A write of it that names the first as its prev, and goes back to its clock.
+const BACK: &str =
+    "00000078010100090000000300000000000000016987d4efd8ae6788ff84ffb9e6078bbf49b79e3f7fdd8a0cb7b7f942 \
+    ed78d984016b18ac3e7343f016890c510e93f935261169d9e3f565436429830faf0934f4f8e4000000010000e3b0c442 \
+    98fc1c149afbf4c8996fb92427ae41e4649b934ca495991b7852b85500000020540cf691421f8acd252b05f928ae182b \
+    1bcb6ea6a5567496021a6c5c0d1abab5";
+
+/// The fork once more, signed by the key of node 1.
+const FORGED: &str =
+    "000000780101000900000001000000000000000200000000000000000000000000000000000000000000000000000000 \
+    00000000016b3e23e8160039594a33894f6564e1b1348bbd7a0088d42c4acb73eeaed59c009d000000010000e3b0c442 \
+    98fc1c149afbf4c8996fb92427ae41e4649b934ca495991b7852b85500000020f2caeb9ab18765be6d1f723e30c38008 \
+    d21cc150d1269cbd8b21c0a5ca1edcea";
+
+/// A write of node 1.
+const OTHER: &str =
+    "000000780101000100000000000000000000000100000000000000000000000000000000000000000000000000000000 \
+    00000000016bca978112ca1bbdcafac231b39a23dc4da786eff8147c4e72b9807785afee48bb000000010000e3b0c442 \
+    98fc1c149afbf4c8996fb92427ae41e4649b934ca495991b7852b855000000204ddf3c553e082aa4a05f72c9600d6306 \
+    6da9b0c8b43c731e6e4ea98845bd2caa";
+
+/// A write of node 5, which the roster doesn't have.
+const UNKNOWN: &str =
+    "000000780101000500000000000000000000000100000000000000000000000000000000000000000000000000000000 \
+    00000000016bca978112ca1bbdcafac231b39a23dc4da786eff8147c4e72b9807785afee48bb000000010000e3b0c442 \
+    98fc1c149afbf4c8996fb92427ae41e4649b934ca495991b7852b85500000020741ab73e713352516e8e69a2ca56aa03 \
+    c184fa3078e517bf31451e72f0548d2c";
+
+/// The same of node 6.
+const STRANGER: &str =
+    "000000780101000600000000000000000000000100000000000000000000000000000000000000000000000000000000 \
+    00000000016bca978112ca1bbdcafac231b39a23dc4da786eff8147c4e72b9807785afee48bb000000010000e3b0c442 \
+    98fc1c149afbf4c8996fb92427ae41e4649b934ca495991b7852b855000000201699900b13326457c6202de90a537cc6 \
+    ae8e75538afc775ff48e6f0def21c5f4";
+
+/// The write of node 9 with seq 5 and clock 5.
+const FIVE: &str =
+    "000000780101000900000005000000000000000500000000000000000000000000000000000000000000000000000000 \
+    00000000016bca978112ca1bbdcafac231b39a23dc4da786eff8147c4e72b9807785afee48bb000000010000e3b0c442 \
+    98fc1c149afbf4c8996fb92427ae41e4649b934ca495991b7852b85500000020ef9a5b8ecd67e579f2ac1fe62d414876 \
+    4cdfbd2c71240a68d972928981dc3880";
+
+/// One with its seq.
+const SAME_NUMBER: &str =
+    "000000780101000900000005000000000000000600000000000000000000000000000000000000000000000000000000 \
+    00000000016b3e23e8160039594a33894f6564e1b1348bbd7a0088d42c4acb73eeaed59c009d000000010000e3b0c442 \
+    98fc1c149afbf4c8996fb92427ae41e4649b934ca495991b7852b855000000201ccfbc19b933290cbb24c3897c3cae05 \
+    5fb0deea20ccc727346cd4e2552059fe";
+
+/// One with its prev, which is none.
+const SAME_PREV: &str =
+    "000000780101000900000006000000000000000600000000000000000000000000000000000000000000000000000000 \
+    00000000016b3e23e8160039594a33894f6564e1b1348bbd7a0088d42c4acb73eeaed59c009d000000010000e3b0c442 \
+    98fc1c149afbf4c8996fb92427ae41e4649b934ca495991b7852b85500000020971c928d894e8fafc023af6b75b65030 \
+    e1fb4c07283551a3626f1a36cf9fe523";
+
+/// One that comes after it.
+const AFTER_FIVE: &str =
+    "0000007801010009000000060000000000000006902706e79eb08153a1f69102c5e3b94b4124133ce4cdc6c75a4018d2 \
+    119d9f23016b3e23e8160039594a33894f6564e1b1348bbd7a0088d42c4acb73eeaed59c009d000000010000e3b0c442 \
+    98fc1c149afbf4c8996fb92427ae41e4649b934ca495991b7852b85500000020250c05c90962acf36fd5c883052ef0ba \
+    f714e1f5ccf260ffd7c1593cbe0b6da7";
+
+/// One that comes after it, with a lower seq.
+const LOWER_SEQ: &str =
+    "0000007801010009000000040000000000000006902706e79eb08153a1f69102c5e3b94b4124133ce4cdc6c75a4018d2 \
+    119d9f23016b3e23e8160039594a33894f6564e1b1348bbd7a0088d42c4acb73eeaed59c009d000000010000e3b0c442 \
+    98fc1c149afbf4c8996fb92427ae41e4649b934ca495991b7852b85500000020365efc396f75051f1f3cd12f72cbfddd \
+    1fec3a4d218ecdef6d96d4eba787901f";
+
+/// One that comes after it, with its clock.
+const SAME_CLOCK: &str =
+    "0000007801010009000000060000000000000005902706e79eb08153a1f69102c5e3b94b4124133ce4cdc6c75a4018d2 \
+    119d9f23016b3e23e8160039594a33894f6564e1b1348bbd7a0088d42c4acb73eeaed59c009d000000010000e3b0c442 \
+    98fc1c149afbf4c8996fb92427ae41e4649b934ca495991b7852b8550000002009c42ccbadba21e0319b8d1596090ba3 \
+    2be8ce79a18eb5d0f2b847b87f8a91de";
+
+/// One of node 1 with its seq.
+const FIVE_OF_ONE: &str =
+    "000000780101000100000005000000000000000500000000000000000000000000000000000000000000000000000000 \
+    00000000016b3e23e8160039594a33894f6564e1b1348bbd7a0088d42c4acb73eeaed59c009d000000010000e3b0c442 \
+    98fc1c149afbf4c8996fb92427ae41e4649b934ca495991b7852b85500000020cae8f1c02cb81061a674a4f5a6362a1f \
+    d6626502079e72ac973451d0b6dedb62";
+
+/// A voucher of node 9 with its seq.
+const VOUCHER: &str =
+    "0000002a0102000900000005000107070707070707070707070707070707070707070707070707070707070707070000 \
+    0020b5bd667c0db3f54e6fd8849c64a5b8e45c013df782a5a0e57b34d3db93d5cb38";
+
+/// The text of a proof with this kind byte and these halves.
+fn proof(alloc: Global, kind: u8, first: &str, second: &str) -> Result<Vec<u8>, Fail> {
+    let text = format!(in alloc; "01 {kind:02x} {first} {second}")?;
+    bytes(alloc, text.as_str())
+}
+
+/// A signed statement.
+fn signed(alloc: Global, hex: &str) -> Result<Signed, Fail>
+    ensures { IfOk result IsSigned }
+{
+    Ok(decode_signed(alloc, bytes(alloc, hex)?.as_slice())?)
+}
+
+/// What the judge says of a text.
+fn judged(alloc: Global, text: &[u8]) -> Result<Result<Verdict, JudgeError>, Fail> {
+    let roster = Roster::parse(alloc, bytes(alloc, ROSTER)?.as_slice())?;
+    Ok(judge(alloc, &roster, &PlainScheme, text))
+}
+
+/// Proofs by their kind byte and their halves, and what the judge says of each.
+static CASES: [(u8, &str, &str, &str); 16] = [
+    (2, X, Y, "Ok(Verdict { node: NodeId(9), kind: SamePrev })"),
+    (
+        3,
+        X,
+        BACK,
+        "Ok(Verdict { node: NodeId(9), kind: Backward })",
+    ),
+    (2, UNKNOWN, STRANGER, "Err(UnknownWriter(NodeId(5)))"),
+    (2, FORGED, STRANGER, "Err(UnknownWriter(NodeId(6)))"),
+    (2, FORGED, FORGED, "Err(BadSignature(First))"),
+    (2, FORGED, OTHER, "Err(BadSignature(First))"),
+    (2, OTHER, FORGED, "Err(BadSignature(Second))"),
+    (2, X, FORGED, "Err(BadSignature(Second))"),
+    (2, X, OTHER, "Err(TwoWriters(NodeId(9), NodeId(1)))"),
+    (2, X, X, "Err(Same)"),
+    (1, Y, X, "Err(WrongOrder)"),
+    (2, Y, X, "Err(WrongOrder)"),
+    (1, X, Y, "Err(NotContradictory(SameNumber))"),
+    (3, X, Y, "Err(NotContradictory(Backward))"),
+    (2, X, Z, "Err(NotContradictory(SamePrev))"),
+    (3, X, Z, "Err(NotContradictory(Backward))"),
+];
+
+#[test]
+fn the_first_point_that_fails_is_told(rt: HostRuntime) -> Result<(), Fail> {
+    for (kind, first, second, said) in CASES.iter() {
+        let text = proof(rt.alloc(), *kind, first, second)?;
+        let told = judged(rt.alloc(), text.as_slice())?;
+        let told = format!(in rt.alloc(); "{told:?}")?;
+        assert_eq!(rt; told.as_str(), *said);
+    }
+    Ok(())
+}
+
+#[test]
+fn a_cut_proof_is_ill_formed(rt: HostRuntime) -> Result<(), Fail> {
+    let text = proof(rt.alloc(), 2, X, Y)?;
+    assert_eq!(rt; text.len(), 322);
+    for n in 0..322 {
+        let cut = text.get(..n).ok_or("a shorter text")?;
+        let told = judged(rt.alloc(), cut)?;
+        assert!(rt; matches!(told, Err(JudgeError::IllFormed(_))), "{n} bytes");
+    }
+    Ok(())
+}
+
+#[test]
+fn a_proof_is_made_in_order(rt: HostRuntime) -> Result<(), Fail> {
+    let x = signed(rt.alloc(), X)?;
+    let y = signed(rt.alloc(), Y)?;
+    assert!(rt; contradicts(Kind::SamePrev, &x, &y));
+    assert!(rt; contradicts(Kind::SamePrev, &y, &x));
+    let right = proof(rt.alloc(), 2, X, Y)?;
+    let made = make_proof(Kind::SamePrev, &x, &y)?;
+    assert_eq!(rt;
+        encode_proof(rt.alloc(), &made)?.as_slice(),
+        right.as_slice()
+    );
+    let turned = make_proof(Kind::SamePrev, &y, &x)?;
+    assert_eq!(rt;
+        encode_proof(rt.alloc(), &turned)?.as_slice(),
+        right.as_slice()
+    );
+    Ok(())
+}
+
+/// Statements, and the first kind in which each contradicts the write with seq 5, and that write it.
+static KINDS: [(&str, Option<Kind>); 8] = [
+    (FIVE, None),
+    (SAME_NUMBER, Some(Kind::SameNumber)),
+    (SAME_PREV, Some(Kind::SamePrev)),
+    (AFTER_FIVE, None),
+    (LOWER_SEQ, Some(Kind::Backward)),
+    (SAME_CLOCK, Some(Kind::Backward)),
+    (FIVE_OF_ONE, None),
+    (VOUCHER, Some(Kind::SameNumber)),
+];
+
+#[test]
+fn the_first_kind_is_told(rt: HostRuntime) -> Result<(), Fail> {
+    let five = signed(rt.alloc(), FIVE)?;
+    for (hex, kind) in KINDS.iter() {
+        let other = signed(rt.alloc(), hex)?;
+        assert_eq!(rt; kind_of(&five, &other), *kind);
+        assert_eq!(rt; kind_of(&other, &five), *kind);
+    }
+    Ok(())
+}
