@@ -8,3 +8,5 @@ pub mod Reading
 pub mod Statement
 pub mod Faults
 pub mod Facts
+pub mod Disk
+pub mod File

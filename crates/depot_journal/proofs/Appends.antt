@@ -2,8 +2,8 @@
 use Rattle.std.proofs.Common.{◌≡◌, ◌≤◌, inl, inr, ℕ, ◌+◌, ◌-◌, ◌*◌, ◌^◌, min, List, [], ◌∷◌, ◌++◌, length, length-append, take, drop, sym, ◌∙◌, ap, subst, arith, append-nil, take-append-drop}
 use Rattle.std.proofs.lemmas.List.{take_all}
 use Rattle.depot_base.specs.declared.limits.TheConstants.{MOST_RECORDS}
-use Rattle.depot_outside.specs.Disk.{Elapses, LeavesOnly, Only, Within}
-use Rattle.depot_journal.specs.File.{AreWithinLimits, HasFront, HasRoom, IsCutShort, IsFileOf, StandsFor, blocks, framed}
+use Rattle.depot_base.specs.Disk.{Elapses, LeavesOnly, Only, Within}
+use Rattle.depot_base.specs.File.{AreWithinLimits, HasFront, HasRoom, IsCutShort, IsFileOf, StandsFor, blocks, framed}
 use Rattle.depot_journal.specs.Steps.{FailsAt, StandsBetween, StandsTo}
 use Rattle.depot_journal.specs.View.{IsReserved}
 use Rattle.depot_journal.proofs.Blocks.{framed_long}

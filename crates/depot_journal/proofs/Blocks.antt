@@ -6,8 +6,8 @@ use Rattle.std.specs.Prelude.{Result, Ok, Err, OnOk, OnErr, IfOk, is_err, true, 
 use Rattle.std.specs.Int.{w32}
 use Rattle.depot_base.specs.Cursor.{numeral}
 use Rattle.depot_base.proofs.Numbers.{wide32}
-use Rattle.depot_outside.specs.Disk.{IsWritten}
-use Rattle.depot_journal.specs.File.{blocks, framed, closed_block}
+use Rattle.depot_base.specs.Disk.{IsWritten}
+use Rattle.depot_base.specs.File.{blocks, framed, closed_block}
 use Rattle.depot_journal.specs.Steps.{StandsTo}
 
 pub blocks_push : (bodies : List (List ℕ)) (body : List ℕ) → blocks (bodies ++ body ∷ []) ≡ blocks bodies ++ (1 ∷ framed body)

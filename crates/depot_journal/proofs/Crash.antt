@@ -2,8 +2,8 @@
 use Rattle.std.proofs.Common.{◌≡◌, ◌≢◌, ◌⊎◌, inl, inr, ⊎_elim, ℕ, ◌+◌, List, [], ◌∷◌, ◌++◌, length, get_or, take, drop, sym, ◌∙◌, ap, arith, append_assoc, length-append, take-append-drop}
 use Rattle.std.proofs.lemmas.Bool.{cases_eq}
 use Rattle.std.proofs.lemmas.List.{take_at, drop_at, drop_more}
-use Rattle.depot_outside.specs.Disk.{IsWritten, IsTorn}
-use Rattle.depot_journal.specs.File.{blocks, framed, closed_block}
+use Rattle.depot_base.specs.Disk.{IsWritten, IsTorn}
+use Rattle.depot_base.specs.File.{blocks, framed, closed_block}
 use Rattle.depot_journal.specs.Steps.{StandsTo, IsBeforeOrAfter}
 use Rattle.depot_journal.proofs.Blocks.{blocks_push}
 

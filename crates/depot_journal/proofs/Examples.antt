@@ -1,11 +1,11 @@
 -- Small journals, computed: what an append writes, what its images hold, what is damaged, and what is none of these.
 use Rattle.std.proofs.Common.{◌≡◌, ◌≤◌, ◌++◌, ◌∷◌, [], List, ℕ, length, length-append, refl, ap, inl, inr, arith}
 use Rattle.depot_base.specs.Cursor.{numeral}
-use Rattle.depot_outside.specs.Disk.{IsWritten, IsTorn}
+use Rattle.depot_base.specs.Disk.{IsWritten, IsTorn}
 use Rattle.depot_journal.proofs.Blocks.{framed_long}
 use Rattle.depot_base.specs.declared.check.FullOf.TheVariants as full_of
 use Rattle.depot_journal.proofs.OneList.{not_damaged, one_list, one_place}
-use Rattle.depot_journal.specs.File.{blocks, framed, closed_block, HasRoom, PassesLimit, StandsFor, IsFileOf, IsDamagedAt}
+use Rattle.depot_base.specs.File.{blocks, framed, closed_block, HasRoom, PassesLimit, StandsFor, IsFileOf, IsDamagedAt}
 use Rattle.depot_journal.specs.Mirrored.{IsMirror}
 
 -- a record of the byte 7: an open gate, its length as four bytes, its body

@@ -7,7 +7,7 @@ use Rattle.std.specs.Option.{option_map}
 use Rattle.depot_base.specs.Cursor.{numeral}
 use Rattle.std.specs.Int.{w32}
 use Rattle.depot_journal.specs.declared.span.Span.{Span}
-use Rattle.depot_journal.specs.File.{blocks, closed_block, framed}
+use Rattle.depot_base.specs.File.{blocks, closed_block, framed}
 use Rattle.depot_journal.specs.Mirrored.{EndWithin, IsMirror, bodies_at, cut}
 use Rattle.depot_journal.proofs.Blocks.{blocks_push, framed_long, numeral_long}
 

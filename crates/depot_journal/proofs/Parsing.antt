@@ -7,7 +7,7 @@ use Rattle.depot_journal.specs.declared.error.JournalError.{JournalError}
 use Rattle.depot_journal.specs.declared.error.JournalError.TheVariants as journal_error
 use Rattle.depot_journal.specs.declared.span.Span.{Span}
 use Rattle.depot_journal.specs.Answers.{IsDamage}
-use Rattle.depot_journal.specs.File.{IsDamagedAt, blocks, framed}
+use Rattle.depot_base.specs.File.{IsDamagedAt, blocks, framed}
 use Rattle.depot_journal.specs.Mirrored.{EndWithin, IsMirror, bodies_at, cut}
 use Rattle.depot_journal.specs.Steps.{StandsTo}
 use Rattle.depot_journal.proofs.Blocks.{blocks_push, framed_long}

@@ -1,7 +1,7 @@
 -- The records of a list that are appended one by one.
 use Rattle.std.proofs.Common.{◌≡◌, ◌<◌, ◌≤◌, ◌⊎◌, inl, inr, ℕ, ◌+◌, List, [], ◌∷◌, ◌++◌, length, length-append, take, drop, get_or, refl, sym, ◌∙◌, ap, subst, arith, append_assoc, append-nil, take-append-drop}
 use Rattle.std.proofs.lemmas.List.{take_more}
-use Rattle.depot_journal.specs.File.{StandsFor, blocks, framed}
+use Rattle.depot_base.specs.File.{StandsFor, blocks, framed}
 use Rattle.depot_journal.specs.Steps.{IsBeforeOrAfter, StandsBetween, StandsTo}
 use Rattle.depot_journal.proofs.Blocks.{one_longer}
 

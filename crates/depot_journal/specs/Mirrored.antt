@@ -1,7 +1,7 @@
 -- The records of a journal in memory: the bytes of their blocks, as they stand in the file, and where each body stands in them.
 use Rattle.std.specs.Prelude.{◌≡◌, ◌≤◌, ℕ, List, [], ◌∷◌, length, map, slice_range}
 use Rattle.depot_journal.specs.declared.span.Span.{Span}
-use Rattle.depot_journal.specs.File.{blocks}
+use Rattle.depot_base.specs.File.{blocks}
 
 -- the bytes of a span
 abbrev pub cut : List ℕ → Span → List ℕ

@@ -1,6 +1,6 @@
 -- What an append does, step by step.
 use Rattle.std.specs.Prelude.{◌≡◌, ◌≢◌, ◌⊎◌, ◌<◌, ℕ, ◌+◌, List, [], ◌∷◌, ◌++◌, ◌^◌, length, take}
-use Rattle.depot_journal.specs.File.{StandsFor, blocks, framed}
+use Rattle.depot_base.specs.File.{StandsFor, blocks, framed}
 
 -- These records stand in the file up to this offset, where a closed gate stands.
 abbrev pub StandsTo : List ℕ → List (List ℕ) → ℕ → Type 0

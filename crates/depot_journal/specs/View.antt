@@ -1,7 +1,7 @@
 -- A journal as callers see it.
 use Rattle.std.specs.Prelude.{◌≤◌, ℕ, ◌+◌, ◌-◌, ◌*◌, min, List, Bool, length, refl}
 use Rattle.std.specs.Coded.{Coded, code_by, coded×, coded_ℕ, coded_bool, coded_list}
-use Rattle.depot_journal.specs.File.{blocks}
+use Rattle.depot_base.specs.File.{blocks}
 use Rattle.depot_base.specs.declared.limits.TheConstants.{MOST_RECORDS}
 
 -- its records, its disk, whether a call on the disk has failed, and for how many more records and bytes of bodies there is memory

@@ -1,8 +1,8 @@
 //! The calls of a journal.
 ghost use Rattle.std.specs.Prelude.{◌≡◌, ◌⊎◌, ◌↔◌, ◌++◌, ◌+◌, ◌*◌, ◌<◌, ◌≤◌, ◌∷◌, [], List, ℕ, true, false, IsTrue, IsOk, OnOk, IfOk, IfErr, IsErrOf, Some, length, slice_get};
 ghost use Rattle.depot_base.specs.Faults.{HasCause};
-ghost use Rattle.depot_outside.specs.Disk.{Elapses, LeavesOnly, Only, Within};
-ghost use Rattle.depot_journal.specs.File.{AreWithinLimits, HasFront, HasRoom, IsCutShort, IsFileOf, PassesLimit, StartLeaves, blocks};
+ghost use Rattle.depot_base.specs.Disk.{Elapses, LeavesOnly, Only, Within};
+ghost use Rattle.depot_base.specs.File.{AreWithinLimits, HasFront, HasRoom, IsCutShort, IsFileOf, PassesLimit, StartLeaves, blocks};
 ghost use Rattle.depot_journal.specs.View.{Covers};
 ghost use Rattle.depot_journal.specs.Answers.{IsDamage, KeepsLimits, SaysDamaged, UnlessDisk};
 
@@ -28,9 +28,9 @@ pub struct Journal<D: Disk> {
 
 impl<D: Disk> Model for Journal<D> {
     ghost use Rattle.std.specs.Prelude.{◌≡◌, IsTrue, false, length, vec_len, vec_capacity};
-    ghost use Rattle.depot_outside.specs.Disk.{Only};
+    ghost use Rattle.depot_base.specs.Disk.{Only};
     ghost use Rattle.depot_journal.specs.View.{IsReserved, View, view_code};
-    ghost use Rattle.depot_journal.specs.File.{AreWithinLimits};
+    ghost use Rattle.depot_base.specs.File.{AreWithinLimits};
     ghost use Rattle.depot_journal.specs.Mirrored.{IsMirror, bodies_at};
     ghost use Rattle.depot_journal.specs.Steps.{StandsTo};
 

@@ -1,6 +1,6 @@
 //! Laws of the file of a journal.
 ghost use Rattle.std.specs.Prelude.{◌≡◌, List, ℕ};
-ghost use Rattle.depot_journal.specs.File.{IsDamagedAt, IsFileOf};
+ghost use Rattle.depot_base.specs.File.{IsDamagedAt, IsFileOf};
 
 /// A file has one list of records at most.
 pub fn files_have_one_list()

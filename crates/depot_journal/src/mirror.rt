@@ -1,8 +1,8 @@
 //! A disk and the records on it, in memory too.
 ghost use Rattle.std.specs.Prelude.{◌≡◌, ◌++◌, ◌+◌, ◌<◌, ◌≤◌, ◌*◌, ◌^◌, ◌∷◌, [], List, ℕ, IsTrue, IsErr, OnOk, OnErr, length, take, vec_len, vec_capacity};
 ghost use Rattle.depot_base.specs.Faults.{HasCause};
-ghost use Rattle.depot_outside.specs.Disk.{LeavesOnly, Only};
-ghost use Rattle.depot_journal.specs.File.{blocks, closed_block};
+ghost use Rattle.depot_base.specs.Disk.{LeavesOnly, Only};
+ghost use Rattle.depot_base.specs.File.{blocks, closed_block};
 ghost use Rattle.depot_journal.specs.Mirrored.{IsMirror, bodies_at};
 ghost use Rattle.depot_journal.specs.Steps.{FailsAt, IsBeforeOrAfter, StandsBetween, StandsTo};
 

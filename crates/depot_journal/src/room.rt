@@ -1,7 +1,7 @@
 //! The limits of a journal, and the memory that is found before an append.
 ghost use Rattle.std.specs.Prelude.{◌≡◌, ◌++◌, ◌+◌, ◌-◌, ◌*◌, ◌^◌, ◌≤◌, List, ℕ, OnOk, IfErr, IsOk, length, min, vec_len, vec_capacity};
-ghost use Rattle.depot_outside.specs.Disk.{Elapses, Within};
-ghost use Rattle.depot_journal.specs.File.{HasRoom, PassesLimit, blocks};
+ghost use Rattle.depot_base.specs.Disk.{Elapses, Within};
+ghost use Rattle.depot_base.specs.File.{HasRoom, PassesLimit, blocks};
 ghost use Rattle.depot_journal.specs.View.{IsReserved};
 
 use crate::mirror::Mirror;

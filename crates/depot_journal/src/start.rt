@@ -1,9 +1,9 @@
 //! A journal that is read from its disk.
 ghost use Rattle.std.specs.Prelude.{◌≡◌, ◌++◌, ◌+◌, ◌≤◌, ◌<◌, ◌∷◌, [], List, ℕ, IsTrue, IsErr, IfErr, IfOk, IsErrOf, OnOk, length, slice_range, vec_len};
 ghost use Rattle.depot_base.specs.Faults.{HasCause};
-ghost use Rattle.depot_outside.specs.Disk.{LeavesOnly, Only};
+ghost use Rattle.depot_base.specs.Disk.{LeavesOnly, Only};
 ghost use Rattle.depot_journal.specs.Answers.{IsDamage, SaysDamaged};
-ghost use Rattle.depot_journal.specs.File.{AreWithinLimits, IsFileOf, StartLeaves};
+ghost use Rattle.depot_base.specs.File.{AreWithinLimits, IsFileOf, StartLeaves};
 ghost use Rattle.depot_journal.specs.Mirrored.{IsMirror, bodies_at};
 ghost use Rattle.depot_journal.specs.Steps.{StandsTo};
 

@@ -1,8 +1,8 @@
 //! What an append does to the disk.
 ghost use Rattle.std.specs.Prelude.{◌≡◌, ◌++◌, ◌+◌, ◌<◌, ◌≤◌, ◌⊎◌, ◌^◌, ◌∷◌, [], List, ℕ, IsTrue, IsErr, OnOk, length};
 ghost use Rattle.depot_base.specs.Faults.{HasCause};
-ghost use Rattle.depot_outside.specs.Disk.{IsTorn, IsWritten, LeavesOnly, Only};
-ghost use Rattle.depot_journal.specs.File.{closed_block};
+ghost use Rattle.depot_base.specs.Disk.{IsTorn, IsWritten, LeavesOnly, Only};
+ghost use Rattle.depot_base.specs.File.{closed_block};
 ghost use Rattle.depot_journal.specs.Steps.{IsBeforeOrAfter, StandsTo};
 
 use depot_outside::{Disk, Failed};

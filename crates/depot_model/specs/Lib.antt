@@ -33,3 +33,5 @@ pub mod Codes
 pub mod TextFacts
 pub mod LawfulFacts
 pub mod Replicas
+pub mod Stops
+pub mod RecordFaults

@@ -3,7 +3,8 @@
 //! Each definition stands once, in `specs/`, over plain lists and numbers: the texts of values (`Texts`, `Records`), what an update
 //! writes and a proof shows (`Contents`), the order of updates and their latest writes (`Order`, `Items`, `History`), contradictions
 //! and judgement (`Contradictions`, `Judgement`, `Conviction`), signatures (`Plain`, `Winternitz`), rosters (`Roster`, `RosterText`),
-//! what a journal tells and which journals are lawful (`Journal`, `Checks`, `Room`, `Limits`, `Taking`, `Own`, `Vouching`, `Lawful`),
+//! what a journal tells, which journals are lawful and what is wrong with a record (`Journal`, `Checks`, `Room`, `Limits`, `Taking`,
+//! `Own`, `Vouching`, `Lawful`, `RecordFaults`), what a stop leaves of one (`Stops`),
 //! what nodes send one another (`Hello`, `Frames`, `Bundle`, `Feeding`), runs of many nodes and what is observed in them (`World`,
 //! `Chains`, `Causality`), the log of `scan` (`Log`) and printed texts (`Lines`). `Codes`, `TextFacts` and `LawfulFacts` show that
 //! having a text and being lawful are facts with one proof at most, so that types can keep them.
@@ -19,6 +20,7 @@ mod log;
 mod order;
 mod past;
 mod peer;
+mod record_fault;
 mod replica;
 mod roster;
 mod signature;
@@ -33,6 +35,7 @@ pub use log::{firsts_keep_parents_before_children, logs_are_read_in_one_way};
 pub use order::{latest_writes_are_one_list, past_is_what_precedes};
 pub use past::Past;
 pub use peer::Peer;
+pub use record_fault::RecordFault;
 pub use replica::Replica;
 pub use roster::RosterError;
 pub use signature::{Scheme, Signer};

@@ -7,8 +7,9 @@ ghost use Rattle.depot_model.specs.Hello.{convicted_nodes, wanted_of, AreLeafPla
 ghost use Rattle.depot_model.specs.Journal.{accepted, held, value_with, is_foreign};
 ghost use Rattle.depot_model.specs.Lists.{AreApart};
 ghost use Rattle.depot_model.specs.Replicas.{IsSameNode, StopsBy, KeepsDisk};
+ghost use Rattle.depot_model.specs.Stops.{Lasts};
 ghost use Rattle.depot_model.specs.Texts.{text_of_signed};
-ghost use Rattle.depot_model.specs.Vouching.{Vouches, is_mine_vouched};
+ghost use Rattle.depot_model.specs.Vouching.{Vouches, is_mine_vouched, new_vouchers, records_of};
 
 use crate::{Replica, VoucherError};
 use depot_base::{Bytes, Hash32, Ids, Items, Memory, NodeId, Nodes};
@@ -66,5 +67,6 @@ pub trait Peer: Replica {
         ensures vouches { Vouches (Self.stands self.old) (Self.records self.old) ids.now result (Self.records self.new) }
         ensures stays { IsSameNode (Self.stands self.old) (Self.stands self.new) (Self.key self.old) (Self.key self.new) (Self.signature_of self.old) (Self.signature_of self.new) }
         ensures stops { StopsBy (Self.stopped self.old) (Self.stopped self.new) (IsErrOf result VoucherError.Stopped) (IsErrOf result VoucherError.Disk) }
-        ensures disk { KeepsDisk (Self.handle self.old) (Self.handle self.new) (Self.faults self.old) (Self.faults self.new) (Self.is_faultless self.old) (Self.is_faultless self.new) (IsErrOf result VoucherError.Disk) };
+        ensures disk { KeepsDisk (Self.handle self.old) (Self.handle self.new) (Self.faults self.old) (Self.faults self.new) (Self.is_faultless self.old) (Self.is_faultless self.new) (IsErrOf result VoucherError.Disk) }
+        ensures lasts { Lasts Self.tells Self.stopped Self.records Self.moment Self.left_since Self.may_leave self.old self.new (records_of (new_vouchers (Self.stands self.old).me (Self.records self.old) ids.now)) };
 }

@@ -1,5 +1,5 @@
 //! What others see of a node's journal, and give it.
-ghost use Rattle.std.specs.Prelude.{◌≡◌, ◌<◌, ◌≤◌, ◌^◌, ℕ, List, Bool, true, false, length, map, Some, IsErrOf, slice_get};
+ghost use Rattle.std.specs.Prelude.{◌≡◌, ◌<◌, ◌≤◌, ◌^◌, ℕ, List, Bool, IsTrue, true, false, length, map, Some, IsErrOf, slice_get};
 ghost use Rattle.depot_base.specs.declared.key.PublicKey.{PublicKey};
 ghost use Rattle.depot_base.specs.declared.limits.TheConstants.{MOST_SIGNATURE};
 ghost use Rattle.depot_base.specs.declared.record.Record.{Record};
@@ -9,7 +9,8 @@ ghost use Rattle.depot_model.specs.Lawful.{IsLawful, is_empty};
 ghost use Rattle.depot_model.specs.Records.{text_of_record};
 ghost use Rattle.depot_model.specs.Replicas.{IsSameNode, StopsBy, KeepsDisk};
 ghost use Rattle.depot_model.specs.Roster.{key_of, has_node};
-ghost use Rattle.depot_model.specs.Taking.{TakesStatement, TakesProof, TakesValue};
+ghost use Rattle.depot_model.specs.Stops.{Lasts, LeavesAll};
+ghost use Rattle.depot_model.specs.Taking.{TakesStatement, TakesProof, TakesValue, as_statement, as_proof, as_value, growth_of_text};
 ghost use Rattle.depot_model.specs.Texts.{IsRoster, hash_of_roster};
 
 use crate::{Scheme, TakeError, Taken};
@@ -45,6 +46,18 @@ pub trait Replica {
     /// That disk never fails from now on. A node whose disk can't promise this leaves it out.
     ghost is_faultless: { Self → Type 0 } = { λ _. ⊥ };
 
+    /// Whether that disk tells its bytes, and with them what a stop may leave.
+    ghost tells: { Self → Bool };
+
+    /// The files that a stop at this moment may leave on it.
+    ghost may_leave: { Self → List ℕ → Type 0 };
+
+    /// This moment of it, as a number that never falls.
+    ghost moment: { Self → ℕ };
+
+    /// The files that a stop at some moment from this one on might have left.
+    ghost left_since: { Self → ℕ → List ℕ → Type 0 };
+
     /// Its own number.
     fn me(&self) -> NodeId
         ensures { result ≡ (stands self.now).me };
@@ -57,9 +70,10 @@ pub trait Replica {
     fn has_node(&self, node: NodeId) -> bool
         ensures { result ≡ has_node (stands self.now).listed node };
 
-    /// Whether it is stopped.
+    /// Whether it is stopped. Its records stand in each file that a stop may leave.
     fn is_stopped(&self) -> bool
-        ensures { result ≡ stopped self.now };
+        ensures stopped { result ≡ stopped self.now }
+        ensures stable { IsTrue (tells self.now) → LeavesAll (records self.now) (stopped self.now) (may_leave self.now) };
 
     /// How many records its journal has, 1 to 131,072.
     fn record_count(&self) -> u32
@@ -73,26 +87,29 @@ pub trait Replica {
     /// Takes the text of a signed statement of others. Known and New, the first check that fails and Full come exactly
     /// where the definition says, and the journal grows by what it says. After Memory and Full it is as before, after a
     /// refused check too, but where a fork or a step back convicts the writer. After Disk the records before the failing one
-    /// stand, and the node is stopped.
+    /// stand, and the node is stopped. A stop at any moment leaves the records from before and a front of those that are appended.
     fn take_statement(&mut self, text: &[u8]) -> Result<Taken, TakeError>
         ensures takes { TakesStatement (stands self.old) (records self.old) text.now result (records self.new) }
         ensures stays { IsSameNode (stands self.old) (stands self.new) (key self.old) (key self.new) (signature_of self.old) (signature_of self.new) }
         ensures stops { StopsBy (stopped self.old) (stopped self.new) (IsErrOf result TakeError.Stopped) (IsErrOf result TakeError.Disk) }
-        ensures disk { KeepsDisk (handle self.old) (handle self.new) (faults self.old) (faults self.new) (is_faultless self.old) (is_faultless self.new) (IsErrOf result TakeError.Disk) };
+        ensures disk { KeepsDisk (handle self.old) (handle self.new) (faults self.old) (faults self.new) (is_faultless self.old) (is_faultless self.new) (IsErrOf result TakeError.Disk) }
+        ensures lasts { Lasts tells stopped records moment left_since may_leave self.old self.new (growth_of_text (stands self.old) (records self.old) as_statement text.now) };
 
     /// The same of the text of a proof.
     fn take_proof(&mut self, text: &[u8]) -> Result<Taken, TakeError>
         ensures takes { TakesProof (stands self.old) (records self.old) text.now result (records self.new) }
         ensures stays { IsSameNode (stands self.old) (stands self.new) (key self.old) (key self.new) (signature_of self.old) (signature_of self.new) }
         ensures stops { StopsBy (stopped self.old) (stopped self.new) (IsErrOf result TakeError.Stopped) (IsErrOf result TakeError.Disk) }
-        ensures disk { KeepsDisk (handle self.old) (handle self.new) (faults self.old) (faults self.new) (is_faultless self.old) (is_faultless self.new) (IsErrOf result TakeError.Disk) };
+        ensures disk { KeepsDisk (handle self.old) (handle self.new) (faults self.old) (faults self.new) (is_faultless self.old) (is_faultless self.new) (IsErrOf result TakeError.Disk) }
+        ensures lasts { Lasts tells stopped records moment left_since may_leave self.old self.new (growth_of_text (stands self.old) (records self.old) as_proof text.now) };
 
     /// The same of a value, whose text is its bytes.
     fn take_value(&mut self, text: &[u8]) -> Result<Taken, TakeError>
         ensures takes { TakesValue (stands self.old) (records self.old) text.now result (records self.new) }
         ensures stays { IsSameNode (stands self.old) (stands self.new) (key self.old) (key self.new) (signature_of self.old) (signature_of self.new) }
         ensures stops { StopsBy (stopped self.old) (stopped self.new) (IsErrOf result TakeError.Stopped) (IsErrOf result TakeError.Disk) }
-        ensures disk { KeepsDisk (handle self.old) (handle self.new) (faults self.old) (faults self.new) (is_faultless self.old) (is_faultless self.new) (IsErrOf result TakeError.Disk) };
+        ensures disk { KeepsDisk (handle self.old) (handle self.new) (faults self.old) (faults self.new) (is_faultless self.old) (is_faultless self.new) (IsErrOf result TakeError.Disk) }
+        ensures lasts { Lasts tells stopped records moment left_since may_leave self.old self.new (growth_of_text (stands self.old) (records self.old) as_value text.now) };
 
     /// Its journal is lawful, whether it is stopped or not.
     ghost lawful: { (r : Self) → IsLawful (stands r) (records r) };
@@ -108,6 +125,9 @@ pub trait Replica {
 
     /// It verifies by its scheme.
     ghost verifies_by: { (r : Self) → (stands r).verifies ≡ Self.Of.verifies };
+
+    /// Since this moment there is no other.
+    ghost only_now: { (r : Self) (file : List ℕ) → left_since r (moment r) file → may_leave r file };
 
     /// What it signs by a leaf of its tree verifies under its key.
     ghost signs: { (r : Self) (seq : ℕ) (body : List ℕ) → seq < 2 ^ (key r).height → Self.Of.verifies (key r) seq body (signature_of r seq body) ≡ true };

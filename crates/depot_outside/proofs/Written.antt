@@ -1,7 +1,7 @@
 -- A write changes its range alone.
 use Rattle.std.proofs.Common.{◌≡◌, ℕ, ◌+◌, ◌≤◌, List, ◌++◌, length, take, drop, arith}
 use Rattle.std.proofs.lemmas.Grind.{common_steps}
-use Rattle.depot_outside.specs.Disk.{IsTorn, IsWritten}
+use Rattle.depot_base.specs.Disk.{IsTorn, IsWritten}
 
 take_written : (file bytes : List ℕ) (at : ℕ) → at ≤ length file → take at (take at file ++ bytes ++ drop (at + length bytes) file) ≡ take at file
 take_written file bytes at h = grind (arith, common_steps)

@@ -4,7 +4,7 @@
 use Rattle.std.specs.Prelude.{◌≡◌, ◌⊎◌, ℕ, ◌≤◌, List, [], ◌∷◌, length, refl, suc}
 use Rattle.std.specs.Coded.{×_prop, le_prop, Coded-set, coded_list, coded_ℕ}
 use Rattle.std.proofs.Common.{inl, inr, arith}
-use Rattle.depot_outside.specs.Disk.{IsTorn}
+use Rattle.depot_base.specs.Disk.{IsTorn}
 
 -- a write of so many bytes at an offset, and the file before it
 pub record Written : Type 0 where

@@ -1,6 +1,6 @@
 //! One file, as a journal sees it.
 ghost use Rattle.std.specs.Prelude.{◌≡◌, ◌+◌, ◌≤◌, ℕ, List, Bool, IsTrue, IfOk, OnOk, IsErr, length, slice_range};
-ghost use Rattle.depot_outside.specs.Disk.{Elapses, Follows, IsTorn, IsWritten, Only, Within};
+ghost use Rattle.depot_base.specs.Disk.{Elapses, Follows, IsTorn, IsWritten, Only, Within};
 ghost use Rattle.depot_base.specs.Faults.{HasCause};
 
 use crate::Failed;

@@ -1,6 +1,6 @@
 //! A disk in memory.
 ghost use Rattle.std.specs.Prelude.{◌≡◌, ◌+◌, ◌-◌, ◌^◌, ◌≤◌, [], true, IsTrue, length, vec_len, vec_capacity};
-ghost use Rattle.depot_outside.specs.Disk.{IsWritten, Only};
+ghost use Rattle.depot_base.specs.Disk.{IsWritten, Only};
 ghost use Rattle.depot_outside.specs.Images.{LeadTo, LeadTo-prop, counts, images_at, left_from, only, reads_as};
 
 use crate::calls::Calls;

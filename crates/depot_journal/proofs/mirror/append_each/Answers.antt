@@ -1,5 +1,5 @@
 use Rattle.std.proofs.Common.{rules, ◌≡◌, ◌⊎◌, ◌++◌, ◌+◌, ◌∷◌, [], List, ℕ, IsTrue, length, take, subst, sym, ap, refl, ◌∙◌, arith, append-nil, append_assoc, vec_len}
-use Rattle.depot_journal.specs.File.{StandsFor, blocks}
+use Rattle.depot_base.specs.File.{StandsFor, blocks}
 use Rattle.depot_journal.specs.Mirrored.{bodies_at}
 use Rattle.depot_journal.specs.Steps.{IsBeforeOrAfter, StandsBetween}
 use Rattle.depot_journal.proofs.Blocks.{on_err}

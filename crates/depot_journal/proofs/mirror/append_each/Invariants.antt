@@ -1,7 +1,7 @@
 -- The records before the next one stand on the disk, and no more room was taken than theirs.
 use Rattle.std.proofs.Common.{◌≡◌, ◌++◌, ◌+◌, ◌≤◌, ◌*◌, IsTrue, vec_len, vec_capacity, length, take}
-use Rattle.depot_outside.specs.Disk.{LeavesOnly, Only}
-use Rattle.depot_journal.specs.File.{blocks}
+use Rattle.depot_base.specs.Disk.{LeavesOnly, Only}
+use Rattle.depot_base.specs.File.{blocks}
 use Rattle.depot_journal.specs.Mirrored.{IsMirror, bodies_at}
 use Rattle.depot_journal.specs.Steps.{StandsBetween, StandsTo}
 use Rattle.depot_journal.proofs.mirror.append_each.Given as goal

@@ -1,5 +1,5 @@
 use Rattle.std.proofs.Common.{rules, ◌≡◌, ◌++◌, ◌+◌, ◌-◌, ◌∷◌, [], List, ℕ, length, take, drop, subst, sym, ap, ◌∙◌, arith, vec_len}
-use Rattle.depot_journal.specs.File.{closed_block, framed}
+use Rattle.depot_base.specs.File.{closed_block, framed}
 use Rattle.depot_journal.specs.Mirrored.{bodies_at}
 use Rattle.depot_journal.specs.Steps.{StandsTo}
 use Rattle.depot_journal.specs.declared.span.Span.{Span}

@@ -1,5 +1,5 @@
 use Rattle.std.proofs.Common.{rules, ◌≡◌, ◌++◌, ◌+◌, ◌∷◌, [], length, arith, subst, sym}
-use Rattle.depot_journal.specs.File.{framed}
+use Rattle.depot_base.specs.File.{framed}
 use Rattle.depot_journal.specs.Mirrored.{EndWithin, bodies_at}
 use Rattle.depot_journal.specs.declared.span.Span.{Span}
 use Rattle.depot_journal.proofs.Blocks.{one_more, one_longer}

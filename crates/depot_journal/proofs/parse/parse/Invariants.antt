@@ -1,7 +1,7 @@
 -- What was read, and what is left.
 use Rattle.std.proofs.Common.{◌≡◌, ◌≤◌, ◌++◌, length, vec_len}
 use Rattle.depot_base.specs.declared.limits.TheConstants.{MOST_RECORDS}
-use Rattle.depot_journal.specs.File.{blocks}
+use Rattle.depot_base.specs.File.{blocks}
 use Rattle.depot_journal.specs.Mirrored.{EndWithin, bodies_at}
 use Rattle.depot_journal.proofs.parse.parse.Given as goal
 

@@ -1,5 +1,5 @@
 use Rattle.std.proofs.Common.{rules, ◌≡◌, ◌-◌, List, ℕ, length, take, vec_len, sym, ap, ◌∙◌, subst, arith}
-use Rattle.depot_journal.specs.File.{AreWithinLimits}
+use Rattle.depot_base.specs.File.{AreWithinLimits}
 use Rattle.depot_journal.specs.Mirrored.{EndWithin, IsMirror, bodies_at}
 use Rattle.depot_journal.specs.Steps.{StandsTo}
 use Rattle.depot_journal.proofs.Parsing.{cut_bodies, cut_long, cut_mirror, damage_of, stands_in}

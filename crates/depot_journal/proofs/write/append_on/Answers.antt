@@ -1,5 +1,5 @@
 use Rattle.std.proofs.Common.{rules, ◌+◌, IsTrue, List, ℕ, subst}
-use Rattle.depot_outside.specs.Disk.{IsWritten, Only, LeavesOnly}
+use Rattle.depot_base.specs.Disk.{IsWritten, Only, LeavesOnly}
 use Rattle.depot_journal.specs.Steps.{IsBeforeOrAfter}
 use Rattle.depot_journal.proofs.Blocks.{appended, on_ok}
 use Rattle.depot_journal.proofs.Moments.{weaker, joined}

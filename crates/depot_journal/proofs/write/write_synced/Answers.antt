@@ -1,5 +1,5 @@
 use Rattle.std.proofs.Common.{◌≡◌, ◌⊎◌, inl, inr, List, ℕ, length, subst}
-use Rattle.depot_outside.specs.Disk.{IsTorn}
+use Rattle.depot_base.specs.Disk.{IsTorn}
 use Rattle.depot_journal.proofs.Moments.{started, goes_on}
 use Rattle.depot_journal.proofs.write.write_synced.Goals as goal
 

@@ -1,6 +1,6 @@
 use Rattle.std.proofs.Common.{rules, ◌≡◌, ◌++◌, ◌+◌, ◌-◌, ◌*◌, ◌≤◌, List, ℕ, IsTrue, length, length-append, sym, ap, ◌∙◌, subst, arith, refl, vec_len}
-use Rattle.depot_outside.specs.Disk.{LeavesOnly}
-use Rattle.depot_journal.specs.File.{HasFront, IsCutShort, blocks}
+use Rattle.depot_base.specs.Disk.{LeavesOnly}
+use Rattle.depot_base.specs.File.{HasFront, IsCutShort, blocks}
 use Rattle.depot_journal.specs.Mirrored.{bodies_at}
 use Rattle.depot_journal.specs.View.{View}
 use Rattle.depot_journal.proofs.Appends.{all_within, blocks_many, counted, cut_short, found, reserved_less, then_appended}

@@ -1,5 +1,5 @@
 use Rattle.std.proofs.Common.{rules, List, ℕ, ◌≡◌, length, sym, subst}
-use Rattle.depot_outside.specs.Disk.{IsTorn}
+use Rattle.depot_base.specs.Disk.{IsTorn}
 use Rattle.depot_outside.specs.Images.{Moments, LeadTo}
 use Rattle.depot_outside.proofs.Written.{written_is_torn}
 use Rattle.depot_outside.proofs.mem_disk.MemDiskDisk.write_at.Goals as goal
