@@ -1,4 +1,5 @@
 pub mod Appends
+pub mod AtRest
 pub mod Blocks
 pub mod Crash
 pub mod Examples

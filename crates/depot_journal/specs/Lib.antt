@@ -1,4 +1,5 @@
 pub mod Answers
 pub mod Mirrored
+pub mod Stable
 pub mod Steps
 pub mod View

@@ -1,10 +1,11 @@
 //! The calls of a journal.
-ghost use Rattle.std.specs.Prelude.{◌≡◌, ◌⊎◌, ◌↔◌, ◌++◌, ◌+◌, ◌*◌, ◌<◌, ◌≤◌, ◌∷◌, [], List, ℕ, true, false, IsTrue, IsOk, OnOk, IfOk, IfErr, IsErrOf, Some, length, slice_get};
+ghost use Rattle.std.specs.Prelude.{◌≡◌, ◌≢◌, ◌⊎◌, ◌↔◌, ◌++◌, ◌+◌, ◌*◌, ◌<◌, ◌≤◌, ◌∷◌, [], List, ℕ, true, false, IsTrue, IsOk, OnOk, IfOk, IfErr, IsErrOf, Some, length, slice_get};
 ghost use Rattle.depot_base.specs.Faults.{HasCause};
 ghost use Rattle.depot_base.specs.Disk.{Elapses, LeavesOnly, Only, Within};
 ghost use Rattle.depot_base.specs.File.{AreWithinLimits, HasFront, HasRoom, IsCutShort, IsFileOf, PassesLimit, StartLeaves, blocks};
 ghost use Rattle.depot_journal.specs.View.{Covers};
 ghost use Rattle.depot_journal.specs.Answers.{IsDamage, KeepsLimits, SaysDamaged, UnlessDisk};
+ghost use Rattle.depot_journal.specs.Stable.{IsStarted, LeavesAll};
 
 use crate::error::{AppendError, JournalError};
 use crate::mirror::{Mirror, append_each};
@@ -18,7 +19,8 @@ use std::marker::Model;
 /// Records on a disk, in their order. Contracts see them, the disk, whether the journal is stopped, and for how many more
 /// records and bytes of bodies memory was found.
 ///
-/// While it isn't stopped, the file of the disk has these records, and a stop leaves that file.
+/// While it isn't stopped, the file of the disk has these records, and a stop leaves that file. Once it is stopped, each file
+/// that a stop may leave has them, and behind them at most the one on which the disk failed.
 #[derive(Drop)]
 pub struct Journal<D: Disk> {
     mirror: Mirror<D>,
@@ -32,6 +34,7 @@ impl<D: Disk> Model for Journal<D> {
     ghost use Rattle.depot_journal.specs.View.{IsReserved, View, view_code};
     ghost use Rattle.depot_base.specs.File.{AreWithinLimits};
     ghost use Rattle.depot_journal.specs.Mirrored.{IsMirror, bodies_at};
+    ghost use Rattle.depot_journal.specs.Stable.{LeavesAll};
     ghost use Rattle.depot_journal.specs.Steps.{StandsTo};
 
     ghost Value = { View D };
@@ -42,7 +45,8 @@ impl<D: Disk> Model for Journal<D> {
 
     ghost invariant = { λ j. IsMirror j.mirror.bytes.items j.mirror.spans.items × AreWithinLimits (bodies_at j.mirror.bytes.items j.mirror.spans.items)
         × IsReserved j.room.records j.room.bytes (vec_len j.mirror.spans) (vec_len j.mirror.bytes) (vec_capacity j.mirror.spans) (vec_capacity j.mirror.bytes) (D.room_bytes j.mirror.disk) (D.room_calls j.mirror.disk)
-        × (j.stopped ≡ false → IsTrue (D.tells j.mirror.disk) → StandsTo (D.seen j.mirror.disk) (bodies_at j.mirror.bytes.items j.mirror.spans.items) (vec_len j.mirror.bytes) × Only (D.seen j.mirror.disk) (D.may_leave j.mirror.disk)) };
+        × (j.stopped ≡ false → IsTrue (D.tells j.mirror.disk) → StandsTo (D.seen j.mirror.disk) (bodies_at j.mirror.bytes.items j.mirror.spans.items) (vec_len j.mirror.bytes) × Only (D.seen j.mirror.disk) (D.may_leave j.mirror.disk))
+        × (IsTrue (D.tells j.mirror.disk) → LeavesAll (bodies_at j.mirror.bytes.items j.mirror.spans.items) j.stopped (D.may_leave j.mirror.disk)) };
 }
 
 impl<D: Disk> Journal<D> {
@@ -62,9 +66,17 @@ impl<D: Disk> Journal<D> {
         &self.mirror.bytes[span.start as usize..span.end as usize]
     }
 
+    /// How many bytes the file has up to its closed gate, with that gate.
+    pub fn size(&self) -> u32
+        ensures { result ≡ 1 + length (blocks self.now.records) }
+    {
+        self.mirror.bytes.len() as u32 + 1
+    }
+
     /// Whether an append failed on the disk. The journal then touches the disk no more; it is started again from it.
     pub fn is_stopped(&self) -> bool
-        ensures { result ≡ self.now.is_stopped }
+        ensures stopped { result ≡ self.now.is_stopped }
+        ensures stable { IsTrue (D.tells self.now.disk) → LeavesAll self.now.records self.now.is_stopped (D.may_leave self.now.disk) }
     {
         self.stopped
     }
@@ -114,11 +126,18 @@ impl<D: Disk> Journal<D> {
 
 impl<D: Disk> Journal<D> {
     /// Appends records. Memory and limits are settled for all of them before the first write; where memory was found for them
-    /// before, none is wanting. After `Disk` the records before the failing one are stable, the failing one may be, and the
-    /// journal is stopped.
+    /// before, none is wanting.
+    ///
+    /// After `Memory` and `Full` the records, the file and what a stop may leave are as before, and the memory that was found
+    /// before is kept. After `Disk` the records before the failing one are stable, the failing one may be, and the journal is
+    /// stopped. After `Stopped` nothing has changed.
     pub fn append_all(&mut self, texts: &[Bytes]) -> Result<(), AppendError>
         ensures ok { OnOk result (self.new.records ≡ self.old.records ++ texts.now) }
         ensures unchanged { UnlessDisk result ((self.new.records ≡ self.old.records) × (self.new.is_stopped ≡ self.old.is_stopped)) }
+        ensures seen { UnlessDisk result (D.seen self.new.disk ≡ D.seen self.old.disk) }
+        ensures images { UnlessDisk result (Within (D.may_leave self.old.disk) (D.may_leave self.new.disk)) }
+        ensures records_kept { UnlessDisk result (self.old.room_records ≤ self.new.room_records) }
+        ensures bytes_kept { UnlessDisk result (self.old.room_bytes ≤ self.new.room_bytes) }
         ensures disk { IsErrOf result AppendError.Disk → IsCutShort self.old.records texts.now self.new.records (IsTrue (D.tells self.old.disk)) (D.may_leave self.new.disk) }
         ensures running { OnOk result (self.new.is_stopped ≡ false) }
         ensures stops { IsErrOf result AppendError.Disk → self.new.is_stopped ≡ true }
@@ -131,6 +150,8 @@ impl<D: Disk> Journal<D> {
         ensures tells { D.tells self.new.disk ≡ D.tells self.old.disk }
         ensures file { IsTrue (D.tells self.old.disk) → self.new.is_stopped ≡ false → IsFileOf (D.seen self.new.disk) self.new.records }
         ensures stable { IsTrue (D.tells self.old.disk) → self.new.is_stopped ≡ false → Only (D.seen self.new.disk) (D.may_leave self.new.disk) }
+        // Whatever was answered, a stop leaves all records of the journal.
+        ensures stands { IsTrue (D.tells self.old.disk) → LeavesAll self.new.records self.new.is_stopped (D.may_leave self.new.disk) }
         // A stop at any moment leaves the records from before the call, and then a front of the new ones.
         ensures any_moment { IsTrue (D.tells self.old.disk) → self.old.is_stopped ≡ false → LeavesOnly D.moment D.left_since self.old.disk self.new.disk (HasFront self.old.records texts.now) }
         ensures untouched { self.old.is_stopped ≡ true → self.new.disk ≡ self.old.disk }
@@ -172,7 +193,8 @@ impl<D: Disk> Journal<D> {
 impl<D: Disk> Journal<D> {
     /// Reads the records of a disk, which it syncs first. A file of at most one byte has none, and gets a closed gate.
     ///
-    /// `Damaged` comes exactly where the file is damaged, with the offset; the file then reads as before. Of a file that is
+    /// A file of more bytes stays as it is. `Damaged` comes exactly where the file is damaged, with the offset. After it and
+    /// after `Memory` the file reads as before, and after `Disk` as one that a stop in the call may leave. Of a file that is
     /// longer than a journal may be its first bytes alone are read.
     pub fn start(alloc: Global, disk: D) -> Result<Journal<D>, Back<JournalError, D>>
         ensures running { IfOk result (λ j. j.is_stopped ≡ false) }
@@ -181,9 +203,11 @@ impl<D: Disk> Journal<D> {
         ensures file { IfOk result (λ j. IsTrue (D.tells disk) → IsFileOf (D.seen j.disk) j.records) }
         ensures within { IfOk result (λ j. AreWithinLimits j.records) }
         ensures stable { IfOk result (λ j. IsTrue (D.tells disk) → Only (D.seen j.disk) (D.may_leave j.disk)) }
+        ensures started { IfOk result (λ j. IsTrue (D.tells disk) → IsStarted (D.seen disk) (D.seen j.disk)) }
 
         ensures damaged { IfErr result (λ b. IsTrue (D.tells disk) → IsDamage (D.seen disk) b.error) }
         ensures unchanged { IfErr result (λ b. SaysDamaged b.error → D.seen b.disk ≡ D.seen disk) }
+        ensures kept { IfErr result (λ b. b.error ≢ JournalError.Disk → D.seen b.disk ≡ D.seen disk) }
         ensures cause { IfErr result (λ b. HasCause (D.faults disk) (D.faults b.disk) (b.error ≡ JournalError.Disk)) }
         ensures calm { IfOk result (λ j. D.faults j.disk ≡ D.faults disk) }
 

@@ -1,6 +1,7 @@
 //! Laws of the file of a journal.
-ghost use Rattle.std.specs.Prelude.{◌≡◌, List, ℕ};
-ghost use Rattle.depot_base.specs.File.{IsDamagedAt, IsFileOf};
+ghost use Rattle.std.specs.Prelude.{◌≡◌, ◌++◌, [], List, ℕ, Bool, false};
+ghost use Rattle.depot_base.specs.File.{AreWithinLimits, IsDamagedAt, IsFileOf, StandsFor};
+ghost use Rattle.depot_journal.specs.Stable.{HasAllOf};
 
 /// A file has one list of records at most.
 pub fn files_have_one_list()
@@ -15,4 +16,17 @@ pub fn good_files_are_undamaged()
 /// A file is damaged at one place at most.
 pub fn damage_has_one_place()
     ensures { (file : List ℕ) (at place : ℕ) → IsDamagedAt file at → IsDamagedAt file place → at ≡ place }
+{}
+
+/// A file in which records stand, within the limits, isn't damaged, and is read as these records.
+pub fn standing_records_are_read()
+    ensures undamaged { (file : List ℕ) (records : List (List ℕ)) (at : ℕ) → StandsFor file records → AreWithinLimits records → IsDamagedAt file at → ⊥ }
+    ensures read { (file : List ℕ) (records read : List (List ℕ)) → StandsFor file records → AreWithinLimits records → IsFileOf file read → read ≡ records }
+{}
+
+/// A file that a stop leaves of a journal isn't damaged, and is read as all its records, and behind them at most what the
+/// disk failed on. So a later start answers these.
+pub fn what_a_stop_leaves_is_read()
+    ensures undamaged { (records : List (List ℕ)) (stopped : Bool) (file : List ℕ) (at : ℕ) → HasAllOf records stopped file → IsDamagedAt file at → ⊥ }
+    ensures read { (records read : List (List ℕ)) (stopped : Bool) (file : List ℕ) → HasAllOf records stopped file → IsFileOf file read → (more : List (List ℕ)) × (read ≡ records ++ more) × (stopped ≡ false → more ≡ []) }
 {}

@@ -24,4 +24,7 @@ mod write;
 
 pub use error::{AppendError, JournalError};
 pub use journal::Journal;
-pub use laws::{damage_has_one_place, files_have_one_list, good_files_are_undamaged};
+pub use laws::{
+    damage_has_one_place, files_have_one_list, good_files_are_undamaged, standing_records_are_read,
+    what_a_stop_leaves_is_read,
+};

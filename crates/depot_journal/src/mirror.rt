@@ -20,7 +20,7 @@ pub struct Mirror<D: Disk> {
 }
 
 /// Adds a record's block with its gate open, and the closed gate behind it. There is room for it.
-#[tactic(auto, unfolding(crate::specs::File::framed, depot_base::specs::Cursor::numeral))]
+#[tactic(auto, unfolding(depot_base::specs::File::framed, depot_base::specs::Cursor::numeral))]
 fn put_block(bytes: &mut Vec<u8>, text: &[u8])
     requires room { vec_len bytes.old + (6 + length text.now) ≤ vec_capacity bytes.old }
     requires short { length text.now < 2 ^ 32 }

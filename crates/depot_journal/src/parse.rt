@@ -18,7 +18,7 @@ pub struct Parsed {
 }
 
 /// The body of the record at the front, and what follows it, where a whole record stands there behind an open gate.
-#[tactic(auto, unfolding(crate::specs::File::framed, depot_base::specs::Cursor::numeral))]
+#[tactic(auto, unfolding(depot_base::specs::File::framed, depot_base::specs::Cursor::numeral))]
 fn split_record(rest: &[u8]) -> Option<(&[u8], &[u8])>
     ensures record { IfSome result (λ p. rest.now ≡ 1 ∷ (framed p.0.now ++ p.1.now)) }
     ensures gate { IfSome result (λ p. 1 ≤ length p.1.now) }

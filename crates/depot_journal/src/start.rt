@@ -1,10 +1,11 @@
 //! A journal that is read from its disk.
-ghost use Rattle.std.specs.Prelude.{◌≡◌, ◌++◌, ◌+◌, ◌≤◌, ◌<◌, ◌∷◌, [], List, ℕ, IsTrue, IsErr, IfErr, IfOk, IsErrOf, OnOk, length, slice_range, vec_len};
+ghost use Rattle.std.specs.Prelude.{◌≡◌, ◌≢◌, ◌++◌, ◌+◌, ◌≤◌, ◌<◌, ◌∷◌, [], List, ℕ, IsTrue, IsErr, IfErr, IfOk, IsErrOf, OnOk, length, slice_range, vec_len};
 ghost use Rattle.depot_base.specs.Faults.{HasCause};
 ghost use Rattle.depot_base.specs.Disk.{LeavesOnly, Only};
 ghost use Rattle.depot_journal.specs.Answers.{IsDamage, SaysDamaged};
 ghost use Rattle.depot_base.specs.File.{AreWithinLimits, IsFileOf, StartLeaves};
 ghost use Rattle.depot_journal.specs.Mirrored.{IsMirror, bodies_at};
+ghost use Rattle.depot_journal.specs.Stable.{IsStarted};
 ghost use Rattle.depot_journal.specs.Steps.{StandsTo};
 
 use crate::error::JournalError;
@@ -41,6 +42,7 @@ fn settle<D: Disk>(disk: &mut D) -> Result<u64, JournalError>
     ensures handle { D.handle disk.new ≡ D.handle disk.old }
     ensures tells { D.tells disk.new ≡ D.tells disk.old }
     ensures damaged { IfErr result (λ e. SaysDamaged e → ⊥) }
+    ensures unchanged { IfErr result (λ e. e ≢ JournalError.Disk → D.seen disk.new ≡ D.seen disk.old) }
     ensures cause { HasCause (D.faults disk.old) (D.faults disk.new) (IsErrOf result JournalError.Disk) }
     ensures faultless { D.is_faultless disk.old → D.is_faultless disk.new × (D.faults disk.new ≡ D.faults disk.old) }
 {
@@ -74,7 +76,7 @@ fn read_records<D: Disk>(alloc: Global, disk: &mut D, size: u64) -> Result<Found
     ensures stands { IfOk result (λ f. IsTrue (D.tells disk.old) → StandsTo (D.seen disk.old) (bodies_at f.bytes.items f.spans.items) (vec_len f.bytes)) }
     ensures seen { OnOk result (D.seen disk.new ≡ D.seen disk.old) }
     ensures damaged { IfErr result (λ e. IsTrue (D.tells disk.old) → IsDamage (D.seen disk.old) e) }
-    ensures unchanged { IfErr result (λ e. SaysDamaged e → D.seen disk.new ≡ D.seen disk.old) }
+    ensures unchanged { IfErr result (λ e. e ≢ JournalError.Disk → D.seen disk.new ≡ D.seen disk.old) }
     ensures stable { (file : List ℕ) → Only file (D.may_leave disk.old) → Only file (D.may_leave disk.new) }
     ensures any_moment { LeavesOnly D.moment D.left_since disk.old disk.new (D.may_leave disk.old) }
     ensures handle { D.handle disk.new ≡ D.handle disk.old }
@@ -101,9 +103,10 @@ pub fn start_on<D: Disk>(alloc: Global, disk: &mut D) -> Result<Found, JournalEr
     ensures within { IfOk result (λ f. AreWithinLimits (bodies_at f.bytes.items f.spans.items)) }
     ensures stands { IfOk result (λ f. IsTrue (D.tells disk.old) → StandsTo (D.seen disk.new) (bodies_at f.bytes.items f.spans.items) (vec_len f.bytes)) }
     ensures stable { OnOk result (IsTrue (D.tells disk.old) → Only (D.seen disk.new) (D.may_leave disk.new)) }
+    ensures started { OnOk result (IsTrue (D.tells disk.old) → IsStarted (D.seen disk.old) (D.seen disk.new)) }
     ensures file { IfOk result (λ f. IsTrue (D.tells disk.old) → IsFileOf (D.seen disk.old) (bodies_at f.bytes.items f.spans.items)) }
     ensures damaged { IfErr result (λ e. IsTrue (D.tells disk.old) → IsDamage (D.seen disk.old) e) }
-    ensures unchanged { IfErr result (λ e. SaysDamaged e → D.seen disk.new ≡ D.seen disk.old) }
+    ensures unchanged { IfErr result (λ e. e ≢ JournalError.Disk → D.seen disk.new ≡ D.seen disk.old) }
     ensures any_moment { IsTrue (D.tells disk.old) → LeavesOnly D.moment D.left_since disk.old disk.new (StartLeaves (D.may_leave disk.old) (D.seen disk.old)) }
     ensures handle { D.handle disk.new ≡ D.handle disk.old }
     ensures tells { D.tells disk.new ≡ D.tells disk.old }

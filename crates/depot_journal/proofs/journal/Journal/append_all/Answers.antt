@@ -1,9 +1,11 @@
-use Rattle.std.proofs.Common.{rules, ◌≡◌, ◌++◌, ◌+◌, ◌-◌, ◌*◌, ◌≤◌, List, ℕ, IsTrue, length, length-append, sym, ap, ◌∙◌, subst, arith, refl, vec_len}
+use Rattle.std.proofs.Common.{rules, inr, ◌≡◌, ◌++◌, ◌+◌, ◌-◌, ◌*◌, ◌≤◌, List, ℕ, IsTrue, length, length-append, sym, ap, ◌∙◌, subst, arith, refl, vec_len, false}
 use Rattle.depot_base.specs.Disk.{LeavesOnly}
-use Rattle.depot_base.specs.File.{HasFront, IsCutShort, blocks}
+use Rattle.depot_base.specs.File.{AreWithinLimits, HasFront, IsCutShort, blocks}
 use Rattle.depot_journal.specs.Mirrored.{bodies_at}
 use Rattle.depot_journal.specs.View.{View}
-use Rattle.depot_journal.proofs.Appends.{all_within, blocks_many, counted, cut_short, found, reserved_less, then_appended}
+use Rattle.depot_journal.proofs.Appends.{all_within, blocks_many, counted, cut_short, found, front_within, reserved_less, then_appended}
+use Rattle.depot_journal.proofs.AtRest.{one_more_at_most, rests}
+use Rattle.depot_journal.proofs.Walk.{stands_of}
 use Rattle.depot_journal.proofs.Blocks.{if_err, if_not_err}
 use Rattle.depot_journal.proofs.Mirrors.{bodies_many}
 use Rattle.depot_journal.proofs.journal.Journal.append_all.Goals as goal
@@ -105,4 +107,68 @@ invariant_of-self-2 g c =
       all_within held c.args.texts.now _ _ _ room refl exact is,
       reserved_less _ _ _ _ _ _ _ _ (length c.args.texts.now) _ _ _ _ _ _ _ c.find_room.ensures.reserved few small fits now_many (omega (arith, did.long, exact, least)) did.spans_left did.bytes_left (omega (arith, did.room_left, exact, least)) did.calls_left,
       λ running told. search rules,
+      λ told. rests (g.D.Disk.seen new.disk) (bodies_at new.bytes.items new.spans.items) (vec_len new.bytes) false (g.D.Disk.may_leave new.disk) (search rules) (all_within held c.args.texts.now _ _ _ room refl exact is) (search rules),
     )
+
+pub invariant_of-self-then-is_err-2 : goal.invariant_of-self-then-is_err-2
+invariant_of-self-then-is_err-2 g c =
+    let held = bodies_at c.self.inside.mirror.bytes.items c.self.inside.mirror.spans.items in
+    let many : c.count.result ≡ length held = search rules in
+    let whole : vec_len c.self.inside.mirror.bytes ≡ length (blocks held) = c.self.inside.mirror.bytes.ok.0 ∙ ap length c.self.invariant.0.parts in
+    let room = c.in_default.ensures.room held many (c.len.ensures ∙ whole) in
+    let exact : c.bytes_of-long.result ≡ length (blocks c.args.texts.now) = counted held c.args.texts.now _ _ room c.bytes_of-long.ensures in
+    let at = bodies_at c.find_room.new.mirror.bytes.items c.find_room.new.mirror.spans.items in
+    let same : at ≡ held = ap (λ (l : List ℕ). bodies_at l c.find_room.new.mirror.spans.items) c.find_room.ensures.bytes_same ∙ ap (bodies_at c.self.inside.mirror.bytes.items) c.find_room.ensures.spans_same in
+    let new = c.append_each.new.mirror in
+    let fails = if_err c.append_each.result _ (sym c.is_err-2.ensures.value ∙ c.if-is_err-2.true) c.append_each.ensures.fails in
+    let cut = cut_short held at c.args.texts.now (bodies_at new.bytes.items new.spans.items) (IsTrue (g.D.Disk.tells c.find_room.new.mirror.disk)) (IsTrue (g.D.Disk.tells new.disk))
+    (λ told. subst IsTrue c.append_each.ensures.tells told) (g.D.Disk.may_leave new.disk) _ _ room refl exact same fails in (
+      search rules,
+      subst AreWithinLimits (sym cut.front) (front_within held c.args.texts.now cut.count _ _ room refl exact),
+      search rules,
+      λ running told. search rules,
+      λ told. one_more_at_most held c.args.texts.now (bodies_at new.bytes.items new.spans.items) _ (g.D.Disk.may_leave new.disk) cut told,
+    )
+
+pub returns-then-is_err-2-clause-stands : goal.returns-then-is_err-2-clause-stands
+returns-then-is_err-2-clause-stands g c = λ told.
+    let held = bodies_at c.self.inside.mirror.bytes.items c.self.inside.mirror.spans.items in
+    let many : c.count.result ≡ length held = search rules in
+    let whole : vec_len c.self.inside.mirror.bytes ≡ length (blocks held) = c.self.inside.mirror.bytes.ok.0 ∙ ap length c.self.invariant.0.parts in
+    let room = c.in_default.ensures.room held many (c.len.ensures ∙ whole) in
+    let exact : c.bytes_of-long.result ≡ length (blocks c.args.texts.now) = counted held c.args.texts.now _ _ room c.bytes_of-long.ensures in
+    let at = bodies_at c.find_room.new.mirror.bytes.items c.find_room.new.mirror.spans.items in
+    let same : at ≡ held = ap (λ (l : List ℕ). bodies_at l c.find_room.new.mirror.spans.items) c.find_room.ensures.bytes_same ∙ ap (bodies_at c.self.inside.mirror.bytes.items) c.find_room.ensures.spans_same in
+    let new = c.append_each.new.mirror in
+    let fails = if_err c.append_each.result _ (sym c.is_err-2.ensures.value ∙ c.if-is_err-2.true) c.append_each.ensures.fails in
+    let cut = cut_short held at c.args.texts.now (bodies_at new.bytes.items new.spans.items) (IsTrue (g.D.Disk.tells c.find_room.new.mirror.disk)) (IsTrue (g.D.Disk.tells c.self.inside.mirror.disk))
+    (λ told. subst IsTrue (sym c.find_room.ensures.tells) told) (g.D.Disk.may_leave new.disk) _ _ room refl exact same fails in
+    one_more_at_most held c.args.texts.now (bodies_at new.bytes.items new.spans.items) _ (g.D.Disk.may_leave new.disk) cut (subst (λ (v : View g.row.D.Denot). IsTrue (g.D.Disk.tells v.disk)) (sym c.self.view_is) told)
+
+pub returns-clause-file : goal.returns-clause-file
+returns-clause-file g c = λ told running.
+    let held = bodies_at c.self.inside.mirror.bytes.items c.self.inside.mirror.spans.items in
+    let many : c.count.result ≡ length held = search rules in
+    let whole : vec_len c.self.inside.mirror.bytes ≡ length (blocks held) = c.self.inside.mirror.bytes.ok.0 ∙ ap length c.self.invariant.0.parts in
+    let room = c.in_default.ensures.room held many (c.len.ensures ∙ whole) in
+    let exact : c.bytes_of-long.result ≡ length (blocks c.args.texts.now) = counted held c.args.texts.now _ _ room c.bytes_of-long.ensures in
+    let at = bodies_at c.find_room.new.mirror.bytes.items c.find_room.new.mirror.spans.items in
+    let same : at ≡ held = ap (λ (l : List ℕ). bodies_at l c.find_room.new.mirror.spans.items) c.find_room.ensures.bytes_same ∙ ap (bodies_at c.self.inside.mirror.bytes.items) c.find_room.ensures.spans_same in
+    let new = c.append_each.new.mirror in
+    let all : bodies_at new.bytes.items new.spans.items ≡ at ++ c.args.texts.now = search rules in
+    let is : bodies_at new.bytes.items new.spans.items ≡ held ++ c.args.texts.now = all ∙ ap (λ (l : List (List ℕ)). l ++ c.args.texts.now) same in
+    inr (stands_of (g.D.Disk.seen new.disk) (bodies_at new.bytes.items new.spans.items) (vec_len new.bytes) (search rules), all_within held c.args.texts.now _ _ _ room refl exact is)
+
+pub returns-clause-stands : goal.returns-clause-stands
+returns-clause-stands g c = λ told.
+    let held = bodies_at c.self.inside.mirror.bytes.items c.self.inside.mirror.spans.items in
+    let many : c.count.result ≡ length held = search rules in
+    let whole : vec_len c.self.inside.mirror.bytes ≡ length (blocks held) = c.self.inside.mirror.bytes.ok.0 ∙ ap length c.self.invariant.0.parts in
+    let room = c.in_default.ensures.room held many (c.len.ensures ∙ whole) in
+    let exact : c.bytes_of-long.result ≡ length (blocks c.args.texts.now) = counted held c.args.texts.now _ _ room c.bytes_of-long.ensures in
+    let at = bodies_at c.find_room.new.mirror.bytes.items c.find_room.new.mirror.spans.items in
+    let same : at ≡ held = ap (λ (l : List ℕ). bodies_at l c.find_room.new.mirror.spans.items) c.find_room.ensures.bytes_same ∙ ap (bodies_at c.self.inside.mirror.bytes.items) c.find_room.ensures.spans_same in
+    let new = c.append_each.new.mirror in
+    let all : bodies_at new.bytes.items new.spans.items ≡ at ++ c.args.texts.now = search rules in
+    let is : bodies_at new.bytes.items new.spans.items ≡ held ++ c.args.texts.now = all ∙ ap (λ (l : List (List ℕ)). l ++ c.args.texts.now) same in
+    rests (g.D.Disk.seen new.disk) (bodies_at new.bytes.items new.spans.items) (vec_len new.bytes) false (g.D.Disk.may_leave new.disk) (search rules) (all_within held c.args.texts.now _ _ _ room refl exact is) (search rules)

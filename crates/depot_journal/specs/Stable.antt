@@ -1,0 +1,22 @@
+-- What the file of a journal holds at rest: what a stop leaves, and what a start makes of it.
+use Rattle.std.specs.Prelude.{◌≡◌, ◌≢◌, ◌≤◌, ℕ, List, [], ◌∷◌, ◌++◌, Bool, false, length}
+use Rattle.depot_base.specs.File.{IsFileOf}
+
+-- The records of the file are these. Behind them stands nothing but, where the disk failed, what it failed on.
+pub record HasAllOf (bodies : List (List ℕ)) (stopped : Bool) (file : List ℕ) : Type 0 where
+  pub more : List (List ℕ)
+  pub has : IsFileOf file (bodies ++ more)
+  pub none : stopped ≡ false → more ≡ []
+
+-- each file that a stop may leave has all records of the journal
+abbrev pub LeavesAll : List (List ℕ) → Bool → (List ℕ → Type 0) → Type 0
+LeavesAll bodies stopped images = (file : List ℕ) → images file → HasAllOf bodies stopped file
+
+-- the file is one byte, a closed gate
+abbrev pub IsClosedGate : List ℕ → Type 0
+IsClosedGate file = (gate : ℕ) × (gate ≢ 1) × (file ≡ gate ∷ [])
+
+-- What a start makes of the file: one of at most one byte is then a closed gate, and any other is as before.
+pub record IsStarted (old new : List ℕ) : Type 0 where
+  pub same : 2 ≤ length old → new ≡ old
+  pub gated : length old ≤ 1 → IsClosedGate new
