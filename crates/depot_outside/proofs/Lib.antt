@@ -1,2 +1,4 @@
+pub mod Blank
+pub mod Undone
 pub mod Writing
 pub mod Written

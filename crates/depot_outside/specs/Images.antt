@@ -26,13 +26,21 @@ pub record Moments : Type 0 where
 abbrev pub first_moment : Moments
 first_moment = record { now = record { synced = []; writes = [] }; past = [] }
 
+-- this file was synced, and nothing was written since
+abbrev pub synced_as : List ℕ → Moment
+synced_as file = record { synced = file; writes = [] }
+
+-- so many bytes more were written, at an offset of this file
+abbrev pub written_at : Moment → List ℕ → ℕ → ℕ → Moment
+written_at m file at count = record { synced = m.synced; writes = record { at = at; count = count; file = file } ∷ m.writes }
+
 -- one moment more, at which this file was synced
 abbrev pub after_sync : Moments → List ℕ → Moments
-after_sync m file = record { now = record { synced = file; writes = [] }; past = m.now ∷ m.past }
+after_sync m file = record { now = synced_as file; past = m.now ∷ m.past }
 
 -- one moment more, at which so many bytes were written at an offset of this file
 abbrev pub after_write : Moments → List ℕ → ℕ → ℕ → Moments
-after_write m file at count = record { now = record { synced = m.now.synced; writes = record { at = at; count = count; file = file } ∷ m.now.writes }; past = m.now ∷ m.past }
+after_write m file at count = record { now = written_at m.now file at count; past = m.now ∷ m.past }
 
 -- what a stop may leave after a sync of this file and these writes
 abbrev pub images_of : List ℕ → List Written → List ℕ → Type 0

@@ -27,6 +27,16 @@ impl Calls {
         }
     }
 
+    /// Begins the next call, which fails whatever its number is.
+    pub fn fail(&mut self)
+        ensures fails { self.new.fails ≡ self.old.fails }
+        ensures made { self.new.made ≡ min (self.old.made + 1) (2 ^ 64 - 1) }
+        ensures faults { self.new.faults.number ≡ self.old.faults.number + 1 }
+    {
+        self.made = self.made.saturating_add(1);
+        self.faults.raise();
+    }
+
     /// Begins the next call, which fails exactly where its number is among those that do.
     pub fn begin(&mut self) -> Result<(), Failed>
         ensures fails { self.new.fails ≡ self.old.fails }

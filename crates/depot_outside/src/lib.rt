@@ -19,6 +19,7 @@ mod faults;
 mod history;
 mod loads;
 mod mem_disk;
+mod mem_file;
 mod mem_shelf;
 mod mem_sink;
 mod real_disk;
@@ -26,9 +27,11 @@ mod real_shelf;
 mod real_sink;
 mod shelf;
 mod sink;
+mod stops;
 #[cfg(test)]
 mod tests;
 mod transfer;
+mod undo;
 
 pub use disk::{Back, Disk};
 pub use error::{Failed, OutError};

@@ -1,20 +1,24 @@
 //! A disk in memory.
-ghost use Rattle.std.specs.Prelude.{◌≡◌, ◌+◌, ◌-◌, ◌^◌, ◌≤◌, [], true, IsTrue, length, vec_len, vec_capacity};
-ghost use Rattle.depot_base.specs.Disk.{IsWritten, Only};
-ghost use Rattle.depot_outside.specs.Images.{LeadTo, LeadTo-prop, counts, images_at, left_from, only, reads_as};
+ghost use Rattle.std.specs.Prelude.{◌≡◌, ◌+◌, ◌≤◌, [], true, Some, None, IsTrue, IfOk, OnOk, IsErr, is_err, length, slice_range};
+ghost use Rattle.depot_base.specs.Disk.{Elapses, Follows, IsTorn, IsWritten, Only, Within};
+ghost use Rattle.depot_base.specs.Faults.{HasCause};
+ghost use Rattle.depot_outside.specs.Images.{counts, images_at, left_from, only, reads_as, synced_as, written_at};
+ghost use Rattle.depot_outside.specs.Stopping.{Stops, bytes_of, next_stop, unsynced};
+ghost use Rattle.depot_outside.specs.Stops.{numbered, overwritten};
+ghost use Rattle.depot_outside.specs.Undo.{spare_bytes, spare_writes};
 
-use crate::calls::Calls;
-use crate::history::History;
+use crate::mem_file::MemFile;
+use crate::stops::{DiskCalls, Image, Stop, Turn};
 use crate::{Disk, Failed};
 use depot_base::{Bytes, Items, Memory};
 
-/// A disk in memory.
+/// A disk in memory. It can be told to stop in a call, and then its file becomes an image that a stop may leave.
+///
+/// Its calls are those of `length`, `read`, `write_at` and `sync`.
 #[derive(Debug, Drop)]
 pub struct MemDisk {
-    file: Vec<u8>,
-    history: History,
-    calls: Calls,
-    ghost lead: { LeadTo history.moments.now.synced history.moments.now.writes file.items } by { LeadTo-prop history.moments.now.synced history.moments.now.writes file.items },
+    file: MemFile,
+    calls: DiskCalls,
 }
 
 impl MemDisk {
@@ -24,16 +28,14 @@ impl MemDisk {
         ensures tells { IsTrue (⟦<MemDisk as Disk>⟧.tells result) }
         ensures seen { ⟦<MemDisk as Disk>⟧.seen result ≡ file }
         ensures stable { Only file (⟦<MemDisk as Disk>⟧.may_leave result) }
+        ensures unsynced { unsynced result ≡ synced_as file }
+        ensures next { next_stop result ≡ None }
         ensures faults { ⟦<MemDisk as Disk>⟧.faults result ≡ 0 }
         ensures faultless { fails ≡ [] → ⟦<MemDisk as Disk>⟧.is_faultless result }
     {
-        let file = file.into_vec();
-        let mut history = History::new();
-        history.note_sync(&file);
         MemDisk {
-            file,
-            history,
-            calls: Calls::new(fails),
+            file: MemFile::new(file),
+            calls: DiskCalls::new(fails),
         }
     }
 
@@ -41,20 +43,53 @@ impl MemDisk {
     pub fn bytes(&self) -> &[u8]
         ensures { result.now ≡ ⟦<MemDisk as Disk>⟧.seen self.now }
     {
-        &self.file
+        &self.file.bytes
     }
-}
 
-/// Puts bytes at an offset.
-fn overwrite(file: &mut Vec<u8>, at: usize, bytes: &[u8])
-    requires inside { at ≤ vec_len file.old }
-    requires room { vec_len file.old + length bytes.now ≤ vec_capacity file.old }
-    ensures written { IsWritten file.old.items at bytes.now file.new.items }
-    ensures room_left { vec_capacity file.old - vec_len file.old ≤ vec_capacity file.new - vec_len file.new + length bytes.now }
-{
-    let kept = bytes.len().min(file.len() - at);
-    file[at..at + kept].copy_from_slice(&bytes[..kept]);
-    let _ = file.extend_from_slice(&bytes[kept..]);
+    /// Tells it to stop in a call to come, the next one being 1, in place of a stop that it was told before.
+    ///
+    /// That call answers `Failed`, and its file becomes an image: 0, what it was after the last sync; 1, what it is with all
+    /// writes since, also one that this call makes; 2, that with FF in place of each byte written since. Later calls go on
+    /// from there, and don't stop. Until then nothing changes.
+    pub fn stop_at(&mut self, call: u32, image: u8)
+        requires call { 1 ≤ call }
+        requires image { image ≤ 2 }
+        ensures next { next_stop self.new ≡ Some (record { call = call; image = numbered image }) }
+        ensures unsynced { unsynced self.new ≡ unsynced self.old }
+        ensures seen { ⟦<MemDisk as Disk>⟧.seen self.new ≡ ⟦<MemDisk as Disk>⟧.seen self.old }
+        ensures images { Within (⟦<MemDisk as Disk>⟧.may_leave self.old) (⟦<MemDisk as Disk>⟧.may_leave self.new) }
+        ensures time { Elapses (⟦<MemDisk as Disk>⟧.moment self.old) (⟦<MemDisk as Disk>⟧.moment self.new) (⟦<MemDisk as Disk>⟧.left_since self.old) (⟦<MemDisk as Disk>⟧.left_since self.new) (⟦<MemDisk as Disk>⟧.may_leave self.new) }
+        ensures faults { ⟦<MemDisk as Disk>⟧.faults self.new ≡ ⟦<MemDisk as Disk>⟧.faults self.old }
+        ensures faulty { ⟦<MemDisk as Disk>⟧.is_faultless self.new → ⊥ }
+        ensures room { ⟦<MemDisk as Disk>⟧.room_bytes self.new ≡ ⟦<MemDisk as Disk>⟧.room_bytes self.old }
+        ensures calls { ⟦<MemDisk as Disk>⟧.room_calls self.new ≡ ⟦<MemDisk as Disk>⟧.room_calls self.old }
+    {
+        self.calls.next = Some(Stop {
+            call,
+            image: Image::numbered(image),
+        });
+    }
+
+    /// Begins a call that writes nothing. Where the disk stops in it, the file becomes the image.
+    fn begin(&mut self) -> Result<(), Failed>
+        ensures stop { Stops self.old self.new (is_err result) (unsynced self.old) (bytes_of self.old) }
+        ensures same { OnOk result (self.new.file ≡ self.old.file) }
+        ensures images { Within (⟦<MemDisk as Disk>⟧.may_leave self.old) (⟦<MemDisk as Disk>⟧.may_leave self.new) }
+        ensures time { Elapses (⟦<MemDisk as Disk>⟧.moment self.old) (⟦<MemDisk as Disk>⟧.moment self.new) (⟦<MemDisk as Disk>⟧.left_since self.old) (⟦<MemDisk as Disk>⟧.left_since self.new) (⟦<MemDisk as Disk>⟧.may_leave self.new) }
+        ensures cause { HasCause (⟦<MemDisk as Disk>⟧.faults self.old) (⟦<MemDisk as Disk>⟧.faults self.new) (IsErr result) }
+        ensures faultless { ⟦<MemDisk as Disk>⟧.is_faultless self.old → ⟦<MemDisk as Disk>⟧.is_faultless self.new × (⟦<MemDisk as Disk>⟧.faults self.new ≡ ⟦<MemDisk as Disk>⟧.faults self.old) }
+        ensures room { ⟦<MemDisk as Disk>⟧.room_bytes self.old ≤ ⟦<MemDisk as Disk>⟧.room_bytes self.new }
+        ensures calls { ⟦<MemDisk as Disk>⟧.room_calls self.old ≤ ⟦<MemDisk as Disk>⟧.room_calls self.new }
+    {
+        match self.calls.begin() {
+            Turn::Made => Ok(()),
+            Turn::Fails => Err(Failed),
+            Turn::Stops(image) => {
+                self.file.stop(image);
+                Err(Failed)
+            }
+        }
+    }
 }
 
 impl Disk for MemDisk {
@@ -62,56 +97,62 @@ impl Disk for MemDisk {
 
     ghost tells = { λ _. true };
 
-    ghost seen = { λ d. d.file.items };
+    ghost seen = { λ d. d.file.bytes.items };
 
-    ghost may_leave = { λ d image. images_at d.history.moments.now image };
+    ghost may_leave = { λ d image. images_at d.file.history.moments.now image };
 
-    ghost moment = { λ d. length d.history.moments.past };
+    ghost moment = { λ d. length d.file.history.moments.past };
 
-    ghost left_since = { λ d t image. left_from d.history.moments.now d.history.moments.past t image };
+    ghost left_since = { λ d t image. left_from d.file.history.moments.now d.file.history.moments.past t image };
 
-    ghost faults = { λ d. d.calls.faults.number };
+    ghost faults = { λ d. d.calls.calls.faults.number };
 
-    ghost is_faultless = { λ d. d.calls.fails ≡ [] };
+    ghost is_faultless = { λ d. (d.calls.calls.fails ≡ []) × (d.calls.next ≡ None) };
 
-    ghost room_bytes = { λ d. vec_capacity d.file - vec_len d.file };
+    ghost room_bytes = { λ d. spare_bytes d.file.bytes d.file.log };
 
-    ghost room_calls = { λ _. 2 ^ 64 };
+    ghost room_calls = { λ d. spare_writes d.file.log };
 
     fn length(&mut self) -> Result<u64, Failed> {
-        self.calls.begin()?;
-        Ok(self.file.len() as u64)
+        self.begin()?;
+        Ok(self.file.bytes.len() as u64)
     }
 
     fn read(&mut self, at: u64, into: &mut [u8]) -> Result<(), Failed> {
-        self.calls.begin()?;
+        self.begin()?;
         let at = at as usize;
-        into.copy_from_slice(&self.file[at..at + into.len()]);
+        into.copy_from_slice(&self.file.bytes[at..at + into.len()]);
         Ok(())
     }
 
-    fn make_room(&mut self, bytes: u64, _calls: u32) -> Result<(), Memory> {
-        self.file.reserve(bytes as usize)?;
-        Ok(())
+    fn make_room(&mut self, bytes: u64, calls: u32) -> Result<(), Memory> {
+        self.file.make_room(bytes as usize, calls as usize)
     }
 
     fn write_at(&mut self, at: u64, bytes: &[u8]) -> Result<(), Failed> {
-        self.calls.begin()?;
         let at = at as usize;
-        self.history.note_write(&self.file, at, bytes.len());
-        overwrite(&mut self.file, at, bytes);
-        Ok(())
+        match self.calls.begin() {
+            Turn::Made => {
+                self.file.write(at, bytes);
+                Ok(())
+            }
+            Turn::Fails => Err(Failed),
+            Turn::Stops(image) => {
+                self.file.stop_after_write(at, bytes, image);
+                Err(Failed)
+            }
+        }
     }
 
     fn sync(&mut self) -> Result<(), Failed> {
-        self.calls.begin()?;
-        self.history.note_sync(&self.file);
+        self.begin()?;
+        self.file.sync();
         Ok(())
     }
 
-    ghost reads_as_image = { λ d _. reads_as d.history.moments.now.synced d.history.moments.now.writes d.file.items d.lead };
+    ghost reads_as_image = { λ d _. reads_as d.file.history.moments.now.synced d.file.history.moments.now.writes d.file.bytes.items d.file.lead };
 
-    ghost counts_now = { λ d t image le here. counts d.history.moments.now d.history.moments.past t image here };
+    ghost counts_now = { λ d t image le here. counts d.file.history.moments.now d.file.history.moments.past t image here };
 
-    ghost only_now = { λ d image left. only d.history.moments.now d.history.moments.past image left };
+    ghost only_now = { λ d image left. only d.file.history.moments.now d.file.history.moments.past image left };
 }

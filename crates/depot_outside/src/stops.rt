@@ -1,0 +1,110 @@
+//! The calls of a disk in memory, in one of which it may stop.
+ghost use Rattle.std.specs.Prelude.{◌≡◌, ◌≤◌, ◌+◌, [], None};
+ghost use Rattle.depot_outside.specs.Stops.{IsTurn, counted_down, due, faults_in, numbered};
+
+use crate::Failed;
+use crate::calls::Calls;
+use depot_base::Items;
+
+/// What a stop leaves of the file of a disk in memory.
+#[derive(Clone, Copy, Debug, PartialEq, Eq)]
+pub enum Image {
+    /// What it was after the last sync.
+    Synced,
+    /// What it is with all writes since.
+    Written,
+    /// That, with FF in place of each byte written since.
+    Blanked,
+}
+
+impl Image {
+    /// The image of a number, 0, 1 or 2.
+    pub fn numbered(number: u8) -> Image
+        requires { number ≤ 2 }
+        ensures { result ≡ numbered number }
+    {
+        match number {
+            0 => Image::Synced,
+            1 => Image::Written,
+            _ => Image::Blanked,
+        }
+    }
+}
+
+/// A stop that is to come: in which call, the next one being 1, and what it leaves.
+#[derive(Clone, Copy, Debug, PartialEq, Eq)]
+pub struct Stop {
+    pub call: u32,
+    pub image: Image,
+}
+
+/// What becomes of a call.
+#[derive(Clone, Copy, Debug, PartialEq, Eq)]
+pub enum Turn {
+    /// It is made.
+    Made,
+    /// It fails, and changes nothing.
+    Fails,
+    /// The disk stops in it, and leaves this image.
+    Stops(Image),
+}
+
+/// The calls on a disk in memory, of which some fail, and the stop that is to come.
+#[derive(Debug, Drop)]
+pub struct DiskCalls {
+    pub calls: Calls,
+    pub next: Option<Stop>,
+}
+
+impl DiskCalls {
+    /// No calls yet. Those of these numbers will fail, and the disk will not stop.
+    pub fn new(fails: Items) -> DiskCalls
+        ensures fails { result.calls.fails ≡ fails }
+        ensures made { result.calls.made ≡ 0 }
+        ensures faults { result.calls.faults.number ≡ 0 }
+        ensures next { result.next ≡ None }
+    {
+        DiskCalls {
+            calls: Calls::new(fails),
+            next: None,
+        }
+    }
+
+    /// What the stop leaves that comes in the call that begins. Any other is a call nearer then.
+    fn count_down(&mut self) -> Option<Image>
+        ensures due { result ≡ due self.old.next }
+        ensures next { self.new.next ≡ counted_down self.old.next }
+        ensures calls { self.new.calls ≡ self.old.calls }
+    {
+        let Some(stop) = self.next else {
+            return None;
+        };
+        if stop.call <= 1 {
+            self.next = None;
+            return Some(stop.image);
+        }
+        self.next = Some(Stop {
+            call: stop.call - 1,
+            image: stop.image,
+        });
+        None
+    }
+
+    /// Begins the next call. Where the disk stops in it, it does so whatever the call's number is.
+    pub fn begin(&mut self) -> Turn
+        ensures turn { IsTurn (due self.old.next) result }
+        ensures next { self.new.next ≡ counted_down self.old.next }
+        ensures fails { self.new.calls.fails ≡ self.old.calls.fails }
+        ensures faults { self.new.calls.faults.number ≡ self.old.calls.faults.number + faults_in result }
+        ensures faultless { self.old.calls.fails ≡ [] → self.old.next ≡ None → result ≡ Turn.Made }
+    {
+        if let Some(image) = self.count_down() {
+            self.calls.fail();
+            return Turn::Stops(image);
+        }
+        match self.calls.begin() {
+            Ok(()) => Turn::Made,
+            Err(Failed) => Turn::Fails,
+        }
+    }
+}
