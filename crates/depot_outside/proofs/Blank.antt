@@ -1,8 +1,9 @@
--- FF in place of the bytes of some ranges.
+-- What a stop leaves is an image, also with FF in place of what was written.
 use Rattle.std.proofs.Common.{◌≡◌, ◌≤◌, ◌⊎◌, ℕ, zero, suc, ◌+◌, ◌-◌, List, [], ◌∷◌, ◌++◌, length, take, drop, replicate, refl, sym, ◌∙◌, ap, subst, arith}
-use Rattle.depot_base.specs.Disk.{IsTorn}
-use Rattle.depot_outside.specs.Images.{LeadTo, Moment, Written, images_at, images_of, reads_as}
-use Rattle.depot_outside.specs.Stops.{Range, blank, blanked, left_by, ranges}
+use Rattle.depot_base.specs.Disk.{Follows, IsTorn, Within}
+use Rattle.depot_outside.specs.Images.{LeadTo, Moment, Moments, Written, after_sync, images_at, images_of, reads_as, written_at}
+use Rattle.depot_outside.specs.Stops.{Range, blank, blanked, left_by, overwritten, ranges}
+use Rattle.depot_outside.proofs.Written.{written_is_torn}
 use Rattle.depot_outside.specs.declared.stops.Image.{Image}
 use Rattle.depot_outside.specs.declared.stops.Image.TheVariants as image
 
@@ -102,3 +103,19 @@ pub left_is_image : (left : Image) (moment : Moment) (file : List ℕ) → LeadT
 left_is_image image.Synced moment file lead = synced_left moment.synced moment.writes
 left_is_image image.Written moment file lead = reads_as moment.synced moment.writes file lead
 left_is_image image.Blanked moment file lead = blanked_left moment.synced moment.writes file lead
+
+-- ---- a disk that stopped
+
+same_image : (new old : Moments) (file image : List ℕ) → new ≡ after_sync old file → images_at new.now image → image ≡ file
+same_image new old file image is left = subst (λ (m : Moments). images_at m.now image) is left
+
+pub stop_within : (left : Image) (old new : Moments) (file now : List ℕ) → LeadTo old.now.synced old.now.writes file → now ≡ left_by left old.now file → new ≡ after_sync old now → Within (images_at old.now) (images_at new.now)
+stop_within left old new file now lead is moments = λ image here.
+    subst (images_at old.now) (sym (same_image new old now image moments here ∙ is)) (left_is_image left old.now file lead)
+
+pub stop_follows : (left : Image) (old new : Moments) (file now bytes : List ℕ) (at : ℕ) → at ≤ length file → LeadTo old.now.synced old.now.writes file
+    → now ≡ left_by left (written_at old.now file at (length bytes)) (overwritten file at bytes) → new ≡ after_sync old now → Follows (IsTorn at (length bytes)) (images_at old.now) (images_at new.now)
+stop_follows left old new file now bytes at inside lead is moments = λ image here.
+    let torn = written_is_torn file (overwritten file at bytes) bytes at inside refl in
+    let moment : Moment = written_at old.now file at (length bytes) in
+    subst (images_at moment) (sym (same_image new old now image moments here ∙ is)) (left_is_image left moment (overwritten file at bytes) (torn, lead))
