@@ -1,5 +1,5 @@
 -- What a stop leaves is an image, also with FF in place of what was written.
-use Rattle.std.proofs.Common.{◌≡◌, ◌≤◌, ◌⊎◌, ℕ, zero, suc, ◌+◌, ◌-◌, List, [], ◌∷◌, ◌++◌, length, take, drop, replicate, refl, sym, ◌∙◌, ap, subst, arith}
+use Rattle.std.proofs.Common.{◌≡◌, ◌≤◌, ℕ, zero, suc, ◌+◌, ◌-◌, List, [], ◌∷◌, ◌++◌, length, take, drop, replicate, refl, sym, ◌∙◌, ap, subst, arith}
 use Rattle.depot_base.specs.Disk.{Follows, IsTorn, Within}
 use Rattle.depot_outside.specs.Images.{LeadTo, Moment, Moments, Written, after_sync, images_at, images_of, reads_as, written_at}
 use Rattle.depot_outside.specs.Stops.{Range, blank, blanked, left_by, overwritten, ranges}

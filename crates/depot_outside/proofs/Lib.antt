@@ -1,4 +1,5 @@
 pub mod Blank
+pub mod Examples
 pub mod Undone
 pub mod Writing
 pub mod Written

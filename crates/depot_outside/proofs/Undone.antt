@@ -1,12 +1,12 @@
 -- Writes that are taken back.
-use Rattle.std.proofs.Common.{◌≡◌, ◌≤◌, ◌⊎◌, inl, inr, ℕ, ◌+◌, ◌-◌, min, max, List, [], ◌∷◌, ◌++◌, length, take, drop, reverse, refl, sym, ◌∙◌, ap, subst, arith, append_assoc, take-append-drop}
+use Rattle.std.proofs.Common.{◌≡◌, ◌≤◌, inl, inr, ℕ, ◌+◌, ◌-◌, min, max, List, [], ◌∷◌, ◌++◌, length, take, drop, reverse, refl, sym, ◌∙◌, ap, subst, arith, append_assoc, take-append-drop}
 use Rattle.std.proofs.lemmas.List.{drop-drop, drop_all, drop_at, length-drop, length-take, reverse-append, take_all}
 use Rattle.std.proofs.lemmas.Bool.{cases_lt}
 use Rattle.std.proofs.lemmas.Grind.{common_steps}
 use Rattle.depot_base.specs.Disk.{IsWritten}
 use Rattle.depot_outside.specs.Images.{LeadTo, Moment, Written}
 use Rattle.depot_outside.specs.Stops.{Range, blanked, left_by, ranges}
-use Rattle.depot_outside.specs.Undo.{AreInside, AreLogged, CanUndo, Fits, IsLogged, before, left_of, undone, written}
+use Rattle.depot_outside.specs.Undo.{AreInside, AreLogged, CanUndo, Fits, before, left_of, undone, written}
 use Rattle.depot_outside.proofs.Written.{written_is_torn}
 use Rattle.depot_outside.specs.declared.stops.Image.{Image}
 use Rattle.depot_outside.specs.declared.stops.Image.TheVariants as image
@@ -76,12 +76,12 @@ behind_written old new piece at inside put =
     let long : length new ≡ max (length old) (at + length piece) = ap length put ∙ long_written old piece at inside in
     elim (cases_lt (length old) (at + length piece)) [
       | inl over ↦
-        let end : at + length (take (length piece) (drop at old)) ≡ length old = omega (arith, many, over, inside) in
-        drop_all (at + length (take (length piece) (drop at old))) (take (length old) new) (omega (arith, end, length-take (length old) new)) ∙ sym (drop_all (at + length (take (length piece) (drop at old))) old (omega (arith, end)))
+          let end : at + length (take (length piece) (drop at old)) ≡ length old = omega (arith, many, over, inside) in
+          drop_all (at + length (take (length piece) (drop at old))) (take (length old) new) (omega (arith, end, length-take (length old) new)) ∙ sym (drop_all (at + length (take (length piece) (drop at old))) old (omega (arith, end)))
       | inr short ↦
-        let all : at + length (take (length piece) (drop at old)) ≡ at + length piece = omega (arith, many, short) in
-        ap (drop (at + length (take (length piece) (drop at old)))) (take_all (length old) new (omega (arith, long, short)))
-        ∙ ap (λ (n : ℕ). drop n new) all ∙ torn.after ∙ ap (λ (n : ℕ). drop n old) (sym all)
+          let all : at + length (take (length piece) (drop at old)) ≡ at + length piece = omega (arith, many, short) in
+          ap (drop (at + length (take (length piece) (drop at old)))) (take_all (length old) new (omega (arith, long, short)))
+          ∙ ap (λ (n : ℕ). drop n new) all ∙ torn.after ∙ ap (λ (n : ℕ). drop n old) (sym all)
     ]
 
 front_and_rest : (rest : List ℕ) (n : ℕ) → take n rest ++ drop (length (take n rest)) rest ≡ rest
@@ -125,7 +125,7 @@ pub logged_more : (writes : List Written) (log : List Replaced) (old new piece k
     → AreLogged (record { at = at; count = length piece; file = old } ∷ writes) (replaced at piece old kept ∷ log) (kept ++ take (length piece) (drop at old)) new
 logged_more writes log old new piece kept at inside put all =
     let back : before (replaced at piece old kept) (kept ++ take (length piece) (drop at old)) new ≡ old =
-        ap (λ (l : List ℕ). take at new ++ l ++ drop (at + length l) (take (length old) new)) (kept_rest kept (take (length piece) (drop at old))) ∙ before_written old new piece at inside put in (
+    ap (λ (l : List ℕ). take at new ++ l ++ drop (at + length l) (take (length old) new)) (kept_rest kept (take (length piece) (drop at old))) ∙ before_written old new piece at inside put in (
       record { fits = fits_written old new piece kept at inside put; at = refl; count = refl; is_before = back },
       subst (λ (l : List ℕ). AreLogged writes log l old) (sym (kept_front kept (take (length piece) (drop at old)))) all,
     )

@@ -1,7 +1,7 @@
 -- What a stop may leave of a disk in memory, now and at each earlier moment.
 --
 -- At each moment there is the file of the last sync, and the writes since. A stop may cut each of these short.
-use Rattle.std.specs.Prelude.{◌≡◌, ◌⊎◌, ℕ, ◌≤◌, List, [], ◌∷◌, length, refl, suc}
+use Rattle.std.specs.Prelude.{◌≡◌, ◌⊎◌, ℕ, ◌≤◌, List, [], ◌∷◌, length, suc}
 use Rattle.std.specs.Coded.{×_prop, le_prop, Coded-set, coded_list, coded_ℕ}
 use Rattle.std.proofs.Common.{inl, inr, arith}
 use Rattle.depot_base.specs.Disk.{IsTorn}

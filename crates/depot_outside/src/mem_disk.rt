@@ -113,12 +113,41 @@ impl Disk for MemDisk {
 
     ghost room_calls = { λ d. spare_writes d.file.log };
 
-    fn length(&mut self) -> Result<u64, Failed> {
+    /// As of any disk. Where it stops, the file becomes the image.
+    fn length(&mut self) -> Result<u64, Failed>
+        ensures stop { Stops self.old self.new (is_err result) (unsynced self.old) (bytes_of self.old) }
+        ensures unsynced { OnOk result (unsynced self.new ≡ unsynced self.old) }
+        ensures length { IsTrue (⟦<MemDisk as Disk>⟧.tells self.old) → IfOk result (λ n. n ≡ length (⟦<MemDisk as Disk>⟧.seen self.old)) }
+        ensures seen { OnOk result (⟦<MemDisk as Disk>⟧.seen self.new ≡ ⟦<MemDisk as Disk>⟧.seen self.old) }
+        ensures images { Within (⟦<MemDisk as Disk>⟧.may_leave self.old) (⟦<MemDisk as Disk>⟧.may_leave self.new) }
+        ensures time { Elapses (⟦<MemDisk as Disk>⟧.moment self.old) (⟦<MemDisk as Disk>⟧.moment self.new) (⟦<MemDisk as Disk>⟧.left_since self.old) (⟦<MemDisk as Disk>⟧.left_since self.new) (⟦<MemDisk as Disk>⟧.may_leave self.new) }
+        ensures handle { ⟦<MemDisk as Disk>⟧.handle self.new ≡ ⟦<MemDisk as Disk>⟧.handle self.old }
+        ensures tells { ⟦<MemDisk as Disk>⟧.tells self.new ≡ ⟦<MemDisk as Disk>⟧.tells self.old }
+        ensures cause { HasCause (⟦<MemDisk as Disk>⟧.faults self.old) (⟦<MemDisk as Disk>⟧.faults self.new) (IsErr result) }
+        ensures faultless { ⟦<MemDisk as Disk>⟧.is_faultless self.old → ⟦<MemDisk as Disk>⟧.is_faultless self.new × (⟦<MemDisk as Disk>⟧.faults self.new ≡ ⟦<MemDisk as Disk>⟧.faults self.old) }
+        ensures room { ⟦<MemDisk as Disk>⟧.room_bytes self.old ≤ ⟦<MemDisk as Disk>⟧.room_bytes self.new }
+        ensures calls { ⟦<MemDisk as Disk>⟧.room_calls self.old ≤ ⟦<MemDisk as Disk>⟧.room_calls self.new }
+    {
         self.begin()?;
         Ok(self.file.bytes.len() as u64)
     }
 
-    fn read(&mut self, at: u64, into: &mut [u8]) -> Result<(), Failed> {
+    /// As of any disk. Where it stops, the file becomes the image.
+    fn read(&mut self, at: u64, into: &mut [u8]) -> Result<(), Failed>
+        requires { IsTrue (⟦<MemDisk as Disk>⟧.tells self.old) → at + length into.old ≤ length (⟦<MemDisk as Disk>⟧.seen self.old) }
+        ensures stop { Stops self.old self.new (is_err result) (unsynced self.old) (bytes_of self.old) }
+        ensures unsynced { OnOk result (unsynced self.new ≡ unsynced self.old) }
+        ensures read { OnOk result (IsTrue (⟦<MemDisk as Disk>⟧.tells self.old) → into.new ≡ slice_range (⟦<MemDisk as Disk>⟧.seen self.old) at (at + length into.old)) }
+        ensures seen { OnOk result (⟦<MemDisk as Disk>⟧.seen self.new ≡ ⟦<MemDisk as Disk>⟧.seen self.old) }
+        ensures images { Within (⟦<MemDisk as Disk>⟧.may_leave self.old) (⟦<MemDisk as Disk>⟧.may_leave self.new) }
+        ensures time { Elapses (⟦<MemDisk as Disk>⟧.moment self.old) (⟦<MemDisk as Disk>⟧.moment self.new) (⟦<MemDisk as Disk>⟧.left_since self.old) (⟦<MemDisk as Disk>⟧.left_since self.new) (⟦<MemDisk as Disk>⟧.may_leave self.new) }
+        ensures handle { ⟦<MemDisk as Disk>⟧.handle self.new ≡ ⟦<MemDisk as Disk>⟧.handle self.old }
+        ensures tells { ⟦<MemDisk as Disk>⟧.tells self.new ≡ ⟦<MemDisk as Disk>⟧.tells self.old }
+        ensures cause { HasCause (⟦<MemDisk as Disk>⟧.faults self.old) (⟦<MemDisk as Disk>⟧.faults self.new) (IsErr result) }
+        ensures faultless { ⟦<MemDisk as Disk>⟧.is_faultless self.old → ⟦<MemDisk as Disk>⟧.is_faultless self.new × (⟦<MemDisk as Disk>⟧.faults self.new ≡ ⟦<MemDisk as Disk>⟧.faults self.old) }
+        ensures room { ⟦<MemDisk as Disk>⟧.room_bytes self.old ≤ ⟦<MemDisk as Disk>⟧.room_bytes self.new }
+        ensures calls { ⟦<MemDisk as Disk>⟧.room_calls self.old ≤ ⟦<MemDisk as Disk>⟧.room_calls self.new }
+    {
         self.begin()?;
         let at = at as usize;
         into.copy_from_slice(&self.file.bytes[at..at + into.len()]);
@@ -129,7 +158,23 @@ impl Disk for MemDisk {
         self.file.make_room(bytes as usize, calls as usize)
     }
 
-    fn write_at(&mut self, at: u64, bytes: &[u8]) -> Result<(), Failed> {
+    /// As of any disk. Where it stops, the file becomes the image that a stop right after the write gives.
+    fn write_at(&mut self, at: u64, bytes: &[u8]) -> Result<(), Failed>
+        requires inside { IsTrue (⟦<MemDisk as Disk>⟧.tells self.old) → at ≤ length (⟦<MemDisk as Disk>⟧.seen self.old) }
+        requires room { length bytes.now ≤ ⟦<MemDisk as Disk>⟧.room_bytes self.old }
+        requires calls { 1 ≤ ⟦<MemDisk as Disk>⟧.room_calls self.old }
+        ensures stop { Stops self.old self.new (is_err result) (written_at (unsynced self.old) (bytes_of self.old) at (length bytes.now)) (overwritten (bytes_of self.old) at bytes.now) }
+        ensures unsynced { OnOk result (unsynced self.new ≡ written_at (unsynced self.old) (bytes_of self.old) at (length bytes.now)) }
+        ensures written { OnOk result (IsTrue (⟦<MemDisk as Disk>⟧.tells self.old) → IsWritten (⟦<MemDisk as Disk>⟧.seen self.old) at bytes.now (⟦<MemDisk as Disk>⟧.seen self.new)) }
+        ensures images { Follows (IsTorn at (length bytes.now)) (⟦<MemDisk as Disk>⟧.may_leave self.old) (⟦<MemDisk as Disk>⟧.may_leave self.new) }
+        ensures time { Elapses (⟦<MemDisk as Disk>⟧.moment self.old) (⟦<MemDisk as Disk>⟧.moment self.new) (⟦<MemDisk as Disk>⟧.left_since self.old) (⟦<MemDisk as Disk>⟧.left_since self.new) (⟦<MemDisk as Disk>⟧.may_leave self.new) }
+        ensures handle { ⟦<MemDisk as Disk>⟧.handle self.new ≡ ⟦<MemDisk as Disk>⟧.handle self.old }
+        ensures tells { ⟦<MemDisk as Disk>⟧.tells self.new ≡ ⟦<MemDisk as Disk>⟧.tells self.old }
+        ensures cause { HasCause (⟦<MemDisk as Disk>⟧.faults self.old) (⟦<MemDisk as Disk>⟧.faults self.new) (IsErr result) }
+        ensures faultless { ⟦<MemDisk as Disk>⟧.is_faultless self.old → ⟦<MemDisk as Disk>⟧.is_faultless self.new × (⟦<MemDisk as Disk>⟧.faults self.new ≡ ⟦<MemDisk as Disk>⟧.faults self.old) }
+        ensures room_left { ⟦<MemDisk as Disk>⟧.room_bytes self.old ≤ ⟦<MemDisk as Disk>⟧.room_bytes self.new + length bytes.now }
+        ensures calls_left { ⟦<MemDisk as Disk>⟧.room_calls self.old ≤ ⟦<MemDisk as Disk>⟧.room_calls self.new + 1 }
+    {
         let at = at as usize;
         match self.calls.begin() {
             Turn::Made => {
@@ -144,7 +189,22 @@ impl Disk for MemDisk {
         }
     }
 
-    fn sync(&mut self) -> Result<(), Failed> {
+    /// As of any disk. Where it stops, nothing is synced by it, and the file becomes the image.
+    fn sync(&mut self) -> Result<(), Failed>
+        requires { 1 ≤ ⟦<MemDisk as Disk>⟧.room_calls self.old }
+        ensures stop { Stops self.old self.new (is_err result) (unsynced self.old) (bytes_of self.old) }
+        ensures unsynced { OnOk result (unsynced self.new ≡ synced_as (bytes_of self.old)) }
+        ensures stable { OnOk result (IsTrue (⟦<MemDisk as Disk>⟧.tells self.old) → Only (⟦<MemDisk as Disk>⟧.seen self.old) (⟦<MemDisk as Disk>⟧.may_leave self.new)) }
+        ensures seen { OnOk result (⟦<MemDisk as Disk>⟧.seen self.new ≡ ⟦<MemDisk as Disk>⟧.seen self.old) }
+        ensures images { Within (⟦<MemDisk as Disk>⟧.may_leave self.old) (⟦<MemDisk as Disk>⟧.may_leave self.new) }
+        ensures time { Elapses (⟦<MemDisk as Disk>⟧.moment self.old) (⟦<MemDisk as Disk>⟧.moment self.new) (⟦<MemDisk as Disk>⟧.left_since self.old) (⟦<MemDisk as Disk>⟧.left_since self.new) (⟦<MemDisk as Disk>⟧.may_leave self.new) }
+        ensures handle { ⟦<MemDisk as Disk>⟧.handle self.new ≡ ⟦<MemDisk as Disk>⟧.handle self.old }
+        ensures tells { ⟦<MemDisk as Disk>⟧.tells self.new ≡ ⟦<MemDisk as Disk>⟧.tells self.old }
+        ensures cause { HasCause (⟦<MemDisk as Disk>⟧.faults self.old) (⟦<MemDisk as Disk>⟧.faults self.new) (IsErr result) }
+        ensures faultless { ⟦<MemDisk as Disk>⟧.is_faultless self.old → ⟦<MemDisk as Disk>⟧.is_faultless self.new × (⟦<MemDisk as Disk>⟧.faults self.new ≡ ⟦<MemDisk as Disk>⟧.faults self.old) }
+        ensures room { ⟦<MemDisk as Disk>⟧.room_bytes self.old ≤ ⟦<MemDisk as Disk>⟧.room_bytes self.new }
+        ensures calls_left { ⟦<MemDisk as Disk>⟧.room_calls self.old ≤ ⟦<MemDisk as Disk>⟧.room_calls self.new + 1 }
+    {
         self.begin()?;
         self.file.sync();
         Ok(())

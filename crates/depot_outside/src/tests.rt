@@ -86,6 +86,53 @@ fn a_disk_in_memory_fails_at_the_given_call(rt: HostRuntime) -> Result<(), Fail>
     Ok(())
 }
 
+/// Writes and syncs, writes twice and syncs, up to the first call that fails, on a disk whose file has four bytes.
+fn write_and_sync(disk: &mut MemDisk) -> Result<(), Failed>
+    requires { length (⟦<MemDisk as Disk>⟧.seen disk.old) ≡ 4 }
+{
+    if disk.make_room(6, 5).is_err() {
+        return Ok(());
+    }
+    disk.write_at(2, b"te")?;
+    disk.sync()?;
+    disk.write_at(0, b"b")?;
+    disk.write_at(3, b"nds")?;
+    disk.sync()
+}
+
+#[test]
+fn a_disk_in_memory_stops_in_the_given_call(rt: HostRuntime) -> Result<(), Fail> {
+    let alloc = rt.alloc();
+    // The call and the image of the stop, and the file then.
+    let cases: [(u32, u8, &[u8]); 12] = [
+        (2, 0, b"file"),
+        (2, 1, b"fite"),
+        (2, 2, b"fi\xff\xff"),
+        (3, 0, b"fite"),
+        (3, 1, b"bite"),
+        (3, 2, b"\xffite"),
+        (4, 0, b"fite"),
+        (4, 1, b"bitnds"),
+        (4, 2, b"\xffit\xff\xff\xff"),
+        (5, 0, b"fite"),
+        (5, 1, b"bitnds"),
+        (5, 2, b"\xffit\xff\xff\xff"),
+    ];
+    for (call, image, file) in cases {
+        let mut disk = MemDisk::new(Bytes::from_slice(alloc, b"file")?, Items::new(alloc));
+        disk.stop_at(1, 0);
+        disk.stop_at(call, image);
+        assert_eq!(rt; write_and_sync(&mut disk), Err(Failed), "{call} {image}");
+        assert_eq!(rt; disk.bytes(), file, "{call} {image}");
+        assert_eq!(rt; disk.length(), Ok(file.len() as u64), "{call} {image}");
+    }
+    let mut disk = MemDisk::new(Bytes::from_slice(alloc, b"file")?, Items::new(alloc));
+    disk.stop_at(6, 0);
+    assert_eq!(rt; write_and_sync(&mut disk), Ok(()));
+    assert_eq!(rt; disk.bytes(), b"bitnds".as_slice());
+    Ok(())
+}
+
 #[test]
 fn fakes_keep_what_they_are_given(rt: HostRuntime) -> Result<(), Fail> {
     let alloc = rt.alloc();

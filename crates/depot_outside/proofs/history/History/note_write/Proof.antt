@@ -4,7 +4,7 @@ use Rattle.std.proofs.raw_atomic.Walks.{proved}
 use base.Logic.{id⊢}
 use base.Fml.{ftrue, flft}
 use mir.Syntax.{named}
-use mir.Val.{vunit, vint}
+use mir.Val.{vunit}
 use types.Kit.{‵, ◌⊛◌, ◌$◌, ◌∵◌, !, qed, move, keep, drop, use1, split, join, fsplit, fsplit3, fjoin, fjoin3, feq_i, suffices, frame, done}
 use types.Run.{enter, of_opd, unit_lit, returns}
 use types.ByLocal.{alloc_all, pass_all, free_all, look_at, sets}

@@ -1,4 +1,4 @@
-use Rattle.std.proofs.Common.{rules, ◌≡◌, ◌∷◌, List, ℕ, length, reverse, sym, subst}
+use Rattle.std.proofs.Common.{rules, ◌≡◌, length, reverse, sym, subst}
 use Rattle.depot_base.specs.Disk.{IsTorn, IsWritten}
 use Rattle.depot_outside.specs.Images.{LeadTo, Moments, after_write}
 use Rattle.depot_outside.specs.Undo.{AreLogged}
