@@ -2,7 +2,7 @@
 use Rattle.std.proofs.Common.{◌≡◌, ◌≤◌, ℕ, zero, suc, ◌+◌, ◌-◌, List, [], ◌∷◌, ◌++◌, length, take, drop, replicate, refl, sym, ◌∙◌, ap, subst, arith}
 use Rattle.depot_base.specs.Disk.{Follows, IsTorn, Within}
 use Rattle.depot_outside.specs.Images.{LeadTo, Moment, Moments, Written, after_sync, images_at, images_of, reads_as, written_at}
-use Rattle.depot_outside.specs.Stops.{Range, blank, blanked, left_by, overwritten, ranges}
+use Rattle.depot_outside.specs.StopImages.{Range, blank, blanked, left_by, overwritten, ranges}
 use Rattle.depot_outside.proofs.Written.{written_is_torn}
 use Rattle.depot_outside.specs.declared.stops.Image.{Image}
 use Rattle.depot_outside.specs.declared.stops.Image.TheVariants as image

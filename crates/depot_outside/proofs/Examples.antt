@@ -1,7 +1,7 @@
 -- Stops of a small disk, computed: what each image is, and what it isn't.
 use Rattle.std.proofs.Common.{◌≡◌, ◌∷◌, [], refl, Some, None}
 use Rattle.depot_outside.specs.Images.{Moment, synced_as, written_at}
-use Rattle.depot_outside.specs.Stops.{counted_down, due, left_by, overwritten}
+use Rattle.depot_outside.specs.StopImages.{counted_down, due, left_by, overwritten}
 use Rattle.depot_outside.specs.declared.stops.Image.TheVariants as image
 
 -- of the file 1 2 3, which was synced, the bytes 7 8 were written at 2

@@ -5,7 +5,7 @@ use Rattle.std.proofs.lemmas.Bool.{cases_lt}
 use Rattle.std.proofs.lemmas.Grind.{common_steps}
 use Rattle.depot_base.specs.Disk.{IsWritten}
 use Rattle.depot_outside.specs.Images.{LeadTo, Moment, Written}
-use Rattle.depot_outside.specs.Stops.{Range, blanked, left_by, ranges}
+use Rattle.depot_outside.specs.StopImages.{Range, blanked, left_by, ranges}
 use Rattle.depot_outside.specs.Undo.{AreInside, AreLogged, CanUndo, Fits, before, left_of, undone, written}
 use Rattle.depot_outside.proofs.Written.{written_is_torn}
 use Rattle.depot_outside.specs.declared.stops.Image.{Image}

@@ -1,7 +1,7 @@
 -- What a call does to a disk in memory, where it may stop.
 use Rattle.std.specs.Prelude.{◌≡◌, ℕ, List, Bool, true, Option, None, Some}
 use Rattle.depot_outside.specs.Images.{Moment, synced_as}
-use Rattle.depot_outside.specs.Stops.{counted_down, due, left_by}
+use Rattle.depot_outside.specs.StopImages.{counted_down, due, left_by}
 use Rattle.depot_outside.specs.declared.mem_disk.MemDisk.{MemDisk}
 use Rattle.depot_outside.specs.declared.stops.Image.{Image}
 use Rattle.depot_outside.specs.declared.stops.Stop.{Stop}

@@ -5,7 +5,7 @@ use Rattle.std.specs.Prelude.{◌≡◌, ◌≤◌, ℕ, ◌+◌, ◌-◌, min, 
 use Rattle.std.specs.Vec.{vec_capacity}
 use Rattle.std.specs.Coded.{×_prop, le_prop, Coded-set, coded_list, coded_ℕ}
 use Rattle.depot_outside.specs.Images.{Written}
-use Rattle.depot_outside.specs.Stops.{Range, blanked}
+use Rattle.depot_outside.specs.StopImages.{Range, blanked}
 use Rattle.depot_outside.specs.declared.stops.Image.{Image}
 use Rattle.depot_outside.specs.declared.stops.Image.TheVariants as image
 use Rattle.depot_outside.specs.declared.undo.Replaced.{Replaced}

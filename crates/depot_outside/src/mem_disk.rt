@@ -4,7 +4,7 @@ ghost use Rattle.depot_base.specs.Disk.{Elapses, Follows, IsTorn, IsWritten, Onl
 ghost use Rattle.depot_base.specs.Faults.{HasCause};
 ghost use Rattle.depot_outside.specs.Images.{counts, images_at, left_from, only, reads_as, synced_as, written_at};
 ghost use Rattle.depot_outside.specs.Stopping.{Stops, bytes_of, next_stop, unsynced};
-ghost use Rattle.depot_outside.specs.Stops.{numbered, overwritten};
+ghost use Rattle.depot_outside.specs.StopImages.{numbered, overwritten};
 ghost use Rattle.depot_outside.specs.Undo.{spare_bytes, spare_writes};
 
 use crate::mem_file::MemFile;

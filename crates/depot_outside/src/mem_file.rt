@@ -2,7 +2,7 @@
 ghost use Rattle.std.specs.Prelude.{◌≡◌, ◌+◌, ◌-◌, ◌≤◌, OnOk, length, reverse, vec_len, vec_capacity};
 ghost use Rattle.depot_base.specs.Disk.{IsWritten};
 ghost use Rattle.depot_outside.specs.Images.{LeadTo, LeadTo-prop, after_sync, after_write, synced_as, written_at};
-ghost use Rattle.depot_outside.specs.Stops.{left_by, overwritten};
+ghost use Rattle.depot_outside.specs.StopImages.{left_by, overwritten};
 ghost use Rattle.depot_outside.specs.Undo.{AreLogged, AreLogged-prop, spare_bytes, spare_writes};
 
 use crate::history::History;

@@ -1,6 +1,6 @@
 //! The calls of a disk in memory, in one of which it may stop.
 ghost use Rattle.std.specs.Prelude.{◌≡◌, ◌≤◌, ◌+◌, [], None};
-ghost use Rattle.depot_outside.specs.Stops.{IsTurn, counted_down, due, faults_in, numbered};
+ghost use Rattle.depot_outside.specs.StopImages.{IsTurn, counted_down, due, faults_in, numbered};
 
 use crate::Failed;
 use crate::calls::Calls;

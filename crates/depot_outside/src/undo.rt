@@ -1,6 +1,6 @@
 //! What the writes since the last sync replaced.
 ghost use Rattle.std.specs.Prelude.{◌≡◌, ◌≤◌, ◌<◌, ◌++◌, ◌+◌, ◌-◌, ◌∷◌, [], OnOk, length, replicate, reverse, take, drop, vec_len, vec_capacity};
-ghost use Rattle.depot_outside.specs.Stops.{blank, blanked};
+ghost use Rattle.depot_outside.specs.StopImages.{blank, blanked};
 ghost use Rattle.depot_outside.specs.Undo.{AreInside, CanUndo, before, left_of, undone, written};
 
 use crate::stops::Image;

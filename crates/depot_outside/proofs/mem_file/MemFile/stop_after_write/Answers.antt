@@ -1,7 +1,7 @@
 use Rattle.std.proofs.Common.{rules, ◌≡◌, ◌∙◌, ap, length}
 use Rattle.depot_base.specs.Disk.{IsTorn, IsWritten}
 use Rattle.depot_outside.specs.Images.{written_at}
-use Rattle.depot_outside.specs.Stops.{left_by}
+use Rattle.depot_outside.specs.StopImages.{left_by}
 use Rattle.depot_outside.proofs.Undone.{can_undo, left_is, logged_write}
 use Rattle.depot_outside.proofs.Written.{written_is_torn}
 use Rattle.depot_outside.proofs.mem_file.MemFile.stop_after_write.Goals as goal

@@ -1,6 +1,6 @@
 -- The ranges that are left lead to the same bytes.
 use Rattle.std.proofs.Common.{◌≡◌, reverse, vec_len, vec_capacity}
-use Rattle.depot_outside.specs.Stops.{blanked}
+use Rattle.depot_outside.specs.StopImages.{blanked}
 use Rattle.depot_outside.specs.Undo.{AreInside, written}
 use Rattle.depot_outside.proofs.undo.UndoLog.blank_written.Given as goal
 
