@@ -7,7 +7,8 @@
 //!
 //! A journal is seen as its records, its disk, whether it is stopped, and for how many more records memory was found. While
 //! it isn't stopped its file has these records, within the limits, and nothing is unsynced. After a fault of the disk it is
-//! stopped, and touches the disk no more.
+//! stopped, and touches the disk no more; a stop then leaves all its records, and behind them at most the one on which the
+//! disk failed.
 //!
 //! What the records mean is no matter here, and no record is ever changed or taken back.
 #![tactic(auto)]
