@@ -97,7 +97,7 @@ unvouched_apart here sign J h l =
     let sent = apart_front (map id_of_update (updates_of (sent_for sign J h))) (map id_of_update s.0) (subst (λ (hs : List (List ℕ)). AreApart hs) parts all) in
     apart_filter (λ (i : List ℕ). not (is_mine_vouched J i)) _ (mapped_filter id_of_update (λ (u : Update). not (eqb u.writer here.me)) (updates_of (sent_for sign J h)) sent)
 
-foreign_one : (here : Setting) (sign : Signs) (J : List Record) (h : Hello) (i : List ℕ) → IsIn i (unvouched here.me J (sent_for sign J h)) → is_foreign here.me (accepted J) i ≡ true
+pub foreign_one : (here : Setting) (sign : Signs) (J : List Record) (h : Hello) (i : List ℕ) → IsIn i (unvouched here.me J (sent_for sign J h)) → is_foreign here.me (accepted J) i ≡ true
 unfolding unvouched sent_foreign candidates
 foreign_one here sign J h i on =
     let other = λ (u : Update). not (eqb u.writer here.me) in

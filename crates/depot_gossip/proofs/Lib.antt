@@ -10,4 +10,5 @@ pub mod HashLaws
 pub mod LeafPlaces
 pub mod PieceLaws
 pub mod StreamLaws
+pub mod ToldLaws
 pub mod ValueLaws

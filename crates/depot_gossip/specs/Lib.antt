@@ -6,3 +6,4 @@ pub mod FrameHeads
 pub mod Fronts
 pub mod Pieces
 pub mod RecordLeaves
+pub mod ToldStatements

@@ -1,5 +1,6 @@
 //! A stream of frames, in pieces.
-ghost use Rattle.std.specs.Prelude.{◌≡◌, ◌<◌, ◌≤◌, ℕ, List, [], false, true, length, OnOk, IfOk, IsErrOf, Ok};
+ghost use Rattle.std.specs.Prelude.{◌≡◌, ◌<◌, ◌≤◌, ◌+◌, ℕ, List, [], false, true, length, OnOk, IfOk, IsErrOf, Ok};
+ghost use Rattle.depot_base.specs.declared.limits.TheConstants.{MOST_PAYLOAD};
 ghost use Rattle.depot_model.specs.Frames.{frame_at, open_frame};
 ghost use Rattle.depot_model.specs.Replicas.{IsSameNode, StopsBy, KeepsDisk};
 ghost use Rattle.depot_gossip.specs.FrameHeads.{missing};
@@ -117,7 +118,8 @@ impl Feed {
 
     /// How many bytes of a frame stand open, at most 131,076. It takes no memory.
     pub fn open_bytes(&self) -> u32
-        ensures { result ≡ length self.now.begun }
+        ensures count { result ≡ length self.now.begun }
+        ensures most { result < 5 + MOST_PAYLOAD }
     {
         self.begun.len() as u32
     }

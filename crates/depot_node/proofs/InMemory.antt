@@ -12,6 +12,7 @@ use Rattle.depot_model.specs.declared.taken.TakeError.TheVariants as take_error
 use Rattle.depot_model.specs.Bundle.{Signs}
 use Rattle.depot_model.specs.Checks.{Setting}
 use Rattle.depot_model.specs.Replicas.{IsSameNode, StopsBy, KeepsDisk}
+use Rattle.depot_model.specs.Stops.{Lasts}
 use Rattle.depot_node.specs.Deciding.{IsCarriedOut}
 use Rattle.depot_node.specs.PlannedVouchers.{AreRefused}
 use Rattle.depot_node.specs.Putting.{IsRefused}
@@ -41,7 +42,16 @@ keeps_no_disk result disk stopped w = record {
   calm = λ none. (none, refl);
 }
 
-pub ruleset in_memory = (same_node, never_stops, keeps_no_disk)
+-- no disk tells what a stop leaves
+pub lasts_untold : {N : Type 0} (records : N → List Record) (old new : N) (appends : List Record) → Lasts (λ _. false) (λ _. false) records (λ _. 0) (λ _ _ _. ⊥) (λ _ _. ⊥) old new appends
+lasts_untold records old new appends = record {
+  told = refl;
+  any_moment = λ tells. absurd tells;
+  stable = λ tells. absurd tells;
+  untouched = λ never. absurd cc;
+}
+
+pub ruleset in_memory = (same_node, never_stops, keeps_no_disk, lasts_untold)
 
 -- ---- what was carried out
 

@@ -143,6 +143,14 @@ impl<S: Scheme, G: Signer<Of = S>> Replica for Node<S, G> {
 
     ghost is_faultless = { λ _. Unit {0} };
 
+    ghost tells = { λ _. false };
+
+    ghost may_leave = { λ _ _. ⊥ };
+
+    ghost moment = { λ _. 0 };
+
+    ghost left_since = { λ _ _ _. ⊥ };
+
     fn me(&self) -> NodeId {
         self.store.state().me()
     }
@@ -192,6 +200,8 @@ impl<S: Scheme, G: Signer<Of = S>> Replica for Node<S, G> {
     ghost keyed = { λ n. n.keyed };
 
     ghost verifies_by = { λ n. refl };
+
+    ghost only_now = { λ _ _ left. left };
 
     ghost signs = { λ n seq body below. G.verifies_under_key n.signer seq body below };
 

@@ -89,6 +89,11 @@ schedule_makes_world s is =
     run_makes_world stage (run_after stage (run_of stage s.members) s.events)
     (events_keep stage (before_events s) (run_of stage s.members) s.events (members_sign_bytes s) is.events (begins_good s is))
 
+-- its roster is that of the stage
+pub schedule_world_has_roster : (s : Schedule) → IsSchedule s → IsRoster (world_of s).listed
+unfolding world_by world_of
+schedule_world_has_roster s is = stage_has_roster s is
+
 -- so what holds of worlds holds of it
 pub schedule_world_is_causal : (s : Schedule) → IsSchedule s → IsAuthentic (world_of s) → IsCollisionFree (world_of s) → IsForkJoinCausal (world_of s)
 schedule_world_is_causal s is authentic free = fork_join_causal (world_of s) (schedule_makes_world s is) authentic free

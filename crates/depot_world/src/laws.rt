@@ -3,6 +3,7 @@ ghost use Rattle.std.specs.Prelude.{ℕ, List, []};
 ghost use Rattle.depot_base.specs.declared.update.Update.{Update};
 ghost use Rattle.depot_model.specs.Causality.{IsForkJoinCausal, ConvictsNoCorrectNode};
 ghost use Rattle.depot_model.specs.Order.{IsCausal, AreLatestIn};
+ghost use Rattle.depot_model.specs.Texts.{IsRoster};
 ghost use Rattle.depot_model.specs.World.{IsWorld, IsAuthentic, IsCollisionFree};
 ghost use Rattle.depot_schedule.specs.Schedules.{IsSchedule};
 ghost use Rattle.depot_schedule.specs.declared.schedule.Schedule.{Schedule};
@@ -17,9 +18,10 @@ pub fn latest_writes_are_listed()
 
 /// What a schedule makes happen is a world: its correct nodes are distinct and in the roster, each has a lawful journal and the
 /// reads of that journal, and each proof that it judged with a verdict has one. So it is whatever its faulty nodes sign and send,
-/// and wherever its disks stop.
+/// and wherever its disks stop. Its roster is one.
 pub fn schedules_make_worlds()
-    ensures { (s : Schedule) → IsSchedule s → IsWorld (world_of s) }
+    ensures world { (s : Schedule) → IsSchedule s → IsWorld (world_of s) }
+    ensures roster { (s : Schedule) → IsSchedule s → IsRoster (world_of s).listed }
 {}
 
 /// So what holds of worlds holds of a schedule's. While no correct node's signature was forged and no two hashed texts collide, it
