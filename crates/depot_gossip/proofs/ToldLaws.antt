@@ -1,10 +1,10 @@
 -- The signed statements in a bundle: the node's own, signed now, and those of others that it keeps.
-use Rattle.std.proofs.Common.{◌≡◌, ℕ, ◌≤◌, List, [], ◌∷◌, ◌++◌, length, map, Bool, true, false, not, cond, Option, Some, None, Result, Ok, Err, refl, sym, ap, subst, ◌∙◌, inl, inr, ◌⊎◌, arith}
-use Rattle.std.specs.List.{filter, flat_map, list_any}
+use Rattle.std.proofs.Common.{◌≡◌, ℕ, List, [], ◌∷◌, ◌++◌, map, Bool, true, false, not, cond, Option, Some, None, Result, Ok, Err, refl, sym, ap, subst, inl, inr, ◌⊎◌, arith}
+use Rattle.std.specs.List.{flat_map, list_any}
 use Rattle.std.specs.Str.{bytes_eq}
 use Rattle.sha2.specs.Sha256.{sha256}
 use Rattle.depot_base.specs.Format.{whole}
-use Rattle.depot_base.specs.Statement.{writer_of, seq_of}
+use Rattle.depot_base.specs.Statement.{writer_of}
 use Rattle.depot_base.specs.declared.voucher.Voucher.{Voucher}
 use Rattle.depot_base.specs.declared.statement.Statement.{Statement}
 use Rattle.depot_base.specs.declared.statement.Statement.TheVariants as statement
@@ -14,23 +14,23 @@ use Rattle.depot_base.specs.declared.record.Record.TheVariants.{Birth, OwnPut, O
 use Rattle.depot_base.proofs.Combined.{prefix_free}
 use Rattle.depot_model.specs.declared.hello.Hello.{Hello}
 use Rattle.depot_model.specs.Lists.{IsIn, is_among}
-use Rattle.depot_model.specs.Texts.{signed, IsSigned, text_of_signed, hash_of_roster}
+use Rattle.depot_model.specs.Texts.{signed, IsSigned, hash_of_roster}
 use Rattle.depot_model.specs.Roster.{has_node}
-use Rattle.depot_model.specs.Journal.{accepted, own, own_by, foreign, foreign_by, held, value_with}
+use Rattle.depot_model.specs.Journal.{own, own_by, foreign, foreign_by, held, value_with}
 use Rattle.depot_model.specs.Checks.{Setting}
 use Rattle.depot_model.specs.Lawful.{IsLawful, is_empty}
 use Rattle.depot_model.specs.Limits.{Limit}
 use Rattle.depot_model.specs.Hello.{hello}
 use Rattle.depot_model.specs.Frames.{Frame}
-use Rattle.depot_model.specs.Vouching.{own_voucher_by, records_of, new_vouchers, limit_of_vouchers}
-use Rattle.depot_model.specs.Bundle.{Signs, signed_with, signed_by, has_candidate, candidates, Parcel, candidate_parcel, candidate_parcels, wanted_parcel, hashes_of, parcels, statement_frame, value_frame, proof_frame, end_frame, frames_of, sent_for, sent_foreign, unvouched, proofs_for, vouchers_for, Bundle, bundle_frames, bundle_of, with_vouchers, BundleAnswer, bundled, bad_hello, other_roster, bundled_within, answer_to_hello, bundle_answer}
-use Rattle.depot_model.proofs.Members.{in_left, in_right, in_parts, from_map}
+use Rattle.depot_model.specs.Vouching.{own_voucher_by, records_of, limit_of_vouchers}
+use Rattle.depot_model.specs.Bundle.{Signs, signed_with, signed_by, has_candidate, candidates, Parcel, candidate_parcel, candidate_parcels, wanted_parcel, hashes_of, parcels, statement_frame, value_frame, proof_frame, end_frame, frames_of, sent_for, sent_foreign, unvouched, proofs_for, vouchers_for, Bundle, bundle_frames, bundle_of, with_vouchers, bundled, bad_hello, other_roster, bundled_within, answer_to_hello, bundle_answer}
+use Rattle.depot_model.proofs.Members.{in_left, in_parts, from_map}
 use Rattle.depot_model.proofs.TextLaws.{signed_lawful}
 use Rattle.depot_laws.proofs.Splits.{given_by, flat_gives, flat_left}
 use Rattle.depot_laws.proofs.Tests.{from_filter}
 use Rattle.depot_laws.proofs.Worlds.{giver_in}
 use Rattle.depot_laws.proofs.OwnTexts.{own_statement_fits}
-use Rattle.depot_laws.proofs.Candidates.{signed_is, signed_fits}
+use Rattle.depot_laws.proofs.Candidates.{signed_fits}
 use Rattle.depot_laws.proofs.ChainLaws.{foreign_writer}
 use Rattle.depot_laws.proofs.Contrary.{kept_is_signed}
 use Rattle.depot_laws.proofs.NewVouchers.{new_are_lawful}
@@ -181,6 +181,11 @@ is_answered : (here : Setting) (sign : Signs) (J : List Record) (text : List ℕ
 unfolding bundle_answer
 is_answered here sign J text b is = answered here sign J b (whole hello (record { at = 0; rest = text })) is
 
+-- with the vouchers of a bundle the journal is lawful
+bundle_is_lawful : (here : Setting) (sign : Signs) (J : List Record) (h : Hello) → IsLawful here J → is_empty J ≡ false → limit_of_vouchers here J (unvouched here.me J (sent_for sign J h)) ≡ None → IsLawful here (with_vouchers J (bundle_of here.me sign J h).vouchers)
+unfolding bundle_of
+bundle_is_lawful here sign J h l some none = new_are_lawful here J (unvouched here.me J (sent_for sign J h)) l some (foreign_one here sign J h) none
+
 -- each own statement in a bundle stands in the journal with the bundle's vouchers, signed by the signer
 pub bundle_tells_own : (here : Setting) (sign : Signs) (J : List Record) (text : List ℕ) (b : Bundle) (s : Signed) → IsLawful here J → is_empty J ≡ false → IsShort sign → bundle_answer here sign J text ≡ bundled b → IsSigned s → IsIn (statement_frame s) b.frames → writer_of s.statement ≡ here.me
     → IsSignedOwn sign (with_vouchers J b.vouchers) s
@@ -188,9 +193,5 @@ bundle_tells_own here sign J text b s l some short is fits on me =
     let a = is_answered here sign J text b is in
     subst (λ (x : Bundle). IsSignedOwn sign (with_vouchers J x.vouchers) s) a.is
     (of_hello a.hello a.none (subst (λ (x : Bundle). IsIn (statement_frame s) x.frames) (sym a.is) on)) where
-  lawful : (h : Hello) → limit_of_vouchers here J (unvouched here.me J (sent_for sign J h)) ≡ None → IsLawful here (with_vouchers J (bundle_of here.me sign J h).vouchers)
-  unfolding bundle_of
-  lawful h none = new_are_lawful here J (unvouched here.me J (sent_for sign J h)) l some (foreign_one here sign J h) none
-
-  of_hello : (h : Hello) → limit_of_vouchers here J (unvouched here.me J (sent_for sign J h)) ≡ None → IsIn (statement_frame s) (bundle_of here.me sign J h).frames → IsSignedOwn sign (with_vouchers J (bundle_of here.me sign J h).vouchers) s
-  of_hello h none told = told_own here sign _ s (lawful h none) short fits me (bundle_carries here.me sign J h (statement_frame s) told refl)
+      of_hello : (h : Hello) → limit_of_vouchers here J (unvouched here.me J (sent_for sign J h)) ≡ None → IsIn (statement_frame s) (bundle_of here.me sign J h).frames → IsSignedOwn sign (with_vouchers J (bundle_of here.me sign J h).vouchers) s
+      of_hello h none told = told_own here sign _ s (bundle_is_lawful here sign J h l some none) short fits me (bundle_carries here.me sign J h (statement_frame s) told refl)

@@ -32,7 +32,8 @@ pub use error::{BundleError, FeedError};
 pub use feed::Feed;
 pub use hello_text::{decode_hello, encode_hello};
 pub use laws::{
-    bundles_tell_own_statements, hellos_are_prefix_free, hellos_are_read_in_one_way, pieces_are_one, streams_tell_all,
+    bundles_tell_own_statements, hellos_are_prefix_free, hellos_are_read_in_one_way,
+    pieces_are_one, streams_tell_all,
 };
 pub use own_bundle::{Bundled, bundle};
 pub use own_hello::hello;
