@@ -1,12 +1,12 @@
 //! A fork of node 9 before a judge, by the plain scheme. The texts are made by Python's hashlib, apart from the program.
 ghost use Rattle.std.specs.Prelude.{IfOk};
-ghost use Rattle.depot_model.specs.Texts.{IsSigned};
+ghost use Rattle.depot_model.specs.Texts.{IsProof, IsSigned};
 
 use crate::hex::bytes;
-use depot_base::{Kind, Signed};
+use depot_base::{Bytes, Kind, Proof, Signed};
 use depot_judge::*;
 use depot_sign::{PlainScheme, Roster};
-use depot_update::{decode_signed, encode_proof};
+use depot_update::{DecodeError, decode_signed, encode_proof};
 use std::alloc::Global;
 use std::test::Fail;
 
@@ -125,25 +125,6 @@ const VOUCHER: &str =
     "0000002a0102000900000005000107070707070707070707070707070707070707070707070707070707070707070000 \
     0020b5bd667c0db3f54e6fd8849c64a5b8e45c013df782a5a0e57b34d3db93d5cb38";
 
-/// The text of a proof with this kind byte and these halves.
-fn proof(alloc: Global, kind: u8, first: &str, second: &str) -> Result<Vec<u8>, Fail> {
-    let text = format!(in alloc; "01 {kind:02x} {first} {second}")?;
-    bytes(alloc, text.as_str())
-}
-
-/// A signed statement.
-fn signed(alloc: Global, hex: &str) -> Result<Signed, Fail>
-    ensures { IfOk result IsSigned }
-{
-    Ok(decode_signed(alloc, bytes(alloc, hex)?.as_slice())?)
-}
-
-/// What the judge says of a text.
-fn judged(alloc: Global, text: &[u8]) -> Result<Result<Verdict, JudgeError>, Fail> {
-    let roster = Roster::parse(alloc, bytes(alloc, ROSTER)?.as_slice())?;
-    Ok(judge(alloc, &roster, &PlainScheme, text))
-}
-
 /// Proofs by their kind byte and their halves, and what the judge says of each.
 static CASES: [(u8, &str, &str, &str); 16] = [
     (2, X, Y, "Ok(Verdict { node: NodeId(9), kind: SamePrev })"),
@@ -169,49 +150,6 @@ static CASES: [(u8, &str, &str, &str); 16] = [
     (3, X, Z, "Err(NotContradictory(Backward))"),
 ];
 
-#[test]
-fn the_first_point_that_fails_is_told(rt: HostRuntime) -> Result<(), Fail> {
-    for (kind, first, second, said) in CASES.iter() {
-        let text = proof(rt.alloc(), *kind, first, second)?;
-        let told = judged(rt.alloc(), text.as_slice())?;
-        let told = format!(in rt.alloc(); "{told:?}")?;
-        assert_eq!(rt; told.as_str(), *said);
-    }
-    Ok(())
-}
-
-#[test]
-fn a_cut_proof_is_ill_formed(rt: HostRuntime) -> Result<(), Fail> {
-    let text = proof(rt.alloc(), 2, X, Y)?;
-    assert_eq!(rt; text.len(), 322);
-    for n in 0..322 {
-        let cut = text.get(..n).ok_or("a shorter text")?;
-        let told = judged(rt.alloc(), cut)?;
-        assert!(rt; matches!(told, Err(JudgeError::IllFormed(_))), "{n} bytes");
-    }
-    Ok(())
-}
-
-#[test]
-fn a_proof_is_made_in_order(rt: HostRuntime) -> Result<(), Fail> {
-    let x = signed(rt.alloc(), X)?;
-    let y = signed(rt.alloc(), Y)?;
-    assert!(rt; contradicts(Kind::SamePrev, &x, &y));
-    assert!(rt; contradicts(Kind::SamePrev, &y, &x));
-    let right = proof(rt.alloc(), 2, X, Y)?;
-    let made = make_proof(Kind::SamePrev, &x, &y)?;
-    assert_eq!(rt;
-        encode_proof(rt.alloc(), &made)?.as_slice(),
-        right.as_slice()
-    );
-    let turned = make_proof(Kind::SamePrev, &y, &x)?;
-    assert_eq!(rt;
-        encode_proof(rt.alloc(), &turned)?.as_slice(),
-        right.as_slice()
-    );
-    Ok(())
-}
-
 /// Statements, and the first kind in which each contradicts the write with seq 5, and that write it.
 static KINDS: [(&str, Option<Kind>); 8] = [
     (FIVE, None),
@@ -224,13 +162,112 @@ static KINDS: [(&str, Option<Kind>); 8] = [
     (VOUCHER, Some(Kind::SameNumber)),
 ];
 
+/// The text of a proof with this kind byte and these halves.
+fn proof(alloc: Global, kind: u8, first: &str, second: &str) -> Result<Vec<u8>, Fail> {
+    let text = format!(in alloc; "01 {kind:02x} {first} {second}")?;
+    bytes(alloc, text.as_str())
+}
+
+/// The roster of nodes 1 and 9.
+fn roster(alloc: Global) -> Result<Roster, Fail> {
+    let text = bytes(alloc, ROSTER)?;
+    Ok(Roster::parse(alloc, text.as_slice())?)
+}
+
+/// What the judge says of a text.
+fn judged(alloc: Global, text: &[u8]) -> Result<Result<Verdict, JudgeError>, Fail> {
+    let roster = roster(alloc)?;
+    Ok(judge(alloc, &roster, &PlainScheme, text))
+}
+
+/// What the judge says of a proof with this kind byte and these halves, in words.
+fn said(alloc: Global, kind: u8, first: &str, second: &str) -> Result<String, Fail> {
+    let text = proof(alloc, kind, first, second)?;
+    let told = judged(alloc, text.as_slice())?;
+    Ok(format!(in alloc; "{told:?}")?)
+}
+
+#[test]
+fn the_first_point_that_fails_is_told(rt: HostRuntime) -> Result<(), Fail> {
+    for (kind, first, second, right) in CASES.iter() {
+        let said = said(rt.alloc(), *kind, first, second)?;
+        assert_eq!(rt; said.as_str(), *right);
+    }
+    Ok(())
+}
+
+/// Whether the judge says of a text that it is no proof's.
+fn is_ill_formed(alloc: Global, text: &[u8]) -> Result<bool, Fail> {
+    Ok(matches!(judged(alloc, text)?, Err(JudgeError::IllFormed(_))))
+}
+
+#[test]
+fn a_cut_proof_is_ill_formed(rt: HostRuntime) -> Result<(), Fail> {
+    let text = proof(rt.alloc(), 2, X, Y)?;
+    assert_eq!(rt; text.len(), 322);
+    for n in 0..322 {
+        let cut = text.get(..n).ok_or("a shorter text")?;
+        assert!(rt; is_ill_formed(rt.alloc(), cut)?, "{n} bytes");
+    }
+    Ok(())
+}
+
+/// The signed statement of a text.
+fn signed_of(alloc: Global, text: &[u8]) -> Result<Signed, DecodeError>
+    ensures { IfOk result IsSigned }
+{
+    decode_signed(alloc, text)
+}
+
+/// A signed statement.
+fn signed(alloc: Global, hex: &str) -> Result<Signed, Fail>
+    ensures { IfOk result IsSigned }
+{
+    let text = bytes(alloc, hex)?;
+    Ok(signed_of(alloc, text.as_slice())?)
+}
+
+/// The proof that is made of two statements, if they name the same prev.
+fn made(a: &Signed, b: &Signed) -> Result<Proof, Fail>
+    requires first { IsSigned a.now }
+    requires second { IsSigned b.now }
+    ensures { IfOk result IsProof }
+{
+    if !contradicts(Kind::SamePrev, a, b) {
+        return Err("no contradiction".into());
+    }
+    Ok(make_proof(Kind::SamePrev, a, b)?)
+}
+
+/// The text of it.
+fn text_of_made(alloc: Global, first: &str, second: &str) -> Result<Bytes, Fail> {
+    let first = signed(alloc, first)?;
+    let second = signed(alloc, second)?;
+    let proof = made(&first, &second)?;
+    Ok(encode_proof(alloc, &proof)?)
+}
+
+#[test]
+fn a_proof_is_made_in_order(rt: HostRuntime) -> Result<(), Fail> {
+    let right = proof(rt.alloc(), 2, X, Y)?;
+    for (first, second) in [(X, Y), (Y, X)] {
+        let made = text_of_made(rt.alloc(), first, second)?;
+        assert_eq!(rt; made.as_slice(), right.as_slice());
+    }
+    Ok(())
+}
+
+/// The first kind in which a statement contradicts the write with seq 5, and that write it.
+fn kinds(alloc: Global, hex: &str) -> Result<[Option<Kind>; 2], Fail> {
+    let five = signed(alloc, FIVE)?;
+    let other = signed(alloc, hex)?;
+    Ok([kind_of(&five, &other), kind_of(&other, &five)])
+}
+
 #[test]
 fn the_first_kind_is_told(rt: HostRuntime) -> Result<(), Fail> {
-    let five = signed(rt.alloc(), FIVE)?;
     for (hex, kind) in KINDS.iter() {
-        let other = signed(rt.alloc(), hex)?;
-        assert_eq!(rt; kind_of(&five, &other), *kind);
-        assert_eq!(rt; kind_of(&other, &five), *kind);
+        assert_eq!(rt; kinds(rt.alloc(), hex)?, [*kind; 2]);
     }
     Ok(())
 }

@@ -1,6 +1,6 @@
 //! What no clause says: values that were computed apart from this crate, and that no signature verifies once a part is changed.
-ghost use Rattle.std.specs.Prelude.{◌^◌, ◌<◌, IfOk, IsTrue};
 
+use crate::signing::signs_and_verifies;
 use depot_base::{Bytes, Hash32, Memory, PublicKey};
 use depot_model::{Scheme, Signer};
 use depot_winter::{WinterScheme, WinterSigner, digits, smaller_digit};
@@ -56,26 +56,12 @@ fn the_first_smaller_digit(rt: HostRuntime) {
     assert_eq!(rt; smaller_digit(&ones, &ones), None);
 }
 
-// Signs and verifies, through the bounds.
-fn sign_and_check<S: Scheme, G: Signer<Of = S>>(
-    scheme: &S,
-    signer: &G,
-    seq: u32,
-    body: &[u8],
-) -> Result<bool, Memory>
-    requires { seq < 2 ^ (G.key_of signer.now).height }
-    ensures { IfOk result IsTrue }
-{
-    let signature = signer.sign(seq, body)?;
-    Ok(scheme.verify(&signer.key(), seq, body, signature.as_slice()))
-}
-
 #[test]
 fn each_leaf_signs(rt: HostRuntime) -> Result<(), Fail> {
     let signer = WinterSigner::from_seed(rt.alloc(), &Hash32::new(ZEROS), 2)?;
     assert_eq!(rt; signer.key().root, Hash32::new(ROOT_OF_ZEROS));
     for seq in 0..4 {
-        assert!(rt; sign_and_check(&WinterScheme, &signer, seq, b"depot")?);
+        assert!(rt; signs_and_verifies(&WinterScheme, &signer, seq, b"depot")?);
     }
     Ok(())
 }

@@ -1,0 +1,19 @@
+//! Examples of what is kept: journals on a disk, schedules, values, chains, vouched ids and kept statements.
+//!
+//! Files, lines and hashes from outside are tried on each of these crates, and each of their public functions is called once with
+//! ample memory. What is promised of them is proved there; nothing is promised here. The tests stand in a crate of their own so
+//! that those crates are proved once: a crate with tests is proved a second time for them.
+#![tactic(auto)]
+
+#[cfg(test)]
+mod chains;
+#[cfg(test)]
+mod contradictions;
+#[cfg(test)]
+mod journals;
+#[cfg(test)]
+mod schedules;
+#[cfg(test)]
+mod values;
+#[cfg(test)]
+mod vouching;

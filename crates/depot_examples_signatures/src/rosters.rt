@@ -1,0 +1,203 @@
+//! Rosters from outside: a worked one, the largest, and a table of texts that are refused.
+
+use depot_base::{Bytes, Hash32, Memory, NodeId, PublicKey};
+use depot_sign::*;
+use std::alloc::Global;
+use std::test::Fail;
+
+/// The text of a roster of three nodes: each has its node, its height, and its root, which repeats a byte.
+const GOOD: &[u8] = b"\x01\x04\0\x03\
+    \0\x01\x02\
+    \x11\x11\x11\x11\x11\x11\x11\x11\x11\x11\x11\x11\x11\x11\x11\x11\
+    \x11\x11\x11\x11\x11\x11\x11\x11\x11\x11\x11\x11\x11\x11\x11\x11\
+    \0\x07\x0c\
+    \x22\x22\x22\x22\x22\x22\x22\x22\x22\x22\x22\x22\x22\x22\x22\x22\
+    \x22\x22\x22\x22\x22\x22\x22\x22\x22\x22\x22\x22\x22\x22\x22\x22\
+    \xff\xff\x04\
+    \x33\x33\x33\x33\x33\x33\x33\x33\x33\x33\x33\x33\x33\x33\x33\x33\
+    \x33\x33\x33\x33\x33\x33\x33\x33\x33\x33\x33\x33\x33\x33\x33\x33";
+
+/// SHA-256 of it, by Python's hashlib.
+const HASH: [u8; 32] = [
+    0x2b, 0x40, 0x1f, 0x63, 0x9b, 0x00, 0x23, 0xfc, 0x03, 0xe3, 0x1b, 0xc8, 0x47, 0x9c, 0x86, 0x2e,
+    0x29, 0x5e, 0xf3, 0x89, 0x17, 0xcc, 0x1c, 0xee, 0xef, 0xfd, 0xe9, 0x72, 0x32, 0xa8, 0x0f, 0xc6,
+];
+
+/// Nodes, and the height and the byte of the root of the key that the roster has for each.
+static KEYS: [(u16, Option<(u8, u8)>); 5] = [
+    (1, Some((2, 0x11))),
+    (2, None),
+    (7, Some((12, 0x22))),
+    (8, None),
+    (65535, Some((4, 0x33))),
+];
+
+/// Texts that no roster has, and the offset of the first fault of each.
+static ILL_FORMED: [(&[u8], u32); 18] = [
+    (b"", 0),
+    (b"\x02\x04\0\x01", 0),
+    (b"\x01", 1),
+    (b"\x01\x03\0\x01", 1),
+    (b"\x01\x04", 2),
+    (b"\x01\x04\x01", 2),
+    (b"\x01\x04\0\0", 2),
+    (b"\x01\x04\0\x01", 4),
+    (b"\x01\x04\0\x01\0\0\x02aaaaaaaaaaaaaaaaaaaaaaaaaaaaaaaa", 4),
+    (
+        b"\x01\x04\0\x01\0\x07\x01aaaaaaaaaaaaaaaaaaaaaaaaaaaaaaaa",
+        6,
+    ),
+    (
+        b"\x01\x04\0\x01\0\x07\x0daaaaaaaaaaaaaaaaaaaaaaaaaaaaaaaa",
+        6,
+    ),
+    (
+        b"\x01\x04\0\x02\0\x07\x02aaaaaaaaaaaaaaaaaaaaaaaaaaaaaaaa\0\x07\x63bbbbbbbbbbbbbbbbbbbbbbbbbbbbbbbb",
+        41,
+    ),
+    (
+        b"\x01\x04\0\x02\0\x07\x02aaaaaaaaaaaaaaaaaaaaaaaaaaaaaaaa\0\x06\x02bbbbbbbbbbbbbbbbbbbbbbbbbbbbbbbb",
+        39,
+    ),
+    // Of the second entry stand the node, and a part of the root.
+    (
+        b"\x01\x04\0\x02\0\x07\x02aaaaaaaaaaaaaaaaaaaaaaaaaaaaaaaa\0\x07",
+        41,
+    ),
+    (
+        b"\x01\x04\0\x02\0\x07\x02aaaaaaaaaaaaaaaaaaaaaaaaaaaaaaaa\0\x07\x02\x09",
+        42,
+    ),
+    // The one entry is the last, whatever stands behind it.
+    (
+        b"\x01\x04\0\x01\0\x07\x02aaaaaaaaaaaaaaaaaaaaaaaaaaaaaaaa\0",
+        39,
+    ),
+    (
+        b"\x01\x04\0\x01\0\x07\x02aaaaaaaaaaaaaaaaaaaaaaaaaaaaaaaa\0\x07",
+        39,
+    ),
+    (
+        b"\x01\x04\0\x01\0\x07\x02aaaaaaaaaaaaaaaaaaaaaaaaaaaaaaaa\0\x07\x02aaaaaaaaaaaaaaaaaaaaaaaaaaaaaaaa",
+        39,
+    ),
+];
+
+/// Texts that have too many entries, and how many.
+static TOO_MANY: [(&[u8], u32); 3] = [
+    (b"\x01\x04\x01\x01", 257),
+    (b"\x01\x04\x01\x01\0", 257),
+    (b"\x01\x04\xff\xff", 65535),
+];
+
+/// Texts in which node 7 stands twice.
+static TWICE: [&[u8]; 2] = [
+    b"\x01\x04\0\x02\0\x07\x02aaaaaaaaaaaaaaaaaaaaaaaaaaaaaaaa\0\x07\x0cbbbbbbbbbbbbbbbbbbbbbbbbbbbbbbbb",
+    b"\x01\x04\0\x03\0\x07\x02aaaaaaaaaaaaaaaaaaaaaaaaaaaaaaaa\0\x07\x0cbbbbbbbbbbbbbbbbbbbbbbbbbbbbbbbb",
+];
+
+/// Why a text is refused.
+fn refusal(alloc: Global, text: &[u8]) -> Option<RosterError> {
+    Roster::parse(alloc, text).err()
+}
+
+#[test]
+fn the_first_fault_is_told(rt: HostRuntime) {
+    for (text, at) in ILL_FORMED.iter() {
+        let told = refusal(rt.alloc(), text);
+        assert_eq!(rt; told, Some(RosterError::IllFormed(*at)), "{text:?}");
+    }
+}
+
+#[test]
+fn too_many_entries_are_told(rt: HostRuntime) {
+    for (text, count) in TOO_MANY.iter() {
+        let told = refusal(rt.alloc(), text);
+        assert_eq!(rt; told, Some(RosterError::TooMany(*count)), "{text:?}");
+    }
+}
+
+#[test]
+fn a_node_that_stands_twice_is_told(rt: HostRuntime) -> Result<(), Fail> {
+    let node = NodeId::new(7).ok_or("a node")?;
+    for text in TWICE.iter() {
+        let told = refusal(rt.alloc(), text);
+        assert_eq!(rt; told, Some(RosterError::TwiceNode(node)), "{text:?}");
+    }
+    Ok(())
+}
+
+/// Whether a roster has the node with a key of this height and this byte of the root, or hasn't it, for None.
+fn tells(roster: &Roster, number: u16, want: Option<(u8, u8)>) -> bool {
+    let Some(node) = NodeId::new(number) else {
+        return false;
+    };
+    let key = want.map(|(height, byte)| PublicKey {
+        root: Hash32::new([byte; 32]),
+        height,
+    });
+    roster.key_of(node) == key && roster.has_node(node) == want.is_some()
+}
+
+#[test]
+fn a_roster_tells_its_keys(rt: HostRuntime) -> Result<(), Fail> {
+    let roster = Roster::parse(rt.alloc(), GOOD)?;
+    assert_eq!(rt; roster.count(), 3);
+    for (number, want) in KEYS.iter() {
+        assert!(rt; tells(&roster, *number, *want), "node {number}");
+    }
+    Ok(())
+}
+
+/// The text of a roster of the nodes 1 to 256.
+fn largest(alloc: Global) -> Result<Bytes, Memory> {
+    let mut text = Bytes::from_slice(alloc, &[1, 4, 1, 0])?;
+    for n in 1..257 {
+        text.push_u16(n)?;
+        text.push_all(&[2; 33])?;
+    }
+    Ok(text)
+}
+
+#[test]
+fn the_largest_roster_is_read(rt: HostRuntime) -> Result<(), Fail> {
+    let text = largest(rt.alloc())?;
+    assert_eq!(rt; Roster::parse(rt.alloc(), text.as_slice())?.count(), 256);
+    Ok(())
+}
+
+/// Whether a roster is the good one.
+fn is_good(roster: &Roster) -> Result<bool, Memory> {
+    let text = roster.text()?;
+    Ok(
+        roster.entries().len() == 3
+            && *roster.hash() == Hash32::new(HASH)
+            && text.as_slice() == GOOD,
+    )
+}
+
+#[test]
+fn a_roster_has_one_text(rt: HostRuntime) -> Result<(), Fail> {
+    assert!(rt; is_good(&Roster::parse(rt.alloc(), GOOD)?)?);
+    Ok(())
+}
+
+/// Whether a copy, and the roster of the entries, are the same once more.
+fn copies_are_good(alloc: Global, roster: &Roster) -> Result<bool, Memory> {
+    let copy = roster.copy()?;
+    let made = Roster::of(alloc, roster.entries())?;
+    Ok(is_good(&copy)? && is_good(&made)?)
+}
+
+#[test]
+fn rosters_are_copied(rt: HostRuntime) -> Result<(), Fail> {
+    let roster = Roster::parse(rt.alloc(), GOOD)?;
+    assert!(rt; copies_are_good(rt.alloc(), &roster)?);
+    Ok(())
+}
+
+#[test]
+fn the_laws_are_there() {
+    rosters_are_prefix_free();
+    rosters_are_read_in_one_way();
+}

@@ -1,0 +1,18 @@
+//! Examples of texts: updates, vouchers, signed statements, proofs, records and hellos, and proofs before a judge.
+//!
+//! Texts and offsets that were written by hand or by other programs are tried on the codecs and on the judge, and each of their
+//! public functions is called once with ample memory. What is promised of them is proved in their crates; nothing is promised
+//! here. The tests stand in a crate of their own so that those crates are proved once: a crate with tests is proved a second
+//! time for them.
+#![tactic(auto)]
+
+#[cfg(test)]
+mod hellos;
+#[cfg(test)]
+mod hex;
+#[cfg(test)]
+mod judgements;
+#[cfg(test)]
+mod records;
+#[cfg(test)]
+mod texts;
