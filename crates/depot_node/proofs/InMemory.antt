@@ -46,8 +46,8 @@ keeps_no_disk result disk stopped w = record {
 pub lasts_untold : {N : Type 0} (records : N → List Record) (old new : N) (appends : List Record) → Lasts (λ _. false) (λ _. false) records (λ _. 0) (λ _ _ _. ⊥) (λ _ _. ⊥) old new appends
 lasts_untold records old new appends = record {
   told = refl;
-  any_moment = λ tells. absurd tells;
-  stable = λ tells. absurd tells;
+  any_moment = λ tells. absurd cc;
+  stable = λ tells. absurd cc;
   untouched = λ never. absurd cc;
 }
 
