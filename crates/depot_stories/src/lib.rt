@@ -8,6 +8,8 @@
 #![tactic(auto)]
 
 #[cfg(test)]
+mod exchange;
+#[cfg(test)]
 mod limits;
 #[cfg(test)]
 mod making;
@@ -19,5 +21,7 @@ mod starting;
 mod stories;
 #[cfg(test)]
 mod story;
+#[cfg(test)]
+mod streams;
 #[cfg(test)]
 mod telling;

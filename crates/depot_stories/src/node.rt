@@ -29,25 +29,31 @@ pub fn roster(alloc: Global, height: u8, nodes: &[u16]) -> Result<Roster, Fail> 
     Ok(Roster::parse(alloc, text.as_slice())?)
 }
 
-/// A node of a roster, with an empty journal, that signs by the key of node 1 and of this height.
+/// A node of a roster, with an empty journal, that signs by the key of node `signer` and of this height.
 pub fn start_with(
     alloc: Global,
     roster: Roster,
     me: NodeId,
+    signer: u16,
     height: u8,
 ) -> Result<Plain, StartError>
     ensures { IfOk result (λ node. ⟦<Plain as Replica>⟧.stands node ≡ record { verifies = plain_verifies; me = me; listed = roster }) }
 {
-    let signer = PlainSigner::from_seed(alloc, &seed_of(1), height);
+    let signer = PlainSigner::from_seed(alloc, &seed_of(signer), height);
     let texts = Texts::new(alloc);
     Node::start_list(alloc, texts, roster, PlainScheme, signer, me)
 }
 
+/// The node `me` of a roster of these nodes, with an empty journal.
+pub fn start_as(alloc: Global, height: u8, nodes: &[u16], me: u16) -> Result<Plain, Fail> {
+    let roster = roster(alloc, height, nodes)?;
+    let id = NodeId::new(me).ok_or("no node")?;
+    Ok(start_with(alloc, roster, id, me, height)?)
+}
+
 /// The node 1 of a roster of these nodes, with an empty journal.
 pub fn start(alloc: Global, height: u8, nodes: &[u16]) -> Result<Plain, Fail> {
-    let roster = roster(alloc, height, nodes)?;
-    let me = NodeId::new(1).ok_or("no node")?;
-    Ok(start_with(alloc, roster, me, height)?)
+    start_as(alloc, height, nodes, 1)
 }
 
 /// The node started again from its own record texts.
@@ -232,7 +238,7 @@ fn live(
     told: &mut String,
 ) -> Result<(), Fail> {
     let same = roster.copy()?;
-    let mut node = start_with(scene.alloc, roster, me, story.height)?;
+    let mut node = start_with(scene.alloc, roster, me, 1, story.height)?;
     scene.play(&mut node, story.events, told)?;
     live_on(scene, node, same, me, story, told)
 }

@@ -12,7 +12,7 @@ use std::test::Fail;
 /// Why a node of the roster of nodes 1 and 2 isn't started with the key of node 1.
 fn refusal(alloc: Global, me: u16) -> Result<Option<StartError>, Fail> {
     let me = NodeId::new(me).ok_or("no node")?;
-    Ok(start_with(alloc, roster(alloc, 4, &[1, 2])?, me, 4).err())
+    Ok(start_with(alloc, roster(alloc, 4, &[1, 2])?, me, 1, 4).err())
 }
 
 fn key_of(node: u16) -> PublicKey {

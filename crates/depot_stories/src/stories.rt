@@ -7,7 +7,7 @@ use std::process::Abort;
 use std::test::Fail;
 
 /// The first update of node 9.
-const FIRST: Line<'static> = Line {
+pub const FIRST: Line<'static> = Line {
     writer: 9,
     seq: 0,
     clock: 1,
@@ -20,7 +20,7 @@ const FIRST: Line<'static> = Line {
 };
 
 /// Another first update of node 9, by which it forks.
-const OTHER_FIRST: Line<'static> = Line {
+pub const OTHER_FIRST: Line<'static> = Line {
     seq: 1,
     clock: 2,
     value: b"b",

@@ -25,7 +25,8 @@ fn tell_one(told: &mut String, named: &[Named], name: &str, hash: &Hash32) -> Re
     tell_hash(told, named, hash)
 }
 
-fn tell_check(told: &mut String, named: &[Named], check: &Check) -> Result<(), Fail> {
+/// A check, and what it carries.
+pub fn tell_check(told: &mut String, named: &[Named], check: &Check) -> Result<(), Fail> {
     match check {
         Check::NotMine(id) => tell_one(told, named, "NotMine", id),
         Check::Missing(id) => tell_one(told, named, "Missing", id),
