@@ -1,5 +1,5 @@
 //! What a node tells others of what it has.
-ghost use Rattle.std.specs.Prelude.{◌≡◌, List, [], ◌∷◌, true, false, length, map, Some, IfOk, IsErrOf, option_copied, slice_get};
+ghost use Rattle.std.specs.Prelude.{◌≡◌, ◌≢◌, List, [], ◌∷◌, true, false, length, map, Some, IfOk, IfErr, IsErrOf, option_copied, slice_get};
 ghost use Rattle.std.specs.List.{AllByRecursion};
 ghost use Rattle.depot_base.specs.declared.record.Record.{Record};
 ghost use Rattle.depot_model.specs.Bundle.{signed_by, candidate_places};
@@ -59,7 +59,8 @@ pub trait Peer: Replica {
 
     /// Vouches for accepted updates of others that it hasn't vouched for: one own voucher for each 256 ids in the order given. All
     /// are appended or none; but after Disk those before the failing one stand, and the node is stopped. `Spent` comes exactly where the vouchers would pass the leaves of its tree, with the number of its statements, and
-    /// else `Full` exactly where there is no room for them.
+    /// else `Full` exactly where there is no room for them. A stop at any moment leaves the records from before and a front of the
+    /// vouchers; of a call that answers another error than Disk, none of these.
     fn own_vouchers(&mut self, ids: &Ids) -> Result<(), VoucherError>
         requires apart { AreApart ids.now }
         requires foreign { AllByRecursion (λ h. is_foreign (Self.stands self.old).me (accepted (Self.records self.old)) h ≡ true) ids.now }
@@ -68,5 +69,6 @@ pub trait Peer: Replica {
         ensures stays { IsSameNode (Self.stands self.old) (Self.stands self.new) (Self.key self.old) (Self.key self.new) (Self.signature_of self.old) (Self.signature_of self.new) }
         ensures stops { StopsBy (Self.stopped self.old) (Self.stopped self.new) (IsErrOf result VoucherError.Stopped) (IsErrOf result VoucherError.Disk) }
         ensures disk { KeepsDisk (Self.handle self.old) (Self.handle self.new) (Self.faults self.old) (Self.faults self.new) (Self.is_faultless self.old) (Self.is_faultless self.new) (IsErrOf result VoucherError.Disk) }
-        ensures lasts { Lasts Self.tells Self.stopped Self.records Self.moment Self.left_since Self.may_leave self.old self.new (records_of (new_vouchers (Self.stands self.old).me (Self.records self.old) ids.now)) };
+        ensures lasts { Lasts Self.tells Self.stopped Self.records Self.moment Self.left_since Self.may_leave self.old self.new (records_of (new_vouchers (Self.stands self.old).me (Self.records self.old) ids.now)) }
+        ensures idle { IfErr result (λ e. e ≢ VoucherError.Disk → Lasts Self.tells Self.stopped Self.records Self.moment Self.left_since Self.may_leave self.old self.new []) };
 }

@@ -1,5 +1,5 @@
 //! What others see of a node's journal, and give it.
-ghost use Rattle.std.specs.Prelude.{◌≡◌, ◌<◌, ◌≤◌, ◌^◌, ℕ, List, Bool, IsTrue, true, false, length, map, Some, IsErrOf, slice_get};
+ghost use Rattle.std.specs.Prelude.{◌≡◌, ◌<◌, ◌≤◌, ◌^◌, ℕ, List, [], Bool, IsTrue, true, false, length, map, Some, IsErrOf, slice_get};
 ghost use Rattle.depot_base.specs.declared.key.PublicKey.{PublicKey};
 ghost use Rattle.depot_base.specs.declared.limits.TheConstants.{MOST_SIGNATURE};
 ghost use Rattle.depot_base.specs.declared.record.Record.{Record};
@@ -87,13 +87,15 @@ pub trait Replica {
     /// Takes the text of a signed statement of others. Known and New, the first check that fails and Full come exactly
     /// where the definition says, and the journal grows by what it says. After Memory and Full it is as before, after a
     /// refused check too, but where a fork or a step back convicts the writer. After Disk the records before the failing one
-    /// stand, and the node is stopped. A stop at any moment leaves the records from before and a front of those that are appended.
+    /// stand, and the node is stopped. A stop at any moment leaves the records from before and a front of those that are appended;
+    /// of a call that answers Memory, none of these.
     fn take_statement(&mut self, text: &[u8]) -> Result<Taken, TakeError>
         ensures takes { TakesStatement (stands self.old) (records self.old) text.now result (records self.new) }
         ensures stays { IsSameNode (stands self.old) (stands self.new) (key self.old) (key self.new) (signature_of self.old) (signature_of self.new) }
         ensures stops { StopsBy (stopped self.old) (stopped self.new) (IsErrOf result TakeError.Stopped) (IsErrOf result TakeError.Disk) }
         ensures disk { KeepsDisk (handle self.old) (handle self.new) (faults self.old) (faults self.new) (is_faultless self.old) (is_faultless self.new) (IsErrOf result TakeError.Disk) }
-        ensures lasts { Lasts tells stopped records moment left_since may_leave self.old self.new (growth_of_text (stands self.old) (records self.old) as_statement text.now) };
+        ensures lasts { Lasts tells stopped records moment left_since may_leave self.old self.new (growth_of_text (stands self.old) (records self.old) as_statement text.now) }
+        ensures idle { IsErrOf result TakeError.Memory → Lasts tells stopped records moment left_since may_leave self.old self.new [] };
 
     /// The same of the text of a proof.
     fn take_proof(&mut self, text: &[u8]) -> Result<Taken, TakeError>
@@ -101,7 +103,8 @@ pub trait Replica {
         ensures stays { IsSameNode (stands self.old) (stands self.new) (key self.old) (key self.new) (signature_of self.old) (signature_of self.new) }
         ensures stops { StopsBy (stopped self.old) (stopped self.new) (IsErrOf result TakeError.Stopped) (IsErrOf result TakeError.Disk) }
         ensures disk { KeepsDisk (handle self.old) (handle self.new) (faults self.old) (faults self.new) (is_faultless self.old) (is_faultless self.new) (IsErrOf result TakeError.Disk) }
-        ensures lasts { Lasts tells stopped records moment left_since may_leave self.old self.new (growth_of_text (stands self.old) (records self.old) as_proof text.now) };
+        ensures lasts { Lasts tells stopped records moment left_since may_leave self.old self.new (growth_of_text (stands self.old) (records self.old) as_proof text.now) }
+        ensures idle { IsErrOf result TakeError.Memory → Lasts tells stopped records moment left_since may_leave self.old self.new [] };
 
     /// The same of a value, whose text is its bytes.
     fn take_value(&mut self, text: &[u8]) -> Result<Taken, TakeError>
@@ -109,7 +112,8 @@ pub trait Replica {
         ensures stays { IsSameNode (stands self.old) (stands self.new) (key self.old) (key self.new) (signature_of self.old) (signature_of self.new) }
         ensures stops { StopsBy (stopped self.old) (stopped self.new) (IsErrOf result TakeError.Stopped) (IsErrOf result TakeError.Disk) }
         ensures disk { KeepsDisk (handle self.old) (handle self.new) (faults self.old) (faults self.new) (is_faultless self.old) (is_faultless self.new) (IsErrOf result TakeError.Disk) }
-        ensures lasts { Lasts tells stopped records moment left_since may_leave self.old self.new (growth_of_text (stands self.old) (records self.old) as_value text.now) };
+        ensures lasts { Lasts tells stopped records moment left_since may_leave self.old self.new (growth_of_text (stands self.old) (records self.old) as_value text.now) }
+        ensures idle { IsErrOf result TakeError.Memory → Lasts tells stopped records moment left_since may_leave self.old self.new [] };
 
     /// Its journal is lawful, whether it is stopped or not.
     ghost lawful: { (r : Self) → IsLawful (stands r) (records r) };
