@@ -66,9 +66,10 @@ impl<D: Disk> Journal<D> {
         &self.mirror.bytes[span.start as usize..span.end as usize]
     }
 
-    /// How many bytes the file has up to its closed gate, with that gate.
+    /// How many bytes the file has up to its closed gate, with that gate. The records keep to the limits.
     pub fn size(&self) -> u32
-        ensures { result ≡ 1 + length (blocks self.now.records) }
+        ensures size { result ≡ 1 + length (blocks self.now.records) }
+        ensures within { AreWithinLimits self.now.records }
     {
         self.mirror.bytes.len() as u32 + 1
     }
@@ -204,6 +205,7 @@ impl<D: Disk> Journal<D> {
         ensures within { IfOk result (λ j. AreWithinLimits j.records) }
         ensures stable { IfOk result (λ j. IsTrue (D.tells disk) → Only (D.seen j.disk) (D.may_leave j.disk)) }
         ensures started { IfOk result (λ j. IsTrue (D.tells disk) → IsStarted (D.seen disk) (D.seen j.disk)) }
+        ensures same { IfOk result (λ j. j.records ≢ [] → D.seen j.disk ≡ D.seen disk) }
 
         ensures damaged { IfErr result (λ b. IsTrue (D.tells disk) → IsDamage (D.seen disk) b.error) }
         ensures unchanged { IfErr result (λ b. SaysDamaged b.error → D.seen b.disk ≡ D.seen disk) }

@@ -104,6 +104,7 @@ pub fn start_on<D: Disk>(alloc: Global, disk: &mut D) -> Result<Found, JournalEr
     ensures stands { IfOk result (λ f. IsTrue (D.tells disk.old) → StandsTo (D.seen disk.new) (bodies_at f.bytes.items f.spans.items) (vec_len f.bytes)) }
     ensures stable { OnOk result (IsTrue (D.tells disk.old) → Only (D.seen disk.new) (D.may_leave disk.new)) }
     ensures started { OnOk result (IsTrue (D.tells disk.old) → IsStarted (D.seen disk.old) (D.seen disk.new)) }
+    ensures same { IfOk result (λ f. bodies_at f.bytes.items f.spans.items ≢ [] → D.seen disk.new ≡ D.seen disk.old) }
     ensures file { IfOk result (λ f. IsTrue (D.tells disk.old) → IsFileOf (D.seen disk.old) (bodies_at f.bytes.items f.spans.items)) }
     ensures damaged { IfErr result (λ e. IsTrue (D.tells disk.old) → IsDamage (D.seen disk.old) e) }
     ensures unchanged { IfErr result (λ e. e ≢ JournalError.Disk → D.seen disk.new ≡ D.seen disk.old) }

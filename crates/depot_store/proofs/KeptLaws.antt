@@ -22,16 +22,10 @@ use Rattle.depot_accept.specs.View.{View, IsAsBefore, IsStateOf, setting}
 use Rattle.depot_store.specs.StoreParts.{IsKept, Keeps, MayKeep, StillKeeps}
 use Rattle.depot_store.specs.RoomByCounts.{leaves_then, leaves_with}
 use Rattle.depot_store.specs.Totals.{AreTotals, AreTaken}
-use Rattle.depot_store.specs.Holdings.{Holding, standing}
 use Rattle.depot_store.specs.declared.totals.Totals.{Totals}
 use Rattle.depot_store.proofs.HeldLaws.{Adds, held_grows, held_stays}
 use Rattle.depot_store.proofs.StateGrowth.{lawful_both, put_hash, silent_state, turned_state}
 use Rattle.depot_store.proofs.TotalLaws.{put_totals, silent_totals, taken_behind, taken_totals, voucher_totals}
-
--- what is lawful of a store as it is seen is lawful of what is inside
-pub lawful_inside : (verifies : Verifies) (inside seen : Holding) (more given : List Record) → inside ≡ seen → more ≡ given → IsLawful (standing verifies seen) (seen.records ++ given) → IsLawful (standing verifies inside) (inside.records ++ more)
-lawful_inside verifies inside seen more given same all l =
-    subst (λ (rs : List Record). IsLawful (standing verifies inside) (inside.records ++ rs)) (sym all) (subst (λ (x : Holding). IsLawful (standing verifies x) (x.records ++ given)) (sym same) l)
 
 -- where the node is the same
 here_still : {S : Type 0} (verifies : Verifies) (J : List Record) (v w : View S) (t : Totals) → setting verifies w ≡ setting verifies v → AreTotals v.me J t → AreTotals w.me J t

@@ -13,10 +13,8 @@ use Rattle.std.proofs.lemmas.List.{append-nil}
 use Rattle.std.proofs.lemmas.List.Folds.{list_any-append}
 use Rattle.std.proofs.lemmas.Map.Text.{is_eq-slice_cmp}
 use Rattle.std.proofs.lemmas.Slice.Eq.{bytes_eq-Decides}
-use Rattle.depot_base.specs.declared.proof.Proof.{Proof}
 use Rattle.depot_base.specs.declared.record.Record.{Record}
 use Rattle.depot_base.specs.declared.record.Record.TheVariants.{Birth, OwnPut, OwnVoucher, Foreign, Conviction, Held}
-use Rattle.depot_base.specs.declared.statement.Signed.{Signed}
 use Rattle.depot_base.specs.declared.statement.Statement.{Statement}
 use Rattle.depot_base.specs.declared.statement.Statement.TheVariants as statements
 use Rattle.depot_base.specs.declared.update.Update.{Update}
@@ -24,7 +22,7 @@ use Rattle.depot_model.specs.Journal.{accepted, accepted_by, is_wanted, update_i
 use Rattle.depot_laws.proofs.Splits.{accepted_push, silent}
 use Rattle.depot_model.specs.Vouching.{records_of}
 use Rattle.depot_store.specs.NewRecords.{records_in, vouchers_of}
-use Rattle.depot_store.specs.Named.{is_named, is_name, name_of, name_in_statement, name_in_record, name_in, Marks, compare_names, is_marked, has_mark, PutsMark, names, has_room, AreNamed}
+use Rattle.depot_store.specs.Named.{is_named, is_name, name_of, name_in_statement, name_in_record, name_in, Marks, compare_names, is_marked, has_mark, PutsMark, names, AreNamed}
 use Rattle.depot_store.specs.declared.growth.News.{News}
 use Rattle.depot_store.specs.declared.growth.News.TheVariants.{Nothing, One, Convicting, Vouchers}
 use Rattle.depot_store.specs.declared.named.NamedValue.{NamedValue}

@@ -1,9 +1,7 @@
 -- The records of texts, and how long the texts are.
-use Rattle.std.proofs.Common.{◌≡◌, ℕ, ◌≤◌, List, [], ◌∷◌, ◌++◌, length, map, refl, sym, ap, subst, ◌∙◌, arith, length-append}
+use Rattle.std.proofs.Common.{◌≡◌, ℕ, ◌≤◌, List, [], ◌∷◌, ◌++◌, length, map, refl, ap, ◌∙◌, arith, length-append}
 use Rattle.std.specs.Int.{w8, w32}
 use Rattle.std.specs.List.{AllByRecursion}
-use Rattle.std.proofs.lemmas.Grind.{flat_map-append}
-use Rattle.std.proofs.lemmas.List.{map-append, length-map}
 use Rattle.depot_base.specs.Format.{number, bytes_of, inner}
 use Rattle.depot_base.specs.Closed.{rest_of}
 use Rattle.depot_base.specs.Parts.{node_number, digest}
@@ -16,8 +14,7 @@ use Rattle.depot_model.specs.Texts.{update_fields, update_body, IsUpdate}
 use Rattle.depot_model.specs.Records.{birth, own_put, tagged, tag_of, record_text, IsRecord, text_of_record}
 use Rattle.depot_model.proofs.RecordLaws.{record_text_lawful}
 use Rattle.depot_model.proofs.TextLaws.{update_body_lawful, voucher_body_lawful, signed_lawful, proof_lawful}
-use Rattle.depot_store.specs.NewRecords.{AreTextsFor}
-use Rattle.depot_store.specs.RecordTexts.{listed_ok, record_of, records_of, AreTexts, IsTextOf}
+use Rattle.depot_store.specs.RecordTexts.{listed_ok, record_of, records_of, IsTextOf}
 
 -- ---- one text
 
@@ -82,26 +79,11 @@ text_short r text t = omega (arith, ap length t.is, record_short r t.fits)
 -- ---- many texts
 
 -- the records of the texts of records
-records_of_texts : (rs : List Record) → AllByRecursion IsRecord rs → records_of (map text_of_record rs) ≡ rs
+pub records_of_texts : (rs : List Record) → AllByRecursion IsRecord rs → records_of (map text_of_record rs) ≡ rs
 records_of_texts [] all = refl
 records_of_texts (r ∷ rs) all = ap (λ (xs : List Record). xs ++ records_of (map text_of_record rs)) (record_of_text r all.0) ∙ ap (λ (xs : List Record). r ∷ xs) (records_of_texts rs all.1)
 
--- with more after them
-pub records_more : (texts : List (List ℕ)) (new : List Record) (more : List (List ℕ)) → AreTextsFor new more → records_of (texts ++ more) ≡ records_of texts ++ new
-records_more texts new more t = flat_map-append record_of texts more ∙ ap (λ (rs : List Record). records_of texts ++ rs) (ap records_of t.are ∙ records_of_texts new t.fit)
-
-all_more : {X : Type 0} (P : X → Type 0) (xs ys : List X) → AllByRecursion P xs → AllByRecursion P ys → AllByRecursion P (xs ++ ys)
+-- what holds of each of two lists
+pub all_more : {X : Type 0} (P : X → Type 0) (xs ys : List X) → AllByRecursion P xs → AllByRecursion P ys → AllByRecursion P (xs ++ ys)
 all_more P [] ys all more = more
 all_more P (x ∷ xs) ys all more = (all.0, all_more P xs ys all.1 more)
-
--- texts of records with more after them
-pub texts_more : (texts : List (List ℕ)) (new : List Record) (more : List (List ℕ)) → AreTexts texts → AreTextsFor new more → AreTexts (texts ++ more)
-texts_more texts new more all t =
-    let all_records = records_more texts new more t in
-    record {
-      fit = subst (λ (rs : List Record). AllByRecursion IsRecord rs) (sym all_records) (all_more IsRecord (records_of texts) new all.fit t.fit);
-      are = ap (λ (x : List (List ℕ)). x ++ more) all.are
-          ∙ ap (λ (x : List (List ℕ)). map text_of_record (records_of texts) ++ x) t.are
-          ∙ sym (map-append text_of_record (records_of texts) new)
-          ∙ ap (map text_of_record) (sym all_records);
-    }

@@ -1,6 +1,6 @@
 -- The limit that a growth would pass, from what is counted of a journal.
-use Rattle.std.proofs.Common.{◌≡◌, ℕ, ◌+◌, ◌*◌, ◌≤◌, ◌^◌, ltb, eqb, eq-eqb, Bool, true, false, ◌&&◌, List, [], ◌∷◌, ◌++◌, length, Option, None, Ok, refl, sym, ap, ◌∙◌, arith, length-append, inl, inr}
-use Rattle.std.proofs.lemmas.Bool.{both_ways}
+use Rattle.std.proofs.Common.{◌≡◌, ℕ, ◌+◌, ◌*◌, ◌≤◌, ◌^◌, ltb, eqb, eq-eqb, Bool, true, false, ◌&&◌, List, [], ◌∷◌, ◌++◌, length, Option, Some, None, Ok, ◌<◌, refl, sym, ap, ◌∙◌, arith, length-append, inl, inr}
+use Rattle.std.proofs.lemmas.Bool.{both_ways, le-ltb, lt-ltb}
 use Rattle.std.proofs.lemmas.Bool.Decides.{nat_tests}
 use Rattle.std.proofs.lemmas.List.{length-map}
 use Rattle.std.proofs.lemmas.List.Sums.{sum_by-cons}
@@ -39,7 +39,7 @@ lawful_is_small here J l = lawful_from_end here (λ (x : List Record). journal_b
 
 -- ---- the third limit
 
-abbrev writers : ℕ → List Record → List Record → Option Full
+abbrev pub writers : ℕ → List Record → List Record → Option Full
 writers me J new = when (take_an_update new && ltb 4096 (length (foreign_leaves me (J ++ new)))) (record { what = full_of.Writers; number = length (foreign_leaves me J) })
 
 -- where no update of another comes, the leaves don't count
@@ -59,7 +59,7 @@ writers_behind : (me : ℕ) (J : List Record) (p : Proof) (new : List Record) �
 writers_behind me J p new = rw (leaves_behind me J p new) refl
 
 -- of one record
-writers_with : (here : Setting) (J : List Record) (r : Record) → IsLawful here J → AreNew here J (r ∷ []) → writers here.me J (r ∷ []) ≡ writers_full (length (foreign_leaves here.me J)) (leaves_with_record (accepted J) (length (foreign_leaves here.me J)) r)
+pub writers_with : (here : Setting) (J : List Record) (r : Record) → IsLawful here J → AreNew here J (r ∷ []) → writers here.me J (r ∷ []) ≡ writers_full (length (foreign_leaves here.me J)) (leaves_with_record (accepted J) (length (foreign_leaves here.me J)) r)
 writers_with here J (Birth node h) l new = writers_none here.me J (Birth node h) refl
 writers_with here J (OwnPut u value) l new = writers_none here.me J (OwnPut u value) refl
 writers_with here J (OwnVoucher v) l new = writers_none here.me J (OwnVoucher v) refl
@@ -135,3 +135,33 @@ is_none n test is holds = grind (arith, nat_tests)
 
 pub isnt_none : (n : ℕ) (test : Bool) → test ≡ eqb n 0 → test ≡ false → n ≡ 0 → ⊥
 isnt_none n test is fails none = both_ways (eqb n 0) (sym is ∙ fails) (eq-eqb n 0 none)
+
+-- ---- the limits one by one
+
+pub limit_bytes : (records bytes leaves records_after bytes_after : ℕ) (after : Option ℕ) → records_after ≤ 131072 → 2 ^ 30 < bytes_after → limit records bytes leaves records_after bytes_after after ≡ Some (record { what = full_of.Bytes; number = bytes })
+limit_bytes records bytes leaves records_after bytes_after after few many = rw (le-ltb _ _ few, lt-ltb _ _ many) refl
+
+pub limit_writers : (records bytes leaves records_after bytes_after after : ℕ) (given : Option ℕ) → given ≡ Some after → records_after ≤ 131072 → bytes_after ≤ 2 ^ 30 → 4096 < after → limit records bytes leaves records_after bytes_after given ≡ Some (record { what = full_of.Writers; number = leaves })
+limit_writers records bytes leaves records_after bytes_after after given is few small many = rw (is, le-ltb _ _ few, le-ltb _ _ small, lt-ltb _ _ many) refl
+
+pub limit_none : (records bytes leaves records_after bytes_after after : ℕ) (given : Option ℕ) → given ≡ Some after → records_after ≤ 131072 → bytes_after ≤ 2 ^ 30 → after ≤ 4096 → limit records bytes leaves records_after bytes_after given ≡ None
+limit_none records bytes leaves records_after bytes_after after given is few small short = rw (is, le-ltb _ _ few, le-ltb _ _ small, le-ltb _ _ short) refl
+
+pub limit_none_taken : (records bytes leaves records_after bytes_after : ℕ) (given : Option ℕ) → given ≡ None → records_after ≤ 131072 → bytes_after ≤ 2 ^ 30 → limit records bytes leaves records_after bytes_after given ≡ None
+limit_none_taken records bytes leaves records_after bytes_after given is few small = rw (is, le-ltb _ _ few, le-ltb _ _ small) refl
+
+-- the bytes of a growth are no fewer than those of its gates and lengths
+bytes_least : (rs : List Record) → 5 * length rs ≤ bytes_of rs
+bytes_least [] = omega arith
+bytes_least (r ∷ rs) = omega (arith, bytes_least rs, sum_by-cons (λ (x : Record). 5 + length (text_of_record x)) r rs)
+
+-- what a growth takes behind the records of a journal
+pub record Takes (news : News) (texts : List (List ℕ)) (bytes : ℕ) : Type 0 where
+  pub least : 5 * length texts ≤ bytes
+  pub most : bytes ≤ 2 ^ 30
+
+pub growth_takes : (here : Setting) (J : List Record) (news : News) (texts : List (List ℕ)) (bytes : ℕ) → IsGrowth news texts bytes → IsLawful here (J ++ records_in news) → Takes news texts bytes
+growth_takes here J news texts bytes g l =
+    let many : length texts ≡ length (records_in news) = ap length g.made.are ∙ length-map (records_in news) text_of_record in
+    let small = lawful_is_small here (J ++ records_in news) l in
+    record { least = omega (arith, bytes_least (records_in news), many, g.sum); most = omega (arith, small, bytes_more J (records_in news), g.sum) }

@@ -1,8 +1,7 @@
 -- The records of own vouchers tell of vouchers, and of nothing else.
-use Rattle.std.proofs.Common.{◌≡◌, ℕ, ◌+◌, List, [], ◌∷◌, ◌++◌, Option, None, length, map, refl, ap, ◌∙◌}
+use Rattle.std.proofs.Common.{◌≡◌, ℕ, ◌+◌, List, [], ◌∷◌, ◌++◌, None, length, refl, ap, ◌∙◌}
 use Rattle.std.specs.List.{flat_map}
 use Rattle.std.proofs.lemmas.List.{map-append}
-use Rattle.depot_base.specs.declared.record.Record.{Record}
 use Rattle.depot_base.specs.declared.record.Record.TheVariants.{OwnVoucher}
 use Rattle.depot_base.specs.declared.update.Update.{Update}
 use Rattle.depot_base.specs.declared.voucher.Voucher.{Voucher}

@@ -16,11 +16,6 @@ record_of text = listed_ok (record_text.read (record { at = 0; rest = text }))
 abbrev pub records_of : List (List ℕ) → List Record
 records_of texts = flat_map record_of texts
 
--- What is seen of a list of records: the records, and how many more have their memory.
-pub record Listed : Type 0 where
-  pub records : List Record
-  pub room : ℕ
-
 -- each is the text of a record
 pub record AreTexts (texts : List (List ℕ)) : Type 0 where
   pub fit : AllByRecursion IsRecord (records_of texts)

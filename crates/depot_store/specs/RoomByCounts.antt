@@ -7,6 +7,7 @@ use Rattle.depot_base.specs.declared.record.Record.TheVariants.{Foreign}
 use Rattle.depot_base.specs.declared.statement.Statement.{Statement}
 use Rattle.depot_base.specs.declared.statement.Statement.TheVariants as statements
 use Rattle.depot_base.specs.declared.update.Update.{Update}
+use Rattle.depot_model.specs.Limits.{IsCutShort}
 use Rattle.depot_model.specs.Lists.{when, first}
 use Rattle.depot_model.specs.Room.{full_by}
 use Rattle.depot_laws.specs.Leaves.{follows_leaf}
@@ -56,8 +57,10 @@ HasGrown me J new after = (full_by me J new ≡ None) × (after ≡ J ++ new)
 abbrev pub HadNoRoom : ℕ → List Record → List Record → Full → List Record → Type 0
 HadNoRoom me J new full after = (full_by me J new ≡ Some full) × (after ≡ J)
 
--- Records are appended where there is room for them. Memory may stand in place of each answer, and after nothing is appended.
+-- Records are appended where there is room for them. Memory may stand in place of each answer, and then nothing is appended. Where
+-- the disk fails, those before the failing one are.
 abbrev pub Commits : ℕ → List Record → List Record → Result (Unit {0}) CommitError → List Record → Type 0
 Commits me J new (Ok done) after = HasGrown me J new after
 Commits me J new (Err refused.Memory) after = after ≡ J
+Commits me J new (Err refused.Disk) after = (full_by me J new ≡ None) × IsCutShort J new after
 Commits me J new (Err (refused.Full full)) after = HadNoRoom me J new full after

@@ -32,9 +32,9 @@ Keeps verifies v kept t new w kept_then u = (J : List Record) → IsKept J v kep
 abbrev pub StillKeeps : {S : Type 0} → View S → Values → Totals → View S → Values → Totals → Type 0
 StillKeeps v kept t w kept_then u = (J : List Record) → IsKept J v kept t → IsKept J w kept_then u
 
--- All that a store keeps beside its records is that of the records: what the checks look at, the values, the counts, the values
+-- All that is read off records, that of these: what the checks look at, the values, the counts, the values
 -- that updates name, the places of the records that accepted the updates, and the ids that own vouchers name.
-pub record IsStored {S : Type 0} (J : List Record) (v : View S) (kept : Values) (t : Totals) (named : NamedValues) (places : List ℕ) (ids : List (List ℕ)) : Type 0 where
+pub record AreReadings {S : Type 0} (J : List Record) (v : View S) (kept : Values) (t : Totals) (named : NamedValues) (places : List ℕ) (ids : List (List ℕ)) : Type 0 where
   pub read : IsKept J v kept t
   pub names : AreNamed (accepted J) named
   pub accepting : places ≡ accept_places J

@@ -1,5 +1,5 @@
 //! What a journal grows by in one call.
-ghost use Rattle.std.specs.Prelude.{◌≡◌, ◌≤◌, [], ◌∷◌, length, IfOk};
+ghost use Rattle.std.specs.Prelude.{◌≡◌, ◌≤◌, ◌+◌, [], ◌∷◌, length, IfOk};
 ghost use Rattle.std.specs.List.{AllByRecursion};
 ghost use Rattle.depot_base.specs.declared.limits.TheConstants.{MOST_RECORDS};
 ghost use Rattle.depot_base.specs.declared.record.Record.TheVariants.{OwnVoucher, Foreign, Conviction};
@@ -9,7 +9,6 @@ ghost use Rattle.depot_model.specs.Vouching.{records_of};
 ghost use Rattle.depot_store.specs.NewRecords.{IsHashOf, HasOwnId};
 ghost use Rattle.depot_store.specs.RecordTexts.{IsTextOf};
 
-use crate::list::size_of;
 use depot_base::{Bytes, Hash32, Memory, Proof, Record, Sequence, Signed, Voucher};
 use depot_update::{encode_conviction, encode_record, id_in_own_voucher};
 use std::alloc::Global;
@@ -66,6 +65,13 @@ impl Growth {
             texts: Vec::new(alloc),
             bytes: 0,
         }
+    }
+
+    /// How many records there are. It takes no memory.
+    pub fn count(&self) -> usize
+        ensures { result ≡ length self.now }
+    {
+        self.texts.len()
     }
 
     /// One record. The hash is the id of a statement, and SHA-256 of a value of others; a birth and a conviction need none, and
@@ -138,6 +144,18 @@ impl Growth {
             bytes,
         })
     }
+}
+
+/// The bytes that a record takes besides its text: its length, and the gate after it.
+const FRAME: u64 = 5;
+
+/// The bytes that the record of a text takes.
+fn size_of(text: &Bytes) -> u64
+    requires { (r : Record) × IsTextOf r text.now }
+    ensures size { result ≡ 5 + length text.now }
+    ensures small { result ≤ 108928 }
+{
+    FRAME + text.as_slice().len() as u64
 }
 
 /// An own voucher as it is kept, and the text of its record.

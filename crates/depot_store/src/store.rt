@@ -1,164 +1,177 @@
-//! A journal in memory, with what is read off it.
-ghost use Rattle.std.specs.Prelude.{◌≡◌, ◌≤◌, ◌++◌, List, [], length, OnOk, OnErr, IfOk, option_copied, map};
+//! A journal on a disk, with what is read off it.
+ghost use Rattle.std.specs.Prelude.{◌≡◌, ◌<◌, ◌≤◌, List, ℕ, [], ◌∷◌, false, IsTrue, Some, None, length, option_copied, map, slice_get};
 ghost use Rattle.depot_model.specs.Journal.{accepted, held, is_wanted, value_with};
-ghost use Rattle.depot_model.specs.Lawful.{IsLawful};
 ghost use Rattle.depot_model.specs.Records.{text_of_record};
 ghost use Rattle.depot_model.specs.Room.{foreign_leaves};
+ghost use Rattle.depot_model.specs.Stops.{LeavesAll};
 ghost use Rattle.depot_model.specs.Vouching.{is_mine_vouched};
 ghost use Rattle.depot_accept.specs.View.{IsStateOf, setting};
 ghost use Rattle.depot_store.specs.RoomByCounts.{leaves_with};
-ghost use Rattle.depot_store.specs.Holdings.{standing, with_records};
+ghost use Rattle.depot_store.specs.Holdings.{standing};
 ghost use Rattle.depot_store.specs.Places.{accept_places};
 ghost use Rattle.depot_store.specs.Totals.{AreTotals};
 
 use crate::growth::Growth;
-use crate::kept::Kept;
-use crate::list::RecordList;
-use crate::named::{NamedValues, name_in};
-use crate::places::{AcceptPlaces, accept_place};
+use crate::readings::Readings;
 use crate::totals::Totals;
 use depot_accept::State;
-use depot_base::{Hash32, Memory, NodeId, Texts};
+use depot_base::{Hash32, NodeId};
+use depot_journal::Journal;
 use depot_model::Scheme;
+use depot_outside::Disk;
 use depot_sign::Roster;
-use depot_values::Values;
-use depot_vouch::VouchedIds;
 use std::alloc::Global;
 use std::marker::Model;
 
-/// What a node keeps of its journal.
+/// What a node keeps of its journal, and the journal on its disk. A journal that was started is read record by record; from then on
+/// it grows by what is appended. Once the disk failed the store is stopped: it tells the texts of its records, and no more.
 #[derive(Drop)]
-pub struct Store<S: Scheme> {
-    pub(crate) kept: Kept<S>,
-    pub(crate) named: NamedValues,
-    pub(crate) places: AcceptPlaces,
-    pub(crate) mine: VouchedIds,
-    pub(crate) list: RecordList,
+pub struct Store<D: Disk, S: Scheme> {
+    pub(crate) readings: Readings<S>,
+    pub(crate) journal: Journal<D>,
+    pub(crate) read: u32,
 }
 
-impl<S: Scheme> Model for Store<S> {
-    ghost use Rattle.depot_store.specs.Holdings.{Holding};
-    ghost use Rattle.depot_store.specs.StoreParts.{IsStored};
+impl<D: Disk, S: Scheme> Model for Store<D, S> {
+    ghost use Rattle.std.specs.Prelude.{◌≡◌, ◌≤◌, take, drop, length, false};
+    ghost use Rattle.depot_store.specs.Holdings.{Holding, holding_code};
+    ghost use Rattle.depot_store.specs.RecordTexts.{AreTexts, records_of};
+    ghost use Rattle.depot_store.specs.StoreParts.{AreReadings};
 
-    ghost Value = { Holding };
+    ghost Value = { Holding D };
 
-    ghost view = { λ s. record { me = s.kept.state.me; listed = s.kept.state.listed; records = s.list.records } };
+    ghost coded = { holding_code D.code };
 
-    ghost invariant = { λ s. IsStored s.list.records s.kept.state s.kept.values s.kept.totals s.named s.places.places s.mine.ids };
+    ghost view = { λ s. record { me = s.readings.kept.state.me; listed = s.readings.kept.state.listed; records = records_of (take s.read s.journal.records); unread = drop s.read s.journal.records; stopped = s.journal.is_stopped; disk = s.journal.disk } };
+
+    ghost invariant = { λ s. AreTexts (take s.read s.journal.records) × (s.read ≤ length s.journal.records)
+        × (s.journal.is_stopped ≡ false → AreReadings (records_of (take s.read s.journal.records)) s.readings.kept.state s.readings.kept.values s.readings.kept.totals s.readings.named s.readings.places.places s.readings.mine.ids) };
 }
 
-impl<S: Scheme> Store<S> {
-    /// The store of a journal without records.
-    pub fn new(alloc: Global, me: NodeId, roster: Roster, scheme: S) -> Result<Store<S>, Memory>
-        ensures { IfOk result (λ s. s ≡ record { me = me; listed = roster; records = [] }) }
+impl<D: Disk, S: Scheme> Store<D, S> {
+    /// The store of a journal of which no record was read yet. It takes no memory.
+    pub fn new(alloc: Global, state: State<S>, journal: Journal<D>) -> Store<D, S>
+        requires { IsStateOf [] state }
+        ensures { result ≡ record { me = state.me; listed = state.listed; records = []; unread = journal.records; stopped = journal.is_stopped; disk = journal.disk } }
     {
-        let kept = Kept {
-            state: State::new(alloc, me, roster, scheme)?,
-            values: Values::new(alloc),
-            totals: Totals::new(),
-        };
-        Ok(Store {
-            kept,
-            named: NamedValues::new(alloc),
-            places: AcceptPlaces::new(alloc),
-            mine: VouchedIds::new(alloc),
-            list: RecordList::new(alloc),
-        })
+        Store {
+            readings: Readings::new(alloc, state),
+            journal,
+            read: 0,
+        }
     }
 
-    /// Appends the records of a growth: all, or after Memory none, and all is as before. No limit is asked for: that there is
-    /// room is known, since the journal stays lawful.
-    pub fn append(&mut self, new: Growth) -> Result<(), Memory>
-        requires { IsLawful (standing S.verifies self.old) (self.old.records ++ new) }
-        ensures ok { OnOk result (self.new ≡ with_records self.old (self.old.records ++ new)) }
-        ensures err { OnErr result (self.new ≡ self.old) }
+    /// The text of the first record that wasn't read yet. It takes no memory.
+    pub fn unread(&self) -> Option<&[u8]>
+        ensures none { result ≡ None → self.now.unread ≡ [] }
+        ensures some { (text : List ℕ) → option_copied result ≡ Some text → (rest : List (List ℕ)) × (self.now.unread ≡ text ∷ rest) }
     {
-        let leaves = self.leaves_with(&new);
-        self.append_counted(new, leaves)
+        if self.read < self.journal.count() {
+            Some(self.journal.text(self.read))
+        } else {
+            None
+        }
     }
 
-    /// The same where the leaves of other writers are counted.
-    pub(crate) fn append_counted(&mut self, new: Growth, leaves: Option<u32>) -> Result<(), Memory>
-        requires lawful { IsLawful (standing S.verifies self.old) (self.old.records ++ new) }
-        requires leaves { leaves ≡ leaves_with (accepted self.old.records) (length (foreign_leaves self.old.me self.old.records)) new }
-        ensures ok { OnOk result (self.new ≡ with_records self.old (self.old.records ++ new)) }
-        ensures err { OnErr result (self.new ≡ self.old) }
+    /// The journal's disk, of a stopped one too. It takes no memory.
+    pub fn into_disk(self) -> D
+        ensures { result ≡ self.disk }
     {
-        let Growth { news, texts, bytes } = new;
-        let name = name_in(&news);
-        let place = accept_place(&news, self.list.count() as u32);
-        self.list.reserve(texts.len())?;
-        self.named.reserve(&name)?;
-        self.places.reserve(place)?;
-        self.kept.keep(news, leaves, &mut self.mine)?;
-        self.named.add(name);
-        self.places.add(place);
-        self.list.append_all(texts, bytes);
-        Ok(())
+        self.journal.into_disk()
     }
 
-    /// How many leaves of other writers there are with a growth, where it takes an update of another.
-    pub(crate) fn leaves_with(&self, new: &Growth) -> Option<u32>
-        requires { length self.now.records ≤ 131072 }
-        ensures { result ≡ leaves_with (accepted self.now.records) (length (foreign_leaves self.now.me self.now.records)) new.now }
+    /// Whether the disk has failed. The records stand in each file that a stop may leave. It takes no memory.
+    pub fn is_stopped(&self) -> bool
+        ensures stopped { result ≡ self.now.stopped }
+        ensures stable { self.now.unread ≡ [] → IsTrue (D.tells self.now.disk) → LeavesAll self.now.records self.now.stopped (D.may_leave self.now.disk) }
     {
-        self.kept.leaves_with(&new.news)
+        self.journal.is_stopped()
+    }
+
+    /// The node's own number. It takes no memory.
+    pub fn me(&self) -> NodeId
+        ensures { result ≡ self.now.me }
+    {
+        self.readings.kept.state.me()
+    }
+
+    /// The roster. It takes no memory.
+    pub fn roster(&self) -> &Roster
+        ensures { result.now ≡ self.now.listed }
+    {
+        self.readings.kept.state.roster()
+    }
+
+    /// How many records were read. It takes no memory.
+    pub fn count(&self) -> u32
+        ensures { result ≡ length self.now.records }
+    {
+        self.read
+    }
+
+    /// The text of the record of a place, from 0. It takes no memory.
+    pub fn text(&self, place: u32) -> &[u8]
+        requires { place < length self.now.records }
+        ensures { slice_get (map text_of_record self.now.records) place ≡ Some result.now }
+    {
+        self.journal.text(place)
     }
 
     /// What the checks look at. It takes no memory.
     pub fn state(&self) -> &State<S>
+        requires { self.now.stopped ≡ false }
         ensures state { IsStateOf self.now.records result.now }
         ensures stands { setting S.verifies result.now ≡ standing S.verifies self.now }
     {
-        &self.kept.state
+        &self.readings.kept.state
     }
 
     /// What is counted. It takes no memory.
     pub fn totals(&self) -> &Totals
+        requires { self.now.stopped ≡ false }
         ensures { AreTotals self.now.me self.now.records result.now }
     {
-        &self.kept.totals
+        &self.readings.kept.totals
     }
 
     /// The places, from 0, of the records that accepted the updates, in the order of the accepted updates. It takes no memory.
     pub fn places(&self) -> &[u32]
+        requires { self.now.stopped ≡ false }
         ensures { result.now ≡ accept_places self.now.records }
     {
-        self.places.as_slice()
-    }
-
-    /// The records. It takes no memory.
-    pub fn list(&self) -> &RecordList
-        ensures { result.now.records ≡ self.now.records }
-    {
-        &self.list
+        self.readings.places.as_slice()
     }
 
     /// The value with this hash, the first that a record brought. None exactly where there is none. It takes no memory.
     pub fn value(&self, hash: &Hash32) -> Option<&[u8]>
+        requires { self.now.stopped ≡ false }
         ensures { option_copied result ≡ value_with hash.now (held self.now.records) }
     {
-        self.kept.values.get(hash)
+        self.readings.kept.values.get(hash)
     }
 
     /// Whether an accepted update names a value of this hash and of so many bytes. It takes no memory.
     pub fn is_wanted(&self, hash: &Hash32, size: u32) -> bool
+        requires { self.now.stopped ≡ false }
         ensures { result ≡ is_wanted (accepted self.now.records) hash.now size }
     {
-        self.named.names(hash, size)
+        self.readings.named.names(hash, size)
     }
 
     /// Whether one of the node's own vouchers names this id. It takes no memory.
     pub fn is_mine_vouched(&self, id: &Hash32) -> bool
+        requires { self.now.stopped ≡ false }
         ensures { result ≡ is_mine_vouched self.now.records id.now }
     {
-        self.mine.contains(id)
+        self.readings.mine.contains(id)
     }
 
-    /// The texts of the records. It takes no memory.
-    pub fn into_texts(self) -> Texts
-        ensures { result ≡ map text_of_record self.records }
+    /// How many leaves of other writers there are with a growth, where it takes an update of another. It takes no memory.
+    pub(crate) fn leaves_with(&self, new: &Growth) -> Option<u32>
+        requires runs { self.now.stopped ≡ false }
+        requires short { length self.now.records ≤ 131072 }
+        ensures { result ≡ leaves_with (accepted self.now.records) (length (foreign_leaves self.now.me self.now.records)) new.now }
     {
-        self.list.into_texts()
+        self.readings.kept.leaves_with(&new.news)
     }
 }

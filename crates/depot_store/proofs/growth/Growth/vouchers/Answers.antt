@@ -1,4 +1,4 @@
-use Rattle.std.proofs.Common.{◌≡◌, List, [], length, refl, sym, ap, subst, ◌∙◌, arith}
+use Rattle.std.proofs.Common.{◌≡◌, List, length, sym, ap, subst, ◌∙◌, arith}
 use Rattle.depot_store.specs.NewRecords.{IsGrowth, vouchers_of}
 use Rattle.depot_model.specs.Vouching.{records_of}
 use Rattle.depot_store.specs.declared.growth.NewVoucher.{NewVoucher}

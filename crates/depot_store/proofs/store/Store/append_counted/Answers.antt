@@ -1,65 +1,150 @@
-use Rattle.std.proofs.Common.{◌≡◌, ◌≤◌, ◌^◌, ◌++◌, ◌||◌, ℕ, List, length, Option, refl, sym, ap, subst, ◌∙◌, arith}
-use Rattle.std.specs.Option.{option_to_list}
+use Rattle.std.proofs.Common.{List, ℕ, take, Err, refl, sym, ap, subst, ◌∙◌, arith}
+use Rattle.std.specs.Result.{IsErrOf}
 use Rattle.depot_base.specs.declared.record.Record.{Record}
-use Rattle.depot_model.specs.Bundle.{records_where}
-use Rattle.depot_model.specs.Journal.{accepted}
-use Rattle.depot_model.specs.Records.{journal_bytes}
-use Rattle.depot_store.specs.NewRecords.{records_in}
-use Rattle.depot_store.specs.StoreParts.{IsKept}
-use Rattle.depot_store.specs.Named.{AreNamed, is_name, names}
-use Rattle.depot_store.specs.OwnIds.{AreMine}
-use Rattle.depot_store.specs.Places.{accepts, accept_places}
-use Rattle.depot_store.specs.declared.named.NamedValue.{NamedValue}
-use Rattle.depot_store.proofs.AcceptPlaceLaws.{accept_places-append}
-use Rattle.depot_store.proofs.BoundLaws.{few_records}
-use Rattle.depot_store.proofs.KeptLaws.{lawful_inside}
-use Rattle.depot_store.proofs.RoomLaws.{lawful_is_small}
-use Rattle.depot_store.proofs.NamedLaws.{named_grows}
-use Rattle.depot_store.proofs.OwnIdLaws.{mine_grows}
-use Rattle.depot_store.proofs.StoredLaws.{stored_still}
+use Rattle.depot_model.specs.Replicas.{KeepsDisk}
+use Rattle.depot_store.specs.Holdings.{Holding}
+use Rattle.depot_store.specs.NewRecords.{records_in, AreTextsFor}
+use Rattle.depot_store.specs.RecordTexts.{records_of}
+use Rattle.depot_store.specs.StoreParts.{AreReadings}
+use Rattle.depot_store.specs.declared.append.WriteError.TheVariants as write_error
+use Rattle.depot_store.proofs.AppendLaws.{appended, cut_appended, cut_seen, disk_kept, growth_failed, lasts_then, lasts_unappended}
+use Rattle.depot_store.proofs.JournalTexts.{read_count, whole_texts}
+use Rattle.depot_store.proofs.RoomLaws.{growth_takes}
+use Rattle.depot_store.proofs.SeenLaws.{lawful_inside, runs_inside, seen_with, whole_inside}
 use Rattle.depot_store.proofs.store.Store.append_counted.Goals as goal
 
-pub overflow_cast-count : goal.overflow_cast-count
-overflow_cast-count g c =
-    let few = few_records _ c.self.inside.list.records _ (lawful_inside g.S.Scheme.verifies _ _ _ _ c.self.view_is c.new.view_is c.requires.lawful) in
-    omega (arith, few, c.count.ensures)
+pub overflow_cast-bytes : goal.overflow_cast-bytes
+overflow_cast-bytes g c =
+    let lawful = lawful_inside g.S.Scheme.verifies _ _ _ _ c.self.view_is c.new.view_is c.requires.lawful in
+    let takes = growth_takes _ (records_of (take c.self.inside.read c.self.inside.journal.records)) c.new.inside.news c.new.inside.texts.items c.new.inside.bytes c.new.invariant lawful in
+    omega (arith, takes.most)
 
-pub accept_place-place-requires : goal.accept_place-place-requires
-accept_place-place-requires g c =
-    let few = few_records _ c.self.inside.list.records _ (lawful_inside g.S.Scheme.verifies _ _ _ _ c.self.view_is c.new.view_is c.requires.lawful) in
-    omega (arith, few, c.count.ensures)
+pub overflow_sub-bytes : goal.overflow_sub-bytes
+overflow_sub-bytes g c =
+    let lawful = lawful_inside g.S.Scheme.verifies _ _ _ _ c.self.view_is c.new.view_is c.requires.lawful in
+    let takes = growth_takes _ (records_of (take c.self.inside.read c.self.inside.journal.records)) c.new.inside.news c.new.inside.texts.items c.new.inside.bytes c.new.invariant lawful in
+    omega (arith, takes.least, c.len-count.ensures, c.new.inside.texts.ok.0)
 
-pub invariant_of-self : goal.invariant_of-self
-invariant_of-self g c = stored_still _ _ _ _ _ _ _ _ _ _ _ _ _ _ c.reserve.ensures.same (λ J k. k) (λ hash size. refl) refl refl c.self.invariant
+pub read-requires-clause-may : goal.read-requires-clause-may
+read-requires-clause-may g c =
+    let J : List Record = records_of (take c.self.inside.read c.self.inside.journal.records) in
+    let count = sym (read_count c.self.inside.read c.self.inside.journal.records c.self.invariant.0 c.self.invariant.1) in
+    (J, (c.self.invariant.2 (runs_inside _ _ c.self.view_is c.requires.whole.runs), (count, lawful_inside g.S.Scheme.verifies _ _ _ _ c.self.view_is c.new.view_is c.requires.lawful)))
 
-pub invariant_of-self-in_err-reserve-2 : goal.invariant_of-self-in_err-reserve-2
-invariant_of-self-in_err-reserve-2 g c = stored_still _ _ _ _ _ _ _ _ _ _ _ _ _ _ c.reserve.ensures.same (λ J k. k) c.reserve-2.ensures.same refl refl c.self.invariant
+pub returns-in_err-reserve-clause-lasts : goal.returns-in_err-reserve-clause-lasts
+returns-in_err-reserve-clause-lasts g c =
+    let whole = whole_inside _ _ c.self.view_is c.requires.whole in
+    let t = whole_texts c.self.inside.read c.self.inside.journal.records c.self.invariant.0 whole.read in
+    lasts_unappended g.D.Disk.tells g.D.Disk.moment g.D.Disk.left_since g.D.Disk.may_leave g.met.D.Disk.only_now _ _ _ c.self.inside.journal.records _ c.self.view_is whole.runs t (ap (λ (x : List (List ℕ)). records_of (take c.self.inside.read x)) c.reserve.ensures.same)
+    c.reserve.ensures.running c.reserve.ensures.tells c.is_stopped-runs.ensures.stable c.reserve.ensures.images c.reserve.ensures.time
 
-pub invariant_of-self-in_err-reserve-3 : goal.invariant_of-self-in_err-reserve-3
-invariant_of-self-in_err-reserve-3 g c = stored_still _ _ _ _ _ _ _ _ _ _ _ _ _ _ c.reserve.ensures.same (λ J k. k) c.reserve-2.ensures.same c.reserve-3.ensures.same refl c.self.invariant
+pub returns-in_err-reserve-clause-idle : goal.returns-in_err-reserve-clause-idle
+returns-in_err-reserve-clause-idle g c =
+    let whole = whole_inside _ _ c.self.view_is c.requires.whole in
+    let t = whole_texts c.self.inside.read c.self.inside.journal.records c.self.invariant.0 whole.read in
+    λ _. lasts_unappended g.D.Disk.tells g.D.Disk.moment g.D.Disk.left_since g.D.Disk.may_leave g.met.D.Disk.only_now _ _ _ c.self.inside.journal.records _ c.self.view_is whole.runs t (ap (λ (x : List (List ℕ)). records_of (take c.self.inside.read x)) c.reserve.ensures.same)
+    c.reserve.ensures.running c.reserve.ensures.tells c.is_stopped-runs.ensures.stable c.reserve.ensures.images c.reserve.ensures.time
 
-pub invariant_of-self-in_err-keep : goal.invariant_of-self-in_err-keep
-invariant_of-self-in_err-keep g c = stored_still _ _ _ _ _ _ _ _ _ _ _ _ _ _ c.reserve.ensures.same c.in_err-keep.ensures.err c.reserve-2.ensures.same c.reserve-3.ensures.same c.in_err-keep.ensures.mine_err c.self.invariant
+pub returns-in_err-read-clause-lasts : goal.returns-in_err-read-clause-lasts
+returns-in_err-read-clause-lasts g c =
+    let whole = whole_inside _ _ c.self.view_is c.requires.whole in
+    let t = whole_texts c.self.inside.read c.self.inside.journal.records c.self.invariant.0 whole.read in
+    lasts_unappended g.D.Disk.tells g.D.Disk.moment g.D.Disk.left_since g.D.Disk.may_leave g.met.D.Disk.only_now _ _ _ c.self.inside.journal.records _ c.self.view_is whole.runs t (ap (λ (x : List (List ℕ)). records_of (take c.self.inside.read x)) c.reserve.ensures.same)
+    c.reserve.ensures.running c.reserve.ensures.tells c.is_stopped-runs.ensures.stable c.reserve.ensures.images c.reserve.ensures.time
 
-pub append_all-requires-clause-texts : goal.append_all-requires-clause-texts
-append_all-requires-clause-texts g c =
-    let new : List Record = records_in c.new.inside.news in
-    let small = lawful_is_small _ (c.self.inside.list.records ++ new) (lawful_inside g.S.Scheme.verifies _ _ _ _ c.self.view_is c.new.view_is c.requires.lawful) in
-    (new, (c.new.invariant.made, (c.new.invariant.sum, subst (λ (J : List Record). journal_bytes (J ++ new) ≤ 2 ^ 30) (sym c.reserve.ensures.same) small)))
+pub returns-in_err-read-clause-idle : goal.returns-in_err-read-clause-idle
+returns-in_err-read-clause-idle g c =
+    let whole = whole_inside _ _ c.self.view_is c.requires.whole in
+    let t = whole_texts c.self.inside.read c.self.inside.journal.records c.self.invariant.0 whole.read in
+    λ _. lasts_unappended g.D.Disk.tells g.D.Disk.moment g.D.Disk.left_since g.D.Disk.may_leave g.met.D.Disk.only_now _ _ _ c.self.inside.journal.records _ c.self.view_is whole.runs t (ap (λ (x : List (List ℕ)). records_of (take c.self.inside.read x)) c.reserve.ensures.same)
+    c.reserve.ensures.running c.reserve.ensures.tells c.is_stopped-runs.ensures.stable c.reserve.ensures.images c.reserve.ensures.time
+
+-- ---- all were appended
+
+pub invariant_of-self-in-Ok : goal.invariant_of-self-in-Ok
+invariant_of-self-in-Ok g c =
+    let J : List Record = records_of (take c.self.inside.read c.self.inside.journal.records) in
+    let t = whole_texts c.self.inside.read c.self.inside.journal.records c.self.invariant.0 (whole_inside _ _ c.self.view_is c.requires.whole).read in
+    let u = subst (λ (x : List (List ℕ)). AreTextsFor (records_in c.new.inside.news) x) (sym c.deref.ensures.value) c.new.invariant.made in
+    let r = appended c.count-self-inside.result J (records_in c.new.inside.news) _ _ _ _ t u c.reserve.ensures.same c.in-Ok.ensures.ok c.count-self-inside.ensures in
+    let count = sym (read_count c.self.inside.read c.self.inside.journal.records c.self.invariant.0 c.self.invariant.1) in
+    let lawful = lawful_inside g.S.Scheme.verifies _ _ _ _ c.self.view_is c.new.view_is c.requires.lawful in
+    let readings = c.in_ok-read.ensures.ok J (c.self.invariant.2 (runs_inside _ _ c.self.view_is c.requires.whole.runs)) count lawful in (
+      r.are,
+      r.within,
+      λ runs. subst (λ (K : List Record). AreReadings K c.read.new.self.kept.state c.read.new.self.kept.values c.read.new.self.kept.totals c.read.new.self.named c.read.new.self.places.places c.read.new.self.mine.ids) (sym r.records) readings,
+    )
+
+pub returns-in-Ok-clause-ok : goal.returns-in-Ok-clause-ok
+returns-in-Ok-clause-ok g c =
+    let t = whole_texts c.self.inside.read c.self.inside.journal.records c.self.invariant.0 (whole_inside _ _ c.self.view_is c.requires.whole).read in
+    let u = subst (λ (x : List (List ℕ)). AreTextsFor (records_in c.new.inside.news) x) (sym c.deref.ensures.value) c.new.invariant.made in
+    let r = appended c.count-self-inside.result _ (records_in c.new.inside.news) _ _ _ _ t u c.reserve.ensures.same c.in-Ok.ensures.ok c.count-self-inside.ensures in
+    r.records ∙ seen_with _ _ _ _ c.self.view_is c.new.view_is
+
+pub returns-in-Ok-clause-lasts : goal.returns-in-Ok-clause-lasts
+returns-in-Ok-clause-lasts g c =
+    let whole = whole_inside _ _ c.self.view_is c.requires.whole in
+    let t = whole_texts c.self.inside.read c.self.inside.journal.records c.self.invariant.0 whole.read in
+    let u = subst (λ (x : List (List ℕ)). AreTextsFor (records_in c.new.inside.news) x) (sym c.deref.ensures.value) c.new.invariant.made in
+    let r = appended c.count-self-inside.result _ (records_in c.new.inside.news) _ _ _ _ t u c.reserve.ensures.same c.in-Ok.ensures.ok c.count-self-inside.ensures in
+    let then_t = whole_texts c.count-self-inside.result c.append_all-written.new.self.records r.are r.left in
+    lasts_then g.D.Disk.tells g.D.Disk.moment g.D.Disk.left_since g.D.Disk.may_leave g.met.D.Disk.only_now _ _ _ c.reserve.new.self.disk _ c.reserve.new.self.records _ _ _ _ c.self.view_is c.new.view_is whole.runs t u then_t
+    c.reserve.ensures.same c.reserve.ensures.tells c.append_all-written.ensures.tells c.is_stopped-runs.ensures.stable c.reserve.ensures.images c.reserve.ensures.time
+    (λ told. c.append_all-written.ensures.any_moment told (c.reserve.ensures.running ∙ whole.runs)) c.append_all-written.ensures.stands
+
+-- ---- the disk failed
 
 pub invariant_of-self-2 : goal.invariant_of-self-2
 invariant_of-self-2 g c =
-    let J : List Record = c.self.inside.list.records in
-    let new : List Record = records_in c.new.inside.news in
-    let grown : c.append_all.new.self.records ≡ J ++ new = c.append_all.ensures new c.new.invariant.made ∙ ap (λ (K : List Record). K ++ new) c.reserve.ensures.same in
-    let kept = c.in_ok-keep.ensures.ok J c.self.invariant.read (lawful_inside g.S.Scheme.verifies _ _ _ _ c.self.view_is c.new.view_is c.requires.lawful) in
-    let count : c.count.result ≡ length J = c.count.ensures in
-    let named = named_grows J c.new.inside.news _ c.reserve-2.new.self c.add.new.self c.reserve-2.ensures.same
-    (λ hash size. c.add.ensures hash size ∙ ap (λ (n : Option NamedValue). names c.reserve-2.new.self hash size || is_name n hash size) c.name_in-name.ensures) c.self.invariant.names in
-    record {
-      read = subst (λ (K : List Record). IsKept K c.keep.new.self.state c.keep.new.self.values c.keep.new.self.totals) (sym grown) kept;
-      names = subst (λ (K : List Record). AreNamed (accepted K) c.add.new.self) (sym grown) named;
-      accepting = c.add-2.ensures ∙ ap (λ (ns : List ℕ). ns ++ option_to_list c.accept_place-place.result) (c.reserve-3.ensures.same ∙ c.self.invariant.accepting)
-          ∙ ap (λ (ns : List ℕ). accept_places J ++ ns) (c.accept_place-place.ensures ∙ ap (λ (n : ℕ). records_where accepts n new) count) ∙ sym (accept_places-append J new) ∙ ap accept_places (sym grown);
-      mine = subst (λ (K : List Record). AreMine K c.keep.new.mine.ids) (sym grown) (mine_grows J new _ _ c.in_ok-keep.ensures.mine c.self.invariant.mine);
-    }
+    let failed = growth_failed g.S.Scheme.verifies _ _ c.self.inside.read c.self.inside.journal.records c.new.inside.texts.items c.deref.result.now c.new.inside.news c.new.inside.bytes c.len-count.result _ c.reserve.new.self c.append_all-written.result c.in-Err.field-0 c.self.view_is c.new.view_is
+    refl refl c.requires.whole c.self.invariant.0 c.new.invariant c.requires.lawful c.reserve.ensures.same c.reserve.ensures.running c.deref.ensures.value (omega (arith, c.len-count.ensures, c.new.inside.texts.ok.0)) c.in_ok-reserve.ensures.records c.in_ok-reserve.ensures.bytes c.in-Err.is
+    c.append_all-written.ensures.limits c.append_all-written.ensures.memory c.append_all-written.ensures.stopped in
+    let J : List Record = records_of (take c.self.inside.read c.self.inside.journal.records) in
+    let t = subst (λ (x : List (List ℕ)). AreTextsFor J x) (sym c.reserve.ensures.same) (whole_texts c.self.inside.read c.self.inside.journal.records c.self.invariant.0 (whole_inside _ _ c.self.view_is c.requires.whole).read) in
+    let u = subst (λ (x : List (List ℕ)). AreTextsFor (records_in c.new.inside.news) x) (sym c.deref.ensures.value) c.new.invariant.made in
+    let cut = cut_appended c.count-self-inside.result J (records_in c.new.inside.news) c.reserve.new.self.records c.deref.result.now c.append_all-written.new.self.records _ _ t u (c.append_all-written.ensures.disk failed) c.count-self-inside.ensures in
+    let stops = c.append_all-written.ensures.stops failed in
+    (cut.reads.are, cut.reads.within, λ runs. absurd cc)
+
+pub returns-clause-disk : goal.returns-clause-disk
+returns-clause-disk g c =
+    let failed = growth_failed g.S.Scheme.verifies _ _ c.self.inside.read c.self.inside.journal.records c.new.inside.texts.items c.deref.result.now c.new.inside.news c.new.inside.bytes c.len-count.result _ c.reserve.new.self c.append_all-written.result c.in-Err.field-0 c.self.view_is c.new.view_is
+    refl refl c.requires.whole c.self.invariant.0 c.new.invariant c.requires.lawful c.reserve.ensures.same c.reserve.ensures.running c.deref.ensures.value (omega (arith, c.len-count.ensures, c.new.inside.texts.ok.0)) c.in_ok-reserve.ensures.records c.in_ok-reserve.ensures.bytes c.in-Err.is
+    c.append_all-written.ensures.limits c.append_all-written.ensures.memory c.append_all-written.ensures.stopped in
+    let J : List Record = records_of (take c.self.inside.read c.self.inside.journal.records) in
+    let t = subst (λ (x : List (List ℕ)). AreTextsFor J x) (sym c.reserve.ensures.same) (whole_texts c.self.inside.read c.self.inside.journal.records c.self.invariant.0 (whole_inside _ _ c.self.view_is c.requires.whole).read) in
+    let u = subst (λ (x : List (List ℕ)). AreTextsFor (records_in c.new.inside.news) x) (sym c.deref.ensures.value) c.new.invariant.made in
+    let cut = cut_appended c.count-self-inside.result J (records_in c.new.inside.news) c.reserve.new.self.records c.deref.result.now c.append_all-written.new.self.records _ _ t u (c.append_all-written.ensures.disk failed) c.count-self-inside.ensures in
+    λ is. cut_seen _ _ c.count-self-inside.result J _ _ c.append_all-written.new.self.records c.self.view_is c.new.view_is refl cut
+
+pub returns-clause-stops : goal.returns-clause-stops
+returns-clause-stops g c =
+    let failed = growth_failed g.S.Scheme.verifies _ _ c.self.inside.read c.self.inside.journal.records c.new.inside.texts.items c.deref.result.now c.new.inside.news c.new.inside.bytes c.len-count.result _ c.reserve.new.self c.append_all-written.result c.in-Err.field-0 c.self.view_is c.new.view_is
+    refl refl c.requires.whole c.self.invariant.0 c.new.invariant c.requires.lawful c.reserve.ensures.same c.reserve.ensures.running c.deref.ensures.value (omega (arith, c.len-count.ensures, c.new.inside.texts.ok.0)) c.in_ok-reserve.ensures.records c.in_ok-reserve.ensures.bytes c.in-Err.is
+    c.append_all-written.ensures.limits c.append_all-written.ensures.memory c.append_all-written.ensures.stopped in
+    (λ is. refl, λ is. c.append_all-written.ensures.stops failed)
+
+pub returns-clause-faults : goal.returns-clause-faults
+returns-clause-faults g c =
+    let failed = growth_failed g.S.Scheme.verifies _ _ c.self.inside.read c.self.inside.journal.records c.new.inside.texts.items c.deref.result.now c.new.inside.news c.new.inside.bytes c.len-count.result _ c.reserve.new.self c.append_all-written.result c.in-Err.field-0 c.self.view_is c.new.view_is
+    refl refl c.requires.whole c.self.invariant.0 c.new.invariant c.requires.lawful c.reserve.ensures.same c.reserve.ensures.running c.deref.ensures.value (omega (arith, c.len-count.ensures, c.new.inside.texts.ok.0)) c.in_ok-reserve.ensures.records c.in_ok-reserve.ensures.bytes c.in-Err.is
+    c.append_all-written.ensures.limits c.append_all-written.ensures.memory c.append_all-written.ensures.stopped in
+    subst (λ (v : Holding g.row.D.Denot). KeepsDisk (g.D.Disk.handle v.disk) (g.D.Disk.handle c.append_all-written.new.self.disk) (g.D.Disk.faults v.disk) (g.D.Disk.faults c.append_all-written.new.self.disk) (g.D.Disk.is_faultless v.disk) (g.D.Disk.is_faultless c.append_all-written.new.self.disk) (IsErrOf {T = Unit {0}} (Err write_error.Disk) write_error.Disk)) c.self.view_is
+    (disk_kept _ _ _ _ _ _ _ _ _ _ _ c.reserve.ensures.handle c.append_all-written.ensures.handle c.reserve.ensures.faults c.reserve.ensures.faultless c.append_all-written.ensures.cause c.append_all-written.ensures.faultless failed refl)
+
+pub returns-clause-lasts : goal.returns-clause-lasts
+returns-clause-lasts g c =
+    let failed = growth_failed g.S.Scheme.verifies _ _ c.self.inside.read c.self.inside.journal.records c.new.inside.texts.items c.deref.result.now c.new.inside.news c.new.inside.bytes c.len-count.result _ c.reserve.new.self c.append_all-written.result c.in-Err.field-0 c.self.view_is c.new.view_is
+    refl refl c.requires.whole c.self.invariant.0 c.new.invariant c.requires.lawful c.reserve.ensures.same c.reserve.ensures.running c.deref.ensures.value (omega (arith, c.len-count.ensures, c.new.inside.texts.ok.0)) c.in_ok-reserve.ensures.records c.in_ok-reserve.ensures.bytes c.in-Err.is
+    c.append_all-written.ensures.limits c.append_all-written.ensures.memory c.append_all-written.ensures.stopped in
+    let J : List Record = records_of (take c.self.inside.read c.self.inside.journal.records) in
+    let t = subst (λ (x : List (List ℕ)). AreTextsFor J x) (sym c.reserve.ensures.same) (whole_texts c.self.inside.read c.self.inside.journal.records c.self.invariant.0 (whole_inside _ _ c.self.view_is c.requires.whole).read) in
+    let u = subst (λ (x : List (List ℕ)). AreTextsFor (records_in c.new.inside.news) x) (sym c.deref.ensures.value) c.new.invariant.made in
+    let cut = cut_appended c.count-self-inside.result J (records_in c.new.inside.news) c.reserve.new.self.records c.deref.result.now c.append_all-written.new.self.records _ _ t u (c.append_all-written.ensures.disk failed) c.count-self-inside.ensures in
+    let whole = whole_inside _ _ c.self.view_is c.requires.whole in
+    let old_t = whole_texts c.self.inside.read c.self.inside.journal.records c.self.invariant.0 whole.read in
+    let then_t = whole_texts c.count-self-inside.result c.append_all-written.new.self.records cut.reads.are cut.reads.left in
+    lasts_then g.D.Disk.tells g.D.Disk.moment g.D.Disk.left_since g.D.Disk.may_leave g.met.D.Disk.only_now _ _ _ c.reserve.new.self.disk _ c.reserve.new.self.records _ _ _ _ c.self.view_is c.new.view_is whole.runs old_t u then_t
+    c.reserve.ensures.same c.reserve.ensures.tells c.append_all-written.ensures.tells c.is_stopped-runs.ensures.stable c.reserve.ensures.images c.reserve.ensures.time
+    (λ told. c.append_all-written.ensures.any_moment told (c.reserve.ensures.running ∙ whole.runs)) c.append_all-written.ensures.stands
