@@ -1,10 +1,9 @@
 -- The places of the records that accept the updates, and what stands there.
-use Rattle.std.proofs.Common.{◌≡◌, ℕ, zero, suc, ◌+◌, ◌<◌, ◌≤◌, Bool, true, false, ltb, cond, List, [], ◌∷◌, ◌++◌, length, Some, slice_get, refl, ap, subst, ◌∙◌, arith}
+use Rattle.std.proofs.Common.{◌≡◌, ℕ, ◌+◌, ◌≤◌, Bool, true, false, ltb, cond, List, [], ◌∷◌, ◌++◌, length, Some, slice_get, refl, ap, ◌∙◌, arith}
 use Rattle.depot_base.specs.declared.record.Record.{Record}
 use Rattle.depot_base.specs.declared.update.Update.{Update}
 use Rattle.depot_model.specs.Bundle.{records_where}
 use Rattle.depot_model.specs.Journal.{accepted, accepted_by}
-use Rattle.depot_model.proofs.Elements.{at_place}
 use Rattle.depot_store.specs.Places.{accepts, accept_places}
 use Rattle.depot_store.proofs.LeafLaws.{one_update}
 
@@ -51,30 +50,6 @@ record AcceptsFrom (n : ℕ) (J : List Record) (place : ℕ) (u : Update) : Type
   pub is : place ≡ n + further
   pub at : AcceptsAt J further u
 
-one_further : (n : ℕ) (r : Record) (J : List Record) (place : ℕ) (u : Update) → AcceptsFrom (n + 1) J place u → AcceptsFrom n (r ∷ J) place u
-one_further n r J place u a = record { further = suc a.further; is = omega (arith, a.is); at = record { by = a.at.by; stands = a.at.stands; brings = a.at.brings } }
-
-accepts_from : (n : ℕ) (J : List Record) (i place : ℕ) (u : Update) → slice_get (records_where accepts n J) i ≡ Some place → slice_get (accepted J) i ≡ Some u → AcceptsFrom n J place u
-unfolding records_where
-accepts_from n [] i place u p_is u_is = absurd cc
-accepts_from n (r ∷ J) i place u p_is u_is = step (accepted_by r) refl (one_update r) i (accepts_from (n + 1) J) p_is u_is where
-  step : (us : List Update) → accepted_by r ≡ us → length us ≤ 1 → (k : ℕ) → ((j p : ℕ) (t : Update) → slice_get (records_where accepts (n + 1) J) j ≡ Some p → slice_get (accepted J) j ≡ Some t → AcceptsFrom (n + 1) J p t)
-      → slice_get (cond (ltb 0 (length us)) (n ∷ records_where accepts (n + 1) J) (records_where accepts (n + 1) J)) k ≡ Some place → slice_get (us ++ accepted J) k ≡ Some u → AcceptsFrom n (r ∷ J) place u
-  step [] brings few k behind at us_at = one_further n r J place u (behind k place u at us_at)
-  step (v ∷ []) brings few zero behind at us_at =
-      let here : n ≡ place = cc in
-      let same : v ≡ u = cc in
-      record { further = 0; is = omega (arith, here); at = record { by = r; stands = refl; brings = brings ∙ ap (λ (t : Update). t ∷ []) same } }
-  step (v ∷ []) brings few (suc k) behind at us_at = one_further n r J place u (behind k place u at us_at)
-  step (v ∷ w ∷ us) brings few k behind at us_at = absurd (omega (arith, few))
-
--- the record at the place of an accepted update accepts just that update
-pub accepts_at_place : (J : List Record) (i place : ℕ) (u : Update) → slice_get (accept_places J) i ≡ Some place → slice_get (accepted J) i ≡ Some u → AcceptsAt J place u
-accepts_at_place J i place u p_is u_is =
-    let a = accepts_from 0 J i place u p_is u_is in
-    let same : a.further ≡ place = omega (arith, a.is) in
-    subst (λ (k : ℕ). AcceptsAt J k u) same a.at
-
 -- an accepted update, its place, and what stands there
 pub record HasPlace (J : List Record) (i : ℕ) : Type 0 where
   pub update : Update
@@ -82,10 +57,3 @@ pub record HasPlace (J : List Record) (i : ℕ) : Type 0 where
   pub accepted_is : slice_get (accepted J) i ≡ Some update
   pub place_is : slice_get (accept_places J) i ≡ Some place
   pub at : AcceptsAt J place update
-
--- each accepted update has one
-pub update_has_place : (J : List Record) (i : ℕ) → i < length (accepted J) → HasPlace J i
-update_has_place J i below =
-    let u = at_place (accepted J) i below in
-    let p = at_place (accept_places J) i (omega (arith, below, as_many_places J)) in
-    record { update = u.0; place = p.0; accepted_is = u.1; place_is = p.1; at = accepts_at_place J i p.0 u.0 p.1 u.1 }

@@ -1,5 +1,5 @@
 -- How much a lawful journal can hold.
-use Rattle.std.proofs.Common.{◌≡◌, ℕ, ◌+◌, ◌<◌, ◌≤◌, List, [], ◌∷◌, ◌++◌, length, ap, arith, length-append}
+use Rattle.std.proofs.Common.{◌≡◌, ℕ, ◌<◌, ◌≤◌, List, [], ◌∷◌, ◌++◌, length, ap, arith, length-append}
 use Rattle.std.proofs.lemmas.List.{length-map}
 use Rattle.depot_base.specs.declared.record.Record.{Record}
 use Rattle.depot_base.specs.declared.record.Record.TheVariants.{Birth, OwnPut, OwnVoucher, Foreign, Conviction, Held}
@@ -9,13 +9,11 @@ use Rattle.depot_base.specs.declared.voucher.Voucher.{Voucher}
 use Rattle.depot_model.specs.Checks.{Setting}
 use Rattle.depot_model.specs.Journal.{accepted, foreign, foreign_by, own}
 use Rattle.depot_model.specs.Lawful.{IsLawful}
-use Rattle.depot_model.specs.Records.{journal_bytes}
 use Rattle.depot_model.specs.Vouching.{records_of}
-use Rattle.depot_laws.proofs.Counts.{bytes_more}
 use Rattle.depot_laws.proofs.Limits.{within_from_room}
 use Rattle.depot_laws.proofs.OwnTexts.{few_own, lawful_is_short}
 use Rattle.depot_laws.proofs.Splits.{lawful_front, lawful_last}
-use Rattle.depot_store.specs.NewRecords.{bytes_of, vouchers_of}
+use Rattle.depot_store.specs.NewRecords.{vouchers_of}
 use Rattle.depot_store.specs.Totals.{AreTotals}
 use Rattle.depot_store.specs.declared.growth.NewVoucher.{NewVoucher}
 use Rattle.depot_store.specs.declared.totals.Totals.{Totals}
@@ -69,7 +67,3 @@ few_records here J more l = lawful_is_short here J (lawful_front here J more l)
 -- own vouchers behind others
 pub few_vouchers : (here : Setting) (J : List Record) (xs : List NewVoucher) → IsLawful here (J ++ records_of (vouchers_of xs)) → length xs ≤ 131072
 few_vouchers here J xs l = omega (arith, lawful_is_short here (J ++ records_of (vouchers_of xs)) l, length-append J (records_of (vouchers_of xs)), length-map (vouchers_of xs) (λ (v : Voucher). OwnVoucher v), length-map xs (λ (x : NewVoucher). x.voucher))
-
--- the bytes of a journal with those of more records
-pub bytes_with : (J mid new : List Record) (bytes more : ℕ) → J ≡ mid → bytes ≡ journal_bytes J → more ≡ bytes_of new → bytes + more ≡ journal_bytes (mid ++ new)
-bytes_with J mid new bytes more same counted is = omega (arith, counted, is, ap journal_bytes same, bytes_more mid new)

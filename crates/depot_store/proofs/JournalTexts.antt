@@ -10,7 +10,6 @@ use Rattle.depot_base.specs.File.{IsFileOf, PassesLimit, blocks, framed}
 use Rattle.depot_base.specs.declared.check.FullOf.{FullOf}
 use Rattle.depot_base.specs.declared.check.FullOf.TheVariants as full_of
 use Rattle.depot_base.specs.declared.record.Record.{Record}
-use Rattle.depot_model.specs.Limits.{IsCutShort}
 use Rattle.depot_model.specs.Records.{IsRecord, journal_bytes, text_of_record}
 use Rattle.depot_model.specs.Stops.{HasFront, LeavesAll}
 use Rattle.depot_journal.specs.Stable as stable
@@ -94,13 +93,6 @@ pub cut_texts : (J new : List Record) (texts more kept : List (List ℕ)) (told 
     → AreTextsFor (J ++ take cut.count new) kept
 cut_texts J new texts more kept told images t u cut =
     subst (λ (x : List (List ℕ)). AreTextsFor (J ++ take cut.count new) x) (sym cut.front) (both_texts J (take cut.count new) texts (take cut.count more) t (front_texts cut.count new more u))
-
-pub cut_of_records : (J new : List Record) (texts more kept : List (List ℕ)) (told : Type 0) (images : List ℕ → Type 0) → AreTextsFor J texts → AreTextsFor new more → files.IsCutShort texts more kept told images → IsCutShort J new (records_of kept)
-cut_of_records J new texts more kept told images t u cut = record {
-  count = cut.count;
-  fewer = omega (arith, cut.fewer, as_many new more u);
-  grown = read_back (J ++ take cut.count new) kept (cut_texts J new texts more kept told images t u cut);
-}
 
 -- ---- room
 

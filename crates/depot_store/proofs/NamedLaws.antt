@@ -147,7 +147,4 @@ named_grows J news old mid new same more n = record {
   are = λ hash size. more hash size ∙ ap (λ (b : Bool). b || is_name (name_in (records_in news)) hash size) (same hash size ∙ n.are hash size) ∙ sym (growth_names J news hash size);
 }
 
-pub named_still : (us : List Update) (old new : NamedValues) → ((hash : List ℕ) (size : ℕ) → names new hash size ≡ names old hash size) → AreNamed us old → AreNamed us new
-named_still us old new same n = record { are = λ hash size. same hash size ∙ n.are hash size }
-
 pub ruleset named_laws = (puts_mark, marked, unmarked, mark_put, same_marks)

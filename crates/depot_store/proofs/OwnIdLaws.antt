@@ -44,6 +44,3 @@ adds_more front new old mid then one two h =
 -- the ids grow with the records
 pub mine_grows : (J new : List Record) (old then : List (List ℕ)) → AddsMine old new then → AreMine J old → AreMine (J ++ new) then
 mine_grows J new old then adds m = record { are = λ h. adds h ∙ ap (λ (b : Bool). b || is_mine_vouched new h) (m.are h) ∙ sym (mine-append J new h) }
-
-pub mine_still : (J : List Record) (old then : List (List ℕ)) → then ≡ old → AreMine J old → AreMine J then
-mine_still J old then same m = record { are = λ h. ap (is_among h) same ∙ m.are h }

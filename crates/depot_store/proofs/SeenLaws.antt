@@ -1,9 +1,8 @@
 -- What is seen of a store, and what stands inside.
-use Rattle.std.proofs.Common.{◌≡◌, ℕ, ◌+◌, ◌≤◌, false, List, [], ◌++◌, length, map, take, drop, Option, sym, ap, subst, ◌∙◌}
+use Rattle.std.proofs.Common.{◌≡◌, ℕ, ◌+◌, ◌≤◌, false, List, [], ◌++◌, length, map, take, drop, sym, ap, subst, ◌∙◌}
 use Rattle.depot_base.specs.File.{blocks}
 use Rattle.depot_base.specs.declared.record.Record.{Record}
 use Rattle.depot_model.specs.Checks.{Setting}
-use Rattle.depot_model.specs.Journal.{accepted}
 use Rattle.depot_model.specs.Lawful.{IsLawful}
 use Rattle.depot_model.specs.Records.{journal_bytes, text_of_record}
 use Rattle.depot_model.specs.Room.{foreign_leaves}
@@ -13,12 +12,10 @@ use Rattle.depot_values.specs.declared.values.Values.{Values}
 use Rattle.depot_store.specs.Holdings.{Holding, standing, with_records, IsWhole}
 use Rattle.depot_store.specs.NewRecords.{AreTextsFor}
 use Rattle.depot_store.specs.RecordTexts.{AreTexts, records_of}
-use Rattle.depot_store.specs.RoomByCounts.{leaves_with}
 use Rattle.depot_store.specs.StoreParts.{AreReadings}
 use Rattle.depot_store.specs.declared.named.NamedValues.{NamedValues}
 use Rattle.depot_store.specs.declared.totals.Totals.{Totals}
 use Rattle.depot_store.proofs.JournalTexts.{IsReadTo, journal_long, read_more, whole_texts}
-use Rattle.depot_store.proofs.KeptLaws.{counted_with}
 
 -- what is lawful of a store as it is seen is lawful of what is inside
 pub lawful_inside : {D : Type 0} (verifies : Verifies) (inside seen : Holding D) (more given : List Record) → inside ≡ seen → more ≡ given → IsLawful (standing verifies seen) (seen.records ++ given) → IsLawful (standing verifies inside) (inside.records ++ more)
@@ -36,16 +33,6 @@ runs_inside {D} inside seen same runs = ap (λ (x : Holding D). x.stopped) same 
 -- and every record was read
 pub whole_inside : {D : Type 0} (inside seen : Holding D) → inside ≡ seen → IsWhole seen → IsWhole inside
 whole_inside {D} inside seen same whole = subst (λ (x : Holding D). IsWhole x) (sym same) whole
-
--- the leaves that are counted with a growth, inside
-pub leaves_inside : {D S : Type 0} (inside seen : Holding D) (more given : List Record) (v : View S) (kept : Values) (t : Totals) (named : NamedValues) (places : List ℕ) (ids : List (List ℕ)) (leaves : Option ℕ) → inside ≡ seen → more ≡ given → v.me ≡ inside.me
-    → AreReadings inside.records v kept t named places ids → leaves ≡ leaves_with (accepted seen.records) (length (foreign_leaves seen.me seen.records)) given → leaves ≡ leaves_with v.accepted t.leaves more
-leaves_inside {D} inside seen more given v kept t named places ids leaves same all me r is =
-    is
-    ∙ ap (λ (rs : List Record). leaves_with (accepted seen.records) (length (foreign_leaves seen.me seen.records)) rs) (sym all)
-    ∙ ap (λ (x : Holding D). leaves_with (accepted x.records) (length (foreign_leaves x.me x.records)) more) (sym same)
-    ∙ ap (λ (n : ℕ). leaves_with (accepted inside.records) (length (foreign_leaves n inside.records)) more) (sym me)
-    ∙ sym (counted_with inside.records more v kept t r.read)
 
 -- the bytes of a whole journal are those of its records
 pub size_seen : {D : Type 0} (inside seen : Holding D) (n : ℕ) (texts : List (List ℕ)) → inside ≡ seen → IsWhole seen → inside.records ≡ records_of (take n texts) → inside.unread ≡ drop n texts → AreTexts (take n texts) → 1 + length (blocks texts) ≡ journal_bytes seen.records
