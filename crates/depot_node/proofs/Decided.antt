@@ -1,5 +1,5 @@
 -- What is decided of a text, from what is decided of the value that was read, and what the node then answers.
-use Rattle.std.proofs.Common.{◌≡◌, ℕ, false, List, [], ◌++◌, Some, None, Result, Ok, Err, refl, sym, ap, subst, ◌∙◌}
+use Rattle.std.proofs.Common.{◌≡◌, ℕ, false, List, [], ◌++◌, length, Some, None, Result, Ok, Err, refl, sym, ap, subst, ◌∙◌, arith}
 use Rattle.std.specs.Prelude.{IfOk}
 use Rattle.std.proofs.lemmas.List.{append-nil}
 use Rattle.depot_base.specs.Format.{Format}
@@ -15,8 +15,9 @@ use Rattle.depot_model.specs.declared.taken.TakeError.{TakeError}
 use Rattle.depot_model.specs.declared.taken.TakeError.TheVariants as refused
 use Rattle.depot_model.specs.Checks.{Setting, Given, answer_to, growth_by, growth}
 use Rattle.depot_model.specs.Lawful.{IsLawful, is_empty}
+use Rattle.depot_model.specs.Limits.{IsCutShort}
 use Rattle.depot_model.specs.Room.{full_by}
-use Rattle.depot_model.specs.Taking.{OfGiven, IsAnswered, IsFull, Takes}
+use Rattle.depot_model.specs.Taking.{OfGiven, IsAnswered, IsFull, IsBroken, Takes}
 use Rattle.depot_laws.specs.Given.{HasText}
 use Rattle.depot_laws.proofs.Growing.{grown_is_lawful}
 use Rattle.depot_store.specs.NewRecords.{MayGrow}
@@ -123,12 +124,26 @@ no_room f give here J text (Ok taken) new then full g none = (g.0, (g.1.0, (g.1.
 no_room f give here J text (Err (check.IllFormed at)) new then full d none = let never : None ≡ Some full = sym (ap (full_by here.me J) d.1) ∙ none.0 in absurd cc
 no_room f give here J text (Err c) new then full g none = (g.0, (g.1.0, (g.1.1.0, record { is = ap (full_by here.me J) g.1.1.1.grows ∙ none.0; same = none.1 })))
 
+-- the disk cut what was decided short
+given_broken : {V : Type 0} (f : Closed V) (give : V → Given) (here : Setting) (J : List Record) (text : List ℕ) (answer : Result Taken Check) (new then : List Record)
+    → OfGiven f give text (λ x. IsDecided here J x answer new) → full_by here.me J new ≡ None → IsCutShort J new then → OfGiven f give text (λ x. IsBroken here J x then)
+given_broken f give here J text answer new then g room cut = (g.0, (g.1.0, (g.1.1.0, record { room = ap (full_by here.me J) g.1.1.1.grows ∙ room; cut = subst (λ (rs : List Record). IsCutShort J rs then) (sym g.1.1.1.grows) cut })))
+
+none_cut : (J new then : List Record) → new ≡ [] → IsCutShort J new then → ⊥
+none_cut J new then none cut = omega (arith, cut.fewer, ap length none)
+
+broken : {V : Type 0} (f : Closed V) (give : V → Given) (here : Setting) (J : List Record) (text : List ℕ) (answer : Result Taken Check) (new then : List Record)
+    → Decides f give here J text answer new → full_by here.me J new ≡ None → IsCutShort J new then → OfGiven f give text (λ x. IsBroken here J x then)
+broken f give here J text (Ok taken) new then g room cut = given_broken f give here J text (Ok taken) new then g room cut
+broken f give here J text (Err (check.IllFormed at)) new then d room cut = absurd (none_cut J new then d.1 cut)
+broken f give here J text (Err c) new then g room cut = given_broken f give here J text (Err c) new then g room cut
+
 -- a decision that is carried out is the answer to the text
 pub takes_decided : {V : Type 0} (f : Closed V) (give : V → Given) (here : Setting) (J : List Record) (text : List ℕ) (answer : Result Taken Check) (new : List Record) (result : Result Taken TakeError) (then : List Record)
     → Decides f give here J text answer new → IsCarriedOut here.me J answer new result then → Takes f give here J text result then
 takes_decided f give here J text answer new (Ok taken) then d c = taken_answered f give here J text answer taken new then d c.0 c.1
 takes_decided f give here J text answer new (Err refused.Memory) then d c = c
-takes_decided f give here J text answer new (Err refused.Disk) then d c = absurd c
+takes_decided f give here J text answer new (Err refused.Disk) then d c = broken f give here J text answer new then d c.0 c.1
 takes_decided f give here J text answer new (Err refused.Stopped) then d c = absurd c
 takes_decided f give here J text answer new (Err (refused.Full full)) then d c = no_room f give here J text answer new then full d c
 takes_decided f give here J text answer new (Err (refused.Refused k)) then d c = refused_answered f give here J text k new then (subst (λ (a : Result Taken Check). Decides f give here J text a new) c.0 d) c.1

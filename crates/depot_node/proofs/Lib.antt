@@ -1,6 +1,8 @@
 pub mod OfRead
 pub mod NewStatements
 pub mod Decided
+pub mod LastingCalls
+pub mod TakenGrowth
 pub mod FreshIds
 pub mod NextOwn
 pub mod PutLaws
@@ -9,10 +11,14 @@ pub mod ProofAnswers
 pub mod ValueAnswers
 pub mod RecordParts
 pub mod Beginnings
-pub mod TextWalk
 pub mod Started
+pub mod RecordFaultLaws
+pub mod RecordChecks
+pub mod RecordReads
+pub mod Starts
+pub mod StartLaws
+mod RecordFaultExamples
 pub mod ReadLaws
-pub mod InMemory
 pub mod LackingValues
 pub mod ForeignIds
 pub mod StatementTexts

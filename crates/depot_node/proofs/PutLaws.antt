@@ -1,26 +1,25 @@
 -- What holds of the update of a put: its texts, the journal with it, and what a refusal says.
-use Rattle.std.proofs.Common.{◌≡◌, ℕ, ◌+◌, ◌<◌, ◌≤◌, ltb, Bool, true, false, List, [], ◌∷◌, ◌++◌, length, Option, Some, None, option_map, refl, sym, ap, subst, ◌∙◌, arith, length-append, inl, inr, Ok, Err}
+use Rattle.std.proofs.Common.{◌≡◌, ℕ, ◌<◌, ◌≤◌, ltb, Bool, true, false, List, [], ◌∷◌, ◌++◌, length, Option, Some, None, option_map, refl, sym, ap, subst, ◌∙◌, arith, inl, inr, Ok, Err}
 use Rattle.std.proofs.lemmas.Bool.{ltb-true, ltb-false}
 use Rattle.depot_base.specs.Sized.{IsKey, IsValue}
 use Rattle.depot_base.specs.declared.check.Full.{Full}
 use Rattle.depot_base.specs.declared.record.Record.{Record}
-use Rattle.depot_base.specs.declared.record.Record.TheVariants.{Birth, OwnPut, OwnVoucher, Foreign, Conviction, Held}
+use Rattle.depot_base.specs.declared.record.Record.TheVariants.{OwnPut, Foreign}
 use Rattle.depot_base.specs.declared.statement.Signed.{Signed}
 use Rattle.depot_base.specs.declared.update.Update.{Update}
 use Rattle.depot_model.specs.Checks.{Setting}
-use Rattle.depot_model.specs.Journal.{own, own_by}
-use Rattle.depot_model.specs.Lawful.{MayPut, IsAllowed, IsLawful, is_empty}
+use Rattle.depot_model.specs.Journal.{own}
+use Rattle.depot_model.specs.Lawful.{MayPut, IsLawful, is_empty}
 use Rattle.depot_model.specs.Lists.{IsIn}
 use Rattle.depot_model.specs.Own.{next_own, IsFresh, leaf_count}
 use Rattle.depot_model.specs.Records.{IsRecord, text_of_record}
 use Rattle.depot_model.specs.Room.{full_by}
 use Rattle.depot_model.specs.Texts.{id_of_update}
 use Rattle.depot_laws.proofs.OwnTexts.{own_record_fits, own_put_is_lawful}
-use Rattle.depot_laws.proofs.Splits.{flat_push, lawful_from_end}
 use Rattle.depot_store.specs.NewRecords.{MayGrow}
 use Rattle.depot_store.specs.RecordTexts.{IsTextOf}
 use Rattle.depot_store.specs.RoomByCounts.{HasGrown, HadNoRoom}
-use Rattle.depot_model.specs.Limits.{limit_of_own, limit_of_put}
+use Rattle.depot_model.specs.Limits.{limit_of_own, limit_of_put, IsCutShort}
 use Rattle.depot_model.specs.Limits as limits
 use Rattle.depot_model.proofs.LimitLaws.{limit_spent, limit_tips, limit_collides, limit_full, limit_none}
 use Rattle.depot_node.specs.Putting.{told_of, put_records, IsTooWide, Puts, IsPlanned, IsRefused}
@@ -32,20 +31,6 @@ use Rattle.depot_node.specs.declared.answer.PutError.TheVariants as refused
 
 abbrev HasLeaves : Setting → List Record → Type 0
 HasLeaves here J = length (own J) ≤ leaf_count here.listed here.me
-
-one_leaf : (here : Setting) (J : List Record) (r : Record) → IsLawful here J → IsAllowed here J r → HasLeaves here J → HasLeaves here (J ++ r ∷ [])
-one_leaf here J r l allowed before = let more = ap length (flat_push own_by J r) ∙ length-append (own J) (own_by r) in by_kind r allowed more where
-  by_kind : (r : Record) → IsAllowed here J r → length (own (J ++ r ∷ [])) ≡ length (own J) + length (own_by r) → HasLeaves here (J ++ r ∷ [])
-  by_kind (Birth node h) allowed more = omega (arith, before, more)
-  by_kind (OwnPut u value) allowed more = omega (arith, allowed.may.leaf, more)
-  by_kind (OwnVoucher v) allowed more = omega (arith, allowed.may.leaf, more)
-  by_kind (Foreign s) allowed more = omega (arith, before, more)
-  by_kind (Conviction p) allowed more = omega (arith, before, more)
-  by_kind (Held value) allowed more = omega (arith, before, more)
-
--- the own statements of a lawful journal are no more than the node's leaves
-pub own_within_leaves : (here : Setting) (J : List Record) → IsLawful here J → HasLeaves here J
-own_within_leaves here J l = lawful_from_end here (HasLeaves here) (omega arith) (one_leaf here) J l
 
 -- the limit of a put is that of its update
 limit_is : (here : Setting) (J : List Record) (key value : List ℕ) → limit_of_put here J key value ≡ limit_of_own here J (next_own here.me J key value) (put_records here J key value)
@@ -176,3 +161,10 @@ plan_is_put here J key value done new then p grown = (
 pub plan_has_no_room : (here : Setting) (J : List Record) (key value : List ℕ) (done : PutDone) (new then : List Record) (full : Full) → IsPlanned here J key value done new → HadNoRoom here.me J new full then
     → Puts here J key value (Err (refused.Full full)) then
 plan_has_no_room here J key value done new then full p none = (p.limit ∙ ap (λ (o : Option Full). option_map limits.full o) none.0, none.1)
+
+-- or the disk cut it short
+pub plan_is_cut : (here : Setting) (J : List Record) (key value : List ℕ) (done : PutDone) (new then : List Record) → IsPlanned here J key value done new → full_by here.me J new ≡ None → IsCutShort J new then → Puts here J key value (Err refused.Disk) then
+plan_is_cut here J key value done new then p room cut = (
+  p.limit ∙ ap (λ (o : Option Full). option_map limits.full o) room,
+  subst (λ (rs : List Record). IsCutShort J rs then) p.grows cut,
+)

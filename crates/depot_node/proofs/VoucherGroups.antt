@@ -77,12 +77,6 @@ one_made me first seq all left g rest made new ids a is long some sorted grows =
       few = omega (arith, a.few, ap length is, length-append g rest, long, some);
     }
 
-pub none_made : (me first : ℕ) (all left : List (List ℕ)) (made : List Voucher) → made ≡ [] → left ≡ all → AreMade me first all made first left
-none_made me first all left made none same = record {
-  whole = ap (λ (vs : List Voucher). vs ++ numbered me first (groups_of 256 left)) none ∙ ap (λ (xs : List (List ℕ)). numbered me first (groups_of 256 xs)) same;
-  few = omega (arith, ap length same);
-}
-
 no_groups : (me seq : ℕ) (left : List (List ℕ)) → length left ≡ 0 → numbered me seq (groups_of 256 left) ≡ []
 unfolding groups_of
 no_groups me seq [] none = refl

@@ -1,5 +1,5 @@
 -- What holds of the vouchers that a node is to make: their texts, the journal with them, and what a refusal says.
-use Rattle.std.proofs.Common.{◌≡◌, ℕ, suc, ◌+◌, ◌/◌, ◌%◌, ◌≤◌, min, ltb, not, Bool, true, false, ◌&&◌, eqb, List, [], ◌∷◌, ◌++◌, length, map, Some, option_map, refl, sym, ap, subst, ◌∙◌, arith, inl, inr, Ok, Err}
+use Rattle.std.proofs.Common.{◌≡◌, ℕ, suc, ◌+◌, ◌/◌, ◌%◌, ◌≤◌, min, ltb, not, Bool, true, false, ◌&&◌, eqb, List, [], ◌∷◌, ◌++◌, length, map, Some, None, option_map, refl, sym, ap, subst, ◌∙◌, arith, inl, inr, Ok, Err}
 use Rattle.std.specs.List.{AllByRecursion}
 use Rattle.std.specs.Str.{bytes_eq}
 use Rattle.std.proofs.lemmas.Bool.{and_parts}
@@ -17,7 +17,7 @@ use Rattle.depot_model.specs.declared.bundle.VoucherError.TheVariants as refused
 use Rattle.depot_model.specs.Checks.{Setting}
 use Rattle.depot_model.specs.Journal.{accepted, is_foreign, own}
 use Rattle.depot_model.specs.Lawful.{IsLawful, is_empty}
-use Rattle.depot_model.specs.Limits.{spent_by}
+use Rattle.depot_model.specs.Limits.{spent_by, IsCutShort}
 use Rattle.depot_model.specs.Limits as limits
 use Rattle.depot_model.specs.Lists.{AreApart, IsIn, first, when}
 use Rattle.depot_model.specs.Own.{leaf_count}
@@ -170,3 +170,7 @@ vouched here J ids new after p grown = (p.limit ∙ ap (option_map limits.full) 
 -- or there is no room for them
 pub no_room : (here : Setting) (J : List Record) (ids : List (List ℕ)) (new after : List Record) (what : Full) → ArePlanned here J ids new → HadNoRoom here.me J new what after → Vouches here J ids (Err (refused.Full what)) after
 no_room here J ids new after what p full = (p.limit ∙ ap (option_map limits.full) full.0, full.1)
+
+-- or the disk cut them short
+pub cut_vouchers : (here : Setting) (J : List Record) (ids : List (List ℕ)) (new after : List Record) → ArePlanned here J ids new → full_by here.me J new ≡ None → IsCutShort J new after → Vouches here J ids (Err refused.Disk) after
+cut_vouchers here J ids new after p room cut = (p.limit ∙ ap (option_map limits.full) room, subst (λ (rs : List Record). IsCutShort J rs after) p.grows cut)

@@ -1,5 +1,5 @@
 -- What a node decides over its journal, and what comes of it.
-use Rattle.std.specs.Prelude.{◌≡◌, ℕ, List, [], ◌∷◌, Some, Result, Ok, Err, slice_get}
+use Rattle.std.specs.Prelude.{◌≡◌, ℕ, List, [], ◌∷◌, Some, None, Result, Ok, Err, slice_get}
 use Rattle.depot_base.specs.Closed.{Closed, closing, rest_of}
 use Rattle.depot_base.specs.declared.check.Check.{Check}
 use Rattle.depot_base.specs.declared.check.Check.TheVariants as check
@@ -12,6 +12,8 @@ use Rattle.depot_model.specs.declared.taken.TakeError.TheVariants as refused
 use Rattle.depot_model.specs.Checks.{Setting, Given, given_statement, given_proof, given_value, answer_to, growth}
 use Rattle.depot_model.specs.Conviction.{proof_of}
 use Rattle.depot_model.specs.Journal.{foreign}
+use Rattle.depot_model.specs.Limits.{IsCutShort}
+use Rattle.depot_model.specs.Room.{full_by}
 use Rattle.depot_model.specs.Taking.{OfGiven}
 use Rattle.depot_model.specs.Texts.{signed, proof}
 use Rattle.depot_fork.specs.declared.Found.{Found}
@@ -56,7 +58,7 @@ Answered (Err c) result = result ≡ Err (refused.Refused c)
 abbrev pub IsCarriedOut : ℕ → List Record → Result Taken Check → List Record → Result Taken TakeError → List Record → Type 0
 IsCarriedOut me J answer new (Ok taken) then = (answer ≡ Ok taken) × HasGrown me J new then
 IsCarriedOut me J answer new (Err refused.Memory) then = then ≡ J
-IsCarriedOut me J answer new (Err refused.Disk) then = ⊥
+IsCarriedOut me J answer new (Err refused.Disk) then = (full_by me J new ≡ None) × IsCutShort J new then
 IsCarriedOut me J answer new (Err refused.Stopped) then = ⊥
 IsCarriedOut me J answer new (Err (refused.Full full)) then = HadNoRoom me J new full then
 IsCarriedOut me J answer new (Err (refused.Refused c)) then = (answer ≡ Err c) × HasGrown me J new then

@@ -1,7 +1,7 @@
 pub mod Putting
 pub mod Deciding
 pub mod Starting
+pub mod Reading
 pub mod Keyed
-pub mod Running
 pub mod Telling
 pub mod PlannedVouchers

@@ -1,5 +1,5 @@
 //! The updates that a reader lacks, as far as its leaves tell.
-ghost use Rattle.std.specs.Prelude.{◌≡◌, ◌<◌, ℕ, List, length, IfOk, Some, slice_get};
+ghost use Rattle.std.specs.Prelude.{◌≡◌, false, ◌<◌, ℕ, List, length, IfOk, Some, slice_get};
 ghost use Rattle.std.specs.List.{AllByRecursion};
 ghost use Rattle.depot_base.specs.declared.update.Update.{Update};
 ghost use Rattle.depot_model.specs.Bundle.{candidate_places, is_candidate, is_covered};
@@ -8,6 +8,7 @@ ghost use Rattle.depot_node.specs.Telling.{beside, items_named};
 use depot_base::{Hash32, Ids, Items, Memory, NodeId, Steps};
 use depot_graph::Graph;
 use depot_model::{Past, Scheme};
+use depot_outside::Disk;
 use depot_store::Store;
 use std::alloc::Global;
 use std::marker::Brand;
@@ -15,12 +16,13 @@ use std::sync::ledger::{Blank, Ledger};
 
 /// The places of the records whose updates a reader with these leaves lacks, rising: those of other writers that neither are
 /// one of the leaves nor precede one. It takes a test of precedence for each item and each leaf at most.
-pub fn candidates<S: Scheme>(
+pub fn candidates<D: Disk, S: Scheme>(
     alloc: Global,
-    store: &Store<S>,
+    store: &Store<D, S>,
     leaves: &Ids,
     reader: NodeId,
 ) -> Result<Items, Memory>
+    requires runs { store.now.stopped ≡ false }
     ensures { IfOk result (λ places. places ≡ candidate_places store.now.records leaves.now reader) }
 {
     let graph = store.state().graph();

@@ -1,5 +1,5 @@
 //! The leaves of what a node accepted, by the places of their records.
-ghost use Rattle.std.specs.Prelude.{◌≡◌, ◌<◌, length, map, IfOk};
+ghost use Rattle.std.specs.Prelude.{◌≡◌, false, ◌<◌, length, map, IfOk};
 ghost use Rattle.depot_model.specs.Hello.{AreLeafPlaces};
 ghost use Rattle.depot_model.specs.History.{by_id, leaves_of};
 ghost use Rattle.depot_model.specs.Items.{at};
@@ -12,6 +12,7 @@ ghost use Rattle.depot_store.specs.Holdings.{standing};
 use depot_base::{Hash32, Items, Memory, NodeId};
 use depot_graph::Graph;
 use depot_model::{Past, Scheme};
+use depot_outside::Disk;
 use depot_store::Store;
 use std::alloc::Global;
 use std::collections::BTreeSet;
@@ -25,8 +26,9 @@ struct Leaf {
 }
 
 /// The places of the records that accepted the leaves, in rising order of the leaves' (writer, id).
-pub fn leaf_places<S: Scheme>(alloc: Global, store: &Store<S>) -> Result<Items, Memory>
-    requires { IsLawful (standing S.verifies store.now) store.now.records }
+pub fn leaf_places<D: Disk, S: Scheme>(alloc: Global, store: &Store<D, S>) -> Result<Items, Memory>
+    requires runs { store.now.stopped ≡ false }
+    requires lawful { IsLawful (standing S.verifies store.now) store.now.records }
     ensures { IfOk result (λ places. AreLeafPlaces store.now.records places) }
 {
     let leaves = leaves(alloc, store)?;
@@ -34,7 +36,8 @@ pub fn leaf_places<S: Scheme>(alloc: Global, store: &Store<S>) -> Result<Items, 
 }
 
 /// The leaves in their order.
-fn leaves<S: Scheme>(alloc: Global, store: &Store<S>) -> Result<BTreeSet<Leaf>, Memory>
+fn leaves<D: Disk, S: Scheme>(alloc: Global, store: &Store<D, S>) -> Result<BTreeSet<Leaf>, Memory>
+    requires runs { store.now.stopped ≡ false }
     ensures { IfOk result (λ leaves. leaves.keys ≡ map (leaf_in store.now.records) (by_id (leaves_of (accepted store.now.records)))) }
 {
     let graph = store.state().graph();

@@ -19,11 +19,14 @@
 mod answer;
 mod candidates;
 mod decision;
+mod laws;
 mod leaf_places;
 mod node;
 mod peer;
 mod proof;
 mod put;
+mod reading;
+mod record_check;
 mod signed_text;
 mod start;
 mod statement;
@@ -34,4 +37,5 @@ mod vouch;
 
 pub use answer::{PutDone, PutError, StartError};
 pub use depot_model::{TakeError, Taken};
+pub use laws::lawful_files_start;
 pub use node::Node;

@@ -1,5 +1,5 @@
 //! The node.
-ghost use Rattle.std.specs.Prelude.{◌≡◌, ◌<◌, List, length, false, refl, Some, IsErrOf, IfOk, IfErr, All, option_copied, slice_get};
+ghost use Rattle.std.specs.Prelude.{◌≡◌, ◌≢◌, ◌<◌, [], length, false, refl, Some, IfErr, IsErrOf, All, option_copied, slice_get};
 ghost use Rattle.depot_base.specs.declared.record.Record.{Record};
 ghost use Rattle.depot_base.specs.declared.update.Update.{Update};
 ghost use Rattle.depot_model.specs.Journal.{accepted, value_of};
@@ -8,88 +8,56 @@ ghost use Rattle.depot_model.specs.LawfulFacts.{IsLawful-prop};
 ghost use Rattle.depot_model.specs.Order.{AreLatestIn};
 ghost use Rattle.depot_model.specs.Replicas.{IsSameNode, StopsBy, KeepsDisk};
 ghost use Rattle.depot_model.specs.Roster.{key_of};
+ghost use Rattle.depot_model.specs.Stops.{Lasts};
 ghost use Rattle.depot_model.specs.TextFacts.{IsRoster-prop};
 ghost use Rattle.depot_model.specs.Texts.{IsRoster};
 ghost use Rattle.depot_model.specs.Items.{updates_at};
 ghost use Rattle.depot_store.specs.Holdings.{standing};
-ghost use Rattle.depot_node.specs.Keyed.{HasKey-prop};
-ghost use Rattle.depot_node.specs.Putting.{Puts};
-ghost use Rattle.depot_node.specs.Starting.{AreTextsOf, started, IsNotStarted};
+ghost use Rattle.depot_node.specs.Keyed.{HasKey-prop, AllRead-prop};
+ghost use Rattle.depot_node.specs.Putting.{Puts, put_records};
 
-use crate::answer::{PutDone, PutError, StartError};
+use crate::answer::{PutDone, PutError};
 use crate::put::put;
-use crate::start::load;
 use crate::take::{take_proof, take_statement, take_value};
-use depot_base::{Hash32, Key, NodeId, Texts, Update, Value};
+use depot_base::{Hash32, Key, NodeId, Update, Value};
 use depot_model::{Past, Replica, Scheme, Signer, TakeError, Taken};
-use depot_sign::Roster;
+use depot_outside::Disk;
 use depot_store::Store;
 use std::alloc::Global;
 
-/// A node that keeps its journal in memory. The journal is lawful, and the roster has the signer's key for the node.
+/// A node with its journal on a disk. The journal is lawful, and the roster has the signer's key for the node. Once the disk failed
+/// the node is stopped: it is started again from its disk.
 #[derive(Drop)]
-pub struct Node<S: Scheme, G: Signer<Of = S>> {
+pub struct Node<D: Disk, S: Scheme, G: Signer<Of = S>> {
     pub(crate) alloc: Global,
-    pub(crate) store: Store<S>,
+    pub(crate) store: Store<D, S>,
     pub(crate) signer: G,
     ghost lawful: { IsLawful (standing S.verifies store) store.records } by { IsLawful-prop (standing S.verifies store) store.records },
     ghost some: { is_empty store.records ≡ false },
     ghost formed: { IsRoster store.listed } by { IsRoster-prop store.listed },
     ghost keyed: { key_of store.listed store.me ≡ Some (G.key_of signer) } by { HasKey-prop store.listed store.me (G.key_of signer) },
+    ghost read: { store.unread ≡ [] } by { AllRead-prop store.unread },
 }
 
-impl<S: Scheme, G: Signer<Of = S>> Node<S, G> {
-    /// Starts the node `me` of a roster from the record texts of a lawful journal of this node and roster, or from none: the
-    /// journal of a new node is its birth record. `UnknownMe` comes exactly where the roster doesn't have the node, and
-    /// `OtherKey` exactly where it has another key for it than the signer's, with both keys.
-    pub fn start_list(
-        alloc: Global,
-        texts: Texts,
-        roster: Roster,
-        scheme: S,
-        signer: G,
-        me: NodeId,
-    ) -> Result<Node<S, G>, StartError>
-        requires { (J : List Record) × AreTextsOf (record { verifies = S.verifies; me = me; listed = roster }) J texts }
-        ensures stands { IfOk result (λ n. ⟦<Node<S, G> as Replica>⟧.stands n ≡ record { verifies = S.verifies; me = me; listed = roster }) }
-        ensures key { IfOk result (λ _. key_of roster me ≡ Some (G.key_of signer)) }
-        ensures records { IfOk result (λ n. (J : List Record) → AreTextsOf (record { verifies = S.verifies; me = me; listed = roster }) J texts → ⟦<Node<S, G> as Replica>⟧.records n ≡ started (record { verifies = S.verifies; me = me; listed = roster }) J) }
-        ensures refused { IfErr result (IsNotStarted (record { verifies = S.verifies; me = me; listed = roster }) (G.key_of signer)) }
+impl<D: Disk, S: Scheme, G: Signer<Of = S>> Node<D, S, G> {
+    /// Its disk as it stands, of a node that is stopped too. It takes no memory.
+    pub fn into_disk(self) -> D
+        ensures { result ≡ self.store.disk }
     {
-        let Some(key) = roster.key_of(me) else {
-            return Err(StartError::UnknownMe);
-        };
-        let own = signer.key();
-        if key != own {
-            return Err(StartError::OtherKey {
-                roster: key,
-                signer: own,
-            });
-        }
-        let store = load(alloc, texts, roster, scheme, me)?;
-        Ok(Node {
-            alloc,
-            store,
-            signer,
-        })
-    }
-
-    /// The texts of the records of its journal, from which it can be started again. It takes no memory.
-    pub fn into_texts(self) -> Texts
-        ensures { AreTextsOf (⟦<Node<S, G> as Replica>⟧.stands self) (⟦<Node<S, G> as Replica>⟧.records self) result }
-    {
-        self.store.into_texts()
+        self.store.into_disk()
     }
 
     /// Puts a value under a key: the journal grows by the next own update, whose id, seq and clock are told. `Spent`,
     /// `Tips`, `Collides` and `Full` come exactly where the definition says, in this order, and then, as after Memory, the
-    /// journal is as before. `Disk` and `Stopped` never come while the journal is kept in memory.
-    #[tactic(auto, using(crate::proofs::InMemory::in_memory))]
+    /// journal is as before. After `Disk` the node is stopped. A stop at any moment leaves the records from before, or these and
+    /// the new one; where another error is answered, those from before.
     pub fn put(&mut self, key: Key, value: Value) -> Result<PutDone, PutError>
-        ensures puts { Puts (⟦<Node<S, G> as Replica>⟧.stands self.old) (⟦<Node<S, G> as Replica>⟧.records self.old) key value result (⟦<Node<S, G> as Replica>⟧.records self.new) }
-        ensures stays { IsSameNode (⟦<Node<S, G> as Replica>⟧.stands self.old) (⟦<Node<S, G> as Replica>⟧.stands self.new) (⟦<Node<S, G> as Replica>⟧.key self.old) (⟦<Node<S, G> as Replica>⟧.key self.new) (⟦<Node<S, G> as Replica>⟧.signature_of self.old) (⟦<Node<S, G> as Replica>⟧.signature_of self.new) }
-        ensures stops { StopsBy (⟦<Node<S, G> as Replica>⟧.stopped self.old) (⟦<Node<S, G> as Replica>⟧.stopped self.new) (IsErrOf result PutError.Stopped) (IsErrOf result PutError.Disk) }
-        ensures disk { KeepsDisk (⟦<Node<S, G> as Replica>⟧.handle self.old) (⟦<Node<S, G> as Replica>⟧.handle self.new) (⟦<Node<S, G> as Replica>⟧.faults self.old) (⟦<Node<S, G> as Replica>⟧.faults self.new) (⟦<Node<S, G> as Replica>⟧.is_faultless self.old) (⟦<Node<S, G> as Replica>⟧.is_faultless self.new) (IsErrOf result PutError.Disk) }
+        ensures puts { Puts (⟦<Node<D, S, G> as Replica>⟧.stands self.old) (⟦<Node<D, S, G> as Replica>⟧.records self.old) key value result (⟦<Node<D, S, G> as Replica>⟧.records self.new) }
+        ensures stays { IsSameNode (⟦<Node<D, S, G> as Replica>⟧.stands self.old) (⟦<Node<D, S, G> as Replica>⟧.stands self.new) (⟦<Node<D, S, G> as Replica>⟧.key self.old) (⟦<Node<D, S, G> as Replica>⟧.key self.new) (⟦<Node<D, S, G> as Replica>⟧.signature_of self.old) (⟦<Node<D, S, G> as Replica>⟧.signature_of self.new) }
+        ensures stops { StopsBy (⟦<Node<D, S, G> as Replica>⟧.stopped self.old) (⟦<Node<D, S, G> as Replica>⟧.stopped self.new) (IsErrOf result PutError.Stopped) (IsErrOf result PutError.Disk) }
+        ensures disk { KeepsDisk (⟦<Node<D, S, G> as Replica>⟧.handle self.old) (⟦<Node<D, S, G> as Replica>⟧.handle self.new) (⟦<Node<D, S, G> as Replica>⟧.faults self.old) (⟦<Node<D, S, G> as Replica>⟧.faults self.new) (⟦<Node<D, S, G> as Replica>⟧.is_faultless self.old) (⟦<Node<D, S, G> as Replica>⟧.is_faultless self.new) (IsErrOf result PutError.Disk) }
+        ensures lasts { Lasts ⟦<Node<D, S, G> as Replica>⟧.tells ⟦<Node<D, S, G> as Replica>⟧.stopped ⟦<Node<D, S, G> as Replica>⟧.records ⟦<Node<D, S, G> as Replica>⟧.moment ⟦<Node<D, S, G> as Replica>⟧.left_since ⟦<Node<D, S, G> as Replica>⟧.may_leave self.old self.new (put_records (⟦<Node<D, S, G> as Replica>⟧.stands self.old) (⟦<Node<D, S, G> as Replica>⟧.records self.old) key value) }
+        ensures idle { IfErr result (λ e. e ≢ PutError.Disk → Lasts ⟦<Node<D, S, G> as Replica>⟧.tells ⟦<Node<D, S, G> as Replica>⟧.stopped ⟦<Node<D, S, G> as Replica>⟧.records ⟦<Node<D, S, G> as Replica>⟧.moment ⟦<Node<D, S, G> as Replica>⟧.left_since ⟦<Node<D, S, G> as Replica>⟧.may_leave self.old self.new []) }
     {
         put(self.alloc, &mut self.store, key, value)
     }
@@ -97,24 +65,27 @@ impl<S: Scheme, G: Signer<Of = S>> Node<S, G> {
     /// The items of the latest writes of a key among the accepted updates, in rising order of clock, writer, seq and id,
     /// and none for a key that no update writes. An item is a place among the accepted updates, from 0. It takes no memory.
     pub fn latest(&self, key: &Key) -> &[u32]
-        ensures latest { AreLatestIn key.now (accepted (⟦<Node<S, G> as Replica>⟧.records self.now)) (updates_at (accepted (⟦<Node<S, G> as Replica>⟧.records self.now)) result.now) }
-        ensures items { All (λ item. item < length (accepted (⟦<Node<S, G> as Replica>⟧.records self.now))) result.now }
+        requires { ⟦<Node<D, S, G> as Replica>⟧.stopped self.now ≡ false }
+        ensures latest { AreLatestIn key.now (accepted (⟦<Node<D, S, G> as Replica>⟧.records self.now)) (updates_at (accepted (⟦<Node<D, S, G> as Replica>⟧.records self.now)) result.now) }
+        ensures items { All (λ item. item < length (accepted (⟦<Node<D, S, G> as Replica>⟧.records self.now))) result.now }
     {
         self.store.state().graph().latest(key)
     }
 
     /// The update of an item. It takes no memory.
     pub fn update(&self, item: u32) -> &Update
-        requires { item < length (accepted (⟦<Node<S, G> as Replica>⟧.records self.now)) }
-        ensures { slice_get (accepted (⟦<Node<S, G> as Replica>⟧.records self.now)) item ≡ Some result.now }
+        requires runs { ⟦<Node<D, S, G> as Replica>⟧.stopped self.now ≡ false }
+        requires item { item < length (accepted (⟦<Node<D, S, G> as Replica>⟧.records self.now)) }
+        ensures { slice_get (accepted (⟦<Node<D, S, G> as Replica>⟧.records self.now)) item ≡ Some result.now }
     {
         self.store.state().graph().update(item)
     }
 
     /// The value of an item's update. None exactly where no value of its hash and its length is held. It takes no memory.
     pub fn value_of(&self, item: u32) -> Option<&[u8]>
-        requires { item < length (accepted (⟦<Node<S, G> as Replica>⟧.records self.now)) }
-        ensures { (u : Update) → slice_get (accepted (⟦<Node<S, G> as Replica>⟧.records self.now)) item ≡ Some u → option_copied result ≡ value_of (⟦<Node<S, G> as Replica>⟧.records self.now) u }
+        requires runs { ⟦<Node<D, S, G> as Replica>⟧.stopped self.now ≡ false }
+        requires item { item < length (accepted (⟦<Node<D, S, G> as Replica>⟧.records self.now)) }
+        ensures { (u : Update) → slice_get (accepted (⟦<Node<D, S, G> as Replica>⟧.records self.now)) item ≡ Some u → option_copied result ≡ value_of (⟦<Node<D, S, G> as Replica>⟧.records self.now) u }
     {
         let update = self.update(item);
         match self.store.value(&update.value_hash) {
@@ -124,7 +95,7 @@ impl<S: Scheme, G: Signer<Of = S>> Node<S, G> {
     }
 }
 
-impl<S: Scheme, G: Signer<Of = S>> Replica for Node<S, G> {
+impl<D: Disk, S: Scheme, G: Signer<Of = S>> Replica for Node<D, S, G> {
     type Of = S;
 
     ghost stands = { λ n. standing S.verifies n.store };
@@ -135,58 +106,54 @@ impl<S: Scheme, G: Signer<Of = S>> Replica for Node<S, G> {
 
     ghost signature_of = { λ n. G.signature_of n.signer };
 
-    ghost stopped = { λ _. false };
+    ghost stopped = { λ n. n.store.stopped };
 
-    ghost handle = { λ _. 0 };
+    ghost handle = { λ n. D.handle n.store.disk };
 
-    ghost faults = { λ _. 0 };
+    ghost faults = { λ n. D.faults n.store.disk };
 
-    ghost is_faultless = { λ _. Unit {0} };
+    ghost is_faultless = { λ n. D.is_faultless n.store.disk };
 
-    ghost tells = { λ _. false };
+    ghost tells = { λ n. D.tells n.store.disk };
 
-    ghost may_leave = { λ _ _. ⊥ };
+    ghost may_leave = { λ n file. D.may_leave n.store.disk file };
 
-    ghost moment = { λ _. 0 };
+    ghost moment = { λ n. D.moment n.store.disk };
 
-    ghost left_since = { λ _ _ _. ⊥ };
+    ghost left_since = { λ n t file. D.left_since n.store.disk t file };
 
     fn me(&self) -> NodeId {
-        self.store.state().me()
+        self.store.me()
     }
 
     fn roster_hash(&self) -> &Hash32 {
-        self.store.state().roster().hash()
+        self.store.roster().hash()
     }
 
     fn has_node(&self, node: NodeId) -> bool {
-        self.store.state().roster().has_node(node)
+        self.store.roster().has_node(node)
     }
 
     fn is_stopped(&self) -> bool {
-        false
+        self.store.is_stopped()
     }
 
-    #[tactic(auto, using(depot_laws::proofs::OwnTexts::lawful_is_short))]
     fn record_count(&self) -> u32 {
-        self.store.list().count() as u32
+        self.store.count()
     }
 
     fn record_text(&self, place: u32) -> &[u8] {
-        self.store.list().text(place as usize)
+        self.store.text(place)
     }
 
-    #[tactic(auto, using(crate::proofs::InMemory::in_memory))]
     fn take_statement(&mut self, text: &[u8]) -> Result<Taken, TakeError> {
         take_statement(self.alloc, &mut self.store, text)
     }
 
-    #[tactic(auto, using(crate::proofs::InMemory::in_memory))]
     fn take_proof(&mut self, text: &[u8]) -> Result<Taken, TakeError> {
         take_proof(self.alloc, &mut self.store, text)
     }
 
-    #[tactic(auto, using(crate::proofs::InMemory::in_memory))]
     fn take_value(&mut self, text: &[u8]) -> Result<Taken, TakeError> {
         take_value(self.alloc, &mut self.store, text)
     }
@@ -201,7 +168,7 @@ impl<S: Scheme, G: Signer<Of = S>> Replica for Node<S, G> {
 
     ghost verifies_by = { λ n. refl };
 
-    ghost only_now = { λ _ _ left. left };
+    ghost only_now = { λ n file left. D.only_now n.store.disk file left };
 
     ghost signs = { λ n seq body below. G.verifies_under_key n.signer seq body below };
 

@@ -8,8 +8,9 @@ use crate::tell::{convicted, is_foreign, wanted};
 use crate::vouch::own_vouchers;
 use depot_base::{Bytes, Hash32, Ids, Items, Memory, NodeId, Nodes};
 use depot_model::{Peer, Scheme, Signer, VoucherError};
+use depot_outside::Disk;
 
-impl<S: Scheme, G: Signer<Of = S>> Peer for Node<S, G> {
+impl<D: Disk, S: Scheme, G: Signer<Of = S>> Peer for Node<D, S, G> {
     fn convicted(&self) -> Result<Nodes, Memory> {
         convicted(self.alloc, &self.store)
     }
@@ -42,7 +43,6 @@ impl<S: Scheme, G: Signer<Of = S>> Peer for Node<S, G> {
         self.store.is_mine_vouched(id)
     }
 
-    #[tactic(auto, using(crate::proofs::InMemory::in_memory))]
     fn own_vouchers(&mut self, ids: &Ids) -> Result<(), VoucherError> {
         own_vouchers(self.alloc, &mut self.store, ids)
     }

@@ -1,5 +1,5 @@
 //! What is decided of a proof.
-ghost use Rattle.std.specs.Prelude.{◌≡◌, IfOk};
+ghost use Rattle.std.specs.Prelude.{◌≡◌, false, IfOk};
 ghost use Rattle.depot_model.specs.Checks.{check_of_point, given_proof, proof_checks};
 ghost use Rattle.depot_model.specs.Lists.{first};
 ghost use Rattle.depot_model.specs.Texts.{IsProof, text_of_proof};
@@ -12,16 +12,18 @@ use depot_accept::State;
 use depot_base::{Check, DecodeError, Hash32, Memory, Proof, Record};
 use depot_judge::first_failed_point;
 use depot_model::{Half, JudgeError, Scheme, Taken};
+use depot_outside::Disk;
 use depot_store::{Growth, Store};
 use depot_update::{conviction_of_text, decode_proof};
 use std::alloc::Global;
 
 /// What is decided of the text of a proof: a good one is kept, unless its node is convicted already.
-pub fn decide_proof<S: Scheme>(
+pub fn decide_proof<D: Disk, S: Scheme>(
     alloc: Global,
-    store: &Store<S>,
+    store: &Store<D, S>,
     text: &[u8],
 ) -> Result<Decision, Memory>
+    requires runs { store.now.stopped ≡ false }
     ensures { IfOk result (λ d. DecidesProof (standing S.verifies store.now) store.now.records text.now d.answer d.growth) }
 {
     match decode_proof(alloc, text) {
@@ -32,12 +34,13 @@ pub fn decide_proof<S: Scheme>(
 }
 
 /// What is decided of a proof of this text. Its record is the text as it came after a tag.
-fn decide_decoded<S: Scheme>(
+pub(crate) fn decide_decoded<D: Disk, S: Scheme>(
     alloc: Global,
-    store: &Store<S>,
+    store: &Store<D, S>,
     proof: Proof,
     text: &[u8],
 ) -> Result<Decision, Memory>
+    requires runs { store.now.stopped ≡ false }
     requires proof { IsProof proof }
     requires text { text.now ≡ text_of_proof proof }
     ensures { IfOk result (λ d. IsDecided (standing S.verifies store.now) store.now.records (given_proof proof) d.answer d.growth) }

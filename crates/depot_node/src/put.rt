@@ -1,5 +1,5 @@
 //! Puts.
-ghost use Rattle.std.specs.Prelude.{◌≡◌, ◌<◌, ◌≤◌, ◌^◌, ◌↔◌, List, [], ◌∷◌, length, map, IfOk, IfErr, IsTrue, false, nat_lt};
+ghost use Rattle.std.specs.Prelude.{◌≡◌, ◌≢◌, ◌<◌, ◌≤◌, ◌^◌, ◌↔◌, List, [], ◌∷◌, length, map, IfOk, IfErr, IsErrOf, IsTrue, false, nat_lt};
 ghost use Rattle.std.specs.Option.{ForSome};
 ghost use Rattle.std.specs.List.{AllByRecursion};
 ghost use Rattle.depot_base.specs.declared.limits.TheConstants.{MOST_ENTRIES};
@@ -8,9 +8,10 @@ ghost use Rattle.depot_model.specs.Items.{place_of_prev, updates_at};
 ghost use Rattle.depot_model.specs.Journal.{accepted};
 ghost use Rattle.depot_model.specs.Lawful.{IsLawful, is_empty};
 ghost use Rattle.depot_model.specs.Own.{entry_of, next_own, IsFresh, leaf_count};
+ghost use Rattle.depot_model.specs.Replicas.{StopsBy, KeepsDisk};
+ghost use Rattle.depot_model.specs.Stops.{Lasts};
 ghost use Rattle.depot_store.specs.Holdings.{standing};
-ghost use Rattle.depot_node.specs.Putting.{Puts, IsPlanned, IsRefused, IsTooWide};
-ghost use Rattle.depot_node.specs.Running.{IsRunning};
+ghost use Rattle.depot_node.specs.Putting.{Puts, put_records, IsPlanned, IsRefused, IsTooWide};
 
 use crate::answer::{PutDone, PutError};
 use depot_base::limits::MOST_ENTRIES;
@@ -18,6 +19,7 @@ use depot_base::{Dep, Deps, Hash32, Key, Memory, Record, Update, Value};
 use depot_graph::Graph;
 use depot_history::{changed_leaves, summary};
 use depot_model::{Past, Scheme, hash_of};
+use depot_outside::Disk;
 use depot_store::{CommitError, Growth, Store};
 use depot_update::encode_own_put;
 use std::alloc::Global;
@@ -29,36 +31,47 @@ struct Plan {
     growth: Growth,
 }
 
-/// Puts a value under a key: the journal grows by the next own update, and stays lawful. A refusal leaves all as it is.
-pub fn put<S: Scheme>(
+/// Puts a value under a key: the journal grows by the next own update, and stays lawful. A refusal leaves all as it is, but after
+/// `Disk` the store is stopped. A store that is stopped puts nothing.
+pub fn put<D: Disk, S: Scheme>(
     alloc: Global,
-    store: &mut Store<S>,
+    store: &mut Store<D, S>,
     key: Key,
     value: Value,
 ) -> Result<PutDone, PutError>
+    requires read { store.old.unread ≡ [] }
     requires lawful { IsLawful (standing S.verifies store.old) store.old.records }
     requires some { is_empty store.old.records ≡ false }
     ensures puts { Puts (standing S.verifies store.old) store.old.records key value result store.new.records }
-    ensures runs { IsRunning result PutError.Disk PutError.Stopped }
     ensures stands { standing S.verifies store.new ≡ standing S.verifies store.old }
     ensures lawful { IsLawful (standing S.verifies store.new) store.new.records }
     ensures some { is_empty store.new.records ≡ false }
+    ensures read { store.new.unread ≡ [] }
+    ensures stops { StopsBy store.old.stopped store.new.stopped (IsErrOf result PutError.Stopped) (IsErrOf result PutError.Disk) }
+    ensures disk { KeepsDisk (D.handle store.old.disk) (D.handle store.new.disk) (D.faults store.old.disk) (D.faults store.new.disk) (D.is_faultless store.old.disk) (D.is_faultless store.new.disk) (IsErrOf result PutError.Disk) }
+    ensures lasts { Lasts (λ v. D.tells v.disk) (λ v. v.stopped) (λ v. v.records) (λ v. D.moment v.disk) (λ v t file. D.left_since v.disk t file) (λ v file. D.may_leave v.disk file) store.old store.new (put_records (standing S.verifies store.old) store.old.records key value) }
+    ensures idle { IfErr result (λ e. e ≢ PutError.Disk → Lasts (λ v. D.tells v.disk) (λ v. v.stopped) (λ v. v.records) (λ v. D.moment v.disk) (λ v t file. D.left_since v.disk t file) (λ v file. D.may_leave v.disk file) store.old store.new []) }
 {
+    if store.is_stopped() {
+        return Err(PutError::Stopped);
+    }
     let plan = decide_put(alloc, store, key, value)?;
     match store.commit(plan.growth) {
         Ok(()) => Ok(plan.done),
         Err(CommitError::Memory) => Err(PutError::Memory),
+        Err(CommitError::Disk) => Err(PutError::Disk),
         Err(CommitError::Full(full)) => Err(PutError::Full(full)),
     }
 }
 
 /// What is decided of a put: the next own update, unless no leaf is left, it has too many entries, or its id isn't fresh.
-fn decide_put<S: Scheme>(
+fn decide_put<D: Disk, S: Scheme>(
     alloc: Global,
-    store: &Store<S>,
+    store: &Store<D, S>,
     key: Key,
     value: Value,
 ) -> Result<Plan, PutError>
+    requires runs { store.now.stopped ≡ false }
     requires lawful { IsLawful (standing S.verifies store.now) store.now.records }
     requires some { is_empty store.now.records ≡ false }
     ensures planned { IfOk result (λ p. IsPlanned (standing S.verifies store.now) store.now.records key value p.done p.growth) }
@@ -84,24 +97,24 @@ fn decide_put<S: Scheme>(
 
 /// Whether the node has a leaf of this number to sign by.
 #[tactic(auto, unfolding(depot_model::specs::Own::leaf_count))]
-pub fn has_leaf<S: Scheme>(store: &Store<S>, leaf: u32) -> bool
+pub fn has_leaf<D: Disk, S: Scheme>(store: &Store<D, S>, leaf: u32) -> bool
     ensures { result ≡ nat_lt leaf (leaf_count store.now.listed store.now.me) }
 {
-    let state = store.state();
-    match state.roster().key_of(state.me()) {
+    match store.roster().key_of(store.me()) {
         Some(key) => key.has_leaf(leaf),
         None => false,
     }
 }
 
 /// The next own update. `Tips` comes exactly where it would have more than 1,024 entries, with their number.
-fn next_own<S: Scheme>(
+pub(crate) fn next_own<D: Disk, S: Scheme>(
     alloc: Global,
-    store: &Store<S>,
+    store: &Store<D, S>,
     key: Key,
     value: &Value,
 ) -> Result<Update, PutError>
-    requires { IsLawful (standing S.verifies store.now) store.now.records }
+    requires runs { store.now.stopped ≡ false }
+    requires lawful { IsLawful (standing S.verifies store.now) store.now.records }
     ensures next { IfOk result (λ u. u ≡ next_own store.now.me store.now.records key value.now) }
     ensures narrow { IfOk result (λ u. length u.deps ≤ MOST_ENTRIES) }
     ensures wide { IfErr result (IsTooWide (next_own store.now.me store.now.records key value.now)) }
@@ -165,7 +178,7 @@ fn entry_of(graph: &Graph, item: u32) -> Dep
 }
 
 /// Whether an id is neither 32 zero bytes nor that of an accepted update.
-fn is_fresh(graph: &Graph, id: &Hash32) -> bool
+pub(crate) fn is_fresh(graph: &Graph, id: &Hash32) -> bool
     ensures { (J : List Record) → accepted J ≡ ⟦<Graph as Past>⟧.updates graph.now → (IsTrue result ↔ IsFresh J id.now) }
 {
     !id.is_zeros() && graph.find(id).is_none()

@@ -11,14 +11,15 @@ ghost use Rattle.depot_store.specs.RecordTexts.{IsTextOf};
 
 use depot_base::{Bytes, Memory, Record, Signed, Statement};
 use depot_model::{Scheme, Signer};
+use depot_outside::Disk;
 use depot_store::Store;
 use depot_update::{decode_record, encode_signed, encode_statement};
 use std::alloc::Global;
 
 /// The text of the signed statement of a place, from 0, that holds one: another's as it came, its own signed now.
-pub fn signed_text<S: Scheme, G: Signer<Of = S>>(
+pub fn signed_text<D: Disk, S: Scheme, G: Signer<Of = S>>(
     alloc: Global,
-    store: &Store<S>,
+    store: &Store<D, S>,
     signer: &G,
     place: u32,
 ) -> Result<Bytes, Memory>
@@ -27,7 +28,7 @@ pub fn signed_text<S: Scheme, G: Signer<Of = S>>(
     requires statement { (r : Record) × ((slice_get store.now.records place ≡ Some r) × (length (signed_by (G.signature_of signer.now) r) ≡ 1)) }
     ensures { IfOk result (λ text. (r : Record) → slice_get store.now.records place ≡ Some r → map text_of_signed (signed_by (G.signature_of signer.now) r) ≡ text ∷ []) }
 {
-    let text = store.list().text(place as usize);
+    let text = store.text(place);
     let item = record_of(alloc, text)?;
     match item {
         Record::OwnPut { update, .. } => own_text(alloc, signer, Statement::Update(update)),

@@ -1,119 +1,155 @@
-//! The store of a journal whose record texts are at hand.
-ghost use Rattle.std.specs.Prelude.{◌≡◌, List, [], ◌∷◌, ◌++◌, true, OnOk, IfOk};
+//! A node is started from the journal on its disk.
+ghost use Rattle.std.specs.Prelude.{◌≡◌, [], ℕ, List, false, true, IsTrue, Some, None, IfOk, IfErr, IfSome};
+ghost use Rattle.depot_base.specs.Faults.{HasCause};
+ghost use Rattle.depot_base.specs.File.{IsFileOf};
 ghost use Rattle.depot_base.specs.declared.record.Record.{Record};
 ghost use Rattle.depot_model.specs.Lawful.{IsLawful};
-ghost use Rattle.depot_model.specs.Roster.{has_node};
-ghost use Rattle.depot_store.specs.NewRecords.{IsHashOf};
-ghost use Rattle.depot_store.specs.RecordTexts.{IsTextOf};
-ghost use Rattle.depot_store.specs.Holdings.{standing, with_records};
-ghost use Rattle.depot_node.specs.Starting.{AreTextsOf, started};
+ghost use Rattle.depot_model.specs.Roster.{has_node, key_of};
+ghost use Rattle.depot_model.specs.Stops.{LeavesAll};
+ghost use Rattle.depot_accept.specs.View.{IsStateOf, setting};
+ghost use Rattle.depot_store.specs.Holdings.{standing, IsWhole};
+ghost use Rattle.depot_node.specs.Starting.{IsDiskFault, IsKeyFault, IsNotStarted, IsStartedFrom, LeavesBetween, LeavesFile, StartLeaves, of_journal, started};
+ghost use Rattle.depot_node.specs.declared.answer.StartError.TheVariants as start_error;
 
-use depot_base::{Bytes, Hash32, Memory, NodeId, Record, Texts};
-use depot_model::{Scheme, hash_of};
+use crate::answer::StartError;
+use crate::node::Node;
+use crate::reading::fill;
+use depot_accept::State;
+use depot_base::NodeId;
+use depot_journal::{Journal, JournalError};
+use depot_model::{Replica, Scheme, Signer};
+use depot_outside::{Back, Disk};
 use depot_sign::Roster;
-use depot_store::{Growth, Store};
-use depot_update::{decode_record, id_in_own_put, id_in_own_voucher};
+use depot_store::Store;
 use std::alloc::Global;
 
-/// The store of the journal that a node of the roster is started with.
-pub fn load<S: Scheme>(
+impl<D: Disk, S: Scheme, G: Signer<Of = S>> Node<D, S, G> {
+    /// Starts the node `me` of a roster from the journal on a disk, which is checked record by record, each as if it came now. A
+    /// disk without records gets the birth record of the node.
+    ///
+    /// `UnknownMe` and `OtherKey` are found before the disk is touched, then `Damaged`, `OtherNode`, `OtherRoster` and `NotLawful`,
+    /// each exactly where it is so; the file then reads as before. The disk is given back.
+    pub fn start(
+        alloc: Global,
+        disk: D,
+        roster: Roster,
+        scheme: S,
+        signer: G,
+        me: NodeId,
+    ) -> Result<Node<D, S, G>, Back<StartError, D>>
+        ensures stands { IfOk result (λ n. ⟦<Node<D, S, G> as Replica>⟧.stands n ≡ record { verifies = S.verifies; me = me; listed = roster }) }
+        ensures key { IfOk result (λ _. key_of roster me ≡ Some (G.key_of signer)) }
+        ensures signs { IfOk result (λ n. ⟦<Node<D, S, G> as Replica>⟧.signature_of n ≡ G.signature_of signer) }
+        ensures runs { IfOk result (λ n. ⟦<Node<D, S, G> as Replica>⟧.stopped n ≡ false) }
+        ensures records { IfOk result (λ n. IsTrue (D.tells disk) → IsStartedFrom (record { verifies = S.verifies; me = me; listed = roster }) (D.seen disk) (⟦<Node<D, S, G> as Replica>⟧.records n)) }
+        ensures refused { IfErr result (λ b. IsNotStarted (record { verifies = S.verifies; me = me; listed = roster }) (G.key_of signer) (IsTrue (D.tells disk)) (D.seen disk) b.error) }
+        ensures unchanged { IfErr result (λ b. LeavesFile b.error → D.seen b.disk ≡ D.seen disk) }
+
+        // What a stop may leave, at any moment of the call and after it.
+        ensures any_moment { IfOk result (λ n. IsTrue (D.tells disk) → LeavesBetween (D.moment disk) (⟦<Node<D, S, G> as Replica>⟧.moment n) (D.left_since disk) (⟦<Node<D, S, G> as Replica>⟧.left_since n) (StartLeaves (record { verifies = S.verifies; me = me; listed = roster }) (IsFileOf (D.seen disk) []) (D.may_leave disk))) }
+        ensures any_moment_back { IfErr result (λ b. IsTrue (D.tells disk) → LeavesBetween (D.moment disk) (D.moment b.disk) (D.left_since disk) (D.left_since b.disk) (StartLeaves (record { verifies = S.verifies; me = me; listed = roster }) (IsFileOf (D.seen disk) []) (D.may_leave disk))) }
+        ensures stable { IfOk result (λ n. IsTrue (D.tells disk) → LeavesAll (⟦<Node<D, S, G> as Replica>⟧.records n) false (⟦<Node<D, S, G> as Replica>⟧.may_leave n)) }
+
+        // The disk that comes back, in the node or without it, is the one that was given.
+        ensures handle { IfOk result (λ n. ⟦<Node<D, S, G> as Replica>⟧.handle n ≡ D.handle disk) }
+        ensures handle_back { IfErr result (λ b. D.handle b.disk ≡ D.handle disk) }
+        ensures tells { IfOk result (λ n. ⟦<Node<D, S, G> as Replica>⟧.tells n ≡ D.tells disk) }
+        ensures tells_back { IfErr result (λ b. D.tells b.disk ≡ D.tells disk) }
+        ensures calm { IfOk result (λ n. ⟦<Node<D, S, G> as Replica>⟧.faults n ≡ D.faults disk) }
+        ensures cause { IfErr result (λ b. HasCause (D.faults disk) (D.faults b.disk) (b.error ≡ start_error.Disk)) }
+        ensures faultless { IfOk result (λ n. D.is_faultless disk → ⟦<Node<D, S, G> as Replica>⟧.is_faultless n) }
+        ensures faultless_back { IfErr result (λ b. D.is_faultless disk → D.is_faultless b.disk × (D.faults b.disk ≡ D.faults disk)) }
+    {
+        if let Some(error) = key_fault(&roster, &signer, me) {
+            return Err(Back { error, disk });
+        }
+        let Ok(state) = State::new(alloc, me, roster, scheme) else {
+            return Err(Back {
+                error: StartError::Memory,
+                disk,
+            });
+        };
+        match open(alloc, disk, state) {
+            Ok(store) => Ok(Node {
+                alloc,
+                store,
+                signer,
+            }),
+            Err(back) => Err(back),
+        }
+    }
+}
+
+/// The store of the journal on a disk, of which every record is read, or which gets the birth record of the node.
+fn open<D: Disk, S: Scheme>(
     alloc: Global,
-    texts: Texts,
-    roster: Roster,
-    scheme: S,
-    me: NodeId,
-) -> Result<Store<S>, Memory>
-    requires listed { has_node roster me ≡ true }
-    requires texts { (J : List Record) × AreTextsOf (record { verifies = S.verifies; me = me; listed = roster }) J texts }
-    ensures stands { IfOk result (λ s. standing S.verifies s ≡ record { verifies = S.verifies; me = me; listed = roster }) }
-    ensures records { IfOk result (λ s. (J : List Record) → AreTextsOf (record { verifies = S.verifies; me = me; listed = roster }) J texts → s.records ≡ started (record { verifies = S.verifies; me = me; listed = roster }) J) }
+    disk: D,
+    state: State<S>,
+) -> Result<Store<D, S>, Back<StartError, D>>
+    requires empty { IsStateOf [] state }
+    requires listed { has_node state.listed state.me ≡ true }
+    ensures stands { IfOk result (λ s. standing S.verifies s ≡ setting S.verifies state) }
+    ensures whole { IfOk result IsWhole }
+    ensures lawful { IfOk result (λ s. (J : List Record) × (IsLawful (setting S.verifies state) J × (s.records ≡ started (setting S.verifies state) J))) }
+    ensures records { IfOk result (λ s. IsTrue (D.tells disk) → IsStartedFrom (setting S.verifies state) (D.seen disk) s.records) }
+    ensures refused { IfErr result (λ b. IsDiskFault (setting S.verifies state) (IsTrue (D.tells disk)) (D.seen disk) b.error) }
+    ensures unchanged { IfErr result (λ b. LeavesFile b.error → D.seen b.disk ≡ D.seen disk) }
+    ensures any_moment { IfOk result (λ s. IsTrue (D.tells disk) → LeavesBetween (D.moment disk) (D.moment s.disk) (D.left_since disk) (D.left_since s.disk) (StartLeaves (setting S.verifies state) (IsFileOf (D.seen disk) []) (D.may_leave disk))) }
+    ensures any_moment_back { IfErr result (λ b. IsTrue (D.tells disk) → LeavesBetween (D.moment disk) (D.moment b.disk) (D.left_since disk) (D.left_since b.disk) (StartLeaves (setting S.verifies state) (IsFileOf (D.seen disk) []) (D.may_leave disk))) }
+    ensures stable { IfOk result (λ s. IsTrue (D.tells disk) → LeavesAll s.records false (D.may_leave s.disk)) }
+    ensures handle { IfOk result (λ s. D.handle s.disk ≡ D.handle disk) }
+    ensures handle_back { IfErr result (λ b. D.handle b.disk ≡ D.handle disk) }
+    ensures tells { IfOk result (λ s. D.tells s.disk ≡ D.tells disk) }
+    ensures tells_back { IfErr result (λ b. D.tells b.disk ≡ D.tells disk) }
+    ensures calm { IfOk result (λ s. D.faults s.disk ≡ D.faults disk) }
+    ensures cause { IfErr result (λ b. HasCause (D.faults disk) (D.faults b.disk) (b.error ≡ start_error.Disk)) }
+    ensures faultless { IfOk result (λ s. D.is_faultless disk → D.is_faultless s.disk) }
+    ensures faultless_back { IfErr result (λ b. D.is_faultless disk → D.is_faultless b.disk × (D.faults b.disk ≡ D.faults disk)) }
 {
-    let mut store = Store::new(alloc, me, roster, scheme)?;
-    match fill(alloc, &mut store, texts) {
+    let journal = match Journal::start(alloc, disk) {
+        Ok(journal) => journal,
+        Err(Back { error, disk }) => {
+            return Err(Back {
+                error: error_of(error),
+                disk,
+            });
+        }
+    };
+    let mut store = Store::new(alloc, state, journal);
+    match fill(alloc, &mut store) {
         Ok(()) => Ok(store),
-        Err(e) => Err(e),
+        Err(error) => Err(Back {
+            error,
+            disk: store.into_disk(),
+        }),
     }
 }
 
-/// Adds the records of these texts, or a birth where there are none, to a store without records.
-fn fill<S: Scheme>(alloc: Global, store: &mut Store<S>, texts: Texts) -> Result<(), Memory>
-    requires none { store.old.records ≡ [] }
-    requires listed { has_node store.old.listed store.old.me ≡ true }
-    requires texts { (J : List Record) × AreTextsOf (standing S.verifies store.old) J texts }
-    ensures { OnOk result ((J : List Record) → AreTextsOf (standing S.verifies store.old) J texts → store.new ≡ with_records store.old (started (standing S.verifies store.old) J)) }
+/// Why a node of a roster can't be started with a signer: the roster doesn't have it, or has another key for it.
+fn key_fault<G: Signer>(roster: &Roster, signer: &G, me: NodeId) -> Option<StartError>
+    ensures none { result ≡ None → key_of roster.now me ≡ Some (G.key_of signer.now) }
+    ensures some { IfSome result (IsKeyFault roster.now me (G.key_of signer.now)) }
 {
-    if texts.as_slice().is_empty() {
-        add_birth(alloc, store)
-    } else {
-        add_all(alloc, store, texts)
+    let Some(key) = roster.key_of(me) else {
+        return Some(StartError::UnknownMe);
+    };
+    let own = signer.key();
+    if key == own {
+        return None;
     }
+    Some(StartError::OtherKey {
+        roster: key,
+        signer: own,
+    })
 }
 
-/// Adds the birth record to a store without records.
-fn add_birth<S: Scheme>(alloc: Global, store: &mut Store<S>) -> Result<(), Memory>
-    requires none { store.old.records ≡ [] }
-    requires listed { has_node store.old.listed store.old.me ≡ true }
-    ensures { OnOk result (store.new ≡ with_records store.old (started (standing S.verifies store.old) [])) }
+/// Why a journal isn't started, as a node tells it.
+fn error_of(error: JournalError) -> StartError
+    ensures { result ≡ of_journal error }
 {
-    let node = store.state().me();
-    let roster = store.state().roster();
-    // Called for its clause alone: the entries make a roster, so the birth record has a text.
-    let _entries = roster.entries();
-    let roster = *roster.hash();
-    let growth = Growth::one(alloc, Record::Birth { node, roster }, Hash32::zeros())?;
-    store.append(growth)
-}
-
-/// Adds the records of these texts to a store without records.
-fn add_all<S: Scheme>(alloc: Global, store: &mut Store<S>, texts: Texts) -> Result<(), Memory>
-    requires none { store.old.records ≡ [] }
-    requires texts { (J : List Record) × AreTextsOf (standing S.verifies store.old) J texts }
-    ensures { OnOk result ((J : List Record) → AreTextsOf (standing S.verifies store.old) J texts → store.new ≡ with_records store.old J) }
-{
-    for text in texts.into_vec() {
-        add_text(alloc, store, text)?;
-    }
-    Ok(())
-}
-
-/// Adds the record of a text after the others.
-fn add_text<S: Scheme>(alloc: Global, store: &mut Store<S>, text: Bytes) -> Result<(), Memory>
-    requires { (r : Record) × (IsTextOf r text × IsLawful (standing S.verifies store.old) (store.old.records ++ r ∷ [])) }
-    ensures { OnOk result ((r : Record) → IsTextOf r text → store.new ≡ with_records store.old (store.old.records ++ r ∷ [])) }
-{
-    match decode_record(alloc, text.as_slice()) {
-        Ok(item) => add_record(alloc, store, item, text),
-        Err(_) => Err(Memory),
-    }
-}
-
-/// Adds a record, which has this text, after the others.
-fn add_record<S: Scheme>(
-    alloc: Global,
-    store: &mut Store<S>,
-    item: Record,
-    text: Bytes,
-) -> Result<(), Memory>
-    requires text { IsTextOf item text }
-    requires lawful { IsLawful (standing S.verifies store.old) (store.old.records ++ item ∷ []) }
-    ensures { OnOk result (store.new ≡ with_records store.old (store.old.records ++ item ∷ [])) }
-{
-    let hash = kept_hash(&item, text.as_slice());
-    let growth = Growth::of_text(alloc, item, hash, text)?;
-    store.append(growth)
-}
-
-/// The hash by which a record of this text is kept. The bytes of the text are hashed, and nothing is encoded.
-fn kept_hash(item: &Record, text: &[u8]) -> Hash32
-    requires { IsTextOf item.now text.now }
-    ensures { IsHashOf item.now result }
-{
-    match item {
-        Record::OwnPut { .. } => id_in_own_put(text),
-        Record::OwnVoucher { .. } => id_in_own_voucher(text),
-        Record::Foreign { signed } => hash_of(signed.body.as_slice()),
-        Record::Held { value } => hash_of(value.bytes()),
-        Record::Birth { .. } => Hash32::zeros(),
-        Record::Conviction { .. } => Hash32::zeros(),
+    match error {
+        JournalError::Memory => StartError::Memory,
+        JournalError::Disk => StartError::Disk,
+        JournalError::Damaged(at) => StartError::Damaged(at),
     }
 }

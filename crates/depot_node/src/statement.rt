@@ -1,5 +1,5 @@
 //! What is decided of a statement.
-ghost use Rattle.std.specs.Prelude.{◌≡◌, [], ◌∷◌, IfOk, Err, Some};
+ghost use Rattle.std.specs.Prelude.{◌≡◌, false, [], ◌∷◌, IfOk, Err, Some};
 ghost use Rattle.depot_base.specs.declared.record.Record.TheVariants.{Conviction};
 ghost use Rattle.depot_model.specs.Checks.{given_statement, answer_to, growth};
 ghost use Rattle.depot_model.specs.Texts.{IsSigned, IsProof, id_of_statement, text_of_signed};
@@ -12,16 +12,18 @@ use depot_accept::{CheckError, Found, Pass};
 use depot_base::{Check, DecodeError, Hash32, Memory, Proof, Record, Signed};
 use depot_judge::make_proof;
 use depot_model::{Scheme, Taken, hash_of};
+use depot_outside::Disk;
 use depot_store::{Growth, Store};
 use depot_update::{decode_signed, foreign_of_text};
 use std::alloc::Global;
 
 /// What is decided of the text of a signed statement: what the checks say.
-pub fn decide_statement<S: Scheme>(
+pub fn decide_statement<D: Disk, S: Scheme>(
     alloc: Global,
-    store: &Store<S>,
+    store: &Store<D, S>,
     text: &[u8],
 ) -> Result<Decision, Memory>
+    requires runs { store.now.stopped ≡ false }
     ensures { IfOk result (λ d. DecidesStatement (standing S.verifies store.now) store.now.records text.now d.answer d.growth) }
 {
     match decode_signed(alloc, text) {
@@ -32,12 +34,13 @@ pub fn decide_statement<S: Scheme>(
 }
 
 /// What is decided of a signed statement of this text. Its body is hashed once.
-fn decide_signed<S: Scheme>(
+pub(crate) fn decide_signed<D: Disk, S: Scheme>(
     alloc: Global,
-    store: &Store<S>,
+    store: &Store<D, S>,
     signed: Signed,
     text: &[u8],
 ) -> Result<Decision, Memory>
+    requires runs { store.now.stopped ≡ false }
     requires signed { IsSigned signed }
     requires text { text.now ≡ text_of_signed signed }
     ensures { IfOk result (λ d. IsDecided (standing S.verifies store.now) store.now.records (given_statement signed) d.answer d.growth) }
@@ -56,14 +59,15 @@ fn decide_signed<S: Scheme>(
 
 /// A new statement of this text is kept, after the conviction of its writer if one is due. Its record is the text as it came
 /// after a tag.
-fn accept<S: Scheme>(
+fn accept<D: Disk, S: Scheme>(
     alloc: Global,
-    store: &Store<S>,
+    store: &Store<D, S>,
     signed: Signed,
     id: Hash32,
     text: &[u8],
     found: Option<Found>,
 ) -> Result<Decision, Memory>
+    requires runs { store.now.stopped ≡ false }
     requires signed { IsSigned signed }
     requires text { text.now ≡ text_of_signed signed }
     requires id { id ≡ id_of_statement signed.statement }
@@ -91,13 +95,14 @@ fn accept<S: Scheme>(
 }
 
 /// A statement is refused by the first check that fails, and the conviction of its writer kept if one is due.
-fn refuse<S: Scheme>(
+fn refuse<D: Disk, S: Scheme>(
     alloc: Global,
-    store: &Store<S>,
+    store: &Store<D, S>,
     signed: &Signed,
     check: Check,
     against: Option<Found>,
 ) -> Result<Decision, Memory>
+    requires runs { store.now.stopped ≡ false }
     requires text { IsSigned signed.now }
     requires failed { answer_to (standing S.verifies store.now) store.now.records (given_statement signed.now) ≡ Err check }
     requires due { AreDue store.now.records signed.now against (growth (standing S.verifies store.now) store.now.records (given_statement signed.now)) }
@@ -117,7 +122,12 @@ fn refuse<S: Scheme>(
 }
 
 /// The proof by a kept statement and the one that contradicts it.
-fn proof_by<S: Scheme>(store: &Store<S>, found: Found, signed: &Signed) -> Result<Proof, Memory>
+fn proof_by<D: Disk, S: Scheme>(
+    store: &Store<D, S>,
+    found: Found,
+    signed: &Signed,
+) -> Result<Proof, Memory>
+    requires runs { store.now.stopped ≡ false }
     requires text { IsSigned signed.now }
     requires due { IsDueBy (standing S.verifies store.now) store.now.records signed.now found }
     ensures made { IfOk result (λ p. AreDue store.now.records signed.now (Some found) (Conviction p ∷ [])) }

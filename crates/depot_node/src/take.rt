@@ -1,68 +1,94 @@
-//! What a node takes: it is decided over the journal as it stands, and then carried out.
-ghost use Rattle.std.specs.Prelude.{◌≡◌, false};
+//! What a node takes: it is decided over the journal as it stands, and then carried out. A node that is stopped takes nothing.
+ghost use Rattle.std.specs.Prelude.{◌≡◌, [], false, IsErrOf};
 ghost use Rattle.depot_model.specs.Lawful.{IsLawful, is_empty};
-ghost use Rattle.depot_model.specs.Taking.{TakesStatement, TakesProof, TakesValue};
+ghost use Rattle.depot_model.specs.Replicas.{StopsBy, KeepsDisk};
+ghost use Rattle.depot_model.specs.Stops.{Lasts};
+ghost use Rattle.depot_model.specs.Taking.{TakesStatement, TakesProof, TakesValue, as_statement, as_proof, as_value, growth_of_text};
 ghost use Rattle.depot_store.specs.Holdings.{standing};
-ghost use Rattle.depot_node.specs.Running.{IsRunning};
 
 use crate::decision::carry_out;
 use crate::proof::decide_proof;
 use crate::statement::decide_statement;
 use crate::value::decide_value;
 use depot_model::{Scheme, TakeError, Taken};
+use depot_outside::Disk;
 use depot_store::Store;
 use std::alloc::Global;
 
 /// Takes the text of a signed statement, and keeps the journal lawful.
-pub fn take_statement<S: Scheme>(
+pub fn take_statement<D: Disk, S: Scheme>(
     alloc: Global,
-    store: &mut Store<S>,
+    store: &mut Store<D, S>,
     text: &[u8],
 ) -> Result<Taken, TakeError>
+    requires read { store.old.unread ≡ [] }
     requires lawful { IsLawful (standing S.verifies store.old) store.old.records }
     requires some { is_empty store.old.records ≡ false }
     ensures takes { TakesStatement (standing S.verifies store.old) store.old.records text.now result store.new.records }
-    ensures runs { IsRunning result TakeError.Disk TakeError.Stopped }
     ensures stands { standing S.verifies store.new ≡ standing S.verifies store.old }
     ensures lawful { IsLawful (standing S.verifies store.new) store.new.records }
     ensures some { is_empty store.new.records ≡ false }
+    ensures read { store.new.unread ≡ [] }
+    ensures stops { StopsBy store.old.stopped store.new.stopped (IsErrOf result TakeError.Stopped) (IsErrOf result TakeError.Disk) }
+    ensures disk { KeepsDisk (D.handle store.old.disk) (D.handle store.new.disk) (D.faults store.old.disk) (D.faults store.new.disk) (D.is_faultless store.old.disk) (D.is_faultless store.new.disk) (IsErrOf result TakeError.Disk) }
+    ensures lasts { Lasts (λ v. D.tells v.disk) (λ v. v.stopped) (λ v. v.records) (λ v. D.moment v.disk) (λ v t file. D.left_since v.disk t file) (λ v file. D.may_leave v.disk file) store.old store.new (growth_of_text (standing S.verifies store.old) store.old.records as_statement text.now) }
+    ensures idle { IsErrOf result TakeError.Memory → Lasts (λ v. D.tells v.disk) (λ v. v.stopped) (λ v. v.records) (λ v. D.moment v.disk) (λ v t file. D.left_since v.disk t file) (λ v file. D.may_leave v.disk file) store.old store.new [] }
 {
+    if store.is_stopped() {
+        return Err(TakeError::Stopped);
+    }
     let decision = decide_statement(alloc, store, text)?;
     carry_out(store, decision)
 }
 
 /// Takes the text of a proof, and keeps the journal lawful.
-pub fn take_proof<S: Scheme>(
+pub fn take_proof<D: Disk, S: Scheme>(
     alloc: Global,
-    store: &mut Store<S>,
+    store: &mut Store<D, S>,
     text: &[u8],
 ) -> Result<Taken, TakeError>
+    requires read { store.old.unread ≡ [] }
     requires lawful { IsLawful (standing S.verifies store.old) store.old.records }
     requires some { is_empty store.old.records ≡ false }
     ensures takes { TakesProof (standing S.verifies store.old) store.old.records text.now result store.new.records }
-    ensures runs { IsRunning result TakeError.Disk TakeError.Stopped }
     ensures stands { standing S.verifies store.new ≡ standing S.verifies store.old }
     ensures lawful { IsLawful (standing S.verifies store.new) store.new.records }
     ensures some { is_empty store.new.records ≡ false }
+    ensures read { store.new.unread ≡ [] }
+    ensures stops { StopsBy store.old.stopped store.new.stopped (IsErrOf result TakeError.Stopped) (IsErrOf result TakeError.Disk) }
+    ensures disk { KeepsDisk (D.handle store.old.disk) (D.handle store.new.disk) (D.faults store.old.disk) (D.faults store.new.disk) (D.is_faultless store.old.disk) (D.is_faultless store.new.disk) (IsErrOf result TakeError.Disk) }
+    ensures lasts { Lasts (λ v. D.tells v.disk) (λ v. v.stopped) (λ v. v.records) (λ v. D.moment v.disk) (λ v t file. D.left_since v.disk t file) (λ v file. D.may_leave v.disk file) store.old store.new (growth_of_text (standing S.verifies store.old) store.old.records as_proof text.now) }
+    ensures idle { IsErrOf result TakeError.Memory → Lasts (λ v. D.tells v.disk) (λ v. v.stopped) (λ v. v.records) (λ v. D.moment v.disk) (λ v t file. D.left_since v.disk t file) (λ v file. D.may_leave v.disk file) store.old store.new [] }
 {
+    if store.is_stopped() {
+        return Err(TakeError::Stopped);
+    }
     let decision = decide_proof(alloc, store, text)?;
     carry_out(store, decision)
 }
 
 /// Takes a value, and keeps the journal lawful.
-pub fn take_value<S: Scheme>(
+pub fn take_value<D: Disk, S: Scheme>(
     alloc: Global,
-    store: &mut Store<S>,
+    store: &mut Store<D, S>,
     text: &[u8],
 ) -> Result<Taken, TakeError>
+    requires read { store.old.unread ≡ [] }
     requires lawful { IsLawful (standing S.verifies store.old) store.old.records }
     requires some { is_empty store.old.records ≡ false }
     ensures takes { TakesValue (standing S.verifies store.old) store.old.records text.now result store.new.records }
-    ensures runs { IsRunning result TakeError.Disk TakeError.Stopped }
     ensures stands { standing S.verifies store.new ≡ standing S.verifies store.old }
     ensures lawful { IsLawful (standing S.verifies store.new) store.new.records }
     ensures some { is_empty store.new.records ≡ false }
+    ensures read { store.new.unread ≡ [] }
+    ensures stops { StopsBy store.old.stopped store.new.stopped (IsErrOf result TakeError.Stopped) (IsErrOf result TakeError.Disk) }
+    ensures disk { KeepsDisk (D.handle store.old.disk) (D.handle store.new.disk) (D.faults store.old.disk) (D.faults store.new.disk) (D.is_faultless store.old.disk) (D.is_faultless store.new.disk) (IsErrOf result TakeError.Disk) }
+    ensures lasts { Lasts (λ v. D.tells v.disk) (λ v. v.stopped) (λ v. v.records) (λ v. D.moment v.disk) (λ v t file. D.left_since v.disk t file) (λ v file. D.may_leave v.disk file) store.old store.new (growth_of_text (standing S.verifies store.old) store.old.records as_value text.now) }
+    ensures idle { IsErrOf result TakeError.Memory → Lasts (λ v. D.tells v.disk) (λ v. v.stopped) (λ v. v.records) (λ v. D.moment v.disk) (λ v t file. D.left_since v.disk t file) (λ v file. D.may_leave v.disk file) store.old store.new [] }
 {
+    if store.is_stopped() {
+        return Err(TakeError::Stopped);
+    }
     let decision = decide_value(alloc, store, text)?;
     carry_out(store, decision)
 }

@@ -1,5 +1,5 @@
 //! What a node tells of whom it knows convicted, of the values that it lacks, and of the updates that it took.
-ghost use Rattle.std.specs.Prelude.{◌≡◌, IfOk};
+ghost use Rattle.std.specs.Prelude.{◌≡◌, false, IfOk};
 ghost use Rattle.depot_model.specs.Hello.{convicted_nodes, lacking, wanted_of};
 ghost use Rattle.depot_model.specs.Journal.{accepted, holds, is_foreign};
 ghost use Rattle.depot_store.specs.Holdings.{standing};
@@ -7,12 +7,14 @@ ghost use Rattle.depot_store.specs.Holdings.{standing};
 use depot_base::limits::MOST_WANTED;
 use depot_base::{Hash32, Ids, Memory, Nodes};
 use depot_model::{Past, Scheme};
+use depot_outside::Disk;
 use depot_store::Store;
 use std::alloc::Global;
 use std::collections::BTreeSet;
 
 /// The convicted nodes, in rising order.
-pub fn convicted<S: Scheme>(alloc: Global, store: &Store<S>) -> Result<Nodes, Memory>
+pub fn convicted<D: Disk, S: Scheme>(alloc: Global, store: &Store<D, S>) -> Result<Nodes, Memory>
+    requires runs { store.now.stopped ≡ false }
     ensures { IfOk result (λ nodes. nodes ≡ convicted_nodes (standing S.verifies store.now) store.now.records) }
 {
     let state = store.state();
@@ -26,7 +28,8 @@ pub fn convicted<S: Scheme>(alloc: Global, store: &Store<S>) -> Result<Nodes, Me
 }
 
 /// The hashes of values that accepted updates name and that aren't held in their length, the first 1,024 in rising order.
-pub fn wanted<S: Scheme>(alloc: Global, store: &Store<S>) -> Result<Ids, Memory>
+pub fn wanted<D: Disk, S: Scheme>(alloc: Global, store: &Store<D, S>) -> Result<Ids, Memory>
+    requires runs { store.now.stopped ≡ false }
     ensures { IfOk result (λ hashes. hashes ≡ wanted_of store.now.records) }
 {
     let hashes = lacking(alloc, store)?;
@@ -39,7 +42,11 @@ pub fn wanted<S: Scheme>(alloc: Global, store: &Store<S>) -> Result<Ids, Memory>
 }
 
 /// All these hashes, in rising order. It takes logarithmic time for each accepted update.
-fn lacking<S: Scheme>(alloc: Global, store: &Store<S>) -> Result<BTreeSet<Hash32>, Memory>
+fn lacking<D: Disk, S: Scheme>(
+    alloc: Global,
+    store: &Store<D, S>,
+) -> Result<BTreeSet<Hash32>, Memory>
+    requires runs { store.now.stopped ≡ false }
     ensures { IfOk result (λ hashes. hashes.keys ≡ lacking store.now.records) }
 {
     let graph = store.state().graph();
@@ -54,7 +61,8 @@ fn lacking<S: Scheme>(alloc: Global, store: &Store<S>) -> Result<BTreeSet<Hash32
 }
 
 /// Whether a value of this hash and of so many bytes is held.
-fn holds<S: Scheme>(store: &Store<S>, hash: &Hash32, size: u32) -> bool
+fn holds<D: Disk, S: Scheme>(store: &Store<D, S>, hash: &Hash32, size: u32) -> bool
+    requires runs { store.now.stopped ≡ false }
     ensures { result ≡ holds store.now.records hash.now size }
 {
     match store.value(hash) {
@@ -64,7 +72,8 @@ fn holds<S: Scheme>(store: &Store<S>, hash: &Hash32, size: u32) -> bool
 }
 
 /// Whether an accepted update of another node has this id. It takes no memory.
-pub fn is_foreign<S: Scheme>(store: &Store<S>, id: &Hash32) -> bool
+pub fn is_foreign<D: Disk, S: Scheme>(store: &Store<D, S>, id: &Hash32) -> bool
+    requires runs { store.now.stopped ≡ false }
     ensures { result ≡ is_foreign store.now.me (accepted store.now.records) id.now }
 {
     let state = store.state();

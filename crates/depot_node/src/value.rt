@@ -1,5 +1,5 @@
 //! What is decided of a value.
-ghost use Rattle.std.specs.Prelude.{IfOk};
+ghost use Rattle.std.specs.Prelude.{◌≡◌, false, IfOk};
 ghost use Rattle.depot_base.specs.Sized.{IsValue};
 ghost use Rattle.depot_model.specs.Checks.{given_value};
 ghost use Rattle.depot_store.specs.Holdings.{standing};
@@ -9,16 +9,18 @@ use crate::decision::Decision;
 use depot_base::limits::MOST_VALUE;
 use depot_base::{Check, Memory, Record, Value};
 use depot_model::{Scheme, Taken, hash_of};
+use depot_outside::Disk;
 use depot_store::{Growth, Store};
 use std::alloc::Global;
 
 /// What is decided of a value: it is kept where an accepted update names its hash and its length, unless one of its hash is
 /// held.
-pub fn decide_value<S: Scheme>(
+pub fn decide_value<D: Disk, S: Scheme>(
     alloc: Global,
-    store: &Store<S>,
+    store: &Store<D, S>,
     text: &[u8],
 ) -> Result<Decision, Memory>
+    requires runs { store.now.stopped ≡ false }
     ensures { IfOk result (λ d. DecidesValue (standing S.verifies store.now) store.now.records text.now d.answer d.growth) }
 {
     if text.len() > MOST_VALUE {
@@ -28,12 +30,13 @@ pub fn decide_value<S: Scheme>(
 }
 
 /// What is decided of a value of at most 65,536 bytes. It is hashed once.
-fn decide_short<S: Scheme>(
+pub(crate) fn decide_short<D: Disk, S: Scheme>(
     alloc: Global,
-    store: &Store<S>,
+    store: &Store<D, S>,
     bytes: &[u8],
 ) -> Result<Decision, Memory>
-    requires { IsValue bytes.now }
+    requires runs { store.now.stopped ≡ false }
+    requires value { IsValue bytes.now }
     ensures { IfOk result (λ d. IsDecided (standing S.verifies store.now) store.now.records (given_value bytes.now) d.answer d.growth) }
 {
     let hash = hash_of(bytes);

@@ -3,8 +3,8 @@ use Rattle.std.proofs.lemmas.Result.{err_from_is_err_and}
 use Rattle.depot_store.specs.Holdings.{standing}
 use Rattle.depot_store.specs.RoomByCounts.{Commits}
 use Rattle.depot_store.specs.declared.room.CommitError.{CommitError}
-use Rattle.depot_node.proofs.InMemory.{full_puts, no_memory_puts, put_runs, refused_runs}
-use Rattle.depot_node.proofs.PutLaws.{plan_may_grow, plan_is_put, plan_has_no_room, refused_puts}
+use Rattle.depot_node.proofs.LastingCalls.{idle_lasts}
+use Rattle.depot_node.proofs.PutLaws.{plan_may_grow, plan_is_cut, plan_is_put, plan_has_no_room, refused_puts}
 use Rattle.depot_node.proofs.put.put.Goals as goal
 
 pub commit-requires-clause-may : goal.commit-requires-clause-may
@@ -23,16 +23,23 @@ returns-in_err-plan-clause-puts g c =
     let p = err_from_is_err_and c.from_residual.result c.from_residual.ensures.1 in
     rw (p.1, p.2) (refused_puts (standing g.S.Scheme.verifies c.args.store.now) c.args.store.now.records c.args.key c.args.value c.in_err-plan.field-0.0 c.in_err-plan.ensures.refused)
 
-pub returns-in_err-plan-clause-runs : goal.returns-in_err-plan-clause-runs
-returns-in_err-plan-clause-runs g c =
+pub returns-in-Err-Disk-clause-puts : goal.returns-in-Err-Disk-clause-puts
+returns-in-Err-Disk-clause-puts g c =
+    let cut = subst (λ (e : CommitError). Commits c.args.store.now.me c.args.store.now.records c.in_ok-plan.plan.growth (Err e) c.commit.new.self.records) c.in-Err-Disk.field-0-is c.in-Err-Disk.ensures.commits in
+    plan_is_cut (standing g.S.Scheme.verifies c.args.store.now) c.args.store.now.records _ _ _ _ _ c.in_ok-plan.ensures.planned cut.0 cut.1
+
+-- ---- what a stop leaves
+
+pub returns-then-is_stopped-clause-lasts : goal.returns-then-is_stopped-clause-lasts
+returns-then-is_stopped-clause-lasts g c = idle_lasts (λ v file left. g.met.D.Disk.only_now v.disk file left) _ _ (c.is_stopped.ensures.stable c.requires.read)
+
+pub returns-in_err-plan-clause-lasts : goal.returns-in_err-plan-clause-lasts
+returns-in_err-plan-clause-lasts g c = idle_lasts (λ v file left. g.met.D.Disk.only_now v.disk file left) _ _ (c.is_stopped.ensures.stable c.requires.read)
+
+pub returns-then-is_stopped-clause-idle : goal.returns-then-is_stopped-clause-idle
+returns-then-is_stopped-clause-idle g c = λ _. idle_lasts (λ v file left. g.met.D.Disk.only_now v.disk file left) _ _ (c.is_stopped.ensures.stable c.requires.read)
+
+pub returns-in_err-plan-clause-idle : goal.returns-in_err-plan-clause-idle
+returns-in_err-plan-clause-idle g c =
     let p = err_from_is_err_and c.from_residual.result c.from_residual.ensures.1 in
-    rw (p.1, p.2) (refused_runs (standing g.S.Scheme.verifies c.args.store.now) c.args.store.now.records c.args.key c.args.value c.in_err-plan.field-0.0 c.in_err-plan.ensures.refused)
-
-pub returns-in-Ok-clause-runs : goal.returns-in-Ok-clause-runs
-returns-in-Ok-clause-runs g c = put_runs _
-
-pub returns-in-Err-Memory-clause-runs : goal.returns-in-Err-Memory-clause-runs
-returns-in-Err-Memory-clause-runs g c = no_memory_puts
-
-pub returns-in-Err-Full-clause-runs : goal.returns-in-Err-Full-clause-runs
-returns-in-Err-Full-clause-runs g c = full_puts _
+    rw (p.1, p.2) (λ _. idle_lasts (λ v file left. g.met.D.Disk.only_now v.disk file left) _ _ (c.is_stopped.ensures.stable c.requires.read))

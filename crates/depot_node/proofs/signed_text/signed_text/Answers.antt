@@ -1,11 +1,9 @@
-use Rattle.std.proofs.Common.{List, map, sym, subst, ap, ◌∙◌, inl, refl}
-use Rattle.std.specs.Prelude.{slice_get}
+use Rattle.std.proofs.Common.{sym, subst, ap, ◌∙◌, inl, refl}
 use Rattle.depot_base.specs.declared.record.Record.{Record}
 use Rattle.depot_base.specs.declared.statement.Statement.TheVariants as statements
 use Rattle.depot_model.specs.Bundle.{signed_by, signed_with}
 use Rattle.depot_model.specs.Journal.{own_by}
 use Rattle.depot_model.specs.Lists.{IsIn}
-use Rattle.depot_model.specs.Records.{text_of_record}
 use Rattle.depot_store.specs.Holdings.{standing}
 use Rattle.depot_store.specs.RecordTexts.{IsTextOf}
 use Rattle.depot_node.proofs.StatementTexts.{text_of_place, put_statement, voucher_statement, own_leaf, foreign_text, behind_tag, told_text}
@@ -16,8 +14,7 @@ use Rattle.depot_node.proofs.signed_text.signed_text.Goals.{After-text-text}
 text_there : (g : _) (c : After-text-text g) → IsTextOf c.requires.statement.0 c.text-text.result.now
 text_there g c =
     let J = c.args.store.now.records in
-    text_of_place (standing g.S.Scheme.verifies c.args.store.now) J c.args.place c.requires.statement.0 c.text-text.result.now c.requires.lawful c.requires.statement.1.0
-    (ap (λ (K : List Record). slice_get (map text_of_record K) c.args.place) (sym c.list.ensures) ∙ c.text-text.ensures)
+    text_of_place (standing g.S.Scheme.verifies c.args.store.now) J c.args.place c.requires.statement.0 c.text-text.result.now c.requires.lawful c.requires.statement.1.0 c.text-text.ensures
 
 pub record_of-requires : goal.record_of-requires
 record_of-requires g c = (c.requires.statement.0, text_there g (goal.at.record_of-requires g c).After-text-text)

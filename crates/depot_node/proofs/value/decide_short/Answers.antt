@@ -25,7 +25,7 @@ returns-then-not-is_wanted g c =
     (hash_is_wanted c.args.store.now.records c.args.bytes.now c.hash_of-hash.result _ _ c.hash_of-hash.ensures c.is_wanted.ensures c.if-not-is_wanted.true))
 
 pub one-requires-clause-text : goal.one-requires-clause-text
-one-requires-clause-text g c = made_is_record c.args.bytes.now c.in-Ok.value c.in-Ok.ensures.1 c.requires
+one-requires-clause-text g c = made_is_record c.args.bytes.now c.in-Ok.value c.in-Ok.ensures.1 c.requires.value
 
 pub one-requires-clause-hash : goal.one-requires-clause-hash
 one-requires-clause-hash g c = c.hash_of-hash.ensures ∙ ap sha256 (sym c.in-Ok.ensures.1)

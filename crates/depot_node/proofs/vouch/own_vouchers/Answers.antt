@@ -4,8 +4,8 @@ use Rattle.depot_store.specs.Holdings.{standing}
 use Rattle.depot_store.specs.RoomByCounts.{Commits}
 use Rattle.depot_store.specs.declared.room.CommitError.{CommitError}
 use Rattle.depot_node.specs.PlannedVouchers.{ArePlanned, AreRefused}
-use Rattle.depot_node.proofs.InMemory.{full_vouches, no_memory_vouches, refused_vouchers_run, vouched_runs}
-use Rattle.depot_node.proofs.VoucherPlans.{may_vouch, no_room, refused_vouches, vouched}
+use Rattle.depot_node.proofs.LastingCalls.{idle_lasts}
+use Rattle.depot_node.proofs.VoucherPlans.{cut_vouchers, may_vouch, no_room, refused_vouches, vouched}
 use Rattle.depot_node.proofs.vouch.own_vouchers.Given.{Over}
 use Rattle.depot_node.proofs.vouch.own_vouchers.Goals as goal
 use Rattle.depot_node.proofs.vouch.own_vouchers.Goals.{In_ok-growth, In_err-growth}
@@ -34,16 +34,23 @@ returns-in_err-growth-clause-vouches g c =
     let p = err_from_is_err_and c.from_residual.result c.from_residual.ensures.1 in
     rw (p.1, p.2) (refused_vouches (standing g.S.Scheme.verifies c.args.store.now) c.args.store.now.records c.args.ids.now c.in_err-growth.field-0.0 (refusal g (goal.at.returns-in_err-growth-clause-vouches g c).In_err-growth))
 
-pub returns-in_err-growth-clause-runs : goal.returns-in_err-growth-clause-runs
-returns-in_err-growth-clause-runs g c =
+pub returns-in-Err-Disk-clause-vouches : goal.returns-in-Err-Disk-clause-vouches
+returns-in-Err-Disk-clause-vouches g c =
+    let cut = subst (λ (e : CommitError). Commits c.args.store.now.me c.args.store.now.records c.in_ok-growth.growth (Err e) c.commit.new.self.records) c.in-Err-Disk.field-0-is c.in-Err-Disk.ensures.commits in
+    cut_vouchers (standing g.S.Scheme.verifies c.args.store.now) c.args.store.now.records c.args.ids.now _ _ (plan g (goal.at.returns-in-Err-Disk-clause-vouches g c).In_ok-growth) cut.0 cut.1
+
+-- ---- what a stop leaves
+
+pub returns-then-is_stopped-clause-lasts : goal.returns-then-is_stopped-clause-lasts
+returns-then-is_stopped-clause-lasts g c = idle_lasts (λ v file left. g.met.D.Disk.only_now v.disk file left) _ _ (c.is_stopped.ensures.stable c.requires.read)
+
+pub returns-in_err-growth-clause-lasts : goal.returns-in_err-growth-clause-lasts
+returns-in_err-growth-clause-lasts g c = idle_lasts (λ v file left. g.met.D.Disk.only_now v.disk file left) _ _ (c.is_stopped.ensures.stable c.requires.read)
+
+pub returns-then-is_stopped-clause-idle : goal.returns-then-is_stopped-clause-idle
+returns-then-is_stopped-clause-idle g c = λ _. idle_lasts (λ v file left. g.met.D.Disk.only_now v.disk file left) _ _ (c.is_stopped.ensures.stable c.requires.read)
+
+pub returns-in_err-growth-clause-idle : goal.returns-in_err-growth-clause-idle
+returns-in_err-growth-clause-idle g c =
     let p = err_from_is_err_and c.from_residual.result c.from_residual.ensures.1 in
-    rw (p.1, p.2) (refused_vouchers_run (standing g.S.Scheme.verifies c.args.store.now) c.args.store.now.records c.args.ids.now c.in_err-growth.field-0.0 (refusal g (goal.at.returns-in_err-growth-clause-runs g c).In_err-growth))
-
-pub returns-in-Ok-clause-runs : goal.returns-in-Ok-clause-runs
-returns-in-Ok-clause-runs g c = vouched_runs _
-
-pub returns-in-Err-Memory-clause-runs : goal.returns-in-Err-Memory-clause-runs
-returns-in-Err-Memory-clause-runs g c = no_memory_vouches
-
-pub returns-in-Err-Full-clause-runs : goal.returns-in-Err-Full-clause-runs
-returns-in-Err-Full-clause-runs g c = full_vouches _
+    rw (p.1, p.2) (λ _. idle_lasts (λ v file left. g.met.D.Disk.only_now v.disk file left) _ _ (c.is_stopped.ensures.stable c.requires.read))
