@@ -1,13 +1,9 @@
 -- How calls one after another leave a node.
-use Rattle.std.proofs.Common.{◌≡◌, ◌<◌, ◌≤◌, ℕ, Bool, true, false, Result, Ok, Err, refl, sym, ap, ◌∙◌, arith, inl, inr}
-use Rattle.std.specs.Prelude.{◌↔◌, IsErrOf}
+use Rattle.std.proofs.Common.{◌≡◌, ◌<◌, ◌≤◌, ℕ, Bool, true, false, refl, ◌∙◌, arith}
 use Rattle.depot_base.specs.declared.key.PublicKey.{PublicKey}
 use Rattle.depot_model.specs.Checks.{Setting}
 use Rattle.depot_model.specs.Bundle.{Signs}
-use Rattle.depot_model.specs.Replicas.{StopsBy, KeepsDisk}
-use Rattle.depot_gossip.specs.declared.error.FeedError.{FeedError}
-use Rattle.depot_gossip.specs.declared.error.FeedError.TheVariants as error
-use Rattle.depot_gossip.specs.Calls.{IsKept, says_disk, says_stopped}
+use Rattle.depot_gossip.specs.Calls.{IsKept}
 
 -- a node that wasn't called
 pub uncalled : (here : Setting) (key : PublicKey) (sign : Signs) (handle count : ℕ) (faultless : Type 0) (stopped : Bool) → stopped ≡ false
@@ -45,30 +41,3 @@ kept_on h0 h1 h2 k0 k1 k2 s0 s1 s2 d0 d1 d2 n0 n1 n2 f0 f1 f2 stopped then faile
     untrue e = cc
 
 -- ---- as the trait of nodes says it
-
-answers_disk : (r : Result (Unit {0}) FeedError) → (says_disk r ≡ true) ↔ IsErrOf r error.Disk
-answers_disk (Ok done) = (λ e. absurd cc, λ e. absurd cc)
-answers_disk (Err error.Disk) = (λ e. refl, λ e. refl)
-answers_disk (Err error.Memory) = (λ e. absurd cc, λ e. absurd cc)
-answers_disk (Err error.Stopped) = (λ e. absurd cc, λ e. absurd cc)
-answers_disk (Err (error.Full what)) = (λ e. absurd cc, λ e. absurd cc)
-answers_disk (Err (error.IllFormed at)) = (λ e. absurd cc, λ e. absurd cc)
-
-never_stopped : (r : Result (Unit {0}) FeedError) → says_stopped r ≡ false → IsErrOf r error.Stopped → ⊥
-never_stopped r runs is = untrue (sym (ap (λ (x : Result (Unit {0}) FeedError). says_stopped x) is) ∙ runs) where
-  untrue : true ≡ false → ⊥
-  untrue e = cc
-
-pub kept_stops : (before now : Bool) (r : Result (Unit {0}) FeedError) → before ≡ false → now ≡ says_disk r → says_stopped r ≡ false → StopsBy before now (IsErrOf r error.Stopped) (IsErrOf r error.Disk)
-kept_stops before now r ran stops runs =
-    let disk = answers_disk r in
-    record {
-      answered = (λ is. absurd (never_stopped r runs is), λ e. absurd (untrue (sym e ∙ ran)));
-      left = (λ e. inr (disk.0 (sym stops ∙ e)), λ e. elim e [ inl was ↦ absurd (untrue (sym was ∙ ran)) | inr failed ↦ stops ∙ disk.1 failed ]);
-    }
-  where
-    untrue : true ≡ false → ⊥
-    untrue e = cc
-
-pub kept_disk : (d0 d1 n0 n1 : ℕ) (f0 f1 : Type 0) (r : Result (Unit {0}) FeedError) → KeepsDisk d0 d1 n0 n1 f0 f1 (says_disk r ≡ true) → KeepsDisk d0 d1 n0 n1 f0 f1 (IsErrOf r error.Disk)
-kept_disk d0 d1 n0 n1 f0 f1 r k = let disk = answers_disk r in record { same = k.same; cause = record { never_falls = k.cause.never_falls; rose = λ e. k.cause.rose (disk.1 e); only = λ lt. disk.0 (k.cause.only lt) }; calm = k.calm }

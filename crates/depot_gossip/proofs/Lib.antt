@@ -4,11 +4,14 @@ pub mod CallLaws
 pub mod ChoiceLaws
 pub mod ChunkLaws
 pub mod FitLaws
+pub mod FrameGrowth
 pub mod FrontLaws
 pub mod GivenLaws
 pub mod HashLaws
+pub mod LastingLaws
 pub mod LeafPlaces
 pub mod PieceLaws
 pub mod StreamLaws
 pub mod ToldLaws
 pub mod ValueLaws
+pub mod VoucherGrowth

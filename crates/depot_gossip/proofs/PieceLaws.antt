@@ -227,13 +227,6 @@ under_way_fails here there s bytes rest c behind now e S J stays u parts runs f 
     let all = feeds_behind here s u.done (c ++ behind) (Err e) S J runs at in
     subst (λ (x : List ℕ). Feeds here s x (Err e) S J) (sym (u.parts ∙ ap (λ (x : List ℕ). u.done ++ x) parts)) all
 
--- no byte is left
-pub under_way_ends : (here : Setting) (s : Feeding) (bytes rest : List ℕ) (t : Tally) (begun : List ℕ) (J : List Record)
-    → IsUnderWay here s bytes rest (at_work (stream_by t begun false) J) → rest ≡ [] → Feeds here s bytes (Ok tt) (stream_by t begun false) J
-under_way_ends here s bytes rest t begun J u none =
-    let all : fed here s bytes ≡ at_work (stream_by t begun false) J = ap (fed here s) (u.parts ∙ ap (λ (x : List ℕ). u.done ++ x) none ∙ append-nil u.done) ∙ u.is in
-    (ap (λ (x : Feeding). x.closed) all, record { stream = sym (ap (λ (x : Feeding). stream_of x) all); journal = sym (ap (λ (x : Feeding). x.journal) all) })
-
 -- a piece behind another one
 pub pieces_join : (here : Setting) (s : Feeding) (a b : List ℕ) (r : Result (Unit {0}) FeedError) (S T : Stream) (J K : List Record)
     → Feeds here s a (Ok tt) S J → (IsErrOf r error.Stopped → ⊥) → Feeds here (at_work S J) b r T K → Feeds here s (a ++ b) r T K

@@ -182,7 +182,7 @@ unfolding bundle_answer
 is_answered here sign J text b is = answered here sign J b (whole hello (record { at = 0; rest = text })) is
 
 -- with the vouchers of a bundle the journal is lawful
-bundle_is_lawful : (here : Setting) (sign : Signs) (J : List Record) (h : Hello) → IsLawful here J → is_empty J ≡ false → limit_of_vouchers here J (unvouched here.me J (sent_for sign J h)) ≡ None → IsLawful here (with_vouchers J (bundle_of here.me sign J h).vouchers)
+pub bundle_is_lawful : (here : Setting) (sign : Signs) (J : List Record) (h : Hello) → IsLawful here J → is_empty J ≡ false → limit_of_vouchers here J (unvouched here.me J (sent_for sign J h)) ≡ None → IsLawful here (with_vouchers J (bundle_of here.me sign J h).vouchers)
 unfolding bundle_of
 bundle_is_lawful here sign J h l some none = new_are_lawful here J (unvouched here.me J (sent_for sign J h)) l some (foreign_one here sign J h) none
 

@@ -83,3 +83,10 @@ Prepares here sign J stopped text (Err (error.IllFormed at)) = (stopped ≡ fals
 Prepares here sign J stopped text (Err (error.OtherRoster given mine)) = (stopped ≡ false) × ((bundle_answer here sign J text ≡ other_roster given) × (mine ≡ hash_of_roster here.listed))
 Prepares here sign J stopped text (Err (error.Spent n)) = ⊥
 Prepares here sign J stopped text (Err (error.Full what)) = ⊥
+
+-- ---- the disk
+
+-- the answer says that the disk failed
+abbrev pub finds_disk : {X : Type 0} → Result X BundleError → Bool
+finds_disk (Err error.Disk) = true
+finds_disk other = false

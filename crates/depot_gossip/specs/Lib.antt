@@ -7,3 +7,4 @@ pub mod Fronts
 pub mod Pieces
 pub mod RecordLeaves
 pub mod ToldStatements
+pub mod Lasting

@@ -1,11 +1,13 @@
 //! A stream of frames, in pieces.
-ghost use Rattle.std.specs.Prelude.{◌≡◌, ◌<◌, ◌≤◌, ◌+◌, ℕ, List, [], false, true, length, OnOk, IfOk, IsErrOf, Ok};
+ghost use Rattle.std.specs.Prelude.{◌≡◌, ◌<◌, ◌≤◌, ◌+◌, ℕ, List, [], false, true, length, OnOk, IfOk, IsErrOf, IsTrue, Ok};
 ghost use Rattle.depot_base.specs.declared.limits.TheConstants.{MOST_PAYLOAD};
 ghost use Rattle.depot_model.specs.Frames.{frame_at, open_frame};
+ghost use Rattle.depot_model.specs.Stops.{LeavesAll};
 ghost use Rattle.depot_model.specs.Replicas.{IsSameNode, StopsBy, KeepsDisk};
 ghost use Rattle.depot_gossip.specs.FrameHeads.{missing};
 ghost use Rattle.depot_gossip.specs.Pieces.{Feeds, at_work, no_stream, told_of};
 ghost use Rattle.depot_gossip.specs.Calls.{stream_by, stream_after, IsTally, IsKept, says_disk, says_stopped};
+ghost use Rattle.depot_gossip.specs.Lasting.{LastsIn};
 
 use crate::error::FeedError;
 use crate::frame::{Standing, missing, stands};
@@ -53,10 +55,12 @@ fn feed_chunk<R: Replica>(
     requires some { 0 < length chunk.now }
     requires short { length chunk.now ≤ missing begun.old.items }
     requires running { R.stopped node.old ≡ false }
+    requires stable { IsTrue (R.tells node.old) → LeavesAll (R.records node.old) (R.stopped node.old) (R.may_leave node.old) }
     ensures feeds { Feeds (R.stands node.old) (at_work (stream_by tally.old begun.old.items false) (R.records node.old)) chunk.now result (stream_after result tally.new begun.new.items) (R.records node.new) }
     ensures kept { IsKept (R.stands node.old) (R.stands node.new) (R.key node.old) (R.key node.new) (R.signature_of node.old) (R.signature_of node.new) (R.handle node.old) (R.handle node.new) (R.faults node.old) (R.faults node.new) (R.is_faultless node.old) (R.is_faultless node.new) (R.stopped node.new) (says_disk result) (says_stopped result) }
     ensures tally { IsTally tally.new }
     ensures begun { OnOk result (frame_at begun.new.items ≡ open_frame) }
+    ensures lasts { LastsIn R.tells R.stopped R.records R.moment R.left_since R.may_leave (R.stands node.old) (says_disk result) node.old node.new }
 {
     if tally.is_over() {
         return Err(FeedError::IllFormed(tally.start));
@@ -82,10 +86,12 @@ fn feed_piece<R: Replica>(
     requires tally { IsTally tally.old }
     requires begun { frame_at begun.old.items ≡ open_frame }
     requires running { R.stopped node.old ≡ false }
+    requires stable { IsTrue (R.tells node.old) → LeavesAll (R.records node.old) (R.stopped node.old) (R.may_leave node.old) }
     ensures feeds { Feeds (R.stands node.old) (at_work (stream_by tally.old begun.old.items false) (R.records node.old)) bytes.now result (stream_after result tally.new begun.new.items) (R.records node.new) }
     ensures kept { IsKept (R.stands node.old) (R.stands node.new) (R.key node.old) (R.key node.new) (R.signature_of node.old) (R.signature_of node.new) (R.handle node.old) (R.handle node.new) (R.faults node.old) (R.faults node.new) (R.is_faultless node.old) (R.is_faultless node.new) (R.stopped node.new) (says_disk result) (says_stopped result) }
     ensures tally { IsTally tally.new }
     ensures begun { OnOk result (frame_at begun.new.items ≡ open_frame) }
+    ensures lasts { LastsIn R.tells R.stopped R.records R.moment R.left_since R.may_leave (R.stands node.old) (says_disk result) node.old node.new }
 {
     let mut rest = bytes;
     while !rest.is_empty() {
@@ -127,13 +133,15 @@ impl Feed {
     /// Feeds the next bytes of the stream to a node, of any number. Each frame is given to the node with its last byte, and counted.
     /// Every error closes the feed; the frames before it stay taken, and the frame at hand isn't. `IllFormed` comes exactly where the
     /// stream so far has no frame at that offset, and `Full` exactly where there is no room for what a frame would add, unless
-    /// Memory or Disk come first. `Stopped` comes exactly where the node was stopped, whatever the bytes are.
+    /// Memory or Disk come first. `Stopped` comes exactly where the node was stopped, whatever the bytes are. A stop at any moment
+    /// leaves the records from before and a front of those that the frames bring.
     pub fn piece<R: Replica>(&mut self, node: &mut R, bytes: &[u8]) -> Result<(), FeedError>
         requires { self.old.closed ≡ false }
         ensures feeds { Feeds (R.stands node.old) (at_work self.old (R.records node.old)) bytes.now result self.new (R.records node.new) }
         ensures stays { IsSameNode (R.stands node.old) (R.stands node.new) (R.key node.old) (R.key node.new) (R.signature_of node.old) (R.signature_of node.new) }
         ensures stops { StopsBy (R.stopped node.old) (R.stopped node.new) (IsErrOf result FeedError.Stopped) (IsErrOf result FeedError.Disk) }
         ensures disk { KeepsDisk (R.handle node.old) (R.handle node.new) (R.faults node.old) (R.faults node.new) (R.is_faultless node.old) (R.is_faultless node.new) (IsErrOf result FeedError.Disk) }
+        ensures lasts { LastsIn R.tells R.stopped R.records R.moment R.left_since R.may_leave (R.stands node.old) (says_disk result) node.old node.new }
     {
         if node.is_stopped() {
             self.begun.clear();

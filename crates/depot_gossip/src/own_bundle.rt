@@ -1,10 +1,12 @@
 //! What a node sends for a hello.
-ghost use Rattle.std.specs.Prelude.{◌≡◌, ◌++◌, [], ◌∷◌, false, not, OnOk, IfOk, IsErrOf, if◌then◌else◌};
+ghost use Rattle.std.specs.Prelude.{◌≡◌, ◌++◌, [], ◌∷◌, false, not, OnOk, IfOk, IsErrOf, IsTrue, if◌then◌else◌};
 ghost use Rattle.depot_model.specs.Replicas.{IsSameNode, StopsBy, KeepsDisk};
 ghost use Rattle.std.specs.List.{filter};
+ghost use Rattle.depot_model.specs.Stops.{LeavesAll};
 ghost use Rattle.depot_model.specs.Vouching.{is_mine_vouched};
-ghost use Rattle.depot_gossip.specs.Bundling.{Bundles, Hears, Prepares};
+ghost use Rattle.depot_gossip.specs.Bundling.{Bundles, Hears, Prepares, finds_disk};
 ghost use Rattle.depot_gossip.specs.Fronts.{IsJoined, IsStream};
+ghost use Rattle.depot_gossip.specs.Lasting.{LastsIn};
 
 use crate::choose::chosen;
 use crate::error::BundleError;
@@ -81,7 +83,8 @@ fn unvouched_of<R: Peer>(alloc: Global, node: &R, ids: &Ids) -> Result<Ids, Memo
 
 /// What is chosen for the hello of a text, and the ids that are to be vouched for first.
 fn prepare<R: Peer>(alloc: Global, node: &R, text: &[u8]) -> Result<Prepared, BundleError>
-    ensures { Prepares (R.stands node.now) (R.signature_of node.now) (R.records node.now) (R.stopped node.now) text.now result }
+    ensures prepares { Prepares (R.stands node.now) (R.signature_of node.now) (R.records node.now) (R.stopped node.now) text.now result }
+    ensures stable { IsTrue (R.tells node.now) → LeavesAll (R.records node.now) (R.stopped node.now) (R.may_leave node.now) }
 {
     if node.is_stopped() {
         return Err(BundleError::Stopped);
@@ -151,12 +154,13 @@ fn told_of<R: Peer>(
 /// The errors come in this order: `Stopped` where the node was stopped; `IllFormed` where the text is no hello's, with the offset of
 /// its first fault; `OtherRoster`; `IllFormed(2)` where the roster lacks the hello's node; `Spent` and `Full` where the vouchers meet
 /// that limit. After these the node is as before. After `Memory` it is as before or has all the vouchers; after `Disk` it is stopped
-/// and has the vouchers before the failing one.
+/// and has the vouchers before the failing one. A stop at any moment leaves the records from before and a front of the vouchers.
 pub fn bundle<R: Peer>(alloc: Global, node: &mut R, hello: &[u8]) -> Result<Bundled, BundleError>
     ensures bundles { Bundles (R.stands node.old) (R.signature_of node.old) (R.records node.old) (R.stopped node.old) hello.now result (R.records node.new) }
     ensures stays { IsSameNode (R.stands node.old) (R.stands node.new) (R.key node.old) (R.key node.new) (R.signature_of node.old) (R.signature_of node.new) }
     ensures stops { StopsBy (R.stopped node.old) (R.stopped node.new) (IsErrOf result BundleError.Stopped) (IsErrOf result BundleError.Disk) }
     ensures disk { KeepsDisk (R.handle node.old) (R.handle node.new) (R.faults node.old) (R.faults node.new) (R.is_faultless node.old) (R.is_faultless node.new) (IsErrOf result BundleError.Disk) }
+    ensures lasts { LastsIn R.tells R.stopped R.records R.moment R.left_since R.may_leave (R.stands node.old) (finds_disk result) node.old node.new }
 {
     let chosen = prepare(alloc, node, hello)?;
     node.own_vouchers(&chosen.unvouched)?;

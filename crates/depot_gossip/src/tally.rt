@@ -1,13 +1,15 @@
 //! What a feed counts, and how a frame is given to a node.
-ghost use Rattle.std.specs.Prelude.{◌≡◌, ◌<◌, ◌≤◌, ◌==◌, ◌||◌, ◌+◌, ◌*◌, ℕ, List, [], ◌++◌, false, Some, is_some, vec_len};
+ghost use Rattle.std.specs.Prelude.{◌≡◌, ◌<◌, ◌≤◌, ◌==◌, ◌||◌, ◌+◌, ◌*◌, ℕ, List, [], ◌++◌, false, Some, IsTrue, is_some, vec_len};
 ghost use Rattle.std.specs.Vec.{vec_capacity};
 ghost use Rattle.depot_base.specs.declared.limits.TheConstants.{MOST_FRAMES};
 ghost use Rattle.depot_base.specs.declared.record.Record.{Record};
 ghost use Rattle.depot_model.specs.Frames.{Frame};
+ghost use Rattle.depot_model.specs.Stops.{LeavesAll};
 ghost use Rattle.depot_model.specs.Feeding.{take_frame, says_more, passed, counted};
 ghost use Rattle.depot_gossip.specs.FrameHeads.{most_frame};
 ghost use Rattle.depot_gossip.specs.Pieces.{at_work, no_stream};
 ghost use Rattle.depot_gossip.specs.Calls.{stream_by, IsTally, IsKept, says_disk, says_stopped, told, Answers, TakesFrame};
+ghost use Rattle.depot_gossip.specs.Lasting.{LastsIn};
 
 use crate::error::FeedError;
 use depot_base::Check;
@@ -54,8 +56,10 @@ fn give<R: Replica>(
 ) -> Result<Result<Taken, Check>, FeedError>
     requires tag { (1 ≤ tag) × (tag ≤ 3) }
     requires running { R.stopped node.old ≡ false }
+    requires stable { IsTrue (R.tells node.old) → LeavesAll (R.records node.old) (R.stopped node.old) (R.may_leave node.old) }
     ensures answers { Answers (take_frame (R.stands node.old) (R.records node.old) (record { tag = tag; payload = payload.now })) (R.records node.old) result (R.records node.new) }
     ensures kept { IsKept (R.stands node.old) (R.stands node.new) (R.key node.old) (R.key node.new) (R.signature_of node.old) (R.signature_of node.new) (R.handle node.old) (R.handle node.new) (R.faults node.old) (R.faults node.new) (R.is_faultless node.old) (R.is_faultless node.new) (R.stopped node.new) (says_disk result) (says_stopped result) }
+    ensures lasts { LastsIn R.tells R.stopped R.records R.moment R.left_since R.may_leave (R.stands node.old) (says_disk result) node.old node.new }
 {
     match tag {
         1 => told(node.take_proof(payload)),
@@ -154,9 +158,11 @@ impl Tally {
         requires few { self.old.frames < MOST_FRAMES }
         requires short { count ≤ most_frame }
         requires running { R.stopped node.old ≡ false }
+        requires stable { IsTrue (R.tells node.old) → LeavesAll (R.records node.old) (R.stopped node.old) (R.may_leave node.old) }
         ensures takes { TakesFrame (R.stands node.old) count (record { tag = tag; payload = payload.now }) self.old (R.records node.old) result self.new (R.records node.new) }
         ensures kept { IsKept (R.stands node.old) (R.stands node.new) (R.key node.old) (R.key node.new) (R.signature_of node.old) (R.signature_of node.new) (R.handle node.old) (R.handle node.new) (R.faults node.old) (R.faults node.new) (R.is_faultless node.old) (R.is_faultless node.new) (R.stopped node.new) (says_disk result) (says_stopped result) }
         ensures tally { IsTally self.new }
+        ensures lasts { LastsIn R.tells R.stopped R.records R.moment R.left_since R.may_leave (R.stands node.old) (says_disk result) node.old node.new }
     {
         if tag == 4 {
             self.take_end(payload, count);

@@ -5,6 +5,7 @@ use Rattle.depot_gossip.specs.Pieces.{Feeds, at_work}
 use Rattle.depot_gossip.specs.Calls.{stream_by, TakesFrame}
 use Rattle.depot_gossip.proofs.ChunkLaws.{in_reach}
 use Rattle.depot_gossip.proofs.PieceLaws.{over_is_ill, chunk_is_dropped, chunk_is_open, chunk_is_ill, chunk_is_taken}
+use Rattle.depot_gossip.proofs.LastingLaws.{nothing_in}
 use Rattle.depot_gossip.proofs.feed.feed_chunk.Goals as goal
 
 pub returns-then-is_over-clause-feeds : goal.returns-then-is_over-clause-feeds
@@ -59,3 +60,17 @@ returns-clause-feeds g c =
 pub returns-clause-begun : goal.returns-clause-begun
 unfolding frame_at
 returns-clause-begun g c = rw c.clear.ensures.items refl
+
+-- ---- what a stop leaves
+
+pub returns-then-is_over-clause-lasts : goal.returns-then-is_over-clause-lasts
+returns-then-is_over-clause-lasts g c = nothing_in (g.met.R.Replica.only_now) _ _ _ (g.met.R.Replica.lawful c.args.node.now) c.requires.stable
+
+pub returns-in_err-extend_from_slice-clause-lasts : goal.returns-in_err-extend_from_slice-clause-lasts
+returns-in_err-extend_from_slice-clause-lasts g c = nothing_in (g.met.R.Replica.only_now) _ _ _ (g.met.R.Replica.lawful c.args.node.now) c.requires.stable
+
+pub returns-in-Open-clause-lasts : goal.returns-in-Open-clause-lasts
+returns-in-Open-clause-lasts g c = nothing_in (g.met.R.Replica.only_now) _ _ _ (g.met.R.Replica.lawful c.args.node.now) c.requires.stable
+
+pub returns-in-Nothing-clause-lasts : goal.returns-in-Nothing-clause-lasts
+returns-in-Nothing-clause-lasts g c = nothing_in (g.met.R.Replica.only_now) _ _ _ (g.met.R.Replica.lawful c.args.node.now) c.requires.stable

@@ -1,4 +1,4 @@
-use Rattle.std.proofs.Common.{◌≡◌, [], true, false, ap, ◌∙◌, arith}
+use Rattle.std.proofs.Common.{◌≡◌, [], Bool, true, false, IsTrue, ap, subst, ◌∙◌, arith}
 use Rattle.std.proofs.lemmas.Result.{err_from_is_err_and}
 use Rattle.std.proofs.lemmas.Grind.{common_steps}
 use Rattle.std.proofs.lemmas.Bool.Decides.{nat_tests}
@@ -7,6 +7,7 @@ use Rattle.depot_gossip.specs.Pieces.{at_work}
 use Rattle.depot_gossip.specs.Calls.{stream_by}
 use Rattle.depot_gossip.proofs.ChunkLaws.{in_reach}
 use Rattle.depot_gossip.proofs.CallLaws.{uncalled, kept_on}
+use Rattle.depot_gossip.proofs.LastingLaws.{nothing_in, joined_in}
 use Rattle.depot_gossip.proofs.PieceLaws.{under_way_first, under_way_on, under_way_fails}
 use Rattle.depot_gossip.proofs.feed.feed_piece.Goals as goal
 
@@ -14,6 +15,7 @@ pub loop-rest-init : goal.loop-rest-init
 loop-rest-init g c = record {
   under_way = under_way_first (g.R.Replica.stands c.args.node.now) (at_work (stream_by c.args.tally.now c.args.begun.now.items false) (g.R.Replica.records c.args.node.now)) c.args.bytes.now;
   kept = uncalled (g.R.Replica.stands c.args.node.now) (g.R.Replica.key c.args.node.now) (g.R.Replica.signature_of c.args.node.now) (g.R.Replica.handle c.args.node.now) (g.R.Replica.faults c.args.node.now) (g.R.Replica.is_faultless c.args.node.now) (g.R.Replica.stopped c.args.node.now) c.requires.running;
+  lasts = nothing_in (g.met.R.Replica.only_now) _ _ _ (g.met.R.Replica.lawful c.args.node.now) c.requires.stable;
   tally = c.requires.tally;
   begun = c.requires.begun;
 }
@@ -30,6 +32,14 @@ returns-in_err-feed_chunk-clause-feeds g c =
     rw (p.1, p.2) (under_way_fails (g.R.Replica.stands c.args.node.now) (g.R.Replica.stands c.loop-rest.node) (at_work (stream_by c.args.tally.now c.args.begun.now.items false) (g.R.Replica.records c.args.node.now)) c.args.bytes.now c.loop-rest.rest.now c.split_at.result.0.now c.split_at.result.1.now (at_work (stream_by c.loop-rest.tally c.loop-rest.begun.items false) (g.R.Replica.records c.loop-rest.node))
     c.in_err-feed_chunk.field-0.0 (stream_by c.feed_chunk.new.tally [] true) (g.R.Replica.records c.feed_chunk.new.node) c.loop-rest.invariant.kept.same.stands c.loop-rest.invariant.under_way c.split_at.ensures.by_index.0 c.in_err-feed_chunk.ensures.kept.runs c.in_err-feed_chunk.ensures.feeds)
 
+pub feed_chunk-requires-clause-stable : goal.feed_chunk-requires-clause-stable
+feed_chunk-requires-clause-stable g c = λ t. c.loop-rest.invariant.lasts.lasts.stable (subst (λ (x : Bool). IsTrue x) c.loop-rest.invariant.lasts.lasts.told t)
+
+pub returns-in_err-feed_chunk-clause-lasts : goal.returns-in_err-feed_chunk-clause-lasts
+returns-in_err-feed_chunk-clause-lasts g c =
+    let p = err_from_is_err_and c.from_residual.result c.from_residual.ensures.1 in
+    rw (p.1, p.2) (joined_in (g.R.Replica.stands c.args.node.now) (g.R.Replica.stands c.loop-rest.node) _ c.args.node.now c.loop-rest.node c.feed_chunk.new.node c.loop-rest.invariant.kept.same.stands c.requires.running c.loop-rest.invariant.kept.stops c.loop-rest.invariant.lasts c.in_err-feed_chunk.ensures.lasts)
+
 pub loop-rest-smaller : goal.loop-rest-smaller
 loop-rest-smaller g c =
     let reach = in_reach c.loop-rest.begun.items c.loop-rest.invariant.begun in
@@ -41,6 +51,7 @@ loop-rest-preserved g c = record {
   under_way = under_way_on (g.R.Replica.stands c.args.node.now) (g.R.Replica.stands c.loop-rest.node) (at_work (stream_by c.args.tally.now c.args.begun.now.items false) (g.R.Replica.records c.args.node.now)) c.args.bytes.now c.loop-rest.rest.now c.split_at.result.0.now c.split_at.result.1.now (at_work (stream_by c.loop-rest.tally c.loop-rest.begun.items false) (g.R.Replica.records c.loop-rest.node))
       c.feed_chunk.new.tally c.feed_chunk.new.begun.items (g.R.Replica.records c.feed_chunk.new.node) c.loop-rest.invariant.kept.same.stands c.loop-rest.invariant.under_way c.split_at.ensures.by_index.0 c.in_ok-feed_chunk.ensures.feeds;
   kept = kept_on _ _ _ _ _ _ _ _ _ _ _ _ _ _ _ _ _ _ _ _ _ _ c.loop-rest.invariant.kept c.in_ok-feed_chunk.ensures.kept;
+  lasts = joined_in (g.R.Replica.stands c.args.node.now) (g.R.Replica.stands c.loop-rest.node) false c.args.node.now c.loop-rest.node c.feed_chunk.new.node c.loop-rest.invariant.kept.same.stands c.requires.running c.loop-rest.invariant.kept.stops c.loop-rest.invariant.lasts c.in_ok-feed_chunk.ensures.lasts;
   tally = c.feed_chunk.ensures.tally;
   begun = c.in_ok-feed_chunk.ensures.begun;
 }

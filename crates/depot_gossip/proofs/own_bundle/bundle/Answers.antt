@@ -1,4 +1,4 @@
-use Rattle.std.proofs.Common.{◌≡◌, ℕ, List, true, false, Err, refl, sym, ap, subst}
+use Rattle.std.proofs.Common.{◌≡◌, ℕ, List, true, false, Err, refl, sym, ap, subst, ◌∙◌}
 use Rattle.std.specs.List.{AllByRecursion}
 use Rattle.std.proofs.lemmas.Result.{err_from_is_err_and}
 use Rattle.depot_model.specs.Bundle.{Signs, sent_for}
@@ -8,6 +8,8 @@ use Rattle.depot_model.specs.Vouching.{is_mine_vouched}
 use Rattle.depot_gossip.specs.Fronts.{IsStream}
 use Rattle.depot_gossip.proofs.ApartLaws.{unvouched_apart, unvouched_foreign, unvouched_fresh}
 use Rattle.depot_gossip.proofs.StreamLaws.{not_bundled, not_prepared_stops, not_prepared_keeps, not_vouched, only_vouched, all_bundled, stops_alike, keeps_alike, same_fault, memory_stops, memory_keeps, good_stops, good_keeps}
+use Rattle.depot_gossip.proofs.LastingLaws.{nothing_in}
+use Rattle.depot_gossip.proofs.VoucherGrowth.{vouched_in, not_vouched_in}
 use Rattle.depot_gossip.proofs.own_bundle.bundle.Goals as goal
 
 -- ---- before any voucher is made
@@ -15,7 +17,7 @@ use Rattle.depot_gossip.proofs.own_bundle.bundle.Goals as goal
 pub returns-in_err-chosen-clause-bundles : goal.returns-in_err-chosen-clause-bundles
 returns-in_err-chosen-clause-bundles g c =
     let p = err_from_is_err_and c.from_residual.result c.from_residual.ensures.1 in
-    rw (p.1, p.2) (not_bundled (g.R.Replica.stands c.args.node.now) (g.R.Replica.signature_of c.args.node.now) (g.R.Replica.records c.args.node.now) (g.R.Replica.stopped c.args.node.now) c.args.hello.now c.in_err-chosen.field-0.0 c.in_err-chosen.ensures)
+    rw (p.1, p.2) (not_bundled (g.R.Replica.stands c.args.node.now) (g.R.Replica.signature_of c.args.node.now) (g.R.Replica.records c.args.node.now) (g.R.Replica.stopped c.args.node.now) c.args.hello.now c.in_err-chosen.field-0.0 c.in_err-chosen.ensures.prepares)
 
 pub returns-in_err-chosen-clause-stays : goal.returns-in_err-chosen-clause-stays
 returns-in_err-chosen-clause-stays g c = record { stands = refl; key = refl; signs = refl }
@@ -23,12 +25,12 @@ returns-in_err-chosen-clause-stays g c = record { stands = refl; key = refl; sig
 pub returns-in_err-chosen-clause-stops : goal.returns-in_err-chosen-clause-stops
 returns-in_err-chosen-clause-stops g c =
     let p = err_from_is_err_and c.from_residual.result c.from_residual.ensures.1 in
-    rw (p.1, p.2) (not_prepared_stops (g.R.Replica.stands c.args.node.now) (g.R.Replica.signature_of c.args.node.now) (g.R.Replica.records c.args.node.now) (g.R.Replica.stopped c.args.node.now) c.args.hello.now c.in_err-chosen.field-0.0 c.in_err-chosen.ensures)
+    rw (p.1, p.2) (not_prepared_stops (g.R.Replica.stands c.args.node.now) (g.R.Replica.signature_of c.args.node.now) (g.R.Replica.records c.args.node.now) (g.R.Replica.stopped c.args.node.now) c.args.hello.now c.in_err-chosen.field-0.0 c.in_err-chosen.ensures.prepares)
 
 pub returns-in_err-chosen-clause-disk : goal.returns-in_err-chosen-clause-disk
 returns-in_err-chosen-clause-disk g c =
     let p = err_from_is_err_and c.from_residual.result c.from_residual.ensures.1 in
-    rw (p.1, p.2) (not_prepared_keeps (g.R.Replica.stands c.args.node.now) (g.R.Replica.signature_of c.args.node.now) (g.R.Replica.records c.args.node.now) (g.R.Replica.stopped c.args.node.now) c.args.hello.now c.in_err-chosen.field-0.0 (g.R.Replica.handle c.args.node.now) (g.R.Replica.faults c.args.node.now) (g.R.Replica.is_faultless c.args.node.now) c.in_err-chosen.ensures)
+    rw (p.1, p.2) (not_prepared_keeps (g.R.Replica.stands c.args.node.now) (g.R.Replica.signature_of c.args.node.now) (g.R.Replica.records c.args.node.now) (g.R.Replica.stopped c.args.node.now) c.args.hello.now c.in_err-chosen.field-0.0 (g.R.Replica.handle c.args.node.now) (g.R.Replica.faults c.args.node.now) (g.R.Replica.is_faultless c.args.node.now) c.in_err-chosen.ensures.prepares)
 
 -- ---- the vouchers
 
@@ -38,7 +40,7 @@ own_vouchers-requires g c =
     let sign = g.R.Replica.signature_of c.args.node.now in
     let J = g.R.Replica.records c.args.node.now in
     let h = c.in_ok-chosen.chosen.hello in
-    let ids = sym c.in_ok-chosen.ensures.ids in
+    let ids = sym c.in_ok-chosen.ensures.prepares.ids in
     record {
       apart = subst (λ (hs : List (List ℕ)). AreApart hs) ids (unvouched_apart here sign J h (g.met.R.Replica.lawful c.args.node.now));
       foreign = subst (λ (hs : List (List ℕ)). AllByRecursion (λ i. is_foreign here.me (accepted J) i ≡ true) hs) ids (unvouched_foreign here sign J h);
@@ -48,7 +50,7 @@ own_vouchers-requires g c =
 pub returns-in_err-own_vouchers-clause-bundles : goal.returns-in_err-own_vouchers-clause-bundles
 returns-in_err-own_vouchers-clause-bundles g c =
     let p = err_from_is_err_and c.from_residual-in_err-own_vouchers.result c.from_residual-in_err-own_vouchers.ensures.1 in
-    rw (p.1, p.2) (not_vouched (g.R.Replica.stands c.args.node.now) (g.R.Replica.signature_of c.args.node.now) (g.R.Replica.records c.args.node.now) (g.R.Replica.stopped c.args.node.now) c.args.hello.now c.in_ok-chosen.chosen c.in_err-own_vouchers.field-0.0 (g.R.Replica.records c.own_vouchers.new.self) c.in_ok-chosen.ensures
+    rw (p.1, p.2) (not_vouched (g.R.Replica.stands c.args.node.now) (g.R.Replica.signature_of c.args.node.now) (g.R.Replica.records c.args.node.now) (g.R.Replica.stopped c.args.node.now) c.args.hello.now c.in_ok-chosen.chosen c.in_err-own_vouchers.field-0.0 (g.R.Replica.records c.own_vouchers.new.self) c.in_ok-chosen.ensures.prepares
     (λ is. c.in_err-own_vouchers.ensures.stops.answered.0 (ap (λ x. Err x) is)) c.in_err-own_vouchers.ensures.vouches)
 
 pub returns-in_err-own_vouchers-clause-stays : goal.returns-in_err-own_vouchers-clause-stays
@@ -71,7 +73,7 @@ returns-in_err-own_vouchers-clause-disk g c =
 pub returns-in_err-told_of-clause-bundles : goal.returns-in_err-told_of-clause-bundles
 returns-in_err-told_of-clause-bundles g c =
     let p = err_from_is_err_and c.from_residual-in_err-told_of.result c.from_residual-in_err-told_of.ensures.1 in
-    rw (p.1, p.2) (only_vouched (g.R.Replica.stands c.args.node.now) (g.R.Replica.signature_of c.args.node.now) (g.R.Replica.records c.args.node.now) (g.R.Replica.stopped c.args.node.now) c.args.hello.now c.in_ok-chosen.chosen (g.R.Replica.records c.own_vouchers.new.self) c.in_ok-chosen.ensures c.in_ok-own_vouchers.ensures.vouches)
+    rw (p.1, p.2) (only_vouched (g.R.Replica.stands c.args.node.now) (g.R.Replica.signature_of c.args.node.now) (g.R.Replica.records c.args.node.now) (g.R.Replica.stopped c.args.node.now) c.args.hello.now c.in_ok-chosen.chosen (g.R.Replica.records c.own_vouchers.new.self) c.in_ok-chosen.ensures.prepares c.in_ok-own_vouchers.ensures.vouches)
 
 pub returns-in_err-told_of-clause-stays : goal.returns-in_err-told_of-clause-stays
 returns-in_err-told_of-clause-stays g c = c.own_vouchers.ensures.stays
@@ -89,7 +91,7 @@ returns-in_err-told_of-clause-disk g c =
 pub returns-clause-bundles : goal.returns-clause-bundles
 returns-clause-bundles g c =
     let then = g.R.Replica.records c.own_vouchers.new.self in
-    all_bundled (g.R.Replica.stands c.args.node.now) (g.R.Replica.signature_of c.args.node.now) (g.R.Replica.records c.args.node.now) (g.R.Replica.stopped c.args.node.now) c.args.hello.now c.in_ok-chosen.chosen c.in_ok-told_of.field-0 then c.in_ok-chosen.ensures c.in_ok-own_vouchers.ensures.vouches
+    all_bundled (g.R.Replica.stands c.args.node.now) (g.R.Replica.signature_of c.args.node.now) (g.R.Replica.records c.args.node.now) (g.R.Replica.stopped c.args.node.now) c.args.hello.now c.in_ok-chosen.chosen c.in_ok-told_of.field-0 then c.in_ok-chosen.ensures.prepares c.in_ok-own_vouchers.ensures.vouches
     (subst (λ (sign : Signs). IsStream sign then c.in_ok-chosen.chosen.hello c.in_ok-chosen.chosen.sending c.in_ok-told_of.field-0) c.own_vouchers.ensures.stays.signs c.in_ok-told_of.ensures)
 
 pub returns-clause-stays : goal.returns-clause-stays
@@ -100,3 +102,28 @@ returns-clause-stops g c = good_stops (g.R.Replica.stopped c.args.node.now) (g.R
 
 pub returns-clause-disk : goal.returns-clause-disk
 returns-clause-disk g c = good_keeps (g.R.Replica.handle c.args.node.now) (g.R.Replica.handle c.own_vouchers.new.self) (g.R.Replica.faults c.args.node.now) (g.R.Replica.faults c.own_vouchers.new.self) (g.R.Replica.is_faultless c.args.node.now) (g.R.Replica.is_faultless c.own_vouchers.new.self) c.in_ok-told_of.field-0 c.in_ok-own_vouchers.ensures.disk
+
+-- ---- what a stop leaves
+
+pub returns-in_err-chosen-clause-lasts : goal.returns-in_err-chosen-clause-lasts
+returns-in_err-chosen-clause-lasts g c = nothing_in (g.met.R.Replica.only_now) _ _ _ (g.met.R.Replica.lawful c.args.node.now) c.prepare.ensures.stable
+
+pub returns-in_err-own_vouchers-clause-lasts : goal.returns-in_err-own_vouchers-clause-lasts
+returns-in_err-own_vouchers-clause-lasts g c =
+    let q = err_from_is_err_and c.from_residual-in_err-own_vouchers.result c.from_residual-in_err-own_vouchers.ensures.1 in
+    let p = c.in_ok-chosen.ensures.prepares in
+    rw (q.1, q.2) (not_vouched_in (g.R.Replica.stands c.args.node.now) (g.R.Replica.signature_of c.args.node.now) (g.R.Replica.stopped c.args.node.now) c.args.hello.now c.in_ok-chosen.chosen c.in_err-own_vouchers.field-0.0 c.args.node.now c.own_vouchers.new.self (g.met.R.Replica.lawful c.args.node.now) (g.met.R.Replica.some c.args.node.now) p
+    (λ is. running (sym (c.in_err-own_vouchers.ensures.stops.answered.0 (ap (λ x. Err x) is)) ∙ p.runs)) c.in_err-own_vouchers.ensures.vouches c.own_vouchers.ensures.lasts c.in_err-own_vouchers.ensures.idle)
+  where
+    running : true ≡ false → ⊥
+    running e = cc
+
+pub returns-in_err-told_of-clause-lasts : goal.returns-in_err-told_of-clause-lasts
+returns-in_err-told_of-clause-lasts g c =
+    vouched_in (g.R.Replica.stands c.args.node.now) (g.R.Replica.signature_of c.args.node.now) (g.R.Replica.stopped c.args.node.now) c.args.hello.now c.in_ok-chosen.chosen _ c.args.node.now c.own_vouchers.new.self (g.met.R.Replica.lawful c.args.node.now) (g.met.R.Replica.some c.args.node.now) c.in_ok-chosen.ensures.prepares
+    c.in_ok-own_vouchers.ensures.vouches c.own_vouchers.ensures.lasts
+
+pub returns-clause-lasts : goal.returns-clause-lasts
+returns-clause-lasts g c =
+    vouched_in (g.R.Replica.stands c.args.node.now) (g.R.Replica.signature_of c.args.node.now) (g.R.Replica.stopped c.args.node.now) c.args.hello.now c.in_ok-chosen.chosen _ c.args.node.now c.own_vouchers.new.self (g.met.R.Replica.lawful c.args.node.now) (g.met.R.Replica.some c.args.node.now) c.in_ok-chosen.ensures.prepares
+    c.in_ok-own_vouchers.ensures.vouches c.own_vouchers.ensures.lasts

@@ -1,5 +1,6 @@
 use Rattle.std.proofs.Common.{refl}
 use Rattle.depot_model.specs.Frames.{frame_at}
+use Rattle.depot_gossip.proofs.LastingLaws.{nothing_in}
 use Rattle.depot_gossip.proofs.feed.Feed.piece.Goals as goal
 
 pub invariant_of-self : goal.invariant_of-self
@@ -9,3 +10,6 @@ invariant_of-self g c = (c.self.invariant.0, rw c.clear.ensures.items refl)
 pub invariant_of-self-then-is_err : goal.invariant_of-self-then-is_err
 unfolding frame_at
 invariant_of-self-then-is_err g c = (c.feed_piece-fed.ensures.tally, rw c.clear-then-is_err.ensures.items refl)
+
+pub returns-then-is_stopped-clause-lasts : goal.returns-then-is_stopped-clause-lasts
+returns-then-is_stopped-clause-lasts g c = nothing_in (g.met.R.Replica.only_now) _ _ _ (g.met.R.Replica.lawful c.args.node.now) c.is_stopped.ensures.stable

@@ -6,6 +6,7 @@ use Rattle.depot_model.specs.Feeding.{passed, counted}
 use Rattle.depot_gossip.specs.Pieces.{at_work}
 use Rattle.depot_gossip.specs.Calls.{stream_by}
 use Rattle.depot_gossip.proofs.GivenLaws.{end_is_passed, counted_is_fed, error_leaves}
+use Rattle.depot_gossip.proofs.LastingLaws.{nothing_in}
 use Rattle.depot_gossip.proofs.tally.Tally.take.Goals as goal
 
 pub returns-then-tag-eq4-clause-takes : goal.returns-then-tag-eq4-clause-takes
@@ -31,3 +32,11 @@ returns-clause-takes g c =
     ∙ ap (λ (K : List Record). passed c.args.count (at_work (stream_by c.count.new.self [] false) K)) told.grown
     ∙ ap (passed c.args.count) (c.count.ensures.counts J told.new)
     ∙ ap (λ (r : List Refusal). passed c.args.count (counted c.in_ok-answer.answer told.new (record s { refused = r }))) c.reserve.ensures.items)
+
+-- ---- what a stop leaves
+
+pub returns-then-tag-eq4-clause-lasts : goal.returns-then-tag-eq4-clause-lasts
+returns-then-tag-eq4-clause-lasts g c = nothing_in (g.met.R.Replica.only_now) _ _ _ (g.met.R.Replica.lawful c.args.node.now) c.requires.stable
+
+pub returns-in_err-reserve-clause-lasts : goal.returns-in_err-reserve-clause-lasts
+returns-in_err-reserve-clause-lasts g c = nothing_in (g.met.R.Replica.only_now) _ _ _ (g.met.R.Replica.lawful c.args.node.now) c.requires.stable

@@ -1,0 +1,51 @@
+-- What the vouchers of a bundle bring a journal, all of which or a front of which was appended.
+use Rattle.std.proofs.Common.{◌≡◌, ℕ, List, [], ◌++◌, Bool, true, false, None, Ok, Err, refl, sym, ap, subst, ◌∙◌}
+use Rattle.depot_base.specs.declared.record.Record.{Record}
+use Rattle.depot_model.specs.declared.bundle.VoucherError.{VoucherError}
+use Rattle.depot_model.specs.declared.bundle.VoucherError.TheVariants as refused
+use Rattle.depot_model.specs.Checks.{Setting}
+use Rattle.depot_model.specs.Lawful.{IsLawful, is_empty}
+use Rattle.depot_model.specs.Stops.{Lasts}
+use Rattle.depot_model.specs.Vouching.{Vouches, new_vouchers, records_of, limit_of_vouchers}
+use Rattle.depot_model.specs.Bundle.{Signs, bundle_of}
+use Rattle.depot_gossip.specs.declared.own_bundle.Bundled.{Bundled}
+use Rattle.depot_gossip.specs.declared.own_bundle.Prepared.{Prepared}
+use Rattle.depot_gossip.specs.Errors.{from_vouching}
+use Rattle.depot_gossip.specs.Bundling.{IsPrepared, finds_disk}
+use Rattle.depot_gossip.specs.Lasting.{LastsIn}
+use Rattle.depot_gossip.proofs.LastingLaws.{all_of, cut_of, none_in, to_append, IsPart}
+use Rattle.depot_gossip.proofs.ToldLaws.{bundle_is_lawful}
+
+-- the journal is lawful with vouchers that meet no limit
+vouchers_are_lawful : (here : Setting) (sign : Signs) (J : List Record) (stopped : Bool) (text : List ℕ) (p : Prepared) → IsLawful here J → is_empty J ≡ false → IsPrepared here sign J stopped text p → limit_of_vouchers here J p.unvouched ≡ None
+    → IsLawful here (J ++ records_of (new_vouchers here.me J p.unvouched))
+unfolding bundle_of
+vouchers_are_lawful here sign J stopped text p l some is none =
+    subst (λ (ids : List (List ℕ)). IsLawful here (J ++ records_of (new_vouchers here.me J ids))) (sym is.ids) (bundle_is_lawful here sign J p.hello l some (ap (limit_of_vouchers here J) (sym is.ids) ∙ none))
+
+-- all of them were appended, or a front of them
+part_in : {N : Type 0} {tells stopped : N → Bool} {records : N → List Record} {moment : N → ℕ} {left_since : N → ℕ → List ℕ → Type 0} {may_leave : N → List ℕ → Type 0}
+    → (here : Setting) (sign : Signs) (ran : Bool) (text : List ℕ) (p : Prepared) (failed : Bool) (old new : N) → IsLawful here (records old) → is_empty (records old) ≡ false → IsPrepared here sign (records old) ran text p → limit_of_vouchers here (records old) p.unvouched ≡ None
+    → IsPart (records old) (records_of (new_vouchers here.me (records old) p.unvouched)) (records new) failed → Lasts tells stopped records moment left_since may_leave old new (records_of (new_vouchers here.me (records old) p.unvouched)) → LastsIn tells stopped records moment left_since may_leave here failed old new
+part_in {records = records} here sign ran text p failed old new l some is none part lasts = record {
+  appends = records_of (new_vouchers here.me (records old) p.unvouched);
+  is = to_append here (records old) _ (records new) failed (vouchers_are_lawful here sign (records old) ran text p l some is none) part;
+  lasts = lasts;
+}
+
+-- they were made
+pub vouched_in : {N : Type 0} {tells stopped : N → Bool} {records : N → List Record} {moment : N → ℕ} {left_since : N → ℕ → List ℕ → Type 0} {may_leave : N → List ℕ → Type 0}
+    → (here : Setting) (sign : Signs) (ran : Bool) (text : List ℕ) (p : Prepared) (failed : Bool) (old new : N) → IsLawful here (records old) → is_empty (records old) ≡ false → IsPrepared here sign (records old) ran text p → Vouches here (records old) p.unvouched (Ok tt) (records new)
+    → Lasts tells stopped records moment left_since may_leave old new (records_of (new_vouchers here.me (records old) p.unvouched)) → LastsIn tells stopped records moment left_since may_leave here failed old new
+vouched_in {records = records} here sign ran text p failed old new l some is v lasts = part_in here sign ran text p failed old new l some is v.0 (all_of (records old) _ (records new) failed v.1) lasts
+
+-- they weren't made: the disk failed, or none was appended
+pub not_vouched_in : {N : Type 0} {tells stopped : N → Bool} {records : N → List Record} {moment : N → ℕ} {left_since : N → ℕ → List ℕ → Type 0} {may_leave : N → List ℕ → Type 0}
+    → (here : Setting) (sign : Signs) (ran : Bool) (text : List ℕ) (p : Prepared) (e : VoucherError) (old new : N) → IsLawful here (records old) → is_empty (records old) ≡ false → IsPrepared here sign (records old) ran text p → (e ≡ refused.Stopped → ⊥) → Vouches here (records old) p.unvouched (Err e) (records new)
+    → Lasts tells stopped records moment left_since may_leave old new (records_of (new_vouchers here.me (records old) p.unvouched)) → ((e ≡ refused.Disk → ⊥) → Lasts tells stopped records moment left_since may_leave old new [])
+    → LastsIn tells stopped records moment left_since may_leave here (finds_disk {X = Bundled} (Err (from_vouching e))) old new
+not_vouched_in here sign ran text p refused.Memory old new l some is never v lasts idle = none_in here false old new l v (idle (λ e. cc))
+not_vouched_in {records = records} here sign ran text p refused.Disk old new l some is never v lasts idle = part_in here sign ran text p true old new l some is v.0 (cut_of (records old) _ (records new) v.1) lasts
+not_vouched_in here sign ran text p refused.Stopped old new l some is never v lasts idle = absurd (never refl)
+not_vouched_in here sign ran text p (refused.Spent n) old new l some is never v lasts idle = none_in here false old new l v.1 (idle (λ e. cc))
+not_vouched_in here sign ran text p (refused.Full what) old new l some is never v lasts idle = none_in here false old new l v.1 (idle (λ e. cc))

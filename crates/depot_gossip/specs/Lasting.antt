@@ -1,0 +1,20 @@
+-- What a stop may leave of a node's journal in a call that makes several calls on the node, and after it.
+use Rattle.std.specs.Prelude.{◌≡◌, ℕ, List, ◌++◌, take, Bool, false}
+use Rattle.depot_base.specs.declared.record.Record.{Record}
+use Rattle.depot_model.specs.Checks.{Setting}
+use Rattle.depot_model.specs.Lawful.{IsLawful}
+use Rattle.depot_model.specs.Stops.{Lasts}
+
+-- The call was to append these, with which the journal is lawful. It has appended them all, or, where the disk failed, a front of them.
+pub record IsToAppend (here : Setting) (J new then : List Record) (failed : Bool) : Type 0 where
+  pub lawful : IsLawful here (J ++ new)
+  pub count : ℕ
+  pub front : then ≡ J ++ take count new
+  pub all : failed ≡ false → then ≡ J ++ new
+
+-- A stop at any moment of such a call leaves the records from before, and a front of those that it was to append; after it, all
+-- records of the node.
+pub record LastsIn {N : Type 0} (tells stopped : N → Bool) (records : N → List Record) (moment : N → ℕ) (left_since : N → ℕ → List ℕ → Type 0) (may_leave : N → List ℕ → Type 0) (here : Setting) (failed : Bool) (old new : N) : Type 0 where
+  pub appends : List Record
+  pub is : IsToAppend here (records old) appends (records new) failed
+  pub lasts : Lasts tells stopped records moment left_since may_leave old new appends
