@@ -8,6 +8,9 @@ use depot_base::fault::Fault;
 use depot_base::{DecodeError, Fields};
 use std::alloc::Global;
 
+/// A body has at least so many bytes with its length, so a log has no more bodies than its bytes hold of these.
+const SHORTEST: usize = 124;
+
 /// The fault of a body that stands at this offset of a log.
 fn fault_of(error: DecodeError, start: usize) -> Fault
     requires { start < 2 ^ 63 }
@@ -44,7 +47,7 @@ fn next_body(alloc: Global, rest: &[u8], at: usize) -> Result<(Body, &[u8]), Fau
 pub fn bodies_of(alloc: Global, log: &[u8]) -> Result<Vec<Body>, Fault>
     ensures { ReadsLog log.now (seen_by (λ bodies. updates bodies.items) result) }
 {
-    let mut bodies = Vec::new(alloc);
+    let mut bodies = Vec::with_capacity(alloc, log.len() / SHORTEST)?;
     let mut rest = log;
     while !rest.is_empty() {
         let (body, after) = next_body(alloc, rest, log.len() - rest.len())?;

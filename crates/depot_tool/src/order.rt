@@ -24,7 +24,7 @@ pub fn in_order(alloc: Global, ids: &mut Ids, bodies: Vec<Body>) -> Result<Order
     ensures order { IfOk result (OrdersTo (updates bodies.items)) }
     ensures uncovered { OnOk result (IsUncovered ids.new) }
 {
-    let mut kept = Vec::new(alloc);
+    let mut kept = Vec::with_capacity(alloc, bodies.len())?;
     let mut place = 0;
     for body in bodies {
         if !ids.has_parents(&body.update) {

@@ -9,11 +9,11 @@ use Rattle.depot_tool.proofs.LogSteps.{IsRead, none_read, one_read, reads_log, r
 use Rattle.depot_tool.proofs.log.bodies_of.Goals as goal
 
 pub loop-rest-init : goal.loop-rest-init
-loop-rest-init c = rw c.new-bodies.ensures.items (none_read c.args.log.now)
+loop-rest-init c = rw c.in_ok-bodies.ensures.items (none_read c.args.log.now)
 
 pub returns-in_err-body : goal.returns-in_err-body
 returns-in_err-body c =
-    let p = err_from_is_err_and c.from_residual.result c.from_residual.ensures.1 in
+    let p = err_from_is_err_and c.from_residual-in_err-body.result c.from_residual-in_err-body.ensures.1 in
     let within = left_within c.args.log.now (updates c.loop-rest.bodies.items) c.loop-rest.rest.now c.loop-rest.invariant in
     rw (p.1, p.2) (reads_fault c.args.log.now (updates c.loop-rest.bodies.items) c.loop-rest.rest.now _ c.in_err-body.field-0.0 c.loop-rest.invariant (omega (arith, within)) c.in_err-body.ensures)
 

@@ -12,7 +12,7 @@ loop-body-init c =
     let all : into_iter_items c.into_iter-body-iterator.result ≡ c.args.bodies.items = search rules in
     let start = ordering_none c.args.bodies.items (knows c.args.ids.now) c.requires.none in
     record {
-      order = rw c.new-kept.ensures.items (subst (λ (left : List Body). Ordering c.args.bodies.items left [] (knows c.args.ids.now) 0) (sym all) start);
+      order = rw c.in_ok-kept.ensures.items (subst (λ (left : List Body). Ordering c.args.bodies.items left [] (knows c.args.ids.now) 0) (sym all) start);
       uncovered = c.requires.uncovered;
     }
 
