@@ -3,8 +3,8 @@
 use crate::making::{Named, hash_of, update_of, voucher_of};
 use crate::node::{Plain, Way, give, put, start, told_in};
 use crate::story::{Event, Line, Story, Wrong};
-use crate::telling::{tell_done, tell_entries, tell_taken};
-use depot_base::Hash32;
+use crate::telling::{tell_done, tell_taken};
+use depot_base::{Hash32, Key};
 use depot_model::Replica;
 use depot_node::Taken;
 use std::alloc::Global;
@@ -74,6 +74,17 @@ fn take_branches(alloc: Global, node: &mut Plain, count: u16) -> Result<(), Fail
 fn take_values(node: &mut Plain, count: u16) -> Result<(), Fail> {
     for number in 0..count {
         takes(node, Way::Value, &number.to_be_bytes())?;
+    }
+    Ok(())
+}
+
+/// How many entries the latest updates of a key have.
+fn tell_entries(alloc: Global, told: &mut String, node: &Plain, key: &[u8]) -> Result<(), Fail> {
+    if node.is_stopped() {
+        return Err(Fail::from("it is stopped"));
+    }
+    for item in node.latest(&Key::new(alloc, key)?) {
+        write!(told, " {}", node.update(*item).deps.as_slice().len())?;
     }
     Ok(())
 }

@@ -91,7 +91,7 @@ fn put_deps(out: &mut Vec<u8>, line: &Line<'_>, named: &[Named]) -> Result<(), F
 }
 
 /// The body of an update.
-fn body_of(alloc: Global, line: &Line<'_>, named: &[Named]) -> Result<Vec<u8>, Fail> {
+pub fn body_of(alloc: Global, line: &Line<'_>, named: &[Named]) -> Result<Vec<u8>, Fail> {
     let history = history_of(alloc, line, named)?;
     let mut body = Vec::from_slice(alloc, &[1, 1])?;
     body.extend_from_slice(&line.writer.to_be_bytes())?;
@@ -150,8 +150,8 @@ pub fn names_of(alloc: Global, lines: &[Line<'_>]) -> Result<Vec<Named>, Fail> {
     Ok(named)
 }
 
-/// A voucher of a node for these ids, which rise.
-pub fn voucher_of(alloc: Global, node: u16, seq: u32, ids: &[Hash32]) -> Result<Vec<u8>, Fail> {
+/// The body of a voucher of a node for these ids, which rise.
+pub fn voucher_body(alloc: Global, node: u16, seq: u32, ids: &[Hash32]) -> Result<Vec<u8>, Fail> {
     let mut body = Vec::from_slice(alloc, &[1, 2])?;
     body.extend_from_slice(&node.to_be_bytes())?;
     body.extend_from_slice(&seq.to_be_bytes())?;
@@ -159,6 +159,12 @@ pub fn voucher_of(alloc: Global, node: u16, seq: u32, ids: &[Hash32]) -> Result<
     for id in ids {
         body.extend_from_slice(id.bytes())?;
     }
+    Ok(body)
+}
+
+/// A voucher of a node for these ids, which rise, as the node signs it.
+pub fn voucher_of(alloc: Global, node: u16, seq: u32, ids: &[Hash32]) -> Result<Vec<u8>, Fail> {
+    let body = voucher_body(alloc, node, seq, ids)?;
     sign(alloc, node, seq, body.as_slice())
 }
 
@@ -179,5 +185,14 @@ pub fn roster_of(alloc: Global, height: u8, nodes: &[u16]) -> Result<Vec<u8>, Fa
         text.push(height)?;
         text.extend_from_slice(root_of(*node).bytes())?;
     }
+    Ok(text)
+}
+
+/// The hello of a node that has nothing, under the roster of this hash.
+pub fn hello_of(alloc: Global, node: u16, roster: &Hash32) -> Result<Vec<u8>, Fail> {
+    let mut text = Vec::from_slice(alloc, &[1, 3])?;
+    text.extend_from_slice(&node.to_be_bytes())?;
+    text.extend_from_slice(roster.bytes())?;
+    text.extend_from_slice(&[0; 6])?;
     Ok(text)
 }

@@ -1,19 +1,22 @@
 //! Nodes of the plain scheme, and what happens to them.
-ghost use Rattle.std.specs.Prelude.{◌≡◌, IfOk};
-ghost use Rattle.depot_model.specs.Plain.{plain_verifies};
 
-use crate::making::{Named, names_of, proof_of, roster_of, seed_of, update_of, voucher_of};
+use crate::feeding::{put_frame, tell_fed};
+use crate::making::{
+    Named, hello_of, names_of, proof_of, roster_of, seed_of, update_of, voucher_of,
+};
 use crate::story::{Event, Line, Story};
-use crate::telling::{tell_done, tell_taken, tell_writes};
-use depot_base::{Hash32, Key, NodeId, Texts, Value};
+use crate::telling::{tell_bundled, tell_done, tell_taken, tell_writes};
+use depot_base::{Bytes, Hash32, Items, Key, NodeId, Value};
+use depot_gossip::bundle;
 use depot_model::Replica;
 use depot_node::{Node, PutDone, PutError, StartError, TakeError, Taken};
+use depot_outside::{Back, MemDisk};
 use depot_sign::{PlainScheme, PlainSigner, Roster};
 use std::alloc::Global;
 use std::test::Fail;
 
-/// A node of the plain scheme.
-pub type Plain = Node<PlainScheme, PlainSigner>;
+/// A node of the plain scheme, on a disk in memory.
+pub type Plain = Node<MemDisk, PlainScheme, PlainSigner>;
 
 /// Which call a text is given by.
 #[derive(Clone, Copy)]
@@ -23,51 +26,60 @@ pub enum Way {
     Value,
 }
 
-/// The roster of these nodes.
-pub fn roster(alloc: Global, height: u8, nodes: &[u16]) -> Result<Roster, Fail> {
-    let text = roster_of(alloc, height, nodes)?;
-    Ok(Roster::parse(alloc, text.as_slice())?)
+/// Who a node is: its number, and the nodes of its roster, whose trees all have this height.
+#[derive(Clone, Copy)]
+pub struct Identity<'a> {
+    pub me: u16,
+    pub nodes: &'a [u16],
+    pub height: u8,
 }
 
-/// A node of a roster, with an empty journal, that signs by the key of node `signer` and of this height.
+impl Identity<'_> {
+    /// Its roster.
+    pub fn roster(&self, alloc: Global) -> Result<Roster, Fail> {
+        let text = roster_of(alloc, self.height, self.nodes)?;
+        Ok(Roster::parse(alloc, text.as_slice())?)
+    }
+
+    /// The node on a disk, or why it isn't started, and its disk.
+    pub fn start(
+        &self,
+        alloc: Global,
+        disk: MemDisk,
+    ) -> Result<Result<Plain, Back<StartError, MemDisk>>, Fail> {
+        let roster = self.roster(alloc)?;
+        let me = NodeId::new(self.me).ok_or("no node")?;
+        Ok(start_with(alloc, disk, roster, me, self.me, self.height))
+    }
+}
+
+/// A disk with an empty file.
+pub fn new_disk(alloc: Global) -> MemDisk {
+    MemDisk::new(Bytes::new(alloc), Items::new(alloc))
+}
+
+/// A node of a roster on a disk, that signs by the key of node `signer` and of this height.
 pub fn start_with(
     alloc: Global,
+    disk: MemDisk,
     roster: Roster,
     me: NodeId,
     signer: u16,
     height: u8,
-) -> Result<Plain, StartError>
-    ensures { IfOk result (λ node. ⟦<Plain as Replica>⟧.stands node ≡ record { verifies = plain_verifies; me = me; listed = roster }) }
-{
+) -> Result<Plain, Back<StartError, MemDisk>> {
     let signer = PlainSigner::from_seed(alloc, &seed_of(signer), height);
-    let texts = Texts::new(alloc);
-    Node::start_list(alloc, texts, roster, PlainScheme, signer, me)
+    Node::start(alloc, disk, roster, PlainScheme, signer, me)
 }
 
-/// The node `me` of a roster of these nodes, with an empty journal.
+/// The node `me` of a roster of these nodes, on a new disk.
 pub fn start_as(alloc: Global, height: u8, nodes: &[u16], me: u16) -> Result<Plain, Fail> {
-    let roster = roster(alloc, height, nodes)?;
-    let id = NodeId::new(me).ok_or("no node")?;
-    Ok(start_with(alloc, roster, id, me, height)?)
+    let who = Identity { me, nodes, height };
+    Ok(who.start(alloc, new_disk(alloc))??)
 }
 
-/// The node 1 of a roster of these nodes, with an empty journal.
+/// The node 1 of a roster of these nodes, on a new disk.
 pub fn start(alloc: Global, height: u8, nodes: &[u16]) -> Result<Plain, Fail> {
     start_as(alloc, height, nodes, 1)
-}
-
-/// The node started again from its own record texts.
-fn again(
-    alloc: Global,
-    node: Plain,
-    roster: Roster,
-    me: NodeId,
-    height: u8,
-) -> Result<Plain, StartError>
-    requires { ⟦<Plain as Replica>⟧.stands node ≡ record { verifies = plain_verifies; me = me; listed = roster } }
-{
-    let signer = PlainSigner::from_seed(alloc, &seed_of(1), height);
-    Node::start_list(alloc, node.into_texts(), roster, PlainScheme, signer, me)
 }
 
 /// Puts a value under a key.
@@ -76,18 +88,14 @@ pub fn put(
     node: &mut Plain,
     key: &[u8],
     value: &[u8],
-) -> Result<Result<PutDone, PutError>, Fail>
-    ensures { ⟦<Plain as Replica>⟧.stands node.new ≡ ⟦<Plain as Replica>⟧.stands node.old }
-{
+) -> Result<Result<PutDone, PutError>, Fail> {
     let key = Key::new(alloc, key)?;
     let value = Value::new(alloc, value)?;
     Ok(node.put(key, value))
 }
 
 /// Gives a node a text.
-pub fn give(node: &mut Plain, way: Way, text: &[u8]) -> Result<Taken, TakeError>
-    ensures { ⟦<Plain as Replica>⟧.stands node.new ≡ ⟦<Plain as Replica>⟧.stands node.old }
-{
+pub fn give(node: &mut Plain, way: Way, text: &[u8]) -> Result<Taken, TakeError> {
     match way {
         Way::Statement => node.take_statement(text),
         Way::Proof => node.take_proof(text),
@@ -97,44 +105,55 @@ pub fn give(node: &mut Plain, way: Way, text: &[u8]) -> Result<Taken, TakeError>
 
 /// The updates of a story, each with its id.
 #[derive(Clone, Copy)]
-struct Scene<'a> {
-    alloc: Global,
-    lines: &'a [Line<'a>],
-    named: &'a [Named],
+pub struct Scene<'a> {
+    pub alloc: Global,
+    pub lines: &'a [Line<'a>],
+    pub named: &'a [Named],
 }
 
 impl Scene<'_> {
     /// The value of the update of a place.
-    fn value(&self, at: usize) -> Result<&[u8], Fail> {
+    pub fn value(&self, at: usize) -> Result<&[u8], Fail> {
         Ok(self.lines.get(at).ok_or("no such line")?.value)
     }
 
     /// The text of the update of a place.
-    fn update(&self, at: usize) -> Result<Vec<u8>, Fail> {
+    pub fn update(&self, at: usize) -> Result<Vec<u8>, Fail> {
         let line = self.lines.get(at).ok_or("no such line")?;
         update_of(self.alloc, line, self.named)
     }
 
-    /// The voucher of a node for the updates of these places.
-    fn voucher(&self, node: u16, seq: u32, places: &[usize]) -> Result<Vec<u8>, Fail> {
+    /// The ids of the updates of these places.
+    pub fn ids(&self, places: &[usize]) -> Result<Vec<Hash32>, Fail> {
         let mut ids: Vec<Hash32> = Vec::new(self.alloc);
         for place in places {
             ids.push(self.named.get(*place).ok_or("no such line")?.id)?;
         }
-        voucher_of(self.alloc, node, seq, ids.as_slice())
+        Ok(ids)
+    }
+
+    /// The voucher of a node for the updates of these places.
+    pub fn voucher(&self, node: u16, seq: u32, places: &[usize]) -> Result<Vec<u8>, Fail> {
+        voucher_of(self.alloc, node, seq, self.ids(places)?.as_slice())
     }
 
     /// The text of the proof of this kind by the updates of two places.
-    fn proof(&self, kind: u8, first: usize, second: usize) -> Result<Vec<u8>, Fail> {
+    pub fn proof(&self, kind: u8, first: usize, second: usize) -> Result<Vec<u8>, Fail> {
         let one = self.update(first)?;
         let other = self.update(second)?;
         proof_of(self.alloc, kind, one.as_slice(), other.as_slice())
     }
 
+    /// The frames of the update of a place and of its value.
+    pub fn frames(&self, at: usize) -> Result<Vec<u8>, Fail> {
+        let mut out = Vec::new(self.alloc);
+        put_frame(&mut out, 2, self.update(at)?.as_slice())?;
+        put_frame(&mut out, 3, self.value(at)?)?;
+        Ok(out)
+    }
+
     /// Gives a node a text, and tells its answer.
-    fn give(&self, node: &mut Plain, way: Way, text: &[u8], told: &mut String) -> Result<(), Fail>
-        ensures { ⟦<Plain as Replica>⟧.stands node.new ≡ ⟦<Plain as Replica>⟧.stands node.old }
-    {
+    fn give(&self, node: &mut Plain, way: Way, text: &[u8], told: &mut String) -> Result<(), Fail> {
         let answer = give(node, way, text);
         tell_taken(told, self.named, answer)
     }
@@ -158,21 +177,36 @@ impl Scene<'_> {
         }
     }
 
+    /// Feeds a node the frames of the update of a place and of its value.
+    fn feed(&self, node: &mut Plain, at: usize, told: &mut String) -> Result<(), Fail> {
+        let stream = self.frames(at)?;
+        tell_fed(self.alloc, told, node, stream.as_slice(), 1460)
+    }
+
+    /// The node bundles for one that has nothing.
+    fn bundle(&self, node: &mut Plain, reader: u16, told: &mut String) -> Result<(), Fail> {
+        let hello = hello_of(self.alloc, reader, node.roster_hash())?;
+        tell_bundled(told, &bundle(self.alloc, node, hello.as_slice()))
+    }
+
     /// What is told at an event at which nothing is given.
-    fn tell_own(&self, node: &mut Plain, event: &Event<'_>, told: &mut String) -> Result<(), Fail>
-        ensures { ⟦<Plain as Replica>⟧.stands node.new ≡ ⟦<Plain as Replica>⟧.stands node.old }
-    {
+    fn tell_own(&self, node: &mut Plain, event: &Event<'_>, told: &mut String) -> Result<(), Fail> {
         match event {
             Event::Put(key, value) => tell_done(told, put(self.alloc, node, key, value)?),
             Event::Get(key) => tell_writes(self.alloc, told, node, key),
+            Event::Feed(at) => self.feed(node, *at, told),
+            Event::Bundle(reader) => self.bundle(node, *reader, told),
             _ => Ok(write!(told, " {}", node.record_count())?),
         }
     }
 
     /// Gives a node the value of the update that it was given at an event, where it was given one with its value.
-    fn give_value(&self, node: &mut Plain, event: &Event<'_>, told: &mut String) -> Result<(), Fail>
-        ensures { ⟦<Plain as Replica>⟧.stands node.new ≡ ⟦<Plain as Replica>⟧.stands node.old }
-    {
+    fn give_value(
+        &self,
+        node: &mut Plain,
+        event: &Event<'_>,
+        told: &mut String,
+    ) -> Result<(), Fail> {
         match event {
             Event::Give(at) => self.give(node, Way::Value, self.value(*at)?, told),
             _ => Ok(()),
@@ -180,9 +214,7 @@ impl Scene<'_> {
     }
 
     /// What is told at an event.
-    fn tell(&self, node: &mut Plain, event: &Event<'_>, told: &mut String) -> Result<(), Fail>
-        ensures { ⟦<Plain as Replica>⟧.stands node.new ≡ ⟦<Plain as Replica>⟧.stands node.old }
-    {
+    fn tell(&self, node: &mut Plain, event: &Event<'_>, told: &mut String) -> Result<(), Fail> {
         match self.given(event)? {
             None => self.tell_own(node, event, told),
             Some((way, text)) => {
@@ -193,9 +225,12 @@ impl Scene<'_> {
     }
 
     /// What is told at these events.
-    fn play(&self, node: &mut Plain, events: &[Event<'_>], told: &mut String) -> Result<(), Fail>
-        ensures { ⟦<Plain as Replica>⟧.stands node.new ≡ ⟦<Plain as Replica>⟧.stands node.old }
-    {
+    pub fn play(
+        &self,
+        node: &mut Plain,
+        events: &[Event<'_>],
+        told: &mut String,
+    ) -> Result<(), Fail> {
         for event in events {
             self.tell(node, event, told)?;
         }
@@ -212,35 +247,30 @@ impl Scene<'_> {
         write!(told, " | {} |", node.record_count())?;
         self.play(node, events, told)
     }
-}
 
-/// The node of a scene is started again from its own texts, and lives on.
-fn live_on(
-    scene: &Scene<'_>,
-    node: Plain,
-    roster: Roster,
-    me: NodeId,
-    story: &Story<'_>,
-    told: &mut String,
-) -> Result<(), Fail>
-    requires { ⟦<Plain as Replica>⟧.stands node ≡ record { verifies = plain_verifies; me = me; listed = roster } }
-{
-    let mut node = again(scene.alloc, node, roster, me, story.height)?;
-    scene.play_on(&mut node, story.later, told)
-}
+    /// A node is started again from its disk, and lives on.
+    pub fn live_on(
+        &self,
+        who: &Identity<'_>,
+        disk: MemDisk,
+        events: &[Event<'_>],
+        told: &mut String,
+    ) -> Result<(), Fail> {
+        let mut node = who.start(self.alloc, disk)??;
+        self.play_on(&mut node, events, told)
+    }
 
-/// The node of a scene is started with a roster, lives through its events, and is started again with the same roster.
-fn live(
-    scene: &Scene<'_>,
-    roster: Roster,
-    me: NodeId,
-    story: &Story<'_>,
-    told: &mut String,
-) -> Result<(), Fail> {
-    let same = roster.copy()?;
-    let mut node = start_with(scene.alloc, roster, me, 1, story.height)?;
-    scene.play(&mut node, story.events, told)?;
-    live_on(scene, node, same, me, story, told)
+    /// A node is started on a new disk, lives through these events, and leaves its disk.
+    pub fn live(
+        &self,
+        who: &Identity<'_>,
+        events: &[Event<'_>],
+        told: &mut String,
+    ) -> Result<MemDisk, Fail> {
+        let mut node = who.start(self.alloc, new_disk(self.alloc))??;
+        self.play(&mut node, events, told)?;
+        Ok(node.into_disk())
+    }
 }
 
 /// What a node tells in a story before it is started again, how many records it has then, between bars, and what it tells
@@ -252,9 +282,13 @@ pub fn told_in(alloc: Global, story: &Story<'_>) -> Result<String, Fail> {
         lines: story.lines,
         named: named.as_slice(),
     };
-    let me = NodeId::new(1).ok_or("no node")?;
-    let roster = roster(alloc, story.height, story.nodes)?;
+    let who = Identity {
+        me: 1,
+        nodes: story.nodes,
+        height: story.height,
+    };
     let mut told = String::new(alloc);
-    live(&scene, roster, me, story, &mut told)?;
+    let disk = scene.live(&who, story.events, &mut told)?;
+    scene.live_on(&who, disk, story.later, &mut told)?;
     Ok(told)
 }

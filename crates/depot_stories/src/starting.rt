@@ -1,7 +1,7 @@
 //! Nodes that are started, and what they say of themselves.
 
 use crate::making::{hash_of, root_of, roster_of};
-use crate::node::{Plain, roster, start, start_with};
+use crate::node::{Identity, Plain, new_disk, start, start_with};
 use depot_base::{NodeId, PublicKey};
 use depot_model::Replica;
 use depot_node::StartError;
@@ -11,8 +11,16 @@ use std::test::Fail;
 
 /// Why a node of the roster of nodes 1 and 2 isn't started with the key of node 1.
 fn refusal(alloc: Global, me: u16) -> Result<Option<StartError>, Fail> {
-    let me = NodeId::new(me).ok_or("no node")?;
-    Ok(start_with(alloc, roster(alloc, 4, &[1, 2])?, me, 1, 4).err())
+    let who = Identity {
+        me,
+        nodes: &[1, 2],
+        height: 4,
+    };
+    let id = NodeId::new(me).ok_or("no node")?;
+    match start_with(alloc, new_disk(alloc), who.roster(alloc)?, id, 1, 4) {
+        Ok(_) => Ok(None),
+        Err(back) => Ok(Some(back.error)),
+    }
 }
 
 fn key_of(node: u16) -> PublicKey {

@@ -1,31 +1,10 @@
 //! The stories.
 
 use crate::node::told_in;
-use crate::story::{Event, Line, Story, Wrong};
+use crate::story::{Event, FIRST, Line, OTHER_FIRST, Story, Wrong};
 use std::alloc::Global;
 use std::process::Abort;
 use std::test::Fail;
-
-/// The first update of node 9.
-pub const FIRST: Line<'static> = Line {
-    writer: 9,
-    seq: 0,
-    clock: 1,
-    prev: None,
-    key: b"k",
-    value: b"a",
-    deps: &[],
-    leaves: &[],
-    wrong: Wrong::Nothing,
-};
-
-/// Another first update of node 9, by which it forks.
-pub const OTHER_FIRST: Line<'static> = Line {
-    seq: 1,
-    clock: 2,
-    value: b"b",
-    ..FIRST
-};
 
 /// The update of node 9 behind the one at place 0.
 const SECOND: Line<'static> = Line {

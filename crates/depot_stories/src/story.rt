@@ -30,12 +30,33 @@ pub enum Wrong {
     Entry(usize),
 }
 
+/// The first update of node 9.
+pub const FIRST: Line<'static> = Line {
+    writer: 9,
+    seq: 0,
+    clock: 1,
+    prev: None,
+    key: b"k",
+    value: b"a",
+    deps: &[],
+    leaves: &[],
+    wrong: Wrong::Nothing,
+};
+
+/// Another first update of node 9, by which it forks.
+pub const OTHER_FIRST: Line<'static> = Line {
+    seq: 1,
+    clock: 2,
+    value: b"b",
+    ..FIRST
+};
+
 /// What happens to the node, and what is told of it, with a blank before it.
 #[derive(Clone, Copy)]
 pub enum Event<'a> {
     /// It puts a value under a key: `SEQ/CLOCK`, or why it puts nothing.
     Put(&'a [u8], &'a [u8]),
-    /// It reads a key: the latest writes in brackets, each as `WRITER/SEQ/CLOCK=VALUE`.
+    /// It reads a key: the latest writes in brackets, each as `WRITER/SEQ/CLOCK=VALUE`. One that is stopped reads nothing.
     Get(&'a [u8]),
     /// It is given the update of a place, and then its value: both answers.
     Give(usize),
@@ -49,6 +70,10 @@ pub enum Event<'a> {
     Proof(u8, usize, usize),
     /// It is given these bytes as a statement.
     Statement(&'a [u8]),
+    /// It is fed the frames of the update of a place and of its value: the report.
+    Feed(usize),
+    /// It bundles for a node that has nothing: the counts of the bundle, or why it makes none.
+    Bundle(u16),
     /// Its records are counted.
     Count,
 }
@@ -64,7 +89,7 @@ pub struct Story<'a> {
     pub events: &'a [Event<'a>],
     /// What is told at these events.
     pub told: &'a str,
-    /// How many records the node has once it is started again from its own texts.
+    /// How many records the node has once it is started again from its disk.
     pub records: u32,
     /// What happens to it then.
     pub later: &'a [Event<'a>],

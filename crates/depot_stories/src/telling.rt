@@ -1,10 +1,11 @@
 //! What a node tells: its answers, and what it reads.
-ghost use Rattle.std.specs.Prelude.{◌<◌, length};
+ghost use Rattle.std.specs.Prelude.{◌≡◌, ◌<◌, length, false};
 ghost use Rattle.depot_model.specs.Journal.{accepted};
 
 use crate::making::{Named, hash_of};
 use crate::node::Plain;
 use depot_base::{Check, Hash32, Key};
+use depot_gossip::{BundleError, Bundled};
 use depot_model::Replica;
 use depot_node::{PutDone, PutError, TakeError, Taken};
 use std::alloc::Global;
@@ -80,7 +81,8 @@ fn tell_value(told: &mut String, value: Option<&[u8]>) -> Result<(), Fail> {
 }
 
 fn tell_write(told: &mut String, node: &Plain, item: u32) -> Result<(), Fail>
-    requires { item < length (accepted (⟦<Plain as Replica>⟧.records node.now)) }
+    requires runs { ⟦<Plain as Replica>⟧.stopped node.now ≡ false }
+    requires item { item < length (accepted (⟦<Plain as Replica>⟧.records node.now)) }
 {
     let update = node.update(item);
     let writer = update.writer.number();
@@ -88,8 +90,11 @@ fn tell_write(told: &mut String, node: &Plain, item: u32) -> Result<(), Fail>
     tell_value(told, node.value_of(item))
 }
 
-/// The latest writes of a key.
+/// The latest writes of a key, where the node isn't stopped.
 pub fn tell_writes(alloc: Global, told: &mut String, node: &Plain, key: &[u8]) -> Result<(), Fail> {
+    if node.is_stopped() {
+        return Ok(told.push_str(" -")?);
+    }
     told.push_str(" [")?;
     for item in node.latest(&Key::new(alloc, key)?) {
         tell_write(told, node, *item)?;
@@ -98,15 +103,20 @@ pub fn tell_writes(alloc: Global, told: &mut String, node: &Plain, key: &[u8]) -
     Ok(())
 }
 
-/// How many entries the latest updates of a key have.
-pub fn tell_entries(
-    alloc: Global,
-    told: &mut String,
-    node: &Plain,
-    key: &[u8],
-) -> Result<(), Fail> {
-    for item in node.latest(&Key::new(alloc, key)?) {
-        write!(told, " {}", node.update(*item).deps.as_slice().len())?;
+/// What a node answers to a hello: the counts of its bundle, or why it makes none.
+pub fn tell_bundled(told: &mut String, answer: &Result<Bundled, BundleError>) -> Result<(), Fail> {
+    match answer {
+        Ok(bundled) => {
+            let counts = bundled.counts;
+            write!(
+                told,
+                " proofs {} vouchers {} updates {} values {}",
+                counts.proofs, counts.vouchers, counts.updates, counts.values
+            )?;
+            told.push_str(if bundled.more { " more" } else { " whole" })?
+        }
+        Err(BundleError::OtherRoster { .. }) => told.push_str(" OtherRoster")?,
+        Err(e) => write!(told, " {e:?}")?,
     }
     Ok(())
 }

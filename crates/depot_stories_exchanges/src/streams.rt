@@ -1,93 +1,11 @@
 //! Streams of bytes that are fed to a node, in pieces of any lengths.
 ghost use Rattle.std.specs.Prelude.{◌<◌};
 
-use crate::making::update_of;
-use crate::node::{Plain, start};
-use crate::stories::FIRST;
-use crate::telling::tell_check;
-use depot_gossip::{Feed, FeedError};
-use depot_model::{Ending, Report};
+use depot_stories::feeding::{put_frame, tell_fed};
+use depot_stories::node::{Scene, start};
+use depot_stories::story::FIRST;
 use std::alloc::Global;
 use std::test::Fail;
-
-/// Adds a frame: its tag, the length of its payload, and the payload.
-pub fn put_frame(out: &mut Vec<u8>, tag: u8, payload: &[u8]) -> Result<(), Fail> {
-    out.push(tag)?;
-    out.extend_from_slice(&u32::try_from(payload.len())?.to_be_bytes())?;
-    out.extend_from_slice(payload)?;
-    Ok(())
-}
-
-/// Feeds bytes in pieces of so many, until one is refused.
-fn feed_pieces(
-    feed: &mut Feed,
-    node: &mut Plain,
-    bytes: &[u8],
-    size: usize,
-) -> Result<(), FeedError>
-    requires { 0 < size }
-{
-    for piece in bytes.chunks(size) {
-        if feed.is_closed() {
-            return Ok(());
-        }
-        feed.piece(node, piece)?;
-    }
-    Ok(())
-}
-
-/// How a stream ended that was refused with this error, if with one.
-fn tell_ending(
-    told: &mut String,
-    refused: Result<(), FeedError>,
-    ending: Ending,
-) -> Result<(), Fail> {
-    match (refused, ending) {
-        (Err(FeedError::IllFormed(at)), Ending::Closed) => write!(told, " ill-formed {at}")?,
-        (Ok(()), Ending::Whole) => told.push_str(" whole")?,
-        (Ok(()), Ending::More) => told.push_str(" more")?,
-        (Ok(()), Ending::Bare) => told.push_str(" bare")?,
-        (Ok(()), Ending::Cut(open)) => write!(told, " cut {open}")?,
-        (refused, ending) => write!(told, " {refused:?} {ending:?}")?,
-    }
-    Ok(())
-}
-
-/// What became of a stream: how many frames were new, were known and were refused, how it ended, and the first refusals.
-fn tell_report(
-    told: &mut String,
-    refused: Result<(), FeedError>,
-    report: &Report,
-) -> Result<(), Fail> {
-    let refusals = report.refused.as_slice();
-    let count = refusals.len();
-    write!(
-        told,
-        " accepted {} known {} refused {count}",
-        report.accepted, report.known
-    )?;
-    tell_ending(told, refused, report.ending)?;
-    for refusal in refusals.iter().take(3) {
-        write!(told, " frame {}", refusal.frame)?;
-        tell_check(told, &[], &refusal.check)?;
-    }
-    Ok(())
-}
-
-/// Feeds a node a stream in pieces of so many bytes, and tells what became of it.
-pub fn tell_fed(
-    alloc: Global,
-    told: &mut String,
-    node: &mut Plain,
-    bytes: &[u8],
-    size: usize,
-) -> Result<(), Fail>
-    requires { 0 < size }
-{
-    let mut feed = Feed::new(alloc)?;
-    let refused = feed_pieces(&mut feed, node, bytes, size);
-    tell_report(told, refused, &feed.end())
-}
 
 /// What a new node of the nodes 1 and 9 makes of a stream in pieces of so many bytes.
 fn told_by_new(alloc: Global, bytes: &[u8], size: usize) -> Result<String, Fail>
@@ -101,10 +19,12 @@ fn told_by_new(alloc: Global, bytes: &[u8], size: usize) -> Result<String, Fail>
 
 /// The frames of the first update of node 9, of 165 bytes, and of its value, of 6.
 fn first_frames(alloc: Global) -> Result<Vec<u8>, Fail> {
-    let mut out = Vec::new(alloc);
-    put_frame(&mut out, 2, update_of(alloc, &FIRST, &[])?.as_slice())?;
-    put_frame(&mut out, 3, FIRST.value)?;
-    Ok(out)
+    let scene = Scene {
+        alloc,
+        lines: &[FIRST],
+        named: &[],
+    };
+    scene.frames(0)
 }
 
 /// What is told of the first so many bytes of these frames.
@@ -164,12 +84,69 @@ static STREAMS: [(&[u8], &str); 10] = [
     ),
 ];
 
+/// Longer streams.
+#[derive(Clone, Copy)]
+enum Long {
+    /// The first update of node 9 with its value, and then so many End frames.
+    Ended(usize),
+    /// A value that is a byte longer than the longest.
+    Value,
+    /// So many frames of values without bytes.
+    Frames(usize),
+}
+
+/// Longer streams, and what is told of them. A stream has at most 524,288 frames.
+static LONG: [(Long, &str); 4] = [
+    (Long::Ended(1), " accepted 2 known 0 refused 0 whole"),
+    (
+        Long::Ended(2),
+        " accepted 2 known 0 refused 0 ill-formed 177",
+    ),
+    (
+        Long::Value,
+        " accepted 0 known 0 refused 1 bare frame 0 IllFormed(65536)",
+    ),
+    (
+        Long::Frames(524_289),
+        " accepted 0 known 0 refused 524288 ill-formed 2621440 frame 0 Unwanted e3 frame 1 Unwanted e3 frame 2 Unwanted e3",
+    ),
+];
+
+/// Adds the frames of a longer stream.
+fn put_long(alloc: Global, out: &mut Vec<u8>, long: Long) -> Result<(), Fail> {
+    match long {
+        Long::Ended(ends) => {
+            out.extend_from_slice(first_frames(alloc)?.as_slice())?;
+            for _ in 0..ends {
+                put_frame(out, 4, &[0])?;
+            }
+        }
+        Long::Value => put_frame(out, 3, vec![in alloc; 0; 65_537]?.as_slice())?,
+        Long::Frames(count) => {
+            for _ in 0..count {
+                put_frame(out, 3, &[])?;
+            }
+        }
+    }
+    Ok(())
+}
+
+/// What is told of a longer stream.
+fn told_of_long(alloc: Global, long: Long) -> Result<String, Fail> {
+    let mut bytes = Vec::new(alloc);
+    put_long(alloc, &mut bytes, long)?;
+    told_by_new(alloc, bytes.as_slice(), 1460)
+}
+
 #[test]
 fn a_stream_is_told_however_it_is_cut(rt: HostRuntime) -> Result<(), Fail> {
     let alloc = rt.alloc();
     for (bytes, told) in STREAMS {
         assert_eq!(rt; told_by_new(alloc, bytes, 1)?.as_str(), told);
         assert_eq!(rt; told_by_new(alloc, bytes, 1460)?.as_str(), told);
+    }
+    for (long, told) in LONG {
+        assert_eq!(rt; told_of_long(alloc, long)?.as_str(), told);
     }
     Ok(())
 }

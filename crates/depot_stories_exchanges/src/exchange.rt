@@ -1,15 +1,13 @@
 //! Exchanges: nodes say hello, bundle for one another, and are fed what was bundled.
 ghost use Rattle.std.specs.Prelude.{◌<◌};
 
-use crate::making::{Named, names_of, update_of};
-use crate::node::{Plain, put, start_as};
-use crate::stories::{FIRST, OTHER_FIRST};
-use crate::story::Line;
-use crate::streams::{put_frame, tell_fed};
-use crate::telling::{tell_done, tell_writes};
-use depot_base::Bytes;
-use depot_gossip::{BundleError, Bundled, bundle, decode_hello, hello};
+use depot_gossip::{bundle, decode_hello, hello};
 use depot_model::Replica;
+use depot_stories::feeding::tell_fed;
+use depot_stories::making::names_of;
+use depot_stories::node::{Plain, Scene, put, start_as};
+use depot_stories::story::{FIRST, Line, OTHER_FIRST};
+use depot_stories::telling::{tell_bundled, tell_done, tell_writes};
 use std::alloc::Global;
 use std::test::Fail;
 
@@ -180,10 +178,8 @@ struct Member {
 /// The correct nodes of an exchange, and what others sign.
 #[derive(Drop)]
 struct Company<'a> {
-    alloc: Global,
+    scene: Scene<'a>,
     members: Vec<Member>,
-    lines: &'a [Line<'a>],
-    named: &'a [Named],
 }
 
 /// Tells a hello.
@@ -196,24 +192,6 @@ fn tell_hello(alloc: Global, told: &mut String, text: &[u8]) -> Result<(), Fail>
         told,
         " convicted {convicted} leaves {leaves} wanted {wanted}"
     )?)
-}
-
-/// Tells what is answered to a hello.
-fn tell_bundled(told: &mut String, answer: &Result<Bundled, BundleError>) -> Result<(), Fail> {
-    match answer {
-        Ok(bundled) => {
-            let counts = bundled.counts;
-            write!(
-                told,
-                " proofs {} vouchers {} updates {} values {}",
-                counts.proofs, counts.vouchers, counts.updates, counts.values
-            )?;
-            told.push_str(if bundled.more { " more" } else { " whole" })?
-        }
-        Err(BundleError::OtherRoster { .. }) => told.push_str(" OtherRoster")?,
-        Err(e) => write!(told, " {e:?}")?,
-    }
-    Ok(())
 }
 
 impl Member {
@@ -266,23 +244,13 @@ impl Company<'_> {
     /// The last hello of a node.
     fn hello_of(&self, place: usize) -> Result<Vec<u8>, Fail> {
         let member = self.members.get(place).ok_or("no such node")?;
-        Ok(member.hello.as_slice().to_vec(self.alloc)?)
+        Ok(member.hello.as_slice().to_vec(self.scene.alloc)?)
     }
 
     /// The last stream of a node.
     fn stream_of(&self, place: usize) -> Result<Vec<u8>, Fail> {
         let member = self.members.get(place).ok_or("no such node")?;
-        Ok(member.stream.as_slice().to_vec(self.alloc)?)
-    }
-
-    /// The frames of the update of a place and of its value.
-    fn frames_of(&self, place: usize) -> Result<Vec<u8>, Fail> {
-        let line = self.lines.get(place).ok_or("no such line")?;
-        let mut out = Vec::new(self.alloc);
-        let update = update_of(self.alloc, line, self.named)?;
-        put_frame(&mut out, 2, update.as_slice())?;
-        put_frame(&mut out, 3, line.value)?;
-        Ok(out)
+        Ok(member.stream.as_slice().to_vec(self.scene.alloc)?)
     }
 
     /// Feeds a node a stream, in pieces of so many bytes.
@@ -296,13 +264,13 @@ impl Company<'_> {
         if size == 0 {
             return Err(Fail::from("pieces of no bytes"));
         }
-        let alloc = self.alloc;
+        let alloc = self.scene.alloc;
         self.at(place)?.feed(alloc, stream, size, told)
     }
 
     /// Does a step, and tells what is told of it.
     fn tell(&mut self, step: &Step<'_>, told: &mut String) -> Result<(), Fail> {
-        let alloc = self.alloc;
+        let alloc = self.scene.alloc;
         match step {
             Step::Put(by, value) => {
                 tell_done(told, put(alloc, &mut self.at(*by)?.node, b"k", value)?)
@@ -322,7 +290,7 @@ impl Company<'_> {
                 self.feed(*reader, stream.as_slice(), *size, told)
             }
             Step::Give(reader, line) => {
-                let stream = self.frames_of(*line)?;
+                let stream = self.scene.frames(*line)?;
                 self.feed(*reader, stream.as_slice(), 1460, told)
             }
             Step::Count(by) => Ok(write!(told, " {}", self.at(*by)?.node.record_count())?),
@@ -342,12 +310,13 @@ fn members_of(alloc: Global, exchange: &Exchange<'_>) -> Result<Vec<Member>, Fai
 /// What is told in an exchange.
 fn told_in(alloc: Global, exchange: &Exchange<'_>) -> Result<String, Fail> {
     let named = names_of(alloc, exchange.lines)?;
-    let mut company = Company {
+    let scene = Scene {
         alloc,
-        members: members_of(alloc, exchange)?,
         lines: exchange.lines,
         named: named.as_slice(),
     };
+    let members = members_of(alloc, exchange)?;
+    let mut company = Company { scene, members };
     let mut told = String::new(alloc);
     for step in exchange.steps {
         company.tell(step, &mut told)?;
@@ -361,5 +330,63 @@ fn nodes_exchange_what_they_have(rt: HostRuntime) -> Result<(), Fail> {
         let told = told_in(rt.alloc(), exchange)?;
         assert_eq!(rt; told.as_str(), exchange.told);
     }
+    Ok(())
+}
+
+/// A node puts so many values of 65,536 bytes, no two of which are the same.
+fn put_long(alloc: Global, member: &mut Member, count: u16) -> Result<(), Fail> {
+    for number in 0..count {
+        let mut value = Vec::from_slice(alloc, &number.to_be_bytes())?;
+        value.resize(65_536, b'v')?;
+        if put(alloc, &mut member.node, b"k", value.as_slice())?.is_err() {
+            return Err(Fail::from("it isn't put"));
+        }
+    }
+    Ok(())
+}
+
+/// A node says hello, another bundles for it, and it is fed the bundle.
+fn meet(
+    alloc: Global,
+    reader: &mut Member,
+    by: &mut Member,
+    told: &mut String,
+) -> Result<(), Fail> {
+    reader.hello(alloc, told)?;
+    by.bundle(alloc, reader.hello.as_slice(), told)?;
+    reader.feed(alloc, by.stream.as_slice(), 65_536, told)
+}
+
+/// What is told where a node meets another twice.
+fn meet_twice(alloc: Global, reader: &mut Member, by: &mut Member) -> Result<String, Fail> {
+    let mut told = String::new(alloc);
+    meet(alloc, reader, by, &mut told)?;
+    meet(alloc, reader, by, &mut told)?;
+    Ok(told)
+}
+
+/// The node 1 of two, which put so many long values.
+fn filled(alloc: Global, count: u16) -> Result<Member, Fail> {
+    let mut by = Member::new(alloc, 12, &[1, 2], 1)?;
+    put_long(alloc, &mut by, count)?;
+    Ok(by)
+}
+
+/// What is told where the node 2, which has nothing, meets the node 1 twice.
+fn told_of_two(alloc: Global, by: &mut Member) -> Result<String, Fail> {
+    let mut reader = Member::new(alloc, 12, &[1, 2], 2)?;
+    meet_twice(alloc, &mut reader, by)
+}
+
+#[test]
+fn a_bundle_has_up_to_64_mebibytes(rt: HostRuntime) -> Result<(), Fail> {
+    let mut by = filled(rt.alloc(), 1025)?;
+    // A statement's frame has 165 bytes here and a value's 65,541: 1,021 of both fit into 67,108,864.
+    let all = " convicted 0 leaves 0 wanted 0 proofs 0 vouchers 0 updates 1021 values 1021 more \
+        accepted 2042 known 0 refused 0 more \
+        convicted 0 leaves 1 wanted 0 proofs 0 vouchers 0 updates 4 values 4 whole \
+        accepted 8 known 0 refused 0 whole";
+    let told = told_of_two(rt.alloc(), &mut by)?;
+    assert_eq!(rt; told.as_str(), all);
     Ok(())
 }
