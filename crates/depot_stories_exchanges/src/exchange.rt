@@ -206,6 +206,9 @@ impl Member {
 
     /// Says hello.
     fn hello(&mut self, alloc: Global, told: &mut String) -> Result<(), Fail> {
+        if self.node.is_stopped() {
+            return Err(Fail::from("it is stopped"));
+        }
         let text = hello(alloc, &self.node)?;
         tell_hello(alloc, told, text.as_slice())?;
         self.hello = text.as_slice().to_vec(alloc)?;

@@ -62,6 +62,7 @@ enum Change {
     /// The lowest bit of the byte at this offset is turned.
     Turn(usize),
 }
+
 use Change::{Cut, Nothing, Turn};
 
 /// Files of these records, changed so, and what is told where node 1 is started from them: how many records it has, or why it isn't.
@@ -88,22 +89,62 @@ static JOURNALS: [(&[Entry<'static>], Change, &str); 29] = [
     (&[BIRTH, Put(2)], Turn(52), " NotLawful 1 NotNext"),
     (&[BIRTH, Put(2), Put(2)], Nothing, " NotLawful 2 NotNext"),
     // Own vouchers of another node, of another seq, and for an update that isn't accepted.
-    (&[BIRTH, Take(0), Vouch(2, 0, &[0])], Nothing, " NotLawful 2 OwnVoucher"),
-    (&[BIRTH, Take(0), Vouch(1, 1, &[0])], Nothing, " NotLawful 2 OwnVoucher"),
-    (&[BIRTH, Vouch(1, 0, &[0])], Nothing, " NotLawful 1 OwnVoucher"),
+    (
+        &[BIRTH, Take(0), Vouch(2, 0, &[0])],
+        Nothing,
+        " NotLawful 2 OwnVoucher",
+    ),
+    (
+        &[BIRTH, Take(0), Vouch(1, 1, &[0])],
+        Nothing,
+        " NotLawful 2 OwnVoucher",
+    ),
+    (
+        &[BIRTH, Vouch(1, 0, &[0])],
+        Nothing,
+        " NotLawful 1 OwnVoucher",
+    ),
     // What the checks refuse.
-    (&[BIRTH, Take(3)], Nothing, " NotLawful 1 BadSignature(NodeId(9))"),
-    (&[BIRTH, Take(0), Take(1)], Nothing, " NotLawful 2 Forked SamePrev #0 #1"),
+    (
+        &[BIRTH, Take(3)],
+        Nothing,
+        " NotLawful 1 BadSignature(NodeId(9))",
+    ),
+    (
+        &[BIRTH, Take(0), Take(1)],
+        Nothing,
+        " NotLawful 2 Forked SamePrev #0 #1",
+    ),
     (&[BIRTH, Take(2)], Nothing, " NotLawful 1 NotMine #2"),
     (&[BIRTH, Hold(b"a")], Nothing, " NotLawful 1 Unwanted ca"),
-    (&[BIRTH, Convict(1, 0, 1)], Nothing, " NotLawful 1 NotContradictory"),
+    (
+        &[BIRTH, Convict(1, 0, 1)],
+        Nothing,
+        " NotLawful 1 NotContradictory",
+    ),
     // A vouched branch without the conviction of its writer.
-    (&[BIRTH, Take(0), TakeVoucher(2, 0, &[1]), Take(1)], Nothing, " NotLawful 3 ProofDue"),
+    (
+        &[BIRTH, Take(0), TakeVoucher(2, 0, &[1]), Take(1)],
+        Nothing,
+        " NotLawful 3 ProofDue",
+    ),
     // What was known.
     (&[BIRTH, Take(0), Take(0)], Nothing, " NotLawful 2 Idle"),
-    (&[BIRTH, Take(0), Hold(b"a"), Hold(b"a")], Nothing, " NotLawful 3 Idle"),
-    (&[BIRTH, Convict(2, 0, 1), Convict(2, 0, 1)], Nothing, " NotLawful 2 Idle"),
-    (&[BIRTH, TakeVoucher(2, 0, &[1]), TakeVoucher(2, 0, &[1])], Nothing, " NotLawful 2 Idle"),
+    (
+        &[BIRTH, Take(0), Hold(b"a"), Hold(b"a")],
+        Nothing,
+        " NotLawful 3 Idle",
+    ),
+    (
+        &[BIRTH, Convict(2, 0, 1), Convict(2, 0, 1)],
+        Nothing,
+        " NotLawful 2 Idle",
+    ),
+    (
+        &[BIRTH, TakeVoucher(2, 0, &[1]), TakeVoucher(2, 0, &[1])],
+        Nothing,
+        " NotLawful 2 Idle",
+    ),
 ];
 
 /// Journals of another node or roster, what node 1 tells where it is started from them, and who goes on with them.
@@ -243,7 +284,12 @@ fn told_by_both(alloc: Global, birth: Entry<'_>, who: &Identity<'_>) -> Result<S
     let file = file_of(&scene, &[birth])?;
     let mut told = String::new(alloc);
     let disk = left_by(&scene, &NODE_1, file.as_slice(), &mut told)?;
-    scene.live_on(who, disk, &[Event::Put(b"k", b"a"), Event::Count], &mut told)?;
+    scene.live_on(
+        who,
+        disk,
+        &[Event::Put(b"k", b"a"), Event::Count],
+        &mut told,
+    )?;
     Ok(told)
 }
 

@@ -4,8 +4,8 @@
 //! record takes four: its text is written and synced, and its gate is opened and synced. A stop leaves the record that it meets where
 //! the gate was written and the image has what was written since the last sync, which is image 1, and no other.
 
-use crate::trial::{Trial, Trouble};
 use crate::trial::Trouble::{Refuse, Stop};
+use crate::trial::{Trial, Trouble};
 use depot_stories::making::names_of;
 use depot_stories::node::Scene;
 use depot_stories::story::{Event, FIRST, OTHER_FIRST};
@@ -58,18 +58,54 @@ static VALUES: Table<'static> = Table {
         later: &[Event::Get(b"k"), Event::Feed(0)],
     },
     rows: &[
-        (Stop(8, 0), " accepted 1 known 0 refused 0 Disk | 2 | [ 9/0/1=? ] accepted 1 known 1 refused 0 bare"),
-        (Stop(8, 1), " accepted 1 known 0 refused 0 Disk | 2 | [ 9/0/1=? ] accepted 1 known 1 refused 0 bare"),
-        (Stop(8, 2), " accepted 1 known 0 refused 0 Disk | 2 | [ 9/0/1=? ] accepted 1 known 1 refused 0 bare"),
-        (Stop(9, 0), " accepted 1 known 0 refused 0 Disk | 2 | [ 9/0/1=? ] accepted 1 known 1 refused 0 bare"),
-        (Stop(9, 1), " accepted 1 known 0 refused 0 Disk | 2 | [ 9/0/1=? ] accepted 1 known 1 refused 0 bare"),
-        (Stop(9, 2), " accepted 1 known 0 refused 0 Disk | 2 | [ 9/0/1=? ] accepted 1 known 1 refused 0 bare"),
-        (Stop(10, 0), " accepted 1 known 0 refused 0 Disk | 2 | [ 9/0/1=? ] accepted 1 known 1 refused 0 bare"),
-        (Stop(10, 1), " accepted 1 known 0 refused 0 Disk | 3 | [ 9/0/1=a ] accepted 0 known 2 refused 0 bare"),
-        (Stop(10, 2), " accepted 1 known 0 refused 0 Disk | 2 | [ 9/0/1=? ] accepted 1 known 1 refused 0 bare"),
-        (Stop(11, 0), " accepted 1 known 0 refused 0 Disk | 2 | [ 9/0/1=? ] accepted 1 known 1 refused 0 bare"),
-        (Stop(11, 1), " accepted 1 known 0 refused 0 Disk | 3 | [ 9/0/1=a ] accepted 0 known 2 refused 0 bare"),
-        (Stop(11, 2), " accepted 1 known 0 refused 0 Disk | 2 | [ 9/0/1=? ] accepted 1 known 1 refused 0 bare"),
+        (
+            Stop(8, 0),
+            " accepted 1 known 0 refused 0 Disk | 2 | [ 9/0/1=? ] accepted 1 known 1 refused 0 bare",
+        ),
+        (
+            Stop(8, 1),
+            " accepted 1 known 0 refused 0 Disk | 2 | [ 9/0/1=? ] accepted 1 known 1 refused 0 bare",
+        ),
+        (
+            Stop(8, 2),
+            " accepted 1 known 0 refused 0 Disk | 2 | [ 9/0/1=? ] accepted 1 known 1 refused 0 bare",
+        ),
+        (
+            Stop(9, 0),
+            " accepted 1 known 0 refused 0 Disk | 2 | [ 9/0/1=? ] accepted 1 known 1 refused 0 bare",
+        ),
+        (
+            Stop(9, 1),
+            " accepted 1 known 0 refused 0 Disk | 2 | [ 9/0/1=? ] accepted 1 known 1 refused 0 bare",
+        ),
+        (
+            Stop(9, 2),
+            " accepted 1 known 0 refused 0 Disk | 2 | [ 9/0/1=? ] accepted 1 known 1 refused 0 bare",
+        ),
+        (
+            Stop(10, 0),
+            " accepted 1 known 0 refused 0 Disk | 2 | [ 9/0/1=? ] accepted 1 known 1 refused 0 bare",
+        ),
+        (
+            Stop(10, 1),
+            " accepted 1 known 0 refused 0 Disk | 3 | [ 9/0/1=a ] accepted 0 known 2 refused 0 bare",
+        ),
+        (
+            Stop(10, 2),
+            " accepted 1 known 0 refused 0 Disk | 2 | [ 9/0/1=? ] accepted 1 known 1 refused 0 bare",
+        ),
+        (
+            Stop(11, 0),
+            " accepted 1 known 0 refused 0 Disk | 2 | [ 9/0/1=? ] accepted 1 known 1 refused 0 bare",
+        ),
+        (
+            Stop(11, 1),
+            " accepted 1 known 0 refused 0 Disk | 3 | [ 9/0/1=a ] accepted 0 known 2 refused 0 bare",
+        ),
+        (
+            Stop(11, 2),
+            " accepted 1 known 0 refused 0 Disk | 2 | [ 9/0/1=? ] accepted 1 known 1 refused 0 bare",
+        ),
     ],
 };
 
@@ -120,18 +156,54 @@ static BUNDLES: Table<'static> = Table {
         later: &[Event::Bundle(2), Event::Count],
     },
     rows: &[
-        (Stop(4, 0), " Disk 3 | 3 | proofs 0 vouchers 1 updates 1 values 1 whole 4"),
-        (Stop(4, 1), " Disk 3 | 3 | proofs 0 vouchers 1 updates 1 values 1 whole 4"),
-        (Stop(4, 2), " Disk 3 | 3 | proofs 0 vouchers 1 updates 1 values 1 whole 4"),
-        (Stop(5, 0), " Disk 3 | 3 | proofs 0 vouchers 1 updates 1 values 1 whole 4"),
-        (Stop(5, 1), " Disk 3 | 3 | proofs 0 vouchers 1 updates 1 values 1 whole 4"),
-        (Stop(5, 2), " Disk 3 | 3 | proofs 0 vouchers 1 updates 1 values 1 whole 4"),
-        (Stop(6, 0), " Disk 3 | 3 | proofs 0 vouchers 1 updates 1 values 1 whole 4"),
-        (Stop(6, 1), " Disk 3 | 4 | proofs 0 vouchers 1 updates 1 values 1 whole 4"),
-        (Stop(6, 2), " Disk 3 | 3 | proofs 0 vouchers 1 updates 1 values 1 whole 4"),
-        (Stop(7, 0), " Disk 3 | 3 | proofs 0 vouchers 1 updates 1 values 1 whole 4"),
-        (Stop(7, 1), " Disk 3 | 4 | proofs 0 vouchers 1 updates 1 values 1 whole 4"),
-        (Stop(7, 2), " Disk 3 | 3 | proofs 0 vouchers 1 updates 1 values 1 whole 4"),
+        (
+            Stop(4, 0),
+            " Disk 3 | 3 | proofs 0 vouchers 1 updates 1 values 1 whole 4",
+        ),
+        (
+            Stop(4, 1),
+            " Disk 3 | 3 | proofs 0 vouchers 1 updates 1 values 1 whole 4",
+        ),
+        (
+            Stop(4, 2),
+            " Disk 3 | 3 | proofs 0 vouchers 1 updates 1 values 1 whole 4",
+        ),
+        (
+            Stop(5, 0),
+            " Disk 3 | 3 | proofs 0 vouchers 1 updates 1 values 1 whole 4",
+        ),
+        (
+            Stop(5, 1),
+            " Disk 3 | 3 | proofs 0 vouchers 1 updates 1 values 1 whole 4",
+        ),
+        (
+            Stop(5, 2),
+            " Disk 3 | 3 | proofs 0 vouchers 1 updates 1 values 1 whole 4",
+        ),
+        (
+            Stop(6, 0),
+            " Disk 3 | 3 | proofs 0 vouchers 1 updates 1 values 1 whole 4",
+        ),
+        (
+            Stop(6, 1),
+            " Disk 3 | 4 | proofs 0 vouchers 1 updates 1 values 1 whole 4",
+        ),
+        (
+            Stop(6, 2),
+            " Disk 3 | 3 | proofs 0 vouchers 1 updates 1 values 1 whole 4",
+        ),
+        (
+            Stop(7, 0),
+            " Disk 3 | 3 | proofs 0 vouchers 1 updates 1 values 1 whole 4",
+        ),
+        (
+            Stop(7, 1),
+            " Disk 3 | 4 | proofs 0 vouchers 1 updates 1 values 1 whole 4",
+        ),
+        (
+            Stop(7, 2),
+            " Disk 3 | 3 | proofs 0 vouchers 1 updates 1 values 1 whole 4",
+        ),
     ],
 };
 
@@ -200,7 +272,11 @@ fn a_start_that_stops_is_made_again(rt: HostRuntime) -> Result<(), Fail> {
         let stopped = format!(in alloc; " Disk{told}")?;
         for call in 1..calls + 1 {
             for trouble in ways(call) {
-                assert_eq!(rt; told_of_start(alloc, before, trouble)?.as_str(), stopped.as_str(), "{trouble:?}");
+                assert_eq!(rt;
+                    told_of_start(alloc, before, trouble)?.as_str(),
+                    stopped.as_str(),
+                    "{trouble:?}"
+                );
             }
         }
     }
