@@ -83,10 +83,6 @@ good_statement here J s answer decided new d taken short =
     let one : new ≡ Foreign s ∷ [] = grown ∙ alone_added J s (subst (λ (rs : List Record). length rs ≤ 1) grown short) in
     record { alone = one; may = (d.is ∙ taken.0, d.grows ∙ sym taken.1 ∙ one) }
 
--- where it grows by more, a conviction was due
-pub proof_due : (here : Setting) (J : List Record) (s : Signed) (answer : Result Taken Check) (decided new : List Record) → IsAtPlace J (Foreign s) → IsDecided here J (given_statement s) answer decided → (answer ≡ Ok New) × (new ≡ decided) → 1 < length new → IsChecked here J (Foreign s) (Err (refused.Fault fault.ProofDue))
-proof_due here J s answer decided new place d taken long = (place, (d.is ∙ taken.0, λ one. (let short : length new ≡ 1 = ap length (taken.1 ∙ sym d.grows ∙ one) in omega (arith, short, long))))
-
 -- ---- own updates
 
 yes_from : (b : Bool) → not b ≡ false → b ≡ true

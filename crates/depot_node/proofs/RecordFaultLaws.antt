@@ -1,5 +1,5 @@
--- A record that is allowed has no fault, and which fault a record has that is refused.
-use Rattle.std.proofs.Common.{◌≡◌, ℕ, List, Some, Ok, Err, sym, subst, ◌∙◌}
+-- A record that is allowed has no fault.
+use Rattle.std.proofs.Common.{◌≡◌, List, Some, Ok, Err, sym, subst, ◌∙◌}
 use Rattle.depot_base.specs.Reading.{IsClosedReadInOneWay}
 use Rattle.depot_base.specs.declared.record.Record.{Record}
 use Rattle.depot_base.specs.declared.record.Record.TheVariants.{Birth, OwnPut, OwnVoucher, Foreign, Conviction, Held}
@@ -78,14 +78,3 @@ no_fault here J r (fault.Refused c) a w = of_record here J r (fault.Refused c) a
 no_fault here J r fault.ProofDue a w = of_record here J r fault.ProofDue a w
 no_fault here J r fault.Idle a w = of_record here J r fault.Idle a w
 no_fault here J r fault.NoRoom a w = of_record here J r fault.NoRoom a w
-
--- what is wrong with a record is wrong with its text
-pub fault_of_text : (here : Setting) (J : List Record) (r : Record) (text : List ℕ) (f : RecordFault) → IsRecord r → text ≡ text_of_record r → IsFaultOf here J r f → IsFault here J text f
-fault_of_text here J r text (fault.Ill at) fits is w = absurd w
-fault_of_text here J r text fault.Birth fits is w = (r, (fits, (is, w)))
-fault_of_text here J r text fault.NotNext fits is w = (r, (fits, (is, w)))
-fault_of_text here J r text fault.OwnVoucher fits is w = (r, (fits, (is, w)))
-fault_of_text here J r text (fault.Refused c) fits is w = (r, (fits, (is, w)))
-fault_of_text here J r text fault.ProofDue fits is w = (r, (fits, (is, w)))
-fault_of_text here J r text fault.Idle fits is w = (r, (fits, (is, w)))
-fault_of_text here J r text fault.NoRoom fits is w = (r, (fits, (is, w)))

@@ -10,33 +10,33 @@ use Rattle.depot_base.specs.declared.record.Record.TheVariants.{Birth}
 use Rattle.depot_model.specs.Checks.{Setting}
 use Rattle.depot_model.specs.Records.{IsRecord, text_of_record}
 use Rattle.depot_node.specs.Reading.{AreOther, AreWrong, IsOtherBirth}
-use Rattle.depot_node.specs.Starting.{AreTextsOf, AreNotRead, AreOwn, BeginWithBirth, IsDiskFault, IsStartedFrom, LeavesBetween, LeavesFile, StartLeaves, started}
+use Rattle.depot_node.specs.Starting.{AreTextsOf, AreNotRead, AreOwn, BeginWithBirth, IsDiskFault, IsStartedFrom, LeavesBetween, LeavesFile, LeavesNew, started}
 use Rattle.depot_node.specs.declared.answer.StartError.{StartError}
 use Rattle.depot_node.specs.declared.answer.StartError.TheVariants as refused
 
 -- ---- what a stop may leave
 
 -- of a journal that is started: a file of at most one byte has no records, as the one before it
-journal_leaves : (here : Setting) (file : List ℕ) (before : List ℕ → Type 0) (image : List ℕ) → files.StartLeaves before file image → StartLeaves here (IsFileOf file []) before image
-journal_leaves here file before image (inl might) = inl might
-journal_leaves here file before image (inr short) = inr (inl (short.0, refl), record { count = 0; has = inl (short.1, refl) })
+journal_leaves : (new : List Record) (file : List ℕ) (before : List ℕ → Type 0) (image : List ℕ) → files.StartLeaves before file image → LeavesNew new (IsFileOf file []) before image
+journal_leaves new file before image (inl might) = inl might
+journal_leaves new file before image (inr short) = inr (inl (short.0, refl), record { count = 0; has = inl (short.1, refl) })
 
 -- a journal was started, and that was all
-pub left_by_journal : {D : Type 0} (moment : D → ℕ) (left_since : D → ℕ → List ℕ → Type 0) (here : Setting) (file : List ℕ) (before : List ℕ → Type 0) (disk end : D) → LeavesOnly moment left_since disk end (files.StartLeaves before file)
-    → LeavesBetween (moment disk) (moment end) (left_since disk) (left_since end) (StartLeaves here (IsFileOf file []) before)
-left_by_journal moment left_since here file before disk end leaves = record {
+pub left_by_journal : {D : Type 0} (moment : D → ℕ) (left_since : D → ℕ → List ℕ → Type 0) (new : List Record) (file : List ℕ) (before : List ℕ → Type 0) (disk end : D) → LeavesOnly moment left_since disk end (files.StartLeaves before file)
+    → LeavesBetween (moment disk) (moment end) (left_since disk) (left_since end) (LeavesNew new (IsFileOf file []) before)
+left_by_journal moment left_since new file before disk end leaves = record {
   later = leaves.later;
-  each = λ image left. journal_leaves here file before image (leaves.each image left);
+  each = λ image left. journal_leaves new file before image (leaves.each image left);
   before_it = λ t image at left. elim (leaves.before t image at left) [
     | inl past ↦ inl past
-    | inr now ↦ inr (journal_leaves here file before image now)
+    | inr now ↦ inr (journal_leaves new file before image now)
   ];
 }
 
 -- the same between three moments
-pub left_by_both : (here : Setting) (file : List ℕ) (texts : List (List ℕ)) (a b c : ℕ) (past mid since : ℕ → List ℕ → Type 0) (before between : List ℕ → Type 0) → IsFileOf file texts → ((image : List ℕ) → between image → mid a image)
-    → LeavesBetween a b past mid (StartLeaves here (IsFileOf file []) before) → LeavesBetween b c mid since (StartLeaves here (texts ≡ []) between) → LeavesBetween a c past since (StartLeaves here (IsFileOf file []) before)
-left_by_both here file texts a b c past mid since before between has counts first second = record {
+pub left_by_both : (new : List Record) (file : List ℕ) (texts : List (List ℕ)) (a b c : ℕ) (past mid since : ℕ → List ℕ → Type 0) (before between : List ℕ → Type 0) → IsFileOf file texts → ((image : List ℕ) → between image → mid a image)
+    → LeavesBetween a b past mid (LeavesNew new (IsFileOf file []) before) → LeavesBetween b c mid since (LeavesNew new (texts ≡ []) between) → LeavesBetween a c past since (LeavesNew new (IsFileOf file []) before)
+left_by_both new file texts a b c past mid since before between has counts first second = record {
   later = omega (arith, first.later, second.later);
   each = λ image left. elim (second.before_it a image first.later left) [
     | inl earlier ↦ first.each image earlier
@@ -47,7 +47,7 @@ left_by_both here file texts a b c past mid since before between has counts firs
     | inr now ↦ inr (later image now)
   ];
 } where
-  later : (image : List ℕ) → StartLeaves here (texts ≡ []) between image → StartLeaves here (IsFileOf file []) before image
+  later : (image : List ℕ) → LeavesNew new (texts ≡ []) between image → LeavesNew new (IsFileOf file []) before image
   later image (inl might) = first.each image (counts image might)
   later image (inr birth) = inr (subst (IsFileOf file) birth.0 has, birth.1)
 

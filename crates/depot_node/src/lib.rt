@@ -5,11 +5,11 @@
 //! it as it is, but where a fork or a step back convicts its writer. Reads go over the accepted updates of the journal.
 //!
 //! `Replica` is what others see of a node and give it, with its laws: the journal is lawful and has its birth record, and the
-//! roster has the node. The journal is kept in memory, as the list of its record texts; a node is started from such a list, and gives it back.
+//! roster has the node. A node is started from the journal on a disk, whose records are checked one by one (`reading`, `record_check`), and gives the disk back.
 //!
 //! What is put or taken is decided over the `Store` of `depot_store` as it stands, which appends nothing (`put`, `statement`,
 //! `proof`, `value`), and then carried out by one call, `Store::commit`, by which alone the journal grows once it is started;
-//! `take` does the one and then the other, `start` has the starts, and `node` puts them together. So are the node's own vouchers
+//! `take` does the one and then the other, `start` has the starts, and `node` puts them together. Once the disk failed a node is stopped. So are the node's own vouchers
 //! for what it took from others (`vouch`).
 //!
 //! What others are told of a journal is read off the store: whom the node convicted and what values it lacks (`tell`), the

@@ -1,5 +1,5 @@
 //! A node is started from the journal on its disk.
-ghost use Rattle.std.specs.Prelude.{◌≡◌, [], ℕ, List, false, true, IsTrue, Some, None, IfOk, IfErr, IfSome};
+ghost use Rattle.std.specs.Prelude.{◌≡◌, ◌≢◌, [], ℕ, List, false, true, IsTrue, Some, None, IfOk, IfErr, IfSome};
 ghost use Rattle.depot_base.specs.Faults.{HasCause};
 ghost use Rattle.depot_base.specs.File.{IsFileOf};
 ghost use Rattle.depot_base.specs.declared.record.Record.{Record};
@@ -8,7 +8,7 @@ ghost use Rattle.depot_model.specs.Roster.{has_node, key_of};
 ghost use Rattle.depot_model.specs.Stops.{LeavesAll};
 ghost use Rattle.depot_accept.specs.View.{IsStateOf, setting};
 ghost use Rattle.depot_store.specs.Holdings.{standing, IsWhole};
-ghost use Rattle.depot_node.specs.Starting.{IsDiskFault, IsKeyFault, IsNotStarted, IsStartedFrom, LeavesBetween, LeavesFile, StartLeaves, of_journal, started};
+ghost use Rattle.depot_node.specs.Starting.{IsDiskFault, IsKeyFault, IsNotStarted, IsStartedFrom, LeavesBetween, LeavesFile, LeavesNew, StartLeaves, of_journal, started};
 ghost use Rattle.depot_node.specs.declared.answer.StartError.TheVariants as start_error;
 
 use crate::answer::StartError;
@@ -28,7 +28,8 @@ impl<D: Disk, S: Scheme, G: Signer<Of = S>> Node<D, S, G> {
     /// disk without records gets the birth record of the node.
     ///
     /// `UnknownMe` and `OtherKey` are found before the disk is touched, then `Damaged`, `OtherNode`, `OtherRoster` and `NotLawful`,
-    /// each exactly where it is so; the file then reads as before. The disk is given back.
+    /// each exactly where it is so; the file then reads as before. The disk is given back. A birth may stand on it where the disk
+    /// failed, and after no other refusal.
     pub fn start(
         alloc: Global,
         disk: D,
@@ -44,10 +45,12 @@ impl<D: Disk, S: Scheme, G: Signer<Of = S>> Node<D, S, G> {
         ensures records { IfOk result (λ n. IsTrue (D.tells disk) → IsStartedFrom (record { verifies = S.verifies; me = me; listed = roster }) (D.seen disk) (⟦<Node<D, S, G> as Replica>⟧.records n)) }
         ensures refused { IfErr result (λ b. IsNotStarted (record { verifies = S.verifies; me = me; listed = roster }) (G.key_of signer) (IsTrue (D.tells disk)) (D.seen disk) b.error) }
         ensures unchanged { IfErr result (λ b. LeavesFile b.error → D.seen b.disk ≡ D.seen disk) }
+        ensures untouched { IfErr result (λ b. IsKeyFault roster me (G.key_of signer) b.error → b.disk ≡ disk) }
 
         // What a stop may leave, at any moment of the call and after it.
         ensures any_moment { IfOk result (λ n. IsTrue (D.tells disk) → LeavesBetween (D.moment disk) (⟦<Node<D, S, G> as Replica>⟧.moment n) (D.left_since disk) (⟦<Node<D, S, G> as Replica>⟧.left_since n) (StartLeaves (record { verifies = S.verifies; me = me; listed = roster }) (IsFileOf (D.seen disk) []) (D.may_leave disk))) }
         ensures any_moment_back { IfErr result (λ b. IsTrue (D.tells disk) → LeavesBetween (D.moment disk) (D.moment b.disk) (D.left_since disk) (D.left_since b.disk) (StartLeaves (record { verifies = S.verifies; me = me; listed = roster }) (IsFileOf (D.seen disk) []) (D.may_leave disk))) }
+        ensures unborn { IfErr result (λ b. b.error ≢ start_error.Disk → IsTrue (D.tells disk) → LeavesBetween (D.moment disk) (D.moment b.disk) (D.left_since disk) (D.left_since b.disk) (LeavesNew [] (IsFileOf (D.seen disk) []) (D.may_leave disk))) }
         ensures stable { IfOk result (λ n. IsTrue (D.tells disk) → LeavesAll (⟦<Node<D, S, G> as Replica>⟧.records n) false (⟦<Node<D, S, G> as Replica>⟧.may_leave n)) }
 
         // The disk that comes back, in the node or without it, is the one that was given.
@@ -96,6 +99,7 @@ fn open<D: Disk, S: Scheme>(
     ensures unchanged { IfErr result (λ b. LeavesFile b.error → D.seen b.disk ≡ D.seen disk) }
     ensures any_moment { IfOk result (λ s. IsTrue (D.tells disk) → LeavesBetween (D.moment disk) (D.moment s.disk) (D.left_since disk) (D.left_since s.disk) (StartLeaves (setting S.verifies state) (IsFileOf (D.seen disk) []) (D.may_leave disk))) }
     ensures any_moment_back { IfErr result (λ b. IsTrue (D.tells disk) → LeavesBetween (D.moment disk) (D.moment b.disk) (D.left_since disk) (D.left_since b.disk) (StartLeaves (setting S.verifies state) (IsFileOf (D.seen disk) []) (D.may_leave disk))) }
+    ensures unborn { IfErr result (λ b. b.error ≢ start_error.Disk → IsTrue (D.tells disk) → LeavesBetween (D.moment disk) (D.moment b.disk) (D.left_since disk) (D.left_since b.disk) (LeavesNew [] (IsFileOf (D.seen disk) []) (D.may_leave disk))) }
     ensures stable { IfOk result (λ s. IsTrue (D.tells disk) → LeavesAll s.records false (D.may_leave s.disk)) }
     ensures handle { IfOk result (λ s. D.handle s.disk ≡ D.handle disk) }
     ensures handle_back { IfErr result (λ b. D.handle b.disk ≡ D.handle disk) }

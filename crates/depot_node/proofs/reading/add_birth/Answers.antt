@@ -1,5 +1,6 @@
 -- The birth of the node is lawful after no records, so it has a text.
 use Rattle.std.proofs.Common.{[], ◌∷◌, ◌++◌, List, sym, subst}
+use Rattle.std.proofs.lemmas.Result.{err_from_is_err_and}
 use Rattle.depot_base.specs.declared.record.Record.{Record}
 use Rattle.depot_base.specs.declared.record.Record.TheVariants.{Birth}
 use Rattle.depot_model.specs.Lawful.{IsLawful}
@@ -25,3 +26,8 @@ append-requires-clause-lawful g c =
 
 pub returns-in_err-growth-clause-lasts : goal.returns-in_err-growth-clause-lasts
 returns-in_err-growth-clause-lasts g c = idle_lasts (λ v file left. g.met.D.Disk.only_now v.disk file left) _ _ (c.is_stopped-runs.ensures.stable c.requires.read)
+
+pub returns-in_err-growth-clause-idle : goal.returns-in_err-growth-clause-idle
+returns-in_err-growth-clause-idle g c =
+    let p = err_from_is_err_and c.from_residual.result c.from_residual.ensures.1 in
+    rw (p.1, p.2) (λ _. idle_lasts (λ v file left. g.met.D.Disk.only_now v.disk file left) _ _ (c.is_stopped-runs.ensures.stable c.requires.read))

@@ -4,7 +4,7 @@ use Rattle.depot_accept.specs.View.{setting}
 use Rattle.depot_model.specs.Checks.{Setting}
 use Rattle.depot_base.specs.declared.record.Record.{Record}
 use Rattle.depot_store.specs.Holdings.{Holding, standing}
-use Rattle.depot_node.specs.Starting.{AreNotRead, AreTextsOf, LeavesBetween, StartLeaves, started}
+use Rattle.depot_node.specs.Starting.{AreNotRead, AreTextsOf, LeavesBetween, LeavesNew, StartLeaves, birth_after, started}
 use Rattle.depot_node.proofs.Starts.{fault_has_text, left_by_both, left_by_journal, reading_fault, started_from}
 use Rattle.depot_node.proofs.start.open.Given.{Over}
 use Rattle.depot_node.proofs.start.open.Goals as goal
@@ -19,18 +19,26 @@ told_in : (g : Over) (c : After-fill g) → IsTrue (g.D.Disk.tells c.args.disk) 
 told_in g c told = subst (λ (v : Holding g.row.D.Denot). IsTrue (g.D.Disk.tells v.disk)) (sym c.new-store.ensures) (subst IsTrue (sym c.in-Ok.ensures.tells) told)
 
 -- what a stop may leave, of the journal's start and of what comes behind it
-left : (g : Over) (c : After-fill g) → IsTrue (g.D.Disk.tells c.args.disk)
-    → LeavesBetween (g.D.Disk.moment c.args.disk) (g.D.Disk.moment c.fill.new.store.disk) (g.D.Disk.left_since c.args.disk) (g.D.Disk.left_since c.fill.new.store.disk) (StartLeaves (here g c) (IsFileOf (g.D.Disk.seen c.args.disk) []) (g.D.Disk.may_leave c.args.disk))
-left g c told =
+left : (g : Over) (c : After-fill g) (new : List Record) → IsTrue (g.D.Disk.tells c.args.disk)
+    → LeavesBetween (g.D.Disk.moment c.new-store.result.disk) (g.D.Disk.moment c.fill.new.store.disk) (g.D.Disk.left_since c.new-store.result.disk) (g.D.Disk.left_since c.fill.new.store.disk) (LeavesNew new (c.new-store.result.unread ≡ []) (g.D.Disk.may_leave c.new-store.result.disk))
+    → LeavesBetween (g.D.Disk.moment c.args.disk) (g.D.Disk.moment c.fill.new.store.disk) (g.D.Disk.left_since c.args.disk) (g.D.Disk.left_since c.fill.new.store.disk) (LeavesNew new (IsFileOf (g.D.Disk.seen c.args.disk) []) (g.D.Disk.may_leave c.args.disk))
+left g c new told filled =
     let mid = c.in-Ok.journal.disk in
-    let behind = subst (λ (v : Holding g.row.D.Denot). LeavesBetween (g.D.Disk.moment v.disk) (g.D.Disk.moment c.fill.new.store.disk) (g.D.Disk.left_since v.disk) (g.D.Disk.left_since c.fill.new.store.disk) (StartLeaves (standing g.S.Scheme.verifies v) (v.unread ≡ []) (g.D.Disk.may_leave v.disk))) c.new-store.ensures (c.fill.ensures.any_moment (told_in g c told)) in
-    let first = left_by_journal g.D.Disk.moment g.D.Disk.left_since (here g c) (g.D.Disk.seen c.args.disk) (g.D.Disk.may_leave c.args.disk) c.args.disk mid (c.in-Ok.ensures.any_moment told) in
-    left_by_both (here g c) (g.D.Disk.seen c.args.disk) c.in-Ok.journal.records (g.D.Disk.moment c.args.disk) (g.D.Disk.moment mid) (g.D.Disk.moment c.fill.new.store.disk) (g.D.Disk.left_since c.args.disk) (g.D.Disk.left_since mid) (g.D.Disk.left_since c.fill.new.store.disk) (g.D.Disk.may_leave c.args.disk) (g.D.Disk.may_leave mid)
+    let behind = subst (λ (v : Holding g.row.D.Denot). LeavesBetween (g.D.Disk.moment v.disk) (g.D.Disk.moment c.fill.new.store.disk) (g.D.Disk.left_since v.disk) (g.D.Disk.left_since c.fill.new.store.disk) (LeavesNew new (v.unread ≡ []) (g.D.Disk.may_leave v.disk))) c.new-store.ensures filled in
+    let first = left_by_journal g.D.Disk.moment g.D.Disk.left_since new (g.D.Disk.seen c.args.disk) (g.D.Disk.may_leave c.args.disk) c.args.disk mid (c.in-Ok.ensures.any_moment told) in
+    left_by_both new (g.D.Disk.seen c.args.disk) c.in-Ok.journal.records (g.D.Disk.moment c.args.disk) (g.D.Disk.moment mid) (g.D.Disk.moment c.fill.new.store.disk) (g.D.Disk.left_since c.args.disk) (g.D.Disk.left_since mid) (g.D.Disk.left_since c.fill.new.store.disk) (g.D.Disk.may_leave c.args.disk) (g.D.Disk.may_leave mid)
     (c.in-Ok.ensures.read told) (λ image now. g.met.D.Disk.counts_now mid (g.D.Disk.moment c.args.disk) image first.later now) first behind
+
+-- the birth among it
+left_with_birth : (g : Over) (c : After-fill g) → IsTrue (g.D.Disk.tells c.args.disk)
+    → LeavesBetween (g.D.Disk.moment c.args.disk) (g.D.Disk.moment c.fill.new.store.disk) (g.D.Disk.left_since c.args.disk) (g.D.Disk.left_since c.fill.new.store.disk) (StartLeaves (here g c) (IsFileOf (g.D.Disk.seen c.args.disk) []) (g.D.Disk.may_leave c.args.disk))
+left_with_birth g c told =
+    let stands = ap (λ (v : Holding g.row.D.Denot). birth_after (standing g.S.Scheme.verifies v) []) c.new-store.ensures in
+    left g c (birth_after (here g c) []) told (subst (λ (new : List Record). LeavesBetween (g.D.Disk.moment c.new-store.result.disk) (g.D.Disk.moment c.fill.new.store.disk) (g.D.Disk.left_since c.new-store.result.disk) (g.D.Disk.left_since c.fill.new.store.disk) (LeavesNew new (c.new-store.result.unread ≡ []) (g.D.Disk.may_leave c.new-store.result.disk))) stands (c.fill.ensures.any_moment (told_in g c told)))
 
 pub returns-in-Err-clause-any_moment_back : goal.returns-in-Err-clause-any_moment_back
 returns-in-Err-clause-any_moment_back g c = λ told.
-    left_by_journal g.D.Disk.moment g.D.Disk.left_since (setting g.S.Scheme.verifies c.args.state) (g.D.Disk.seen c.args.disk) (g.D.Disk.may_leave c.args.disk) c.args.disk c.in-Err.field-0.disk (c.in-Err.ensures.any_moment_back told)
+    left_by_journal g.D.Disk.moment g.D.Disk.left_since (birth_after (setting g.S.Scheme.verifies c.args.state) []) (g.D.Disk.seen c.args.disk) (g.D.Disk.may_leave c.args.disk) c.args.disk c.in-Err.field-0.disk (c.in-Err.ensures.any_moment_back told)
 
 pub returns-in-Ok-fill-clause-records : goal.returns-in-Ok-fill-clause-records
 returns-in-Ok-fill-clause-records g c = λ told.
@@ -38,7 +46,7 @@ returns-in-Ok-fill-clause-records g c = λ told.
     started_from (setting g.S.Scheme.verifies c.args.state) (g.D.Disk.seen c.args.disk) c.in-Ok.journal.records c.fill.new.store.records J (c.in-Ok.ensures.read told)
 
 pub returns-in-Ok-fill-clause-any_moment : goal.returns-in-Ok-fill-clause-any_moment
-returns-in-Ok-fill-clause-any_moment g c = left g (goal.at.returns-in-Ok-fill-clause-any_moment g c).After-fill
+returns-in-Ok-fill-clause-any_moment g c = left_with_birth g (goal.at.returns-in-Ok-fill-clause-any_moment g c).After-fill
 
 pub returns-in-Ok-fill-clause-stable : goal.returns-in-Ok-fill-clause-stable
 returns-in-Ok-fill-clause-stable g c = λ told. c.in-Ok-fill.ensures.stable (told_in g (goal.at.returns-in-Ok-fill-clause-stable g c).After-fill told)
@@ -65,4 +73,14 @@ returns-in-Err-fill-clause-unchanged g c = λ leaves.
 pub returns-in-Err-fill-clause-any_moment_back : goal.returns-in-Err-fill-clause-any_moment_back
 returns-in-Err-fill-clause-any_moment_back g c = λ told.
     let at = (goal.at.returns-in-Err-fill-clause-any_moment_back g c).After-fill in
-    subst (λ (d : g.row.D.Denot). LeavesBetween (g.D.Disk.moment c.args.disk) (g.D.Disk.moment d) (g.D.Disk.left_since c.args.disk) (g.D.Disk.left_since d) (StartLeaves (here g at) (IsFileOf (g.D.Disk.seen c.args.disk) []) (g.D.Disk.may_leave c.args.disk))) (sym c.into_disk.ensures) (left g at told)
+    subst (λ (d : g.row.D.Denot). LeavesBetween (g.D.Disk.moment c.args.disk) (g.D.Disk.moment d) (g.D.Disk.left_since c.args.disk) (g.D.Disk.left_since d) (StartLeaves (here g at) (IsFileOf (g.D.Disk.seen c.args.disk) []) (g.D.Disk.may_leave c.args.disk))) (sym c.into_disk.ensures) (left_with_birth g at told)
+
+-- ---- where no birth was appended
+
+pub returns-in-Err-clause-unborn : goal.returns-in-Err-clause-unborn
+returns-in-Err-clause-unborn g c = λ other told. left_by_journal g.D.Disk.moment g.D.Disk.left_since [] (g.D.Disk.seen c.args.disk) (g.D.Disk.may_leave c.args.disk) c.args.disk c.in-Err.field-0.disk (c.in-Err.ensures.any_moment_back told)
+
+pub returns-in-Err-fill-clause-unborn : goal.returns-in-Err-fill-clause-unborn
+returns-in-Err-fill-clause-unborn g c = λ other told.
+    let at = (goal.at.returns-in-Err-fill-clause-unborn g c).After-fill in
+    subst (λ (d : g.row.D.Denot). LeavesBetween (g.D.Disk.moment c.args.disk) (g.D.Disk.moment d) (g.D.Disk.left_since c.args.disk) (g.D.Disk.left_since d) (LeavesNew [] (IsFileOf (g.D.Disk.seen c.args.disk) []) (g.D.Disk.may_leave c.args.disk))) (sym c.into_disk.ensures) (left g at [] told (c.in-Err-fill.ensures.unborn other (told_in g at told)))
