@@ -42,7 +42,7 @@ none_of_new J stopped file runs all = record {
 }
 
 -- where nothing is done
-nothing_lasts : {N : Type 0} {tells stopped : N → Bool} {records : N → List Record} {moment : N → ℕ} {left_since : N → ℕ → List ℕ → Type 0} {may_leave : N → List ℕ → Type 0} → ((v : N) (file : List ℕ) → left_since v (moment v) file → may_leave v file)
+pub nothing_lasts : {N : Type 0} {tells stopped : N → Bool} {records : N → List Record} {moment : N → ℕ} {left_since : N → ℕ → List ℕ → Type 0} {may_leave : N → List ℕ → Type 0} → ((v : N) (file : List ℕ) → left_since v (moment v) file → may_leave v file)
     → (v : N) → (IsTrue (tells v) → LeavesAll (records v) (stopped v) (may_leave v)) → Lasts tells stopped records moment left_since may_leave v v []
 nothing_lasts {stopped = stopped} {records = records} only_now v stable = record {
   told = refl;
@@ -114,26 +114,51 @@ both_leave {moment = moment} old mid new A B P of_a of_b a b = record {
 no_more_or_less : (m n : ℕ) → (m ≤ n) ⊎ (n ≤ m)
 no_more_or_less m n = grind arith
 
--- A call on a running node that appended all, and then another one on it as it runs on.
-pub joined_in : {N : Type 0} {tells stopped : N → Bool} {records : N → List Record} {moment : N → ℕ} {left_since : N → ℕ → List ℕ → Type 0} {may_leave : N → List ℕ → Type 0}
-    → (here there : Setting) (failed : Bool) (old mid new : N) → there ≡ here → stopped old ≡ false → stopped mid ≡ false
-    → LastsIn tells stopped records moment left_since may_leave here false old mid → LastsIn tells stopped records moment left_since may_leave there failed mid new → LastsIn tells stopped records moment left_since may_leave here failed old new
-joined_in {tells = tells} {stopped = stopped} {records = records} here there failed old mid new stays ran runs one two =
+-- a front of the records that a call appends is one of these and more
+pub lasts_longer : {N : Type 0} {tells stopped : N → Bool} {records : N → List Record} {moment : N → ℕ} {left_since : N → ℕ → List ℕ → Type 0} {may_leave : N → List ℕ → Type 0}
+    → (old new : N) (a b : List Record) → Lasts tells stopped records moment left_since may_leave old new a → Lasts tells stopped records moment left_since may_leave old new (a ++ b)
+lasts_longer {records = records} old new a b lasts = record {
+  told = lasts.told;
+  any_moment = λ t runs. let only = lasts.any_moment t runs in record {
+    later = only.later;
+    each = λ file left. longer file (only.each file left);
+    before = λ t file le left. ⊎_elim (λ was. inl was) (λ then. inr (longer file then)) (only.before t file le left);
+  };
+  stable = lasts.stable;
+  untouched = lasts.untouched;
+} where
+  longer : (file : List ℕ) → HasFront (records old) a file → HasFront (records old) (a ++ b) file
+  longer file front = front_of_first (records old) a b front.count file front.has (no_more_or_less front.count (length a))
+
+-- the same of a list that is equal
+pub lasts_alike : {N : Type 0} {tells stopped : N → Bool} {records : N → List Record} {moment : N → ℕ} {left_since : N → ℕ → List ℕ → Type 0} {may_leave : N → List ℕ → Type 0}
+    → (old new : N) (a b : List Record) → a ≡ b → Lasts tells stopped records moment left_since may_leave old new a → Lasts tells stopped records moment left_since may_leave old new b
+lasts_alike {tells = tells} {stopped = stopped} {records = records} {moment = moment} {left_since = left_since} {may_leave = may_leave} old new a b is lasts = subst (λ (x : List Record). Lasts tells stopped records moment left_since may_leave old new x) is lasts
+
+-- A call on a running node that appended all of the first ones, and then another one on it as it runs on.
+pub lasts_joined : {N : Type 0} {tells stopped : N → Bool} {records : N → List Record} {moment : N → ℕ} {left_since : N → ℕ → List ℕ → Type 0} {may_leave : N → List ℕ → Type 0}
+    → (old mid new : N) (a b : List Record) → stopped old ≡ false → stopped mid ≡ false → records mid ≡ records old ++ a
+    → Lasts tells stopped records moment left_since may_leave old mid a → Lasts tells stopped records moment left_since may_leave mid new b → Lasts tells stopped records moment left_since may_leave old new (a ++ b)
+lasts_joined {tells = tells} {stopped = stopped} {records = records} old mid new a b ran runs grown one two =
     let J = records old in
-    let a = one.appends in
-    let b = two.appends in
-    let same : tells old ≡ tells mid = sym one.lasts.told in
+    let same : tells old ≡ tells mid = sym one.told in
     record {
-      appends = a ++ b;
-      is = both_to_append here there failed J (records mid) (records new) a b stays one.is two.is;
-      lasts = record {
-        told = two.lasts.told ∙ one.lasts.told;
-        any_moment = λ t _. both_leave old mid new (HasFront J a) (HasFront (records mid) b) (HasFront J (a ++ b)) (λ file front. front_of_first J a b front.count file front.has (no_more_or_less front.count (length a)))
-            (λ file front. front_of_second J (records mid) a b file (one.is.all refl) front) (one.lasts.any_moment t ran) (two.lasts.any_moment (subst (λ (x : Bool). IsTrue x) same t) runs);
-        stable = λ t. two.lasts.stable (subst (λ (x : Bool). IsTrue x) same t);
-        untouched = λ is. absurd (untrue (sym is ∙ ran));
-      };
+      told = two.told ∙ one.told;
+      any_moment = λ t _. both_leave old mid new (HasFront J a) (HasFront (records mid) b) (HasFront J (a ++ b)) (λ file front. front_of_first J a b front.count file front.has (no_more_or_less front.count (length a)))
+          (λ file front. front_of_second J (records mid) a b file grown front) (one.any_moment t ran) (two.any_moment (subst (λ (x : Bool). IsTrue x) same t) runs);
+      stable = λ t. two.stable (subst (λ (x : Bool). IsTrue x) same t);
+      untouched = λ is. absurd (untrue (sym is ∙ ran));
     }
   where
     untrue : true ≡ false → ⊥
     untrue e = cc
+
+-- the same, where the records are those that the calls were to append
+pub joined_in : {N : Type 0} {tells stopped : N → Bool} {records : N → List Record} {moment : N → ℕ} {left_since : N → ℕ → List ℕ → Type 0} {may_leave : N → List ℕ → Type 0}
+    → (here there : Setting) (failed : Bool) (old mid new : N) → there ≡ here → stopped old ≡ false → stopped mid ≡ false
+    → LastsIn tells stopped records moment left_since may_leave here false old mid → LastsIn tells stopped records moment left_since may_leave there failed mid new → LastsIn tells stopped records moment left_since may_leave here failed old new
+joined_in {records = records} here there failed old mid new stays ran runs one two = record {
+  appends = one.appends ++ two.appends;
+  is = both_to_append here there failed (records old) (records mid) (records new) one.appends two.appends stays one.is two.is;
+  lasts = lasts_joined old mid new one.appends two.appends ran runs (one.is.all refl) one.lasts two.lasts;
+}

@@ -3,6 +3,7 @@ pub mod BundleAnswers
 pub mod CallLaws
 pub mod ChoiceLaws
 pub mod ChunkLaws
+pub mod FeedGrowth
 pub mod FitLaws
 pub mod FrameGrowth
 pub mod FrontLaws

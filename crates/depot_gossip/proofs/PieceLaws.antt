@@ -147,7 +147,8 @@ unfolding fed
 front_is_fed here s [] going on told lt = ap (λ (t : List ℕ). record s { begun = t }) (sym (append-nil s.begun))
 front_is_fed here s (x ∷ c) going on told lt = chunk_is_fed here s (x ∷ c) going on told (omega arith) (omega (arith, lt)) ∙ ap (fed_at here s (s.begun ++ x ∷ c)) (front_is_open s.begun (x ∷ c) told lt)
 
-frame_is_fed : (here : Setting) (t : Tally) (begun c : List ℕ) (J : List Record) (f : Frame) → is_over (at_work (stream_by t begun false) J) ≡ false → frame_at begun ≡ open_frame → 0 < length c → length c ≤ missing begun
+-- the chunk whose last byte makes a whole frame takes that frame
+pub frame_is_fed : (here : Setting) (t : Tally) (begun c : List ℕ) (J : List Record) (f : Frame) → is_over (at_work (stream_by t begun false) J) ≡ false → frame_at begun ≡ open_frame → 0 < length c → length c ≤ missing begun
     → frame_at (begun ++ c) ≡ whole_frame f → fed here (at_work (stream_by t begun false) J) c ≡ fed_frame here (length (begun ++ c)) f (at_work (stream_by t [] false) J)
 frame_is_fed here t begun c J f on told some le at =
     chunk_is_fed here (at_work (stream_by t begun false) J) c refl on told some le

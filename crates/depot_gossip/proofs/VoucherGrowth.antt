@@ -1,19 +1,20 @@
 -- What the vouchers of a bundle bring a journal, all of which or a front of which was appended.
-use Rattle.std.proofs.Common.{◌≡◌, ℕ, List, [], ◌++◌, Bool, true, false, None, Ok, Err, refl, sym, ap, subst, ◌∙◌}
+use Rattle.std.proofs.Common.{◌≡◌, ℕ, List, [], ◌++◌, Bool, true, false, Option, None, Ok, Err, refl, sym, ap, subst, ◌∙◌}
 use Rattle.depot_base.specs.declared.record.Record.{Record}
 use Rattle.depot_model.specs.declared.bundle.VoucherError.{VoucherError}
 use Rattle.depot_model.specs.declared.bundle.VoucherError.TheVariants as refused
 use Rattle.depot_model.specs.Checks.{Setting}
 use Rattle.depot_model.specs.Lawful.{IsLawful, is_empty}
+use Rattle.depot_model.specs.Limits.{Limit}
 use Rattle.depot_model.specs.Stops.{Lasts}
 use Rattle.depot_model.specs.Vouching.{Vouches, new_vouchers, records_of, limit_of_vouchers}
-use Rattle.depot_model.specs.Bundle.{Signs, bundle_of}
+use Rattle.depot_model.specs.Bundle.{Signs, bundled_within, bundle_of, bundle_answer}
 use Rattle.depot_gossip.specs.declared.own_bundle.Bundled.{Bundled}
 use Rattle.depot_gossip.specs.declared.own_bundle.Prepared.{Prepared}
 use Rattle.depot_gossip.specs.Errors.{from_vouching}
-use Rattle.depot_gossip.specs.Bundling.{IsPrepared, finds_disk}
+use Rattle.depot_gossip.specs.Bundling.{IsPrepared, finds_disk, journaled_for}
 use Rattle.depot_gossip.specs.Lasting.{LastsIn}
-use Rattle.depot_gossip.proofs.LastingLaws.{all_of, cut_of, none_in, to_append, IsPart}
+use Rattle.depot_gossip.proofs.LastingLaws.{all_of, cut_of, none_in, to_append, lasts_longer, lasts_alike, IsPart}
 use Rattle.depot_gossip.proofs.ToldLaws.{bundle_is_lawful}
 
 -- the journal is lawful with vouchers that meet no limit
@@ -49,3 +50,30 @@ not_vouched_in {records = records} here sign ran text p refused.Disk old new l s
 not_vouched_in here sign ran text p refused.Stopped old new l some is never v lasts idle = absurd (never refl)
 not_vouched_in here sign ran text p (refused.Spent n) old new l some is never v lasts idle = none_in here false old new l v.1 (idle (λ e. cc))
 not_vouched_in here sign ran text p (refused.Full what) old new l some is never v lasts idle = none_in here false old new l v.1 (idle (λ e. cc))
+
+-- ---- they are those of the bundle
+
+-- vouchers that meet no limit are those that are journaled for the answer
+are_journaled : (here : Setting) (sign : Signs) (J : List Record) (stopped : Bool) (text : List ℕ) (p : Prepared) → IsPrepared here sign J stopped text p → limit_of_vouchers here J p.unvouched ≡ None
+    → records_of (new_vouchers here.me J p.unvouched) ≡ journaled_for (bundle_answer here sign J text)
+unfolding bundle_of
+are_journaled here sign J stopped text p is none =
+    ap (λ (ids : List (List ℕ)). records_of (new_vouchers here.me J ids)) is.ids
+    ∙ sym (ap journaled_for (is.heard ∙ ap (λ (o : Option Limit). bundled_within o (bundle_of here.me sign J p.hello)) (ap (limit_of_vouchers here J) (sym is.ids) ∙ none)))
+
+-- they were made, or the disk cut them short
+pub vouched_lasts : {N : Type 0} {tells stopped : N → Bool} {records : N → List Record} {moment : N → ℕ} {left_since : N → ℕ → List ℕ → Type 0} {may_leave : N → List ℕ → Type 0}
+    → (here : Setting) (sign : Signs) (ran : Bool) (text : List ℕ) (p : Prepared) (old new : N) → IsPrepared here sign (records old) ran text p → limit_of_vouchers here (records old) p.unvouched ≡ None
+    → Lasts tells stopped records moment left_since may_leave old new (records_of (new_vouchers here.me (records old) p.unvouched)) → Lasts tells stopped records moment left_since may_leave old new (journaled_for (bundle_answer here sign (records old) text))
+vouched_lasts {records = records} here sign ran text p old new is none lasts = lasts_alike old new _ _ (are_journaled here sign (records old) ran text p is none) lasts
+
+-- they weren't made: the disk failed, or none was appended
+pub not_vouched_lasts : {N : Type 0} {tells stopped : N → Bool} {records : N → List Record} {moment : N → ℕ} {left_since : N → ℕ → List ℕ → Type 0} {may_leave : N → List ℕ → Type 0}
+    → (here : Setting) (sign : Signs) (ran : Bool) (text : List ℕ) (p : Prepared) (e : VoucherError) (old new : N) → IsPrepared here sign (records old) ran text p → Vouches here (records old) p.unvouched (Err e) (records new)
+    → Lasts tells stopped records moment left_since may_leave old new (records_of (new_vouchers here.me (records old) p.unvouched)) → ((e ≡ refused.Disk → ⊥) → Lasts tells stopped records moment left_since may_leave old new [])
+    → Lasts tells stopped records moment left_since may_leave old new (journaled_for (bundle_answer here sign (records old) text))
+not_vouched_lasts here sign ran text p refused.Disk old new is v lasts idle = vouched_lasts here sign ran text p old new is v.0 lasts
+not_vouched_lasts here sign ran text p refused.Memory old new is v lasts idle = lasts_longer old new [] _ (idle (λ e. cc))
+not_vouched_lasts here sign ran text p refused.Stopped old new is v lasts idle = lasts_longer old new [] _ (idle (λ e. cc))
+not_vouched_lasts here sign ran text p (refused.Spent n) old new is v lasts idle = lasts_longer old new [] _ (idle (λ e. cc))
+not_vouched_lasts here sign ran text p (refused.Full what) old new is v lasts idle = lasts_longer old new [] _ (idle (λ e. cc))

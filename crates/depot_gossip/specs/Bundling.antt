@@ -1,5 +1,5 @@
 -- What a node answers to a hello, and what its journal is then.
-use Rattle.std.specs.Prelude.{◌≡◌, ℕ, ◌⊎◌, List, Bool, true, false, length, nat_lt, Result, Ok, Err}
+use Rattle.std.specs.Prelude.{◌≡◌, ℕ, ◌⊎◌, List, [], Bool, true, false, length, nat_lt, Result, Ok, Err}
 use Rattle.depot_base.specs.declared.record.Record.{Record}
 use Rattle.depot_model.specs.declared.hello.Hello.{Hello}
 use Rattle.depot_model.specs.Checks.{Setting}
@@ -35,6 +35,11 @@ pub record HasVouchedPart (answer : BundleAnswer) (J then : List Record) : Type 
   pub bundle : Bundle
   pub is : answer ≡ bundled bundle
   pub cut : IsCutShort J (records_of bundle.vouchers) then
+
+-- the records that are journaled for an answer: the own vouchers of its bundle, and none where it is no bundle
+abbrev pub journaled_for : BundleAnswer → List Record
+journaled_for (bundled b) = records_of b.vouchers
+journaled_for other = []
 
 -- What a node answers to a text that is given as a hello, and the journal after it. A node that is stopped says no more. Memory
 -- may stand in place of each other answer, and then all vouchers of the bundle were journaled or none.

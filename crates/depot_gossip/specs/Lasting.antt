@@ -2,6 +2,7 @@
 use Rattle.std.specs.Prelude.{◌≡◌, ℕ, List, ◌++◌, take, Bool, false}
 use Rattle.depot_base.specs.declared.record.Record.{Record}
 use Rattle.depot_model.specs.Checks.{Setting}
+use Rattle.depot_model.specs.Feeding.{Feeding, fed}
 use Rattle.depot_model.specs.Lawful.{IsLawful}
 use Rattle.depot_model.specs.Stops.{Lasts}
 
@@ -17,4 +18,11 @@ pub record IsToAppend (here : Setting) (J new then : List Record) (failed : Bool
 pub record LastsIn {N : Type 0} (tells stopped : N → Bool) (records : N → List Record) (moment : N → ℕ) (left_since : N → ℕ → List ℕ → Type 0) (may_leave : N → List ℕ → Type 0) (here : Setting) (failed : Bool) (old new : N) : Type 0 where
   pub appends : List Record
   pub is : IsToAppend here (records old) appends (records new) failed
+  pub lasts : Lasts tells stopped records moment left_since may_leave old new appends
+
+-- These are all the records that the bytes bring where nothing fails. A stop at any moment of the call that feeds them leaves the
+-- records from before and a front of these; after it, all records of the node.
+pub record LastsFed {N : Type 0} (tells stopped : N → Bool) (records : N → List Record) (moment : N → ℕ) (left_since : N → ℕ → List ℕ → Type 0) (may_leave : N → List ℕ → Type 0) (here : Setting) (s : Feeding) (bytes : List ℕ) (old new : N) : Type 0 where
+  pub appends : List Record
+  pub brings : (fed here s bytes).journal ≡ records old ++ appends
   pub lasts : Lasts tells stopped records moment left_since may_leave old new appends

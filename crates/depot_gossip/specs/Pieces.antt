@@ -1,5 +1,5 @@
 -- What a feed keeps of a stream, and what a piece makes of it.
-use Rattle.std.specs.Prelude.{◌≡◌, ℕ, List, [], ◌∷◌, ◌++◌, Bool, true, false, is_some, Option, Some, None, Result, Ok, Err, if◌then◌else◌}
+use Rattle.std.specs.Prelude.{◌≡◌, ℕ, ◌==◌, List, [], ◌∷◌, ◌++◌, Bool, true, false, is_some, Option, Some, None, Result, Ok, Err, if◌then◌else◌}
 use Rattle.depot_base.specs.declared.record.Record.{Record}
 use Rattle.depot_base.specs.declared.check.Check.{Check}
 use Rattle.depot_model.specs.declared.taken.Taken.{Taken}
@@ -8,7 +8,7 @@ use Rattle.depot_model.specs.declared.bundle.Report.{Report}
 use Rattle.depot_model.specs.declared.bundle.Ending.TheVariants as ending
 use Rattle.depot_model.specs.Checks.{Setting}
 use Rattle.depot_model.specs.Frames.{Frame, frame_at, whole_frame}
-use Rattle.depot_model.specs.Taking.{answered}
+use Rattle.depot_model.specs.Taking.{answered, appended_by}
 use Rattle.depot_model.specs.Limits.{IsCutShort}
 use Rattle.depot_model.specs.Feeding.{Feeding, ill_formed, out_of_room, is_over, fed, take_frame, ending_by}
 use Rattle.depot_gossip.specs.declared.error.FeedError.{FeedError}
@@ -51,6 +51,10 @@ abbrev pub told_of : Stream → Report
 told_of s = record { accepted = s.accepted; known = s.known; refused = s.refused; ending = if s.closed then ending.Closed else ending_by s.ended s.begun }
 
 -- ---- a piece
+
+-- what a frame brings a journal where nothing fails: End nothing, each other what is appended for it
+abbrev pub brought_by : Setting → List Record → Frame → List Record
+brought_by here J f = if f.tag == 4 then [] else appended_by (take_frame here J f)
 
 -- the stream and the journal are those of this feed at work
 pub record AreOf (s : Feeding) (S : Stream) (J : List Record) : Type 0 where

@@ -7,7 +7,7 @@ ghost use Rattle.depot_model.specs.Replicas.{IsSameNode, StopsBy, KeepsDisk};
 ghost use Rattle.depot_gossip.specs.FrameHeads.{missing};
 ghost use Rattle.depot_gossip.specs.Pieces.{Feeds, at_work, no_stream, told_of};
 ghost use Rattle.depot_gossip.specs.Calls.{stream_by, stream_after, IsTally, IsKept, says_disk, says_stopped};
-ghost use Rattle.depot_gossip.specs.Lasting.{LastsIn};
+ghost use Rattle.depot_gossip.specs.Lasting.{LastsIn, LastsFed};
 
 use crate::error::FeedError;
 use crate::frame::{Standing, missing, stands};
@@ -61,6 +61,7 @@ fn feed_chunk<R: Replica>(
     ensures tally { IsTally tally.new }
     ensures begun { OnOk result (frame_at begun.new.items ≡ open_frame) }
     ensures lasts { LastsIn R.tells R.stopped R.records R.moment R.left_since R.may_leave (R.stands node.old) (says_disk result) node.old node.new }
+    ensures brings { LastsFed R.tells R.stopped R.records R.moment R.left_since R.may_leave (R.stands node.old) (at_work (stream_by tally.old begun.old.items false) (R.records node.old)) chunk.now node.old node.new }
 {
     if tally.is_over() {
         return Err(FeedError::IllFormed(tally.start));
@@ -92,6 +93,7 @@ fn feed_piece<R: Replica>(
     ensures tally { IsTally tally.new }
     ensures begun { OnOk result (frame_at begun.new.items ≡ open_frame) }
     ensures lasts { LastsIn R.tells R.stopped R.records R.moment R.left_since R.may_leave (R.stands node.old) (says_disk result) node.old node.new }
+    ensures brings { LastsFed R.tells R.stopped R.records R.moment R.left_since R.may_leave (R.stands node.old) (at_work (stream_by tally.old begun.old.items false) (R.records node.old)) bytes.now node.old node.new }
 {
     let mut rest = bytes;
     while !rest.is_empty() {
@@ -142,6 +144,7 @@ impl Feed {
         ensures stops { StopsBy (R.stopped node.old) (R.stopped node.new) (IsErrOf result FeedError.Stopped) (IsErrOf result FeedError.Disk) }
         ensures disk { KeepsDisk (R.handle node.old) (R.handle node.new) (R.faults node.old) (R.faults node.new) (R.is_faultless node.old) (R.is_faultless node.new) (IsErrOf result FeedError.Disk) }
         ensures lasts { LastsIn R.tells R.stopped R.records R.moment R.left_since R.may_leave (R.stands node.old) (says_disk result) node.old node.new }
+        ensures brings { LastsFed R.tells R.stopped R.records R.moment R.left_since R.may_leave (R.stands node.old) (at_work self.old (R.records node.old)) bytes.now node.old node.new }
     {
         if node.is_stopped() {
             self.begun.clear();

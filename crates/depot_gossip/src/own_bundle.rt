@@ -2,9 +2,10 @@
 ghost use Rattle.std.specs.Prelude.{◌≡◌, ◌++◌, [], ◌∷◌, false, not, OnOk, IfOk, IsErrOf, IsTrue, if◌then◌else◌};
 ghost use Rattle.depot_model.specs.Replicas.{IsSameNode, StopsBy, KeepsDisk};
 ghost use Rattle.std.specs.List.{filter};
-ghost use Rattle.depot_model.specs.Stops.{LeavesAll};
+ghost use Rattle.depot_model.specs.Bundle.{bundle_answer};
+ghost use Rattle.depot_model.specs.Stops.{Lasts, LeavesAll};
 ghost use Rattle.depot_model.specs.Vouching.{is_mine_vouched};
-ghost use Rattle.depot_gossip.specs.Bundling.{Bundles, Hears, Prepares, finds_disk};
+ghost use Rattle.depot_gossip.specs.Bundling.{Bundles, Hears, Prepares, finds_disk, journaled_for};
 ghost use Rattle.depot_gossip.specs.Fronts.{IsJoined, IsStream};
 ghost use Rattle.depot_gossip.specs.Lasting.{LastsIn};
 
@@ -161,6 +162,7 @@ pub fn bundle<R: Peer>(alloc: Global, node: &mut R, hello: &[u8]) -> Result<Bund
     ensures stops { StopsBy (R.stopped node.old) (R.stopped node.new) (IsErrOf result BundleError.Stopped) (IsErrOf result BundleError.Disk) }
     ensures disk { KeepsDisk (R.handle node.old) (R.handle node.new) (R.faults node.old) (R.faults node.new) (R.is_faultless node.old) (R.is_faultless node.new) (IsErrOf result BundleError.Disk) }
     ensures lasts { LastsIn R.tells R.stopped R.records R.moment R.left_since R.may_leave (R.stands node.old) (finds_disk result) node.old node.new }
+    ensures brings { Lasts R.tells R.stopped R.records R.moment R.left_since R.may_leave node.old node.new (journaled_for (bundle_answer (R.stands node.old) (R.signature_of node.old) (R.records node.old) hello.now)) }
 {
     let chosen = prepare(alloc, node, hello)?;
     node.own_vouchers(&chosen.unvouched)?;

@@ -4,7 +4,8 @@ use Rattle.depot_model.specs.Frames.{frame_at, open_frame, no_frame, whole_frame
 use Rattle.depot_gossip.specs.Pieces.{Feeds, at_work}
 use Rattle.depot_gossip.specs.Calls.{stream_by, TakesFrame}
 use Rattle.depot_gossip.proofs.ChunkLaws.{in_reach}
-use Rattle.depot_gossip.proofs.PieceLaws.{over_is_ill, chunk_is_dropped, chunk_is_open, chunk_is_ill, chunk_is_taken}
+use Rattle.depot_gossip.proofs.PieceLaws.{over_is_ill, chunk_is_dropped, chunk_is_open, chunk_is_ill, frame_is_fed, chunk_is_taken}
+use Rattle.depot_gossip.proofs.FeedGrowth.{nothing_fed, frame_fed}
 use Rattle.depot_gossip.proofs.LastingLaws.{nothing_in}
 use Rattle.depot_gossip.proofs.feed.feed_chunk.Goals as goal
 
@@ -74,3 +75,33 @@ returns-in-Open-clause-lasts g c = nothing_in (g.met.R.Replica.only_now) _ _ _ (
 
 pub returns-in-Nothing-clause-lasts : goal.returns-in-Nothing-clause-lasts
 returns-in-Nothing-clause-lasts g c = nothing_in (g.met.R.Replica.only_now) _ _ _ (g.met.R.Replica.lawful c.args.node.now) c.requires.stable
+
+pub returns-then-is_over-clause-brings : goal.returns-then-is_over-clause-brings
+returns-then-is_over-clause-brings g c = nothing_fed (g.met.R.Replica.only_now) _ _ _ c.args.node.now refl c.requires.stable
+
+pub returns-in_err-extend_from_slice-clause-brings : goal.returns-in_err-extend_from_slice-clause-brings
+returns-in_err-extend_from_slice-clause-brings g c = nothing_fed (g.met.R.Replica.only_now) _ _ _ c.args.node.now refl c.requires.stable
+
+pub returns-in-Open-clause-brings : goal.returns-in-Open-clause-brings
+returns-in-Open-clause-brings g c = nothing_fed (g.met.R.Replica.only_now) _ _ _ c.args.node.now refl c.requires.stable
+
+pub returns-in-Nothing-clause-brings : goal.returns-in-Nothing-clause-brings
+returns-in-Nothing-clause-brings g c = nothing_fed (g.met.R.Replica.only_now) _ _ _ c.args.node.now refl c.requires.stable
+
+pub returns-in_err-take-in-Whole-clause-brings : goal.returns-in_err-take-in-Whole-clause-brings
+returns-in_err-take-in-Whole-clause-brings g c =
+    let items : c.as_slice-frame.result.now ≡ c.args.begun.now.items ++ c.args.chunk.now = c.as_slice-frame.ensures.value ∙ c.in_ok-extend_from_slice.ensures.items in
+    let at : frame_at (c.args.begun.now.items ++ c.args.chunk.now) ≡ whole_frame (record { tag = c.in-Whole.tag; payload = c.in-Whole.payload.now }) = ap frame_at (sym items) ∙ c.in-Whole.ensures.0 in
+    frame_fed (g.R.Replica.stands c.args.node.now) _ _ c.args.chunk.now _ (record { tag = c.in-Whole.tag; payload = c.in-Whole.payload.now }) c.args.node.now c.take.new.node
+    (frame_is_fed (g.R.Replica.stands c.args.node.now) c.args.tally.now c.args.begun.now.items c.args.chunk.now (g.R.Replica.records c.args.node.now) (record { tag = c.in-Whole.tag; payload = c.in-Whole.payload.now })
+    (sym c.is_over.ensures ∙ c.if-is_over.false) c.requires.begun c.requires.some c.requires.short at)
+    refl c.take.ensures.brings
+
+pub returns-clause-brings : goal.returns-clause-brings
+returns-clause-brings g c =
+    let items : c.as_slice-frame.result.now ≡ c.args.begun.now.items ++ c.args.chunk.now = c.as_slice-frame.ensures.value ∙ c.in_ok-extend_from_slice.ensures.items in
+    let at : frame_at (c.args.begun.now.items ++ c.args.chunk.now) ≡ whole_frame (record { tag = c.in-Whole.tag; payload = c.in-Whole.payload.now }) = ap frame_at (sym items) ∙ c.in-Whole.ensures.0 in
+    frame_fed (g.R.Replica.stands c.args.node.now) _ _ c.args.chunk.now _ (record { tag = c.in-Whole.tag; payload = c.in-Whole.payload.now }) c.args.node.now c.take.new.node
+    (frame_is_fed (g.R.Replica.stands c.args.node.now) c.args.tally.now c.args.begun.now.items c.args.chunk.now (g.R.Replica.records c.args.node.now) (record { tag = c.in-Whole.tag; payload = c.in-Whole.payload.now })
+    (sym c.is_over.ensures ∙ c.if-is_over.false) c.requires.begun c.requires.some c.requires.short at)
+    refl c.take.ensures.brings

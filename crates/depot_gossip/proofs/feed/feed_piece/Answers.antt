@@ -1,4 +1,5 @@
-use Rattle.std.proofs.Common.{◌≡◌, [], Bool, true, false, IsTrue, ap, subst, ◌∙◌, arith}
+use Rattle.std.proofs.Common.{◌≡◌, [], length, Bool, true, false, IsTrue, refl, ap, subst, ◌∙◌, arith}
+use Rattle.std.proofs.lemmas.List.{nil_from_length}
 use Rattle.std.proofs.lemmas.Result.{err_from_is_err_and}
 use Rattle.std.proofs.lemmas.Grind.{common_steps}
 use Rattle.std.proofs.lemmas.Bool.Decides.{nat_tests}
@@ -7,6 +8,7 @@ use Rattle.depot_gossip.specs.Pieces.{at_work}
 use Rattle.depot_gossip.specs.Calls.{stream_by}
 use Rattle.depot_gossip.proofs.ChunkLaws.{in_reach}
 use Rattle.depot_gossip.proofs.CallLaws.{uncalled, kept_on}
+use Rattle.depot_gossip.proofs.FeedGrowth.{piece_fed, piece_fails}
 use Rattle.depot_gossip.proofs.LastingLaws.{nothing_in, joined_in}
 use Rattle.depot_gossip.proofs.PieceLaws.{under_way_first, under_way_on, under_way_fails}
 use Rattle.depot_gossip.proofs.feed.feed_piece.Goals as goal
@@ -39,6 +41,16 @@ pub returns-in_err-feed_chunk-clause-lasts : goal.returns-in_err-feed_chunk-clau
 returns-in_err-feed_chunk-clause-lasts g c =
     let p = err_from_is_err_and c.from_residual.result c.from_residual.ensures.1 in
     rw (p.1, p.2) (joined_in (g.R.Replica.stands c.args.node.now) (g.R.Replica.stands c.loop-rest.node) _ c.args.node.now c.loop-rest.node c.feed_chunk.new.node c.loop-rest.invariant.kept.same.stands c.requires.running c.loop-rest.invariant.kept.stops c.loop-rest.invariant.lasts c.in_err-feed_chunk.ensures.lasts)
+
+pub returns-in_err-feed_chunk-clause-brings : goal.returns-in_err-feed_chunk-clause-brings
+returns-in_err-feed_chunk-clause-brings g c =
+    piece_fails (g.R.Replica.stands c.args.node.now) (g.R.Replica.stands c.loop-rest.node) _ _ c.args.bytes.now c.loop-rest.rest.now c.split_at.result.0.now c.split_at.result.1.now c.args.node.now c.loop-rest.node c.feed_chunk.new.node c.loop-rest.invariant.kept.same.stands c.requires.running c.loop-rest.invariant.kept.stops
+    c.loop-rest.invariant.under_way c.split_at.ensures.by_index.0 c.loop-rest.invariant.lasts c.feed_chunk.ensures.brings
+
+pub returns-clause-brings : goal.returns-clause-brings
+returns-clause-brings g c =
+    let none : length c.loop-rest.rest.now ≡ 0 = grind (arith, nat_tests, c.is_empty.ensures, c.loop-rest-test) in
+    piece_fed (g.R.Replica.stands c.args.node.now) _ _ c.args.bytes.now c.loop-rest.rest.now c.args.node.now c.loop-rest.node (nil_from_length c.loop-rest.rest.now none) c.loop-rest.invariant.under_way refl c.loop-rest.invariant.lasts
 
 pub loop-rest-smaller : goal.loop-rest-smaller
 loop-rest-smaller g c =

@@ -1,4 +1,4 @@
-use Rattle.std.proofs.Common.{◌≡◌, ℕ, List, true, false, Err, refl, sym, ap, subst, ◌∙◌}
+use Rattle.std.proofs.Common.{◌≡◌, ℕ, List, [], true, false, Err, refl, sym, ap, subst, ◌∙◌}
 use Rattle.std.specs.List.{AllByRecursion}
 use Rattle.std.proofs.lemmas.Result.{err_from_is_err_and}
 use Rattle.depot_model.specs.Bundle.{Signs, sent_for}
@@ -8,8 +8,8 @@ use Rattle.depot_model.specs.Vouching.{is_mine_vouched}
 use Rattle.depot_gossip.specs.Fronts.{IsStream}
 use Rattle.depot_gossip.proofs.ApartLaws.{unvouched_apart, unvouched_foreign, unvouched_fresh}
 use Rattle.depot_gossip.proofs.StreamLaws.{not_bundled, not_prepared_stops, not_prepared_keeps, not_vouched, only_vouched, all_bundled, stops_alike, keeps_alike, same_fault, memory_stops, memory_keeps, good_stops, good_keeps}
-use Rattle.depot_gossip.proofs.LastingLaws.{nothing_in}
-use Rattle.depot_gossip.proofs.VoucherGrowth.{vouched_in, not_vouched_in}
+use Rattle.depot_gossip.proofs.LastingLaws.{nothing_lasts, nothing_in, lasts_longer}
+use Rattle.depot_gossip.proofs.VoucherGrowth.{vouched_in, not_vouched_in, vouched_lasts, not_vouched_lasts}
 use Rattle.depot_gossip.proofs.own_bundle.bundle.Goals as goal
 
 -- ---- before any voucher is made
@@ -127,3 +127,17 @@ pub returns-clause-lasts : goal.returns-clause-lasts
 returns-clause-lasts g c =
     vouched_in (g.R.Replica.stands c.args.node.now) (g.R.Replica.signature_of c.args.node.now) (g.R.Replica.stopped c.args.node.now) c.args.hello.now c.in_ok-chosen.chosen _ c.args.node.now c.own_vouchers.new.self (g.met.R.Replica.lawful c.args.node.now) (g.met.R.Replica.some c.args.node.now) c.in_ok-chosen.ensures.prepares
     c.in_ok-own_vouchers.ensures.vouches c.own_vouchers.ensures.lasts
+
+pub returns-in_err-chosen-clause-brings : goal.returns-in_err-chosen-clause-brings
+returns-in_err-chosen-clause-brings g c = lasts_longer c.args.node.now c.args.node.now [] _ (nothing_lasts (g.met.R.Replica.only_now) c.args.node.now c.prepare.ensures.stable)
+
+pub returns-in_err-own_vouchers-clause-brings : goal.returns-in_err-own_vouchers-clause-brings
+returns-in_err-own_vouchers-clause-brings g c =
+    not_vouched_lasts (g.R.Replica.stands c.args.node.now) (g.R.Replica.signature_of c.args.node.now) (g.R.Replica.stopped c.args.node.now) c.args.hello.now c.in_ok-chosen.chosen c.in_err-own_vouchers.field-0.0 c.args.node.now c.own_vouchers.new.self c.in_ok-chosen.ensures.prepares
+    c.in_err-own_vouchers.ensures.vouches c.own_vouchers.ensures.lasts c.in_err-own_vouchers.ensures.idle
+
+pub returns-in_err-told_of-clause-brings : goal.returns-in_err-told_of-clause-brings
+returns-in_err-told_of-clause-brings g c = vouched_lasts (g.R.Replica.stands c.args.node.now) (g.R.Replica.signature_of c.args.node.now) (g.R.Replica.stopped c.args.node.now) c.args.hello.now c.in_ok-chosen.chosen c.args.node.now c.own_vouchers.new.self c.in_ok-chosen.ensures.prepares c.in_ok-own_vouchers.ensures.vouches.0 c.own_vouchers.ensures.lasts
+
+pub returns-clause-brings : goal.returns-clause-brings
+returns-clause-brings g c = vouched_lasts (g.R.Replica.stands c.args.node.now) (g.R.Replica.signature_of c.args.node.now) (g.R.Replica.stopped c.args.node.now) c.args.hello.now c.in_ok-chosen.chosen c.args.node.now c.own_vouchers.new.self c.in_ok-chosen.ensures.prepares c.in_ok-own_vouchers.ensures.vouches.0 c.own_vouchers.ensures.lasts

@@ -1,6 +1,7 @@
 use Rattle.std.proofs.Common.{arith}
 use Rattle.depot_gossip.proofs.GivenLaws.{proof_answers, statement_answers, value_answers}
 use Rattle.depot_gossip.proofs.FrameGrowth.{proof_brings, statement_brings, value_brings, told_runs, given_in}
+use Rattle.depot_gossip.proofs.LastingLaws.{lasts_alike}
 use Rattle.depot_gossip.proofs.tally.give.Goals as goal
 
 pub returns-in-1-clause-answers : goal.returns-in-1-clause-answers
@@ -37,3 +38,12 @@ returns-in_default-clause-lasts g c =
     rw c.told-in_default.ensures (given_in here (record { tag = c.args.tag; payload = c.args.payload.now }) c.take_value.result c.args.node.now c.take_value.new.self _ (value_brings here J c.args.tag c.args.payload.now (omega arith)) (g.met.R.Replica.lawful c.args.node.now) (g.met.R.Replica.some c.args.node.now) (λ i. omega (arith, c.type_inv.payload i))
     (told_runs c.take_value.result (g.R.Replica.stopped c.args.node.now) c.requires.running c.take_value.ensures.stops.answered.0)
     (value_answers here J c.args.tag c.args.payload.now c.take_value.result (g.R.Replica.records c.take_value.new.self) (omega arith) c.take_value.ensures.takes) c.take_value.ensures.lasts c.take_value.ensures.idle)
+
+pub returns-in-1-clause-brings : goal.returns-in-1-clause-brings
+returns-in-1-clause-brings g c = lasts_alike c.args.node.now c.take_proof.new.self _ _ (proof_brings (g.R.Replica.stands c.args.node.now) (g.R.Replica.records c.args.node.now) c.args.tag c.args.payload.now (omega arith)) c.take_proof.ensures.lasts
+
+pub returns-in-2-clause-brings : goal.returns-in-2-clause-brings
+returns-in-2-clause-brings g c = lasts_alike c.args.node.now c.take_statement.new.self _ _ (statement_brings (g.R.Replica.stands c.args.node.now) (g.R.Replica.records c.args.node.now) c.args.tag c.args.payload.now (omega arith)) c.take_statement.ensures.lasts
+
+pub returns-in_default-clause-brings : goal.returns-in_default-clause-brings
+returns-in_default-clause-brings g c = lasts_alike c.args.node.now c.take_value.new.self _ _ (value_brings (g.R.Replica.stands c.args.node.now) (g.R.Replica.records c.args.node.now) c.args.tag c.args.payload.now (omega arith)) c.take_value.ensures.lasts

@@ -1,5 +1,6 @@
 use Rattle.std.proofs.Common.{refl}
 use Rattle.depot_model.specs.Frames.{frame_at}
+use Rattle.depot_gossip.proofs.FeedGrowth.{nothing_fed}
 use Rattle.depot_gossip.proofs.LastingLaws.{nothing_in}
 use Rattle.depot_gossip.proofs.feed.Feed.piece.Goals as goal
 
@@ -13,3 +14,6 @@ invariant_of-self-then-is_err g c = (c.feed_piece-fed.ensures.tally, rw c.clear-
 
 pub returns-then-is_stopped-clause-lasts : goal.returns-then-is_stopped-clause-lasts
 returns-then-is_stopped-clause-lasts g c = nothing_in (g.met.R.Replica.only_now) _ _ _ (g.met.R.Replica.lawful c.args.node.now) c.is_stopped.ensures.stable
+
+pub returns-then-is_stopped-clause-brings : goal.returns-then-is_stopped-clause-brings
+returns-then-is_stopped-clause-brings g c = nothing_fed (g.met.R.Replica.only_now) _ _ _ c.args.node.now refl c.is_stopped.ensures.stable

@@ -6,7 +6,8 @@ use Rattle.depot_model.specs.Feeding.{passed, counted}
 use Rattle.depot_gossip.specs.Pieces.{at_work}
 use Rattle.depot_gossip.specs.Calls.{stream_by}
 use Rattle.depot_gossip.proofs.GivenLaws.{end_is_passed, counted_is_fed, error_leaves}
-use Rattle.depot_gossip.proofs.LastingLaws.{nothing_in}
+use Rattle.depot_gossip.proofs.FeedGrowth.{given_lasts}
+use Rattle.depot_gossip.proofs.LastingLaws.{nothing_lasts, nothing_in, lasts_longer}
 use Rattle.depot_gossip.proofs.tally.Tally.take.Goals as goal
 
 pub returns-then-tag-eq4-clause-takes : goal.returns-then-tag-eq4-clause-takes
@@ -40,3 +41,15 @@ returns-then-tag-eq4-clause-lasts g c = nothing_in (g.met.R.Replica.only_now) _ 
 
 pub returns-in_err-reserve-clause-lasts : goal.returns-in_err-reserve-clause-lasts
 returns-in_err-reserve-clause-lasts g c = nothing_in (g.met.R.Replica.only_now) _ _ _ (g.met.R.Replica.lawful c.args.node.now) c.requires.stable
+
+pub returns-then-tag-eq4-clause-brings : goal.returns-then-tag-eq4-clause-brings
+returns-then-tag-eq4-clause-brings g c = lasts_longer c.args.node.now c.args.node.now [] _ (nothing_lasts (g.met.R.Replica.only_now) c.args.node.now c.requires.stable)
+
+pub returns-in_err-reserve-clause-brings : goal.returns-in_err-reserve-clause-brings
+returns-in_err-reserve-clause-brings g c = lasts_longer c.args.node.now c.args.node.now [] _ (nothing_lasts (g.met.R.Replica.only_now) c.args.node.now c.requires.stable)
+
+pub returns-in_err-answer-clause-brings : goal.returns-in_err-answer-clause-brings
+returns-in_err-answer-clause-brings g c = given_lasts (g.R.Replica.stands c.args.node.now) (record { tag = c.args.tag; payload = c.args.payload.now }) c.args.node.now c.give.new.node (omega arith) c.give.ensures.brings
+
+pub returns-clause-brings : goal.returns-clause-brings
+returns-clause-brings g c = given_lasts (g.R.Replica.stands c.args.node.now) (record { tag = c.args.tag; payload = c.args.payload.now }) c.args.node.now c.give.new.node (omega arith) c.give.ensures.brings
