@@ -13,11 +13,20 @@ use std::alloc::Global;
 use std::process::Abort;
 use std::test::Fail;
 
-/// A trial, and what is told of it by how the disk fails.
+/// A trial, and what is told of it.
 struct Table<'a> {
     trial: Trial<'a>,
-    rows: &'a [(Trouble, &'a str)],
+    /// By the call in which the disk stops: what is told where it leaves the image 0, 1 or 2.
+    stops: &'a [(u32, [&'a str; 3])],
+    /// By the call that the disk refuses: what is told.
+    refusals: &'a [(u32, &'a str)],
 }
+
+/// What is told of a put whose record is lost.
+const PUT_LOST: &str = " Disk 1 | 1 | [ ] 0/1";
+
+/// And of one whose record is kept.
+const PUT_KEPT: &str = " Disk 1 | 2 | [ 1/0/1=a ] 1/2";
 
 /// A put.
 static PUTS: Table<'static> = Table {
@@ -28,25 +37,22 @@ static PUTS: Table<'static> = Table {
         during: &[Event::Put(b"k", b"a"), Event::Count],
         later: &[Event::Get(b"k"), Event::Put(b"k", b"b")],
     },
-    rows: &[
-        (Stop(4, 0), " Disk 1 | 1 | [ ] 0/1"),
-        (Stop(4, 1), " Disk 1 | 1 | [ ] 0/1"),
-        (Stop(4, 2), " Disk 1 | 1 | [ ] 0/1"),
-        (Stop(5, 0), " Disk 1 | 1 | [ ] 0/1"),
-        (Stop(5, 1), " Disk 1 | 1 | [ ] 0/1"),
-        (Stop(5, 2), " Disk 1 | 1 | [ ] 0/1"),
-        (Stop(6, 0), " Disk 1 | 1 | [ ] 0/1"),
-        (Stop(6, 1), " Disk 1 | 2 | [ 1/0/1=a ] 1/2"),
-        (Stop(6, 2), " Disk 1 | 1 | [ ] 0/1"),
-        (Stop(7, 0), " Disk 1 | 1 | [ ] 0/1"),
-        (Stop(7, 1), " Disk 1 | 2 | [ 1/0/1=a ] 1/2"),
-        (Stop(7, 2), " Disk 1 | 1 | [ ] 0/1"),
-        (Refuse(4), " Disk 1 | 1 | [ ] 0/1"),
-        (Refuse(5), " Disk 1 | 1 | [ ] 0/1"),
-        (Refuse(6), " Disk 1 | 1 | [ ] 0/1"),
-        (Refuse(7), " Disk 1 | 2 | [ 1/0/1=a ] 1/2"),
+    stops: &[
+        (4, [PUT_LOST, PUT_LOST, PUT_LOST]),
+        (5, [PUT_LOST, PUT_LOST, PUT_LOST]),
+        (6, [PUT_LOST, PUT_KEPT, PUT_LOST]),
+        (7, [PUT_LOST, PUT_KEPT, PUT_LOST]),
     ],
+    refusals: &[(4, PUT_LOST), (5, PUT_LOST), (6, PUT_LOST), (7, PUT_KEPT)],
 };
+
+/// What is told of a value that is lost. Its update is kept.
+const VALUE_LOST: &str =
+    " accepted 1 known 0 refused 0 Disk | 2 | [ 9/0/1=? ] accepted 1 known 1 refused 0 bare";
+
+/// And of one that is kept.
+const VALUE_KEPT: &str =
+    " accepted 1 known 0 refused 0 Disk | 3 | [ 9/0/1=a ] accepted 0 known 2 refused 0 bare";
 
 /// A value of another, behind its update.
 static VALUES: Table<'static> = Table {
@@ -57,59 +63,33 @@ static VALUES: Table<'static> = Table {
         during: &[Event::Feed(0)],
         later: &[Event::Get(b"k"), Event::Feed(0)],
     },
-    rows: &[
-        (
-            Stop(8, 0),
-            " accepted 1 known 0 refused 0 Disk | 2 | [ 9/0/1=? ] accepted 1 known 1 refused 0 bare",
-        ),
-        (
-            Stop(8, 1),
-            " accepted 1 known 0 refused 0 Disk | 2 | [ 9/0/1=? ] accepted 1 known 1 refused 0 bare",
-        ),
-        (
-            Stop(8, 2),
-            " accepted 1 known 0 refused 0 Disk | 2 | [ 9/0/1=? ] accepted 1 known 1 refused 0 bare",
-        ),
-        (
-            Stop(9, 0),
-            " accepted 1 known 0 refused 0 Disk | 2 | [ 9/0/1=? ] accepted 1 known 1 refused 0 bare",
-        ),
-        (
-            Stop(9, 1),
-            " accepted 1 known 0 refused 0 Disk | 2 | [ 9/0/1=? ] accepted 1 known 1 refused 0 bare",
-        ),
-        (
-            Stop(9, 2),
-            " accepted 1 known 0 refused 0 Disk | 2 | [ 9/0/1=? ] accepted 1 known 1 refused 0 bare",
-        ),
-        (
-            Stop(10, 0),
-            " accepted 1 known 0 refused 0 Disk | 2 | [ 9/0/1=? ] accepted 1 known 1 refused 0 bare",
-        ),
-        (
-            Stop(10, 1),
-            " accepted 1 known 0 refused 0 Disk | 3 | [ 9/0/1=a ] accepted 0 known 2 refused 0 bare",
-        ),
-        (
-            Stop(10, 2),
-            " accepted 1 known 0 refused 0 Disk | 2 | [ 9/0/1=? ] accepted 1 known 1 refused 0 bare",
-        ),
-        (
-            Stop(11, 0),
-            " accepted 1 known 0 refused 0 Disk | 2 | [ 9/0/1=? ] accepted 1 known 1 refused 0 bare",
-        ),
-        (
-            Stop(11, 1),
-            " accepted 1 known 0 refused 0 Disk | 3 | [ 9/0/1=a ] accepted 0 known 2 refused 0 bare",
-        ),
-        (
-            Stop(11, 2),
-            " accepted 1 known 0 refused 0 Disk | 2 | [ 9/0/1=? ] accepted 1 known 1 refused 0 bare",
-        ),
+    stops: &[
+        (8, [VALUE_LOST, VALUE_LOST, VALUE_LOST]),
+        (9, [VALUE_LOST, VALUE_LOST, VALUE_LOST]),
+        (10, [VALUE_LOST, VALUE_KEPT, VALUE_LOST]),
+        (11, [VALUE_LOST, VALUE_KEPT, VALUE_LOST]),
+    ],
+    refusals: &[
+        (8, VALUE_LOST),
+        (9, VALUE_LOST),
+        (10, VALUE_LOST),
+        (11, VALUE_KEPT),
     ],
 };
 
-/// A vouched branch of a fork: its writer is convicted first, and then it is taken.
+/// What is told where a branch and the proof that comes with it are lost.
+const FORK_LOST: &str = " Disk 4 | 4 | New 6";
+
+/// Where the node failed on the proof, and the proof is kept.
+const PROOF_KEPT: &str = " Disk 4 | 5 | New 6";
+
+/// Where the node has the proof, and the branch is lost.
+const BRANCH_LOST: &str = " Disk 5 | 5 | New 6";
+
+/// Where both are kept.
+const BRANCH_KEPT: &str = " Disk 5 | 6 | Known 6";
+
+/// A vouched branch of a fork: the proof that convicts its writer is kept first, and then the branch.
 static FORKS: Table<'static> = Table {
     trial: Trial {
         nodes: &[1, 2, 9],
@@ -118,33 +98,24 @@ static FORKS: Table<'static> = Table {
         during: &[Event::Update(1), Event::Count],
         later: &[Event::Update(1), Event::Count],
     },
-    rows: &[
-        (Stop(4, 0), " Disk 4 | 4 | New 6"),
-        (Stop(4, 1), " Disk 4 | 4 | New 6"),
-        (Stop(4, 2), " Disk 4 | 4 | New 6"),
-        (Stop(5, 0), " Disk 4 | 4 | New 6"),
-        (Stop(5, 1), " Disk 4 | 4 | New 6"),
-        (Stop(5, 2), " Disk 4 | 4 | New 6"),
-        (Stop(6, 0), " Disk 4 | 4 | New 6"),
-        (Stop(6, 1), " Disk 4 | 5 | New 6"),
-        (Stop(6, 2), " Disk 4 | 4 | New 6"),
-        (Stop(7, 0), " Disk 4 | 4 | New 6"),
-        (Stop(7, 1), " Disk 4 | 5 | New 6"),
-        (Stop(7, 2), " Disk 4 | 4 | New 6"),
-        (Stop(8, 0), " Disk 5 | 5 | New 6"),
-        (Stop(8, 1), " Disk 5 | 5 | New 6"),
-        (Stop(8, 2), " Disk 5 | 5 | New 6"),
-        (Stop(9, 0), " Disk 5 | 5 | New 6"),
-        (Stop(9, 1), " Disk 5 | 5 | New 6"),
-        (Stop(9, 2), " Disk 5 | 5 | New 6"),
-        (Stop(10, 0), " Disk 5 | 5 | New 6"),
-        (Stop(10, 1), " Disk 5 | 6 | Known 6"),
-        (Stop(10, 2), " Disk 5 | 5 | New 6"),
-        (Stop(11, 0), " Disk 5 | 5 | New 6"),
-        (Stop(11, 1), " Disk 5 | 6 | Known 6"),
-        (Stop(11, 2), " Disk 5 | 5 | New 6"),
+    stops: &[
+        (4, [FORK_LOST, FORK_LOST, FORK_LOST]),
+        (5, [FORK_LOST, FORK_LOST, FORK_LOST]),
+        (6, [FORK_LOST, PROOF_KEPT, FORK_LOST]),
+        (7, [FORK_LOST, PROOF_KEPT, FORK_LOST]),
+        (8, [BRANCH_LOST, BRANCH_LOST, BRANCH_LOST]),
+        (9, [BRANCH_LOST, BRANCH_LOST, BRANCH_LOST]),
+        (10, [BRANCH_LOST, BRANCH_KEPT, BRANCH_LOST]),
+        (11, [BRANCH_LOST, BRANCH_KEPT, BRANCH_LOST]),
     ],
+    refusals: &[(7, PROOF_KEPT), (8, BRANCH_LOST), (11, BRANCH_KEPT)],
 };
+
+/// What is told of a bundle whose voucher is lost: nothing was handed out.
+const VOUCHER_LOST: &str = " Disk 3 | 3 | proofs 0 vouchers 1 updates 1 values 1 whole 4";
+
+/// And of one whose voucher is kept.
+const VOUCHER_KEPT: &str = " Disk 3 | 4 | proofs 0 vouchers 1 updates 1 values 1 whole 4";
 
 /// A bundle that needs a voucher.
 static BUNDLES: Table<'static> = Table {
@@ -155,60 +126,37 @@ static BUNDLES: Table<'static> = Table {
         during: &[Event::Bundle(2), Event::Count],
         later: &[Event::Bundle(2), Event::Count],
     },
-    rows: &[
-        (
-            Stop(4, 0),
-            " Disk 3 | 3 | proofs 0 vouchers 1 updates 1 values 1 whole 4",
-        ),
-        (
-            Stop(4, 1),
-            " Disk 3 | 3 | proofs 0 vouchers 1 updates 1 values 1 whole 4",
-        ),
-        (
-            Stop(4, 2),
-            " Disk 3 | 3 | proofs 0 vouchers 1 updates 1 values 1 whole 4",
-        ),
-        (
-            Stop(5, 0),
-            " Disk 3 | 3 | proofs 0 vouchers 1 updates 1 values 1 whole 4",
-        ),
-        (
-            Stop(5, 1),
-            " Disk 3 | 3 | proofs 0 vouchers 1 updates 1 values 1 whole 4",
-        ),
-        (
-            Stop(5, 2),
-            " Disk 3 | 3 | proofs 0 vouchers 1 updates 1 values 1 whole 4",
-        ),
-        (
-            Stop(6, 0),
-            " Disk 3 | 3 | proofs 0 vouchers 1 updates 1 values 1 whole 4",
-        ),
-        (
-            Stop(6, 1),
-            " Disk 3 | 4 | proofs 0 vouchers 1 updates 1 values 1 whole 4",
-        ),
-        (
-            Stop(6, 2),
-            " Disk 3 | 3 | proofs 0 vouchers 1 updates 1 values 1 whole 4",
-        ),
-        (
-            Stop(7, 0),
-            " Disk 3 | 3 | proofs 0 vouchers 1 updates 1 values 1 whole 4",
-        ),
-        (
-            Stop(7, 1),
-            " Disk 3 | 4 | proofs 0 vouchers 1 updates 1 values 1 whole 4",
-        ),
-        (
-            Stop(7, 2),
-            " Disk 3 | 3 | proofs 0 vouchers 1 updates 1 values 1 whole 4",
-        ),
+    stops: &[
+        (4, [VOUCHER_LOST, VOUCHER_LOST, VOUCHER_LOST]),
+        (5, [VOUCHER_LOST, VOUCHER_LOST, VOUCHER_LOST]),
+        (6, [VOUCHER_LOST, VOUCHER_KEPT, VOUCHER_LOST]),
+        (7, [VOUCHER_LOST, VOUCHER_KEPT, VOUCHER_LOST]),
+    ],
+    refusals: &[
+        (4, VOUCHER_LOST),
+        (5, VOUCHER_LOST),
+        (6, VOUCHER_LOST),
+        (7, VOUCHER_KEPT),
     ],
 };
 
-/// Each row is told, and a stopped node that is called on leaves its disk as it was.
-fn tells(rt: &impl Abort, alloc: Global, table: &Table<'_>) -> Result<(), Fail> {
+/// The trial is told so, and a stopped node that is called on leaves its disk as it was.
+fn tells(
+    rt: &impl Abort,
+    scene: &Scene<'_>,
+    trial: &Trial<'_>,
+    trouble: Trouble,
+    told: &str,
+) -> Result<(), Fail> {
+    let left = trial.outcome(scene, trouble, false)?;
+    assert_eq!(rt; left.told.as_str(), told, "{trouble:?}");
+    let called = trial.outcome(scene, trouble, true)?;
+    assert_eq!(rt; called, left, "{trouble:?}");
+    Ok(())
+}
+
+/// Each row of a table is told.
+fn tells_all(rt: &impl Abort, alloc: Global, table: &Table<'_>) -> Result<(), Fail> {
     let trial = &table.trial;
     let named = names_of(alloc, trial.lines)?;
     let scene = Scene {
@@ -216,11 +164,13 @@ fn tells(rt: &impl Abort, alloc: Global, table: &Table<'_>) -> Result<(), Fail> 
         lines: trial.lines,
         named: named.as_slice(),
     };
-    for (trouble, told) in table.rows {
-        let left = trial.outcome(&scene, *trouble, false)?;
-        assert_eq!(rt; left.told.as_str(), *told, "{trouble:?}");
-        let called = trial.outcome(&scene, *trouble, true)?;
-        assert_eq!(rt; called, left, "{trouble:?}");
+    for (call, [synced, written, blanked]) in table.stops {
+        tells(rt, &scene, trial, Stop(*call, 0), synced)?;
+        tells(rt, &scene, trial, Stop(*call, 1), written)?;
+        tells(rt, &scene, trial, Stop(*call, 2), blanked)?;
+    }
+    for (call, told) in table.refusals {
+        tells(rt, &scene, trial, Refuse(*call), told)?;
     }
     Ok(())
 }
@@ -228,7 +178,7 @@ fn tells(rt: &impl Abort, alloc: Global, table: &Table<'_>) -> Result<(), Fail> 
 #[test]
 fn a_stop_leaves_whole_records(rt: HostRuntime) -> Result<(), Fail> {
     for table in [&PUTS, &VALUES, &FORKS, &BUNDLES] {
-        tells(&rt, rt.alloc(), table)?;
+        tells_all(&rt, rt.alloc(), table)?;
     }
     Ok(())
 }

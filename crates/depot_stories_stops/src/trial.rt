@@ -1,7 +1,7 @@
 //! Nodes whose disk fails.
 
 use depot_base::{Bytes, Ids, Items};
-use depot_model::{Peer, Replica};
+use depot_model::Peer;
 use depot_outside::MemDisk;
 use depot_stories::node::{Identity, Plain, Scene, new_disk};
 use depot_stories::story::{Event, Line};
@@ -75,7 +75,7 @@ fn call(scene: &Scene<'_>, node: &mut Plain, told: &mut String) -> Result<(), Fa
     Ok(())
 }
 
-/// A node lives through these events. Where it is stopped by them, it may then be called on in all ways.
+/// A node lives through these events, and may then be called on in all ways.
 fn endure(
     scene: &Scene<'_>,
     node: &mut Plain,
@@ -84,7 +84,7 @@ fn endure(
     told: &mut String,
 ) -> Result<(), Fail> {
     scene.play(node, events, told)?;
-    if is_called && node.is_stopped() {
+    if is_called {
         return call(scene, node, told);
     }
     Ok(())
@@ -129,7 +129,7 @@ impl Trial<'_> {
         }
     }
 
-    /// What is told where the disk fails in this way, and how the disk is left. A node that is stopped may be called on in all ways.
+    /// What is told where the disk fails in this way, and how the disk is left. The node may be called on in all ways before.
     pub fn outcome(
         &self,
         scene: &Scene<'_>,
