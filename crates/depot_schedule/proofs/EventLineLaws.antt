@@ -173,7 +173,7 @@ row_lawful verb.Join = lawful_row verb.Join refl refl refl join_lawful (λ s e h
 row_lawful verb.Stop = lawful_row verb.Stop refl refl refl stop_lawful (λ s e h. ap verb_of h.1.1.1)
 
 -- what is found passes the test
-found_passes : {X : Type 0} (test : X → Bool) (xs : List X) (x : X) → find test xs ≡ Some x → test x ≡ true
+pub found_passes : {X : Type 0} (test : X → Bool) (xs : List X) (x : X) → find test xs ≡ Some x → test x ≡ true
 found_passes test [] x e = absurd cc
 found_passes test (y ∷ ys) x e = elim (if_some (test y) y (find test ys) x e) [
   | inl a ↦ subst (λ (z : _). test z ≡ true) a.1 a.0

@@ -23,7 +23,7 @@ use Rattle.depot_schedule.proofs.EventLineLaws.{row_lawful, name_is}
 
 -- ---- steps
 
-no_ok : {A F : Type 0} (b : Bool) (d : F) (x : Result A F) (y : A) → cond b (Err d) x ≡ Ok y → (b ≡ false) × (x ≡ Ok y)
+pub no_ok : {A F : Type 0} (b : Bool) (d : F) (x : Result A F) (y : A) → cond b (Err d) x ≡ Ok y → (b ≡ false) × (x ≡ Ok y)
 no_ok true d x y e = absurd cc
 no_ok false d x y e = (refl, e)
 
@@ -35,7 +35,7 @@ in_line_ok : {A : Type 0} (n : ℕ) (r : Result A LineFault) (a : A) → in_line
 in_line_ok n (Ok x) a e = cc
 in_line_ok n (Err f) a e = absurd cc
 
-checked_ok : {A : Type 0} (n : ℕ) (line : Line) (read : List (List ℕ) → Result A LineFault) (a : A) → checked n line read ≡ Ok a → (line.ended ≡ true) × (n ≤ 100000) × (read (split 32 line.text) ≡ Ok a)
+pub checked_ok : {A : Type 0} (n : ℕ) (line : Line) (read : List (List ℕ) → Result A LineFault) (a : A) → checked n line read ≡ Ok a → (line.ended ≡ true) × (n ≤ 100000) × (read (split 32 line.text) ≡ Ok a)
 checked_ok n line read a e =
     let x = no_ok (not line.ended) (n, is.End) (cond (ltb 100000 n) (Err (n, is.Long)) (in_line n (read (split 32 line.text)))) a e in
     let y = no_ok (ltb 100000 n) (n, is.Long) (in_line n (read (split 32 line.text))) a x.1 in
@@ -43,7 +43,7 @@ checked_ok n line read a e =
 
 -- ---- lines of words
 
-abbrev line_of_text : List (List ℕ) → Line
+abbrev pub line_of_text : List (List ℕ) → Line
 line_of_text ws = record { text = join 32 ws; ended = true }
 
 word_lacks : (c : ℕ) → ((b : ℕ) → is_word_byte b ≡ true → not (eqb b c) ≡ true) → (w : List ℕ) → is_word w ≡ true → lacks c w ≡ true
@@ -65,11 +65,11 @@ some_word : (w : List ℕ) → is_word w ≡ true → not (is_empty w) ≡ true
 some_word [] e = absurd cc
 some_word (b ∷ bs) e = refl
 
-are_words_of : (ws : List (List ℕ)) → list_all is_word ws ≡ true → are_words ws ≡ true
+pub are_words_of : (ws : List (List ℕ)) → list_all is_word ws ≡ true → are_words ws ≡ true
 are_words_of ws e = all_weaker is_word (λ w. not (is_empty w)) some_word ws e
 
 -- a good line is read by its words
-checked_again : {A : Type 0} (n : ℕ) (ws : List (List ℕ)) (read : List (List ℕ) → Result A LineFault) → n ≤ 100000 → 0 < length ws → list_all is_word ws ≡ true → checked n (line_of_text ws) read ≡ in_line n (read ws)
+pub checked_again : {A : Type 0} (n : ℕ) (ws : List (List ℕ)) (read : List (List ℕ) → Result A LineFault) → n ≤ 100000 → 0 < length ws → list_all is_word ws ≡ true → checked n (line_of_text ws) read ≡ in_line n (read ws)
 checked_again n ws read le some e = rw (le-ltb _ _ le, split_words ws some e) refl
 
 -- ---- texts of lines
@@ -79,7 +79,7 @@ more_lines l [] some = absurd (omega arith)
 more_lines l (p ∷ ps) some = refl
 
 -- the lines of printed words
-lines_again : (lines : List (List (List ℕ))) → list_all (list_all is_word) lines ≡ true → lines_of (flat_map text_of_line lines) ≡ map line_of_text lines
+pub lines_again : (lines : List (List (List ℕ))) → list_all (list_all is_word) lines ≡ true → lines_of (flat_map text_of_line lines) ≡ map line_of_text lines
 lines_again [] e = refl
 lines_again (ws ∷ lines) e =
     let p = and_parts (list_all is_word ws) (list_all (list_all is_word) lines) e in
@@ -87,11 +87,11 @@ lines_again (ws ∷ lines) e =
     let parts : split 10 (text_of_line ws ++ rest) ≡ join 32 ws ∷ split 10 rest = ap (λ (t : List ℕ). split 10 t) (append_assoc (join 32 ws) (10 ∷ []) rest) ∙ split_at 10 (join 32 ws) rest (line_lacks ws p.0) in
     ap lines_of_parts parts ∙ more_lines (join 32 ws) (split 10 rest) (split_some 10 rest) ∙ ap (λ (ls : List Line). line_of_text ws ∷ ls) (lines_again lines p.1)
 
-abbrev AllEnded : List Line → Type 0
+abbrev pub AllEnded : List Line → Type 0
 AllEnded [] = Unit {0}
 AllEnded (l ∷ ls) = (l.ended ≡ true) × AllEnded ls
 
-abbrev words_of_line : Line → List (List ℕ)
+abbrev pub words_of_line : Line → List (List ℕ)
 words_of_line l = split 32 l.text
 
 parts_text : (parts : List (List ℕ)) → AllEnded (lines_of_parts parts) → join 10 parts ≡ flat_map text_of_line (map words_of_line (lines_of_parts parts))
@@ -105,7 +105,7 @@ parts_text (part ∷ next ∷ parts) ended =
     ap (λ (t : List ℕ). part ++ (10 ∷ t)) (parts_text (next ∷ parts) ended.1) ∙ sym (append_assoc part (10 ∷ []) rest) ∙ ap (λ (t : List ℕ). (t ++ 10 ∷ []) ++ rest) (sym (join_split 32 part))
 
 -- a text whose lines all end is that of its lines' words
-lines_text : (text : List ℕ) → AllEnded (lines_of text) → text ≡ flat_map text_of_line (map words_of_line (lines_of text))
+pub lines_text : (text : List ℕ) → AllEnded (lines_of text) → text ≡ flat_map text_of_line (map words_of_line (lines_of text))
 lines_text text ended = sym (join_split 10 text) ∙ parts_text (split 10 text) ended
 
 -- ---- the first two lines

@@ -72,3 +72,9 @@ is_label_byte b = is_letter b || is_digit b
 abbrev pub is_label : List ℕ → Bool
 is_label [] = false
 is_label (b ∷ bs) = is_letter b && list_all is_label_byte bs && nat_le (length bs) 31
+
+-- ---- names of files
+
+-- 1 to 4,096 bytes without space or LF
+abbrev pub is_name : List ℕ → Bool
+is_name word = is_within 1 4096 (length word) && list_all is_word_byte word

@@ -18,19 +18,19 @@ use crate::vocabulary::{
 };
 use std::alloc::Global;
 
-/// The event that the words made, where none is left.
-fn made(words: &Parts<'_>, event: Event) -> Result<Event, LineError>
-    ensures { Gives result (if length words.now == 0 then Ok event else Err is.Fields) }
+/// The value that the words made, where none is left.
+pub fn made<E: Drop>(words: &Parts<'_>, value: E) -> Result<E, LineError>
+    ensures { Gives result (if length words.now == 0 then Ok value else Err is.Fields) }
 {
     if words.is_done() {
-        Ok(event)
+        Ok(value)
     } else {
         Err(LineError::In(LineFault::Fields))
     }
 }
 
 /// Whether low to high words are left.
-fn counted(words: &Parts<'_>, low: usize, high: usize) -> Result<(), LineError>
+pub fn counted(words: &Parts<'_>, low: usize, high: usize) -> Result<(), LineError>
     ensures { Counts low high words.now result }
 {
     let count = words.count();

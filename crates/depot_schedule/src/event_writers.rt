@@ -32,7 +32,7 @@ fn statement(
 
 /// A key and a value.
 #[tactic(auto, using(depot_base::proofs::Writing::texts))]
-fn write(alloc: Global, out: &mut Bytes, key: &Key, value: &Value) -> Result<(), Memory>
+pub fn write(alloc: Global, out: &mut Bytes, key: &Key, value: &Value) -> Result<(), Memory>
     ensures { OnOk result (out.new ≡ out.old ++ behind_spaces (encode_lower key.now ∷ text_if_any encode_lower value.now ∷ [])) }
 {
     hex(alloc, out, key.bytes())?;

@@ -11,7 +11,7 @@
 //!
 //! `Parts` takes words and lines from a text; `spelling`, `vocabulary` and `references` read single words, `event_lines` the lines of
 //! events, `header` those of the header, `line` any line behind the second, and `parse` whole texts. A `Draft` is the schedule so
-//! far. `word_writers`, `event_writers` and `print` write what these read.
+//! far. `word_writers`, `event_writers` and `print` write what these read. `lines` names what other texts of lines are built on.
 //!
 //! Nothing here says what an event does.
 #![tactic(auto)]
@@ -26,6 +26,7 @@ mod label;
 mod labels;
 mod laws;
 mod line;
+pub mod lines;
 mod member;
 mod parse;
 mod parts;

@@ -14,7 +14,7 @@ use crate::verb::Verb;
 use std::alloc::Global;
 
 /// Whether one space stands between each two words of a line, and none first or last.
-fn are_words(line: &[u8]) -> bool
+pub fn are_words(line: &[u8]) -> bool
     ensures { result ≡ are_words (split 32 line.now) }
 {
     let mut words = Parts::new(line, b' ');

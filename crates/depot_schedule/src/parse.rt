@@ -15,7 +15,7 @@ use std::alloc::Global;
 const MOST_LINES: u32 = 100_000;
 
 /// Takes the next line, and says whether an LF ends it.
-fn next_line<'a>(parts: &mut Parts<'a>) -> Option<(&'a [u8], bool)>
+pub fn next_line<'a>(parts: &mut Parts<'a>) -> Option<(&'a [u8], bool)>
     ensures { TakesLine parts.old result parts.new }
 {
     let Some(part) = parts.next() else {
@@ -31,7 +31,7 @@ fn next_line<'a>(parts: &mut Parts<'a>) -> Option<(&'a [u8], bool)>
 }
 
 /// Whether the line of this number may be read.
-fn allowed(number: u32, ended: bool) -> Result<(), ScheduleError>
+pub fn allowed(number: u32, ended: bool) -> Result<(), ScheduleError>
     ensures { Allows number ended result }
 {
     if !ended {
@@ -44,7 +44,7 @@ fn allowed(number: u32, ended: bool) -> Result<(), ScheduleError>
 }
 
 /// A fault in the line of this number.
-fn in_line<T: Drop>(number: u32, read: Result<T, LineError>) -> Result<T, ScheduleError>
+pub fn in_line<T: Drop>(number: u32, read: Result<T, LineError>) -> Result<T, ScheduleError>
     ensures { InLine number read result }
 {
     match read {

@@ -1,9 +1,9 @@
-//! How single words are spelled: numbers in decimal, bytes in hexadecimal, and the names of kinds of contradictions.
+//! How single words are spelled: numbers in decimal, bytes in hexadecimal, names of files, and the names of kinds of contradictions.
 ghost use Rattle.std.specs.Prelude.{◌≡◌, ◌≤◌, length, IsTrue, IfSome, IfOk};
 ghost use Rattle.std.specs.List.{list_all};
 ghost use Rattle.std.specs.Str.{bytes_eq};
 ghost use Rattle.depot_model.specs.Lines.{name_of_kind};
-ghost use Rattle.depot_schedule.specs.Spelling.{is_within, is_lower_digit, is_digit, hex_word, has_no_leading_zero, is_number, value_behind, number_word};
+ghost use Rattle.depot_schedule.specs.Spelling.{is_word_byte, is_within, is_lower_digit, is_digit, hex_word, has_no_leading_zero, is_number, value_behind, number_word, is_name};
 
 use depot_base::{Bytes, Kind, Memory};
 use hex::FromHexError;
@@ -109,6 +109,27 @@ pub fn hex_word(alloc: Global, word: &[u8]) -> Result<Option<Bytes>, Memory>
         Err(FromHexError::OutOfMemory) => Err(Memory),
         Err(_) => Ok(None),
     }
+}
+
+/// Whether the byte is neither a space nor LF.
+fn is_word_byte(b: u8) -> bool
+    ensures { result ≡ is_word_byte b }
+{
+    !(b == b' ' || b == b'\n')
+}
+
+/// Whether no byte is a space or LF.
+fn are_word_bytes(bytes: &[u8]) -> bool
+    ensures { result ≡ list_all is_word_byte bytes.now }
+{
+    bytes.iter().all(|b| is_word_byte(*b))
+}
+
+/// Whether the bytes are 1 to 4,096 in number, and none is a space or LF: these name files.
+pub fn is_name(bytes: &[u8]) -> bool
+    ensures { result ≡ is_name bytes.now }
+{
+    has_length(bytes, 1, 4096) && are_word_bytes(bytes)
 }
 
 /// The name of a kind of contradiction.

@@ -1,17 +1,10 @@
 -- Which words are a command.
-use Rattle.std.specs.Prelude.{ℕ, List, [], ◌∷◌, length, codes, Bool, ◌&&◌, Option, Some, None, if◌then◌else◌}
-use Rattle.std.specs.List.{list_all}
+use Rattle.std.specs.Prelude.{ℕ, List, [], ◌∷◌, codes, Option, Some, None, if◌then◌else◌}
 use Rattle.std.specs.Str.{bytes_eq}
 use Rattle.depot_model.specs.Lists.{when}
-use Rattle.depot_schedule.specs.Spelling.{is_within, is_word_byte, hex_word, sized, number_word}
+use Rattle.depot_schedule.specs.Spelling.{is_within, hex_word, sized, number_word, is_name}
 use Rattle.depot_tool.specs.declared.command.Command.{Command}
 use Rattle.depot_tool.specs.declared.command.Command.TheVariants.{Scan, Root, Judge}
-
--- ---- words
-
--- a name of a file: 1 to 4,096 bytes without space or LF
-abbrev pub is_name : List ℕ → Bool
-is_name word = is_within 1 4096 (length word) && list_all is_word_byte word
 
 -- ---- commands
 

@@ -1,12 +1,10 @@
 //! A word of the command line.
 ghost use Rattle.std.specs.Prelude.{◌≡◌, IfOk, string_bytes};
-ghost use Rattle.std.specs.List.{list_all};
 ghost use Rattle.std.specs.Str.{bytes_eq};
-ghost use Rattle.depot_schedule.specs.Spelling.{is_word_byte};
-ghost use Rattle.depot_tool.specs.Words.{is_name};
+ghost use Rattle.depot_schedule.specs.Spelling.{is_name};
 
 use depot_base::Memory;
-use depot_schedule::spelling::has_length;
+use depot_schedule::spelling::is_name;
 use std::marker::Model;
 
 /// A word of the command line, seen as its bytes.
@@ -54,21 +52,6 @@ impl Word {
     pub fn is_name(&self) -> bool
         ensures { result ≡ is_name self.now }
     {
-        let bytes = self.0.as_bytes();
-        has_length(bytes, 1, 4096) && are_word_bytes(bytes)
+        is_name(self.0.as_bytes())
     }
-}
-
-/// Whether the byte is neither a space nor LF.
-fn is_word_byte(b: u8) -> bool
-    ensures { result ≡ is_word_byte b }
-{
-    !(b == b' ' || b == b'\n')
-}
-
-/// Whether no byte is a space or LF.
-fn are_word_bytes(bytes: &[u8]) -> bool
-    ensures { result ≡ list_all is_word_byte bytes.now }
-{
-    bytes.iter().all(|b| is_word_byte(*b))
 }

@@ -1,0 +1,4 @@
+pub mod NameSteps
+pub mod CommandLaws
+pub mod ScriptLaws
+pub mod ReadingLaws

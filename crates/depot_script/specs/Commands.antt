@@ -1,0 +1,87 @@
+-- The lines of commands: one line of this table a kind of command.
+use Rattle.std.specs.Prelude.{ℕ, List, [], Option, codes, find}
+use Rattle.std.specs.Str.{bytes_eq}
+use Rattle.depot_schedule.specs.Language.{Words, word, made, counted}
+use Rattle.depot_schedule.specs.Vocabulary.{key, value}
+use Rattle.depot_script.specs.declared.command.Command.{Command}
+use Rattle.depot_script.specs.declared.command.Command.TheVariants.{Put, Get, Hello, Bundle, Take}
+use Rattle.depot_script.specs.declared.verb.Verb.{Verb}
+use Rattle.depot_script.specs.declared.verb.Verb.TheVariants as verb
+use Rattle.depot_script.specs.declared.verb.TheConstants.{VERBS}
+use Rattle.depot_script.specs.Names.{file_name}
+
+-- ---- the parts of commands; where a command has no such part, any value serves
+
+abbrev pub key_of : Command → List ℕ
+key_of (Put k _) = k
+key_of (Get k) = k
+key_of _ = []
+
+abbrev pub value_of : Command → List ℕ
+value_of (Put _ v) = v
+value_of _ = []
+
+abbrev pub file_of : Command → List ℕ
+file_of (Hello file) = file
+file_of (Bundle _ file) = file
+file_of (Take file) = file
+file_of _ = []
+
+-- the file of the hello that a bundle answers
+abbrev pub hello_of : Command → List ℕ
+hello_of (Bundle hello _) = hello
+hello_of _ = []
+
+-- ---- the table, by the words behind the command's name; nothing before a line matters for it
+
+abbrev pub Form : Type 1
+Form = Words (Unit {0}) Command
+
+-- `put KEY VALUE`
+unfoldable pub put : Form
+put = counted 2 2 (word key key_of λ k. word value value_of λ v. made (Put k v))
+
+-- `get KEY`
+unfoldable pub get : Form
+get = counted 1 1 (word key key_of λ k. made (Get k))
+
+-- `hello FILE`
+unfoldable pub hello : Form
+hello = counted 1 1 (word file_name file_of λ file. made (Hello file))
+
+-- `bundle HELLO FILE`
+unfoldable pub bundle : Form
+bundle = counted 2 2 (word file_name hello_of λ hello. word file_name file_of λ file. made (Bundle hello file))
+
+-- `take FILE`
+unfoldable pub take : Form
+take = counted 1 1 (word file_name file_of λ file. made (Take file))
+
+-- ---- all kinds of commands
+
+abbrev pub verb_of : Command → Verb
+verb_of (Put _ _) = verb.Put
+verb_of (Get _) = verb.Get
+verb_of (Hello _) = verb.Hello
+verb_of (Bundle _ _) = verb.Bundle
+verb_of (Take _) = verb.Take
+
+-- the first word of the line of a command
+abbrev pub name_of : Verb → List ℕ
+name_of verb.Put = codes "put"
+name_of verb.Get = codes "get"
+name_of verb.Hello = codes "hello"
+name_of verb.Bundle = codes "bundle"
+name_of verb.Take = codes "take"
+
+-- the words behind it
+abbrev pub form_of : Verb → Form
+form_of verb.Put = put
+form_of verb.Get = get
+form_of verb.Hello = hello
+form_of verb.Bundle = bundle
+form_of verb.Take = take
+
+-- the kind of command of this name
+unfoldable pub verb_named : List ℕ → Option Verb
+verb_named word = find (λ v. bytes_eq word (name_of v)) VERBS

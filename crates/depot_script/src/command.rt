@@ -1,0 +1,38 @@
+//! What a script lets a node do.
+
+use crate::FileName;
+use crate::verb::Verb;
+use depot_base::{Key, Value};
+
+/// One command.
+#[derive(Debug, Drop)]
+pub enum Command {
+    /// The node writes the value under the key.
+    Put { key: Key, value: Value },
+    /// The node reads the key.
+    Get { key: Key },
+    /// The node's hello becomes the file.
+    Hello { file: FileName },
+    /// The node's bundle for the hello in the file `hello` becomes the file.
+    Bundle { hello: FileName, file: FileName },
+    /// The node takes the stream in the file.
+    Take { file: FileName },
+}
+
+impl Command {
+    ghost use Rattle.std.specs.Prelude.{◌≡◌};
+    ghost use Rattle.depot_script.specs.Commands.{verb_of};
+
+    /// The kind of command that it is.
+    pub fn verb(&self) -> Verb
+        ensures { result ≡ verb_of self.now }
+    {
+        match self {
+            Command::Put { .. } => Verb::Put,
+            Command::Get { .. } => Verb::Get,
+            Command::Hello { .. } => Verb::Hello,
+            Command::Bundle { .. } => Verb::Bundle,
+            Command::Take { .. } => Verb::Take,
+        }
+    }
+}

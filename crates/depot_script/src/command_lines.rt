@@ -1,0 +1,87 @@
+//! Reads the words behind the name of a command: one function a line of the table.
+ghost use Rattle.depot_schedule.specs.Language.{nothing, next};
+ghost use Rattle.depot_schedule.specs.Readers.{Gives, Reads};
+ghost use Rattle.depot_script.specs.Names.{file_name};
+ghost use Rattle.depot_script.specs.Commands.{put, get, hello, bundle, take, form_of};
+
+use crate::verb::Verb;
+use crate::{Command, FileName};
+use depot_schedule::LineFault;
+use depot_schedule::lines::{LineError, Parts, counted, key, made, value};
+use std::alloc::Global;
+
+/// A name of a file.
+fn file_name(alloc: Global, words: &mut Parts<'_>) -> Result<FileName, LineError>
+    ensures { Reads result words.new (next (file_name.read nothing) words.old) }
+{
+    let word = words.word()?;
+    match FileName::new(alloc, word)? {
+        Some(name) => Ok(name),
+        None => Err(LineError::In(LineFault::Label)),
+    }
+}
+
+/// `put KEY VALUE`
+#[tactic(auto, unfolding(crate::specs::Commands::put))]
+fn put(alloc: Global, words: &mut Parts<'_>) -> Result<Command, LineError>
+    ensures { Gives result (put.read nothing words.old) }
+{
+    counted(words, 2, 2)?;
+    let key = key(alloc, words)?;
+    let value = value(alloc, words)?;
+    made(words, Command::Put { key, value })
+}
+
+/// `get KEY`
+#[tactic(auto, unfolding(crate::specs::Commands::get))]
+fn get(alloc: Global, words: &mut Parts<'_>) -> Result<Command, LineError>
+    ensures { Gives result (get.read nothing words.old) }
+{
+    counted(words, 1, 1)?;
+    let key = key(alloc, words)?;
+    made(words, Command::Get { key })
+}
+
+/// `hello FILE`
+#[tactic(auto, unfolding(crate::specs::Commands::hello))]
+fn hello(alloc: Global, words: &mut Parts<'_>) -> Result<Command, LineError>
+    ensures { Gives result (hello.read nothing words.old) }
+{
+    counted(words, 1, 1)?;
+    let file = file_name(alloc, words)?;
+    made(words, Command::Hello { file })
+}
+
+/// `bundle HELLO FILE`
+#[tactic(auto, unfolding(crate::specs::Commands::bundle))]
+fn bundle(alloc: Global, words: &mut Parts<'_>) -> Result<Command, LineError>
+    ensures { Gives result (bundle.read nothing words.old) }
+{
+    counted(words, 2, 2)?;
+    let hello = file_name(alloc, words)?;
+    let file = file_name(alloc, words)?;
+    made(words, Command::Bundle { hello, file })
+}
+
+/// `take FILE`
+#[tactic(auto, unfolding(crate::specs::Commands::take))]
+fn take(alloc: Global, words: &mut Parts<'_>) -> Result<Command, LineError>
+    ensures { Gives result (take.read nothing words.old) }
+{
+    counted(words, 1, 1)?;
+    let file = file_name(alloc, words)?;
+    made(words, Command::Take { file })
+}
+
+/// The command of the words behind its name.
+pub fn command_of(alloc: Global, verb: Verb, words: &mut Parts<'_>) -> Result<Command, LineError>
+    ensures { Gives result ((form_of verb).read nothing words.old) }
+{
+    match verb {
+        Verb::Put => put(alloc, words),
+        Verb::Get => get(alloc, words),
+        Verb::Hello => hello(alloc, words),
+        Verb::Bundle => bundle(alloc, words),
+        Verb::Take => take(alloc, words),
+    }
+}

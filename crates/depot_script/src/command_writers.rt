@@ -1,0 +1,63 @@
+//! Writes the words behind the name of a command, each behind a space: one function a line of the table.
+ghost use Rattle.std.specs.Prelude.{◌≡◌, ◌++◌, OnOk};
+ghost use Rattle.depot_schedule.specs.Readers.{behind_spaces};
+ghost use Rattle.depot_script.specs.Commands.{put, get, hello, bundle, take, form_of, verb_of};
+
+use crate::{Command, FileName};
+use depot_base::{Bytes, Key, Memory, Value};
+use depot_schedule::lines::{hex, word, write};
+use std::alloc::Global;
+
+/// `put KEY VALUE`
+#[tactic(auto, unfolding(crate::specs::Commands::put))]
+fn put(alloc: Global, out: &mut Bytes, key: &Key, value: &Value) -> Result<(), Memory>
+    ensures { OnOk result (out.new ≡ out.old ++ behind_spaces (put.text (Command.Put key.now value.now))) }
+{
+    write(alloc, out, key, value)
+}
+
+/// `get KEY`
+#[tactic(auto, using(depot_base::proofs::Writing::texts), unfolding(crate::specs::Commands::get))]
+fn get(alloc: Global, out: &mut Bytes, key: &Key) -> Result<(), Memory>
+    ensures { OnOk result (out.new ≡ out.old ++ behind_spaces (get.text (Command.Get key.now))) }
+{
+    hex(alloc, out, key.bytes())
+}
+
+/// `hello FILE`
+#[tactic(auto, using(depot_base::proofs::Writing::texts), unfolding(crate::specs::Commands::hello))]
+fn hello(out: &mut Bytes, file: &FileName) -> Result<(), Memory>
+    ensures { OnOk result (out.new ≡ out.old ++ behind_spaces (hello.text (Command.Hello file.now))) }
+{
+    word(out, file.text().as_bytes())
+}
+
+/// `bundle HELLO FILE`
+#[tactic(auto, using(depot_base::proofs::Writing::texts), unfolding(crate::specs::Commands::bundle))]
+fn bundle(out: &mut Bytes, hello: &FileName, file: &FileName) -> Result<(), Memory>
+    ensures { OnOk result (out.new ≡ out.old ++ behind_spaces (bundle.text (Command.Bundle hello.now file.now))) }
+{
+    word(out, hello.text().as_bytes())?;
+    word(out, file.text().as_bytes())
+}
+
+/// `take FILE`
+#[tactic(auto, using(depot_base::proofs::Writing::texts), unfolding(crate::specs::Commands::take))]
+fn take(out: &mut Bytes, file: &FileName) -> Result<(), Memory>
+    ensures { OnOk result (out.new ≡ out.old ++ behind_spaces (take.text (Command.Take file.now))) }
+{
+    word(out, file.text().as_bytes())
+}
+
+/// The words behind the name of a command.
+pub fn words_of_command(alloc: Global, out: &mut Bytes, command: &Command) -> Result<(), Memory>
+    ensures { OnOk result (out.new ≡ out.old ++ behind_spaces ((form_of (verb_of command.now)).text command.now)) }
+{
+    match command {
+        Command::Put { key, value } => put(alloc, out, key, value),
+        Command::Get { key } => get(alloc, out, key),
+        Command::Hello { file } => hello(out, file),
+        Command::Bundle { hello, file } => bundle(out, hello, file),
+        Command::Take { file } => take(out, file),
+    }
+}

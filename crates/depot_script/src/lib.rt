@@ -1,0 +1,37 @@
+//! Scripts: texts that say what a node shall do, one command a line (docs/FORMATS.md, "Scripts").
+//!
+//! Each script that has a text (`IsScript`) has one, and is read back from it. Any other text is refused with its first faulty line
+//! and that line's first fault. A script is plain data: contracts see it as a list of commands, and keys, values and names of files
+//! as lists of bytes.
+//!
+//! `specs/Commands.antt` has the table of commands, in the language of lines of `depot_schedule`, and `Scripts` whole texts. A new
+//! kind of command is a variant of `Command` and of `Verb`, a line of the table with its law, and a reader and a writer with no
+//! proof file.
+//!
+//! `command_lines` reads the words of commands, `parse` whole texts; `command_writers` and `print` write what these read.
+//!
+//! Nothing here runs a command.
+#![tactic(auto)]
+
+mod command;
+mod command_lines;
+mod command_writers;
+mod error;
+mod file_name;
+mod laws;
+mod parse;
+mod print;
+mod script;
+mod verb;
+
+pub use command::Command;
+pub use error::ScriptError;
+pub use file_name::FileName;
+pub use laws::{scripts_are_read_back, scripts_have_one_spelling};
+pub use parse::parse_script;
+pub use print::print_script;
+pub use script::Script;
+pub use verb::Verb;
+
+#[cfg(test)]
+mod tests;
