@@ -8,3 +8,4 @@ pub mod ClosedLaws
 pub mod Decoding
 pub mod Writing
 pub mod Trees
+pub mod CallLaws

@@ -10,3 +10,4 @@ pub mod Faults
 pub mod Facts
 pub mod Disk
 pub mod File
+pub mod Calls

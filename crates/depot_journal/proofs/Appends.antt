@@ -6,7 +6,7 @@ use Rattle.depot_base.specs.Disk.{Elapses, LeavesOnly, Only, Within}
 use Rattle.depot_base.specs.File.{AreWithinLimits, HasFront, HasRoom, IsCutShort, IsFileOf, StandsFor, blocks, framed}
 use Rattle.depot_journal.specs.Steps.{FailsAt, StandsBetween, StandsTo}
 use Rattle.depot_journal.specs.View.{IsReserved}
-use Rattle.depot_journal.proofs.Blocks.{framed_long}
+use Rattle.depot_base.proofs.CallLaws.{framed_long}
 use Rattle.depot_journal.proofs.Moments.{started, goes_on, joined, weaker}
 use Rattle.depot_journal.proofs.Walk.{blocks-append, stands_of}
 
@@ -48,11 +48,12 @@ reserved_less records bytes held long spans_capacity bytes_capacity disk_bytes d
     }
 
 -- the file as it stands before the first of them
-first : (file image : List ℕ) (old new : List (List ℕ)) (end : ℕ) → StandsTo file old end → AreWithinLimits old → image ≡ file → HasFront old new image
-first file image old new end stands within e = record {
-  count = 0;
-  is = subst (λ (l : List ℕ). IsFileOf l (old ++ [])) (sym e) (subst (IsFileOf file) (sym (append-nil old)) (inr (stands_of file old end stands, within)));
-}
+first : (file image : List ℕ) (old : List (List ℕ)) (end : ℕ) → StandsTo file old end → AreWithinLimits old → image ≡ file → IsFileOf image old
+first file image old end stands within e = subst (λ (l : List ℕ). IsFileOf l old) (sym e) (inr (stands_of file old end stands, within))
+
+-- with none of them
+none_of : (old new : List (List ℕ)) (image : List ℕ) → IsFileOf image old → HasFront old new image
+none_of old new image has = record { count = 0; is = subst (IsFileOf image) (sym (append-nil old)) has }
 
 -- with so many of them
 some : (old at new : List (List ℕ)) (image : List ℕ) (records bytes : ℕ) → HasRoom old records bytes → records ≡ length new → bytes ≡ length (blocks new) → at ≡ old → StandsBetween at new image → HasFront old new image
@@ -62,18 +63,26 @@ some old at new image records bytes room many long same s = record {
 }
 
 module _ {D : Type 0} (moment : D → ℕ) (left_since : D → ℕ → List ℕ → Type 0) where
+  -- nothing was done
+  pub unmoved : (old : D) (may_leave : List ℕ → Type 0) (file : List ℕ) (records : List (List ℕ)) (end : ℕ) → StandsTo file records end → AreWithinLimits records → Only file may_leave
+      → ((image : List ℕ) → left_since old (moment old) image → may_leave image) → LeavesOnly moment left_since old old (λ image. IsFileOf image records)
+  unmoved old may_leave file records end stands within only now = started moment left_since old (λ image. IsFileOf image records) (λ image left. first file image records end stands within (only image (now image left)))
+
   -- memory was found, and nothing was written
-  pub found : (old mid : D) (may_leave may_leave' : List ℕ → Type 0) (file : List ℕ) (records new : List (List ℕ)) (end : ℕ) → StandsTo file records end → AreWithinLimits records → Only file may_leave
-      → ((image : List ℕ) → left_since old (moment old) image → may_leave image) → Elapses (moment old) (moment mid) (left_since old) (left_since mid) may_leave' → Within may_leave may_leave' → LeavesOnly moment left_since old mid (HasFront records new)
-  found old mid may_leave may_leave' file records new end stands within only now time images =
-      let before = started moment left_since old (HasFront records new) (λ image left. first file image records new end stands within (only image (now image left))) in
-      goes_on moment left_since old old mid (HasFront records new) may_leave' before time (λ image here. first file image records new end stands within (only image (images image here)))
+  pub found : (old mid : D) (may_leave may_leave' : List ℕ → Type 0) (file : List ℕ) (records : List (List ℕ)) (end : ℕ) → StandsTo file records end → AreWithinLimits records → Only file may_leave
+      → ((image : List ℕ) → left_since old (moment old) image → may_leave image) → Elapses (moment old) (moment mid) (left_since old) (left_since mid) may_leave' → Within may_leave may_leave' → LeavesOnly moment left_since old mid (λ image. IsFileOf image records)
+  found old mid may_leave may_leave' file records end stands within only now time images =
+      goes_on moment left_since old old mid (λ image. IsFileOf image records) may_leave' (unmoved old may_leave file records end stands within only now) time (λ image here. first file image records end stands within (only image (images image here)))
+
+  -- so no new record stands there
+  pub with_none : (old mid : D) (records new : List (List ℕ)) → LeavesOnly moment left_since old mid (λ image. IsFileOf image records) → LeavesOnly moment left_since old mid (HasFront records new)
+  with_none old mid records new one = weaker moment left_since old mid (λ image. IsFileOf image records) (HasFront records new) one (none_of records new)
 
   -- and then the records were appended, one by one
   pub then_appended : (old mid end : D) (records at new : List (List ℕ)) (count bytes : ℕ) → HasRoom records count bytes → count ≡ length new → bytes ≡ length (blocks new) → at ≡ records
-      → LeavesOnly moment left_since old mid (HasFront records new) → LeavesOnly moment left_since mid end (StandsBetween at new) → LeavesOnly moment left_since old end (HasFront records new)
+      → LeavesOnly moment left_since old mid (λ image. IsFileOf image records) → LeavesOnly moment left_since mid end (StandsBetween at new) → LeavesOnly moment left_since old end (HasFront records new)
   then_appended old mid end records at new count bytes room many long same one two =
-      joined moment left_since old mid end (HasFront records new) one (weaker moment left_since mid end (StandsBetween at new) (HasFront records new) two (λ image s. some records at new image count bytes room many long same s))
+      joined moment left_since old mid end (HasFront records new) (with_none old mid records new one) (weaker moment left_since mid end (StandsBetween at new) (HasFront records new) two (λ image s. some records at new image count bytes room many long same s))
 
 -- those before the failing one
 pub cut_short : (old at new kept : List (List ℕ)) (told told' : Type 0) → (told' → told) → (images : List ℕ → Type 0) (records bytes : ℕ) → HasRoom old records bytes → records ≡ length new → bytes ≡ length (blocks new) → at ≡ old → FailsAt at new kept told images → IsCutShort old new kept told' images

@@ -3,9 +3,7 @@ use Rattle.std.proofs.Common.{◌≡◌, ◌<◌, ℕ, List, [], ◌∷◌, ◌+
 use Rattle.std.proofs.lemmas.List.{take_at}
 use Rattle.std.proofs.lemmas.Grind.{common_steps}
 use Rattle.std.specs.Prelude.{Result, Ok, Err, OnOk, OnErr, IfOk, is_err, true, false}
-use Rattle.std.specs.Int.{w32}
-use Rattle.depot_base.specs.Cursor.{numeral}
-use Rattle.depot_base.proofs.Numbers.{wide32}
+use Rattle.depot_base.proofs.CallLaws.{framed_long}
 use Rattle.depot_base.specs.Disk.{IsWritten}
 use Rattle.depot_base.specs.File.{blocks, framed, closed_block}
 use Rattle.depot_journal.specs.Steps.{StandsTo}
@@ -13,14 +11,6 @@ use Rattle.depot_journal.specs.Steps.{StandsTo}
 pub blocks_push : (bodies : List (List ℕ)) (body : List ℕ) → blocks (bodies ++ body ∷ []) ≡ blocks bodies ++ (1 ∷ framed body)
 blocks_push [] body = ap (λ (x : List ℕ). 1 ∷ x) (append-nil (framed body))
 blocks_push (b ∷ bodies) body = ap (λ (x : List ℕ). 1 ∷ (framed b ++ x)) (blocks_push bodies body) ∙ ap (λ (x : List ℕ). 1 ∷ x) (sym (append_assoc (framed b) (blocks bodies) (1 ∷ framed body)))
-
-pub numeral_long : (n : ℕ) → length (numeral w32 n) ≡ 4
-unfolding numeral
-numeral_long n = wide32.len n
-
-pub framed_long : (body : List ℕ) → length (framed body) ≡ 4 + length body
-unfolding framed
-framed_long body = omega (arith, length-append (numeral w32 (length body)) body, numeral_long (length body))
 
 pub one_more : (file rest after body : List ℕ) (bodies bodies' : List (List ℕ)) → file ≡ blocks bodies ++ rest → rest ≡ 1 ∷ (framed body ++ after) → bodies' ≡ bodies ++ body ∷ [] → file ≡ blocks bodies' ++ after
 one_more file rest after body bodies bodies' read split pushed =
@@ -66,6 +56,10 @@ if_not_err (Err e) P ok p = absurd cc
 pub on_err : {T E : Type 0} → (r : Result T E) (P : Type 0) → P → OnErr r P
 on_err (Ok x) P p = tt
 on_err (Err e) P p = p
+
+pub on_err_so : {T E : Type 0} → (r : Result T E) (P Q : Type 0) → OnErr r Q → (Q → P) → OnErr r P
+on_err_so (Ok x) P Q q f = q
+on_err_so (Err e) P Q q f = f q
 
 pub if_err : {T E : Type 0} → (r : Result T E) (P : Type 0) → is_err r ≡ true → OnErr r P → P
 if_err (Ok x) P failed p = absurd cc

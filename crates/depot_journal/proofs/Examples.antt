@@ -1,8 +1,9 @@
 -- Small journals, computed: what an append writes, what its images hold, what is damaged, and what is none of these.
 use Rattle.std.proofs.Common.{◌≡◌, ◌≤◌, ◌++◌, ◌∷◌, [], List, ℕ, length, length-append, refl, ap, inl, inr, arith}
+use Rattle.depot_base.specs.Calls.{asks_length, reads_at, syncs, writes_at, calls_to_append_all, calls_to_start}
 use Rattle.depot_base.specs.Cursor.{numeral}
 use Rattle.depot_base.specs.Disk.{IsWritten, IsTorn}
-use Rattle.depot_journal.proofs.Blocks.{framed_long}
+use Rattle.depot_base.proofs.CallLaws.{framed_long}
 use Rattle.depot_base.specs.declared.check.FullOf.TheVariants as full_of
 use Rattle.depot_journal.proofs.OneList.{not_damaged, one_list, one_place}
 use Rattle.depot_base.specs.File.{blocks, framed, closed_block, HasRoom, PassesLimit, StandsFor, IsFileOf, IsDamagedAt}
@@ -26,6 +27,22 @@ first_write = refl
 
 second_write : IsWritten (0 ∷ 0 ∷ 0 ∷ 0 ∷ 1 ∷ 7 ∷ 0 ∷ []) 0 (1 ∷ []) (1 ∷ 0 ∷ 0 ∷ 0 ∷ 1 ∷ 7 ∷ 0 ∷ [])
 second_write = refl
+
+-- the calls that append this record and then an empty one
+calls_of_two : calls_to_append_all 0 ((7 ∷ []) ∷ [] ∷ [])
+    ≡ writes_at 1 (0 ∷ 0 ∷ 0 ∷ 1 ∷ 7 ∷ 0 ∷ []) ∷ syncs ∷ writes_at 0 (1 ∷ []) ∷ syncs ∷ writes_at 7 (0 ∷ 0 ∷ 0 ∷ 0 ∷ 0 ∷ []) ∷ syncs ∷ writes_at 6 (1 ∷ []) ∷ syncs ∷ []
+unfolding framed numeral
+calls_of_two = refl
+
+-- a start of an empty file writes a closed gate, and one of a file with a record reads it
+start_of_none : calls_to_start [] ≡ syncs ∷ asks_length ∷ writes_at 0 (0 ∷ []) ∷ syncs ∷ []
+start_of_none = refl
+
+start_of_one : calls_to_start (1 ∷ 0 ∷ 0 ∷ 0 ∷ 1 ∷ 7 ∷ 0 ∷ []) ≡ syncs ∷ asks_length ∷ reads_at 0 7 ∷ []
+start_of_one = refl
+
+start_of_one_writes_nothing : (bytes : List ℕ) → calls_to_start (1 ∷ 0 ∷ 0 ∷ 0 ∷ 1 ∷ 7 ∷ 0 ∷ []) ≡ syncs ∷ asks_length ∷ writes_at 0 bytes ∷ syncs ∷ [] → ⊥
+start_of_one_writes_nothing bytes e = cc
 
 -- An image of the first write that a stop cut short: no record.
 torn_body : IsTorn 1 6 (0 ∷ []) (0 ∷ 255 ∷ 255 ∷ [])

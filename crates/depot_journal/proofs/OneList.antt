@@ -5,7 +5,8 @@ use Rattle.std.specs.Int.{w32, from_be_bytes}
 use Rattle.depot_base.specs.Cursor.{numeral}
 use Rattle.depot_base.proofs.Numbers.{wide32}
 use Rattle.depot_base.specs.File.{AreWithinLimits, IsDamagedAt, IsFileOf, StandsFor, blocks, framed}
-use Rattle.depot_journal.proofs.Blocks.{framed_long, numeral_long, blocks_push}
+use Rattle.depot_base.proofs.CallLaws.{framed_long, numeral_long}
+use Rattle.depot_journal.proofs.Blocks.{blocks_push}
 use Rattle.depot_journal.proofs.Walk.{blocks-append}
 
 -- ---- what a text begins with

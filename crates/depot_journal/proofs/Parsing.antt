@@ -10,7 +10,8 @@ use Rattle.depot_journal.specs.Answers.{IsDamage}
 use Rattle.depot_base.specs.File.{IsDamagedAt, blocks, framed}
 use Rattle.depot_journal.specs.Mirrored.{EndWithin, IsMirror, bodies_at, cut}
 use Rattle.depot_journal.specs.Steps.{StandsTo}
-use Rattle.depot_journal.proofs.Blocks.{blocks_push, framed_long}
+use Rattle.depot_base.proofs.CallLaws.{framed_long}
+use Rattle.depot_journal.proofs.Blocks.{blocks_push}
 use Rattle.depot_journal.proofs.Mirrors.{bodies_grown, cut_grown, cut_last}
 
 -- a record more was found

@@ -9,6 +9,10 @@ pub blocks-append : (a b : List (List ℕ)) → length (blocks (a ++ b)) ≡ len
 blocks-append [] b = omega arith
 blocks-append (x ∷ a) b = omega (arith, blocks-append a b, length-append (framed x) (blocks (a ++ b)), length-append (framed x) (blocks a))
 
+-- the gate behind the records so far
+pub gate_behind : (bytes bytes' : List ℕ) (old at front : List (List ℕ)) → bytes ≡ blocks old → bytes' ≡ blocks at → at ≡ old ++ front → length bytes' ≡ length bytes + length (blocks front)
+gate_behind bytes bytes' old at front was is more = omega (arith, ap length was, ap length is, ap (λ (l : List (List ℕ)). length (blocks l)) more, blocks-append old front)
+
 -- one record more of those that are counted
 pub blocks_next : (texts : List (List ℕ)) (i : ℕ) → i < length texts → length (blocks (take (i + 1) texts)) ≡ length (blocks (take i texts)) + (5 + length (get_or texts i []))
 blocks_next texts i h = sym (one_longer (length (blocks (take i texts))) (get_or texts i []) (take i texts) (take (i + 1) texts) refl (take_more texts i [] h))

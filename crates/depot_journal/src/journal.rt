@@ -1,5 +1,6 @@
 //! The calls of a journal.
 ghost use Rattle.std.specs.Prelude.{◌≡◌, ◌≢◌, ◌⊎◌, ◌↔◌, ◌++◌, ◌+◌, ◌*◌, ◌<◌, ◌≤◌, ◌∷◌, [], List, ℕ, true, false, IsTrue, IsOk, OnOk, IfOk, IfErr, IsErrOf, Some, length, slice_get};
+ghost use Rattle.depot_base.specs.Calls.{FailsAmong, calls_to_append_all, calls_to_start, made};
 ghost use Rattle.depot_base.specs.Faults.{HasCause};
 ghost use Rattle.depot_base.specs.Disk.{Elapses, LeavesOnly, Only, Within};
 ghost use Rattle.depot_base.specs.File.{AreWithinLimits, HasFront, HasRoom, IsCutShort, IsFileOf, PassesLimit, StartLeaves, blocks};
@@ -118,6 +119,7 @@ impl<D: Disk> Journal<D> {
         ensures time { Elapses (D.moment self.old.disk) (D.moment self.new.disk) (D.left_since self.old.disk) (D.left_since self.new.disk) (D.may_leave self.new.disk) }
         ensures handle { D.handle self.new.disk ≡ D.handle self.old.disk }
         ensures tells { D.tells self.new.disk ≡ D.tells self.old.disk }
+        ensures made { D.after self.old.disk [] self.new.disk }
         ensures faults { D.faults self.new.disk ≡ D.faults self.old.disk }
         ensures faultless { D.is_faultless self.old.disk → D.is_faultless self.new.disk }
     {
@@ -155,7 +157,13 @@ impl<D: Disk> Journal<D> {
         ensures stands { IsTrue (D.tells self.old.disk) → LeavesAll self.new.records self.new.is_stopped (D.may_leave self.new.disk) }
         // A stop at any moment leaves the records from before the call, and then a front of the new ones.
         ensures any_moment { IsTrue (D.tells self.old.disk) → self.old.is_stopped ≡ false → LeavesOnly D.moment D.left_since self.old.disk self.new.disk (HasFront self.old.records texts.now) }
+        // After another refusal than Disk the records from before are all that a stop at any moment leaves.
+        ensures idle { IsTrue (D.tells self.old.disk) → self.old.is_stopped ≡ false → UnlessDisk result (LeavesOnly D.moment D.left_since self.old.disk self.new.disk (λ file. IsFileOf file self.old.records)) }
         ensures untouched { self.old.is_stopped ≡ true → self.new.disk ≡ self.old.disk }
+        // The calls on the disk: those that append the records, up to the one that fails, or none.
+        ensures made { OnOk result (D.after self.old.disk (made (calls_to_append_all (length (blocks self.old.records)) texts.now)) self.new.disk) }
+        ensures failing { IsErrOf result AppendError.Disk → FailsAmong D.after self.old.disk self.new.disk (calls_to_append_all (length (blocks self.old.records)) texts.now) }
+        ensures none { UnlessDisk result (D.after self.old.disk [] self.new.disk) }
         ensures cause { HasCause (D.faults self.old.disk) (D.faults self.new.disk) (IsErrOf result AppendError.Disk) }
         ensures faultless { D.is_faultless self.old.disk → D.is_faultless self.new.disk × (D.faults self.new.disk ≡ D.faults self.old.disk) }
     {
@@ -216,6 +224,10 @@ impl<D: Disk> Journal<D> {
         // Images of the moments of the call.
         ensures any_moment { IfOk result (λ j. IsTrue (D.tells disk) → LeavesOnly D.moment D.left_since disk j.disk (StartLeaves (D.may_leave disk) (D.seen disk))) }
         ensures any_moment_back { IfErr result (λ b. IsTrue (D.tells disk) → LeavesOnly D.moment D.left_since disk b.disk (StartLeaves (D.may_leave disk) (D.seen disk))) }
+
+        // The calls on the disk, and where one of them failed, those up to it.
+        ensures made { IfOk result (λ j. IsTrue (D.tells disk) → D.after disk (made (calls_to_start (D.seen disk))) j.disk) }
+        ensures failing { IfErr result (λ b. b.error ≡ JournalError.Disk → IsTrue (D.tells disk) → FailsAmong D.after disk b.disk (calls_to_start (D.seen disk))) }
 
         ensures handle { IfOk result (λ j. D.handle j.disk ≡ D.handle disk) }
         ensures handle_back { IfErr result (λ b. D.handle b.disk ≡ D.handle disk) }

@@ -1,5 +1,6 @@
 //! A disk and the records on it, in memory too.
 ghost use Rattle.std.specs.Prelude.{◌≡◌, ◌++◌, ◌+◌, ◌<◌, ◌≤◌, ◌*◌, ◌^◌, ◌∷◌, [], List, ℕ, IsTrue, IsErr, OnOk, OnErr, length, take, vec_len, vec_capacity};
+ghost use Rattle.depot_base.specs.Calls.{FailsAmong, calls_to_append, calls_to_append_all, made};
 ghost use Rattle.depot_base.specs.Faults.{HasCause};
 ghost use Rattle.depot_base.specs.Disk.{LeavesOnly, Only};
 ghost use Rattle.depot_base.specs.File.{blocks, closed_block};
@@ -53,6 +54,8 @@ fn append_one<D: Disk>(mirror: &mut Mirror<D>, text: &[u8]) -> Result<(), Failed
     ensures stands { OnOk result (IsTrue (D.tells mirror.old.disk) → StandsTo (D.seen mirror.new.disk) (bodies_at mirror.new.bytes.items mirror.new.spans.items) (vec_len mirror.new.bytes)) }
     ensures stable { OnOk result (IsTrue (D.tells mirror.old.disk) → Only (D.seen mirror.new.disk) (D.may_leave mirror.new.disk)) }
     ensures any_moment { IsTrue (D.tells mirror.old.disk) → LeavesOnly D.moment D.left_since mirror.old.disk mirror.new.disk (IsBeforeOrAfter (bodies_at mirror.old.bytes.items mirror.old.spans.items) text.now) }
+    ensures made { OnOk result (D.after mirror.old.disk (made (calls_to_append (vec_len mirror.old.bytes) text.now)) mirror.new.disk) }
+    ensures failing { OnErr result (FailsAmong D.after mirror.old.disk mirror.new.disk (calls_to_append (vec_len mirror.old.bytes) text.now)) }
     ensures cause { HasCause (D.faults mirror.old.disk) (D.faults mirror.new.disk) (IsErr result) }
     ensures faultless { D.is_faultless mirror.old.disk → D.is_faultless mirror.new.disk × (D.faults mirror.new.disk ≡ D.faults mirror.old.disk) }
     ensures room_left { D.room_bytes mirror.old.disk ≤ D.room_bytes mirror.new.disk + (6 + length text.now) }
@@ -94,6 +97,8 @@ pub fn append_each<D: Disk>(mirror: &mut Mirror<D>, texts: &[Bytes]) -> Result<(
     ensures stands { OnOk result (IsTrue (D.tells mirror.old.disk) → StandsTo (D.seen mirror.new.disk) (bodies_at mirror.new.bytes.items mirror.new.spans.items) (vec_len mirror.new.bytes)) }
     ensures stable { OnOk result (IsTrue (D.tells mirror.old.disk) → Only (D.seen mirror.new.disk) (D.may_leave mirror.new.disk)) }
     ensures any_moment { IsTrue (D.tells mirror.old.disk) → LeavesOnly D.moment D.left_since mirror.old.disk mirror.new.disk (StandsBetween (bodies_at mirror.old.bytes.items mirror.old.spans.items) texts.now) }
+    ensures made { OnOk result (D.after mirror.old.disk (made (calls_to_append_all (vec_len mirror.old.bytes) texts.now)) mirror.new.disk) }
+    ensures failing { OnErr result (FailsAmong D.after mirror.old.disk mirror.new.disk (calls_to_append_all (vec_len mirror.old.bytes) texts.now)) }
     ensures cause { HasCause (D.faults mirror.old.disk) (D.faults mirror.new.disk) (IsErr result) }
     ensures faultless { D.is_faultless mirror.old.disk → D.is_faultless mirror.new.disk × (D.faults mirror.new.disk ≡ D.faults mirror.old.disk) }
     ensures count { vec_len mirror.new.spans ≤ vec_len mirror.old.spans + length texts.now }

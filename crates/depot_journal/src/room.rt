@@ -1,5 +1,5 @@
 //! The limits of a journal, and the memory that is found before an append.
-ghost use Rattle.std.specs.Prelude.{◌≡◌, ◌++◌, ◌+◌, ◌-◌, ◌*◌, ◌^◌, ◌≤◌, List, ℕ, OnOk, IfErr, IsOk, length, min, vec_len, vec_capacity};
+ghost use Rattle.std.specs.Prelude.{◌≡◌, ◌++◌, ◌+◌, ◌-◌, ◌*◌, ◌^◌, ◌≤◌, List, [], ℕ, OnOk, IfErr, IsOk, length, min, vec_len, vec_capacity};
 ghost use Rattle.depot_base.specs.Disk.{Elapses, Within};
 ghost use Rattle.depot_base.specs.File.{HasRoom, PassesLimit, blocks};
 ghost use Rattle.depot_journal.specs.View.{IsReserved};
@@ -74,6 +74,7 @@ pub fn find_room<D: Disk>(
     ensures time { Elapses (D.moment mirror.old.disk) (D.moment mirror.new.disk) (D.left_since mirror.old.disk) (D.left_since mirror.new.disk) (D.may_leave mirror.new.disk) }
     ensures handle { D.handle mirror.new.disk ≡ D.handle mirror.old.disk }
     ensures tells { D.tells mirror.new.disk ≡ D.tells mirror.old.disk }
+    ensures made { D.after mirror.old.disk [] mirror.new.disk }
     ensures faults { D.faults mirror.new.disk ≡ D.faults mirror.old.disk }
     ensures faultless { D.is_faultless mirror.old.disk → D.is_faultless mirror.new.disk }
 {

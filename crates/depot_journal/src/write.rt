@@ -1,5 +1,6 @@
 //! What an append does to the disk.
-ghost use Rattle.std.specs.Prelude.{◌≡◌, ◌++◌, ◌+◌, ◌<◌, ◌≤◌, ◌⊎◌, ◌^◌, ◌∷◌, [], List, ℕ, IsTrue, IsErr, OnOk, length};
+ghost use Rattle.std.specs.Prelude.{◌≡◌, ◌++◌, ◌+◌, ◌<◌, ◌≤◌, ◌⊎◌, ◌^◌, ◌∷◌, [], List, ℕ, IsTrue, IsErr, OnOk, OnErr, length};
+ghost use Rattle.depot_base.specs.Calls.{FailsAmong, calls_to_append, made, syncs, writes_at};
 ghost use Rattle.depot_base.specs.Faults.{HasCause};
 ghost use Rattle.depot_base.specs.Disk.{IsTorn, IsWritten, LeavesOnly, Only};
 ghost use Rattle.depot_base.specs.File.{closed_block};
@@ -17,6 +18,8 @@ pub fn write_synced<D: Disk>(disk: &mut D, at: u64, bytes: &[u8]) -> Result<(), 
     ensures ok { OnOk result (IsTrue (D.tells disk.old) → IsWritten (D.seen disk.old) at bytes.now (D.seen disk.new)) }
     ensures stable { OnOk result (IsTrue (D.tells disk.old) → Only (D.seen disk.new) (D.may_leave disk.new)) }
     ensures any_moment { (base : List ℕ) → Only base (D.may_leave disk.old) → LeavesOnly D.moment D.left_since disk.old disk.new (λ c. (c ≡ base) ⊎ IsTorn at (length bytes.now) base c) }
+    ensures made { OnOk result (D.after disk.old (made (writes_at at bytes.now ∷ syncs ∷ [])) disk.new) }
+    ensures failing { OnErr result (FailsAmong D.after disk.old disk.new (writes_at at bytes.now ∷ syncs ∷ [])) }
     ensures cause { HasCause (D.faults disk.old) (D.faults disk.new) (IsErr result) }
     ensures faultless { D.is_faultless disk.old → D.is_faultless disk.new × (D.faults disk.new ≡ D.faults disk.old) }
     ensures room_left { D.room_bytes disk.old ≤ D.room_bytes disk.new + length bytes.now }
@@ -40,6 +43,8 @@ pub fn append_on<D: Disk>(disk: &mut D, gate: u64, block: &[u8]) -> Result<(), F
     // A stop at any moment leaves the records from before the call, with the new one or without.
     ensures any_moment { (bodies : List (List ℕ)) (body : List ℕ) → IsTrue (D.tells disk.old) → block.now ≡ closed_block body → StandsTo (D.seen disk.old) bodies gate
         → Only (D.seen disk.old) (D.may_leave disk.old) → LeavesOnly D.moment D.left_since disk.old disk.new (IsBeforeOrAfter bodies body) }
+    ensures made { OnOk result ((body : List ℕ) → block.now ≡ closed_block body → D.after disk.old (made (calls_to_append gate body)) disk.new) }
+    ensures failing { OnErr result ((body : List ℕ) → block.now ≡ closed_block body → FailsAmong D.after disk.old disk.new (calls_to_append gate body)) }
     ensures cause { HasCause (D.faults disk.old) (D.faults disk.new) (IsErr result) }
     ensures faultless { D.is_faultless disk.old → D.is_faultless disk.new × (D.faults disk.new ≡ D.faults disk.old) }
     ensures room_left { D.room_bytes disk.old ≤ D.room_bytes disk.new + (length block.now + 1) }

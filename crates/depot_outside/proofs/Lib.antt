@@ -3,3 +3,4 @@ pub mod Examples
 pub mod Undone
 pub mod Writing
 pub mod Written
+pub mod Calling

@@ -1,31 +1,69 @@
--- What a call does to a disk in memory, where it may stop.
-use Rattle.std.specs.Prelude.{◌≡◌, ℕ, List, Bool, true, Option, None, Some}
-use Rattle.depot_outside.specs.Images.{Moment, synced_as}
-use Rattle.depot_outside.specs.StopImages.{counted_down, due, left_by}
+-- What calls make of a disk in memory, some of which fail, and in one of which it may stop.
+use Rattle.std.proofs.Common.{subst}
+use Rattle.std.specs.Prelude.{◌≡◌, ◌↔◌, ℕ, ◌+◌, ◌-◌, ◌^◌, min, List, [], ◌∷◌, ◌++◌, length, Bool, true, Option, None, Some, Contains, if◌then◌else◌}
+use Rattle.depot_base.specs.Calls.{Call, Made, asks_length, reads_at, writes_at, syncs}
+use Rattle.depot_outside.specs.Images.{Moment, synced_as, written_at}
+use Rattle.depot_outside.specs.StopImages.{counted_down, due, left_by, overwritten}
 use Rattle.depot_outside.specs.declared.mem_disk.MemDisk.{MemDisk}
 use Rattle.depot_outside.specs.declared.stops.Image.{Image}
 use Rattle.depot_outside.specs.declared.stops.Stop.{Stop}
 
--- the stop that is to come
-abbrev pub next_stop : MemDisk → Option Stop
-next_stop d = d.calls.next
+-- All that calls on a disk in memory depend on: the bytes of its file, what there was at the last sync and the writes since, the stop that is
+-- to come, the numbers of the calls that fail, and how many were made.
+pub record State : Type 0 where
+  pub file : List ℕ
+  pub unsynced : Moment
+  pub next : Option Stop
+  pub fails : List ℕ
+  pub made : ℕ
 
--- the bytes of its file
-abbrev pub bytes_of : MemDisk → List ℕ
-bytes_of d = d.file.bytes.items
+abbrev pub state_of : MemDisk → State
+state_of d = record { file = d.file.bytes.items; unsynced = d.file.history.moments.now; next = d.calls.next; fails = d.calls.calls.fails; made = d.calls.calls.made }
 
--- the file of the last sync, and the writes since
-abbrev pub unsynced : MemDisk → Moment
-unsynced d = d.file.history.moments.now
+-- the state of a disk with this file, of which nothing is unsynced and no call was made
+abbrev pub fresh : List ℕ → List ℕ → State
+fresh file fails = record { file = file; unsynced = synced_as file; next = None; fails = fails; made = 0 }
 
--- The disk stopped in a call, which failed. Of a file with these bytes, and this unsynced, the image is left, and is stable.
-pub record IsStopped (image : Image) (moment : Moment) (bytes : List ℕ) (has_failed : Bool) (new : MemDisk) : Type 0 where
-  pub failed : has_failed ≡ true
-  pub left : bytes_of new ≡ left_by image moment bytes
-  pub stable : unsynced new ≡ synced_as (left_by image moment bytes)
+-- what a call does that doesn't fail
+unfoldable pub done_by : Call → State → State
+done_by asks_length s = s
+done_by (reads_at at count) s = s
+done_by (writes_at at bytes) s = record s { file = overwritten s.file at bytes; unsynced = written_at s.unsynced s.file at (length bytes) }
+done_by syncs s = record s { unsynced = synced_as s.file }
 
--- A call stops the disk exactly where a stop is due, and then leaves an image of this file. Where another call fails, nothing changes.
-pub record Stops (old new : MemDisk) (has_failed : Bool) (moment : Moment) (bytes : List ℕ) : Type 0 where
-  pub next : next_stop new ≡ counted_down (next_stop old)
-  pub stops : (image : Image) → due (next_stop old) ≡ Some image → IsStopped image moment bytes has_failed new
-  pub fails : due (next_stop old) ≡ None → has_failed ≡ true → (bytes_of new ≡ bytes_of old) × (unsynced new ≡ unsynced old)
+-- what it has done before a stop that comes in it: a write has written, and a sync hasn't synced
+unfoldable pub done_before_stop : Call → State → State
+done_before_stop (writes_at at bytes) s = done_by (writes_at at bytes) s
+done_before_stop other s = s
+
+-- an image is left, and is stable
+abbrev pub left_as : Image → State → State
+left_as image s = record s { file = left_by image s.unsynced s.file; unsynced = synced_as (left_by image s.unsynced s.file) }
+
+-- one call more was made, and the stop is a call nearer
+abbrev pub counted : State → State
+counted s = record s { next = counted_down s.next; made = min (s.made + 1) (2 ^ 64 - 1) }
+
+-- The state after a call: an image, where the disk stopped in it; the same, where it failed otherwise.
+unfoldable pub after_call : State → Made → State
+after_call s m = elim (due s.next) [
+  | Some image ↦ counted (left_as image (done_before_stop m.call s))
+  | None ↦ counted (if m.failed then s else done_by m.call s)
+]
+
+-- A call fails exactly where the disk stops in it, or where it is among those that fail.
+unfoldable pub IsOutcome : State → Bool → Type 0
+IsOutcome s failed = elim (due s.next) [
+  | Some image ↦ failed ≡ true
+  | None ↦ (failed ≡ true) ↔ Contains s.fails (counted s).made
+]
+
+-- these calls lead from one state to another
+abbrev pub Leads : State → List Made → State → Type 0
+Leads s [] t = t ≡ s
+Leads s (m ∷ ms) t = IsOutcome s m.failed × Leads (after_call s m) ms t
+
+-- calls may follow one another
+pub leads_more : (s t u : State) (calls more : List Made) → Leads s calls t → Leads t more u → Leads s (calls ++ more) u
+leads_more s t u [] more first second = subst (λ (x : State). Leads x more u) first second
+leads_more s t u (m ∷ ms) more first second = (first.0, leads_more (after_call s m) t u ms more first.1 second)

@@ -1,5 +1,6 @@
 //! One file, as a journal sees it.
-ghost use Rattle.std.specs.Prelude.{◌≡◌, ◌+◌, ◌≤◌, ℕ, List, Bool, IsTrue, IfOk, OnOk, IsErr, length, slice_range};
+ghost use Rattle.std.specs.Prelude.{◌≡◌, ◌+◌, ◌++◌, ◌∷◌, [], ◌≤◌, ℕ, List, Bool, IsTrue, IfOk, OnOk, IsErr, is_err, length, slice_range};
+ghost use Rattle.depot_base.specs.Calls.{Made, asks_length, reads_at, writes_at, syncs};
 ghost use Rattle.depot_base.specs.Disk.{Elapses, Follows, IsTorn, IsWritten, Only, Within};
 ghost use Rattle.depot_base.specs.Faults.{HasCause};
 
@@ -47,6 +48,9 @@ pub trait Disk {
     /// No call on it fails from now on. A disk that can't promise this leaves it out.
     ghost is_faultless: { Self → Type 0 } = { λ _. ⊥ };
 
+    /// The second is what the first became by these calls, each with whether it failed; no other was made on the file.
+    ghost after: { Self → List Made → Self → Type 0 };
+
     /// How many more bytes can be written without memory.
     ghost room_bytes: { Self → ℕ };
 
@@ -59,6 +63,7 @@ pub trait Disk {
         ensures seen { OnOk result (seen self.new ≡ seen self.old) }
         ensures images { Within (may_leave self.old) (may_leave self.new) }
         ensures time { Elapses (moment self.old) (moment self.new) (left_since self.old) (left_since self.new) (may_leave self.new) }
+        ensures made { after self.old (record { call = asks_length; failed = is_err result } ∷ []) self.new }
         ensures handle { handle self.new ≡ handle self.old }
         ensures tells { tells self.new ≡ tells self.old }
         ensures cause { HasCause (faults self.old) (faults self.new) (IsErr result) }
@@ -74,6 +79,7 @@ pub trait Disk {
         ensures seen { OnOk result (seen self.new ≡ seen self.old) }
         ensures images { Within (may_leave self.old) (may_leave self.new) }
         ensures time { Elapses (moment self.old) (moment self.new) (left_since self.old) (left_since self.new) (may_leave self.new) }
+        ensures made { after self.old (record { call = reads_at at (length into.old); failed = is_err result } ∷ []) self.new }
         ensures handle { handle self.new ≡ handle self.old }
         ensures tells { tells self.new ≡ tells self.old }
         ensures cause { HasCause (faults self.old) (faults self.new) (IsErr result) }
@@ -90,6 +96,7 @@ pub trait Disk {
         ensures seen { seen self.new ≡ seen self.old }
         ensures images { Within (may_leave self.old) (may_leave self.new) }
         ensures time { Elapses (moment self.old) (moment self.new) (left_since self.old) (left_since self.new) (may_leave self.new) }
+        ensures made { after self.old [] self.new }
         ensures handle { handle self.new ≡ handle self.old }
         ensures tells { tells self.new ≡ tells self.old }
         ensures faults { faults self.new ≡ faults self.old }
@@ -104,6 +111,7 @@ pub trait Disk {
         ensures written { OnOk result (IsTrue (tells self.old) → IsWritten (seen self.old) at bytes.now (seen self.new)) }
         ensures images { Follows (IsTorn at (length bytes.now)) (may_leave self.old) (may_leave self.new) }
         ensures time { Elapses (moment self.old) (moment self.new) (left_since self.old) (left_since self.new) (may_leave self.new) }
+        ensures made { after self.old (record { call = writes_at at bytes.now; failed = is_err result } ∷ []) self.new }
         ensures handle { handle self.new ≡ handle self.old }
         ensures tells { tells self.new ≡ tells self.old }
         ensures cause { HasCause (faults self.old) (faults self.new) (IsErr result) }
@@ -119,6 +127,7 @@ pub trait Disk {
         ensures seen { OnOk result (seen self.new ≡ seen self.old) }
         ensures images { Within (may_leave self.old) (may_leave self.new) }
         ensures time { Elapses (moment self.old) (moment self.new) (left_since self.old) (left_since self.new) (may_leave self.new) }
+        ensures made { after self.old (record { call = syncs; failed = is_err result } ∷ []) self.new }
         ensures handle { handle self.new ≡ handle self.old }
         ensures tells { tells self.new ≡ tells self.old }
         ensures cause { HasCause (faults self.old) (faults self.new) (IsErr result) }
@@ -134,6 +143,12 @@ pub trait Disk {
 
     /// Since this moment there is no other.
     ghost only_now: { (d : Self) (image : List ℕ) → left_since d (moment d) image → may_leave d image };
+
+    /// By no call a disk becomes itself.
+    ghost after_none: { (d : Self) → after d [] d };
+
+    /// Calls may follow one another.
+    ghost after_more: { (old between new : Self) (calls more : List Made) → after old calls between → after between more new → after old (calls ++ more) new };
 }
 
 /// A disk that is lent is a disk.
@@ -153,6 +168,8 @@ impl<D: Disk> Disk for &mut D {
     ghost faults = { λ d. D.faults d.now };
 
     ghost is_faultless = { λ d. D.is_faultless d.now };
+
+    ghost after = { λ d calls e. D.after d.now calls e.now };
 
     ghost room_bytes = { λ d. D.room_bytes d.now };
 
@@ -183,4 +200,8 @@ impl<D: Disk> Disk for &mut D {
     ghost counts_now = { λ d t image le now. D.counts_now d.now t image le now };
 
     ghost only_now = { λ d image left. D.only_now d.now image left };
+
+    ghost after_none = { λ d. D.after_none d.now };
+
+    ghost after_more = { λ old between new calls more first second. D.after_more old.now between.now new.now calls more first second };
 }

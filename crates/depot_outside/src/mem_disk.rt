@@ -1,10 +1,11 @@
 //! A disk in memory.
-ghost use Rattle.std.specs.Prelude.{◌≡◌, ◌+◌, ◌≤◌, [], true, Some, None, IsTrue, IfOk, OnOk, IsErr, is_err, length, slice_range};
-ghost use Rattle.depot_base.specs.Disk.{Elapses, Follows, IsTorn, IsWritten, Only, Within};
+ghost use Rattle.std.specs.Prelude.{◌≡◌, ◌≤◌, [], refl, true, Some, None, IsTrue, OnOk, IsErr, is_err, length};
+ghost use Rattle.depot_base.specs.Calls.{asks_length};
+ghost use Rattle.depot_base.specs.Disk.{Elapses, Only, Within};
 ghost use Rattle.depot_base.specs.Faults.{HasCause};
-ghost use Rattle.depot_outside.specs.Images.{counts, images_at, left_from, only, reads_as, synced_as, written_at};
-ghost use Rattle.depot_outside.specs.Stopping.{Stops, bytes_of, next_stop, unsynced};
-ghost use Rattle.depot_outside.specs.StopImages.{numbered, overwritten};
+ghost use Rattle.depot_outside.specs.Images.{counts, images_at, left_from, only, reads_as};
+ghost use Rattle.depot_outside.specs.Stopping.{IsOutcome, Leads, after_call, fresh, leads_more, state_of};
+ghost use Rattle.depot_outside.specs.StopImages.{numbered};
 ghost use Rattle.depot_outside.specs.Undo.{spare_bytes, spare_writes};
 
 use crate::mem_file::MemFile;
@@ -26,10 +27,8 @@ impl MemDisk {
     /// nothing. It takes no memory.
     pub fn new(file: Bytes, fails: Items) -> MemDisk
         ensures tells { IsTrue (⟦<MemDisk as Disk>⟧.tells result) }
-        ensures seen { ⟦<MemDisk as Disk>⟧.seen result ≡ file }
+        ensures state { state_of result ≡ fresh file fails }
         ensures stable { Only file (⟦<MemDisk as Disk>⟧.may_leave result) }
-        ensures unsynced { unsynced result ≡ synced_as file }
-        ensures next { next_stop result ≡ None }
         ensures faults { ⟦<MemDisk as Disk>⟧.faults result ≡ 0 }
         ensures faultless { fails ≡ [] → ⟦<MemDisk as Disk>⟧.is_faultless result }
     {
@@ -54,9 +53,7 @@ impl MemDisk {
     pub fn stop_at(&mut self, call: u32, image: u8)
         requires call { 1 ≤ call }
         requires image { image ≤ 2 }
-        ensures next { next_stop self.new ≡ Some (record { call = call; image = numbered image }) }
-        ensures unsynced { unsynced self.new ≡ unsynced self.old }
-        ensures seen { ⟦<MemDisk as Disk>⟧.seen self.new ≡ ⟦<MemDisk as Disk>⟧.seen self.old }
+        ensures state { state_of self.new ≡ record (state_of self.old) { next = Some (record { call = call; image = numbered image }) } }
         ensures images { Within (⟦<MemDisk as Disk>⟧.may_leave self.old) (⟦<MemDisk as Disk>⟧.may_leave self.new) }
         ensures time { Elapses (⟦<MemDisk as Disk>⟧.moment self.old) (⟦<MemDisk as Disk>⟧.moment self.new) (⟦<MemDisk as Disk>⟧.left_since self.old) (⟦<MemDisk as Disk>⟧.left_since self.new) (⟦<MemDisk as Disk>⟧.may_leave self.new) }
         ensures faults { ⟦<MemDisk as Disk>⟧.faults self.new ≡ ⟦<MemDisk as Disk>⟧.faults self.old }
@@ -72,7 +69,8 @@ impl MemDisk {
 
     /// Begins a call that writes nothing. Where the disk stops in it, the file becomes the image.
     fn begin(&mut self) -> Result<(), Failed>
-        ensures stop { Stops self.old self.new (is_err result) (unsynced self.old) (bytes_of self.old) }
+        ensures outcome { IsOutcome (state_of self.old) (is_err result) }
+        ensures state { state_of self.new ≡ after_call (state_of self.old) (record { call = asks_length; failed = is_err result }) }
         ensures same { OnOk result (self.new.file ≡ self.old.file) }
         ensures images { Within (⟦<MemDisk as Disk>⟧.may_leave self.old) (⟦<MemDisk as Disk>⟧.may_leave self.new) }
         ensures time { Elapses (⟦<MemDisk as Disk>⟧.moment self.old) (⟦<MemDisk as Disk>⟧.moment self.new) (⟦<MemDisk as Disk>⟧.left_since self.old) (⟦<MemDisk as Disk>⟧.left_since self.new) (⟦<MemDisk as Disk>⟧.may_leave self.new) }
@@ -109,45 +107,20 @@ impl Disk for MemDisk {
 
     ghost is_faultless = { λ d. (d.calls.calls.fails ≡ []) × (d.calls.next ≡ None) };
 
+    ghost after = { λ d calls e. Leads (state_of d) calls (state_of e) };
+
     ghost room_bytes = { λ d. spare_bytes d.file.bytes d.file.log };
 
     ghost room_calls = { λ d. spare_writes d.file.log };
 
     /// As of any disk. Where it stops, the file becomes the image.
-    fn length(&mut self) -> Result<u64, Failed>
-        ensures stop { Stops self.old self.new (is_err result) (unsynced self.old) (bytes_of self.old) }
-        ensures unsynced { OnOk result (unsynced self.new ≡ unsynced self.old) }
-        ensures length { IsTrue (⟦<MemDisk as Disk>⟧.tells self.old) → IfOk result (λ n. n ≡ length (⟦<MemDisk as Disk>⟧.seen self.old)) }
-        ensures seen { OnOk result (⟦<MemDisk as Disk>⟧.seen self.new ≡ ⟦<MemDisk as Disk>⟧.seen self.old) }
-        ensures images { Within (⟦<MemDisk as Disk>⟧.may_leave self.old) (⟦<MemDisk as Disk>⟧.may_leave self.new) }
-        ensures time { Elapses (⟦<MemDisk as Disk>⟧.moment self.old) (⟦<MemDisk as Disk>⟧.moment self.new) (⟦<MemDisk as Disk>⟧.left_since self.old) (⟦<MemDisk as Disk>⟧.left_since self.new) (⟦<MemDisk as Disk>⟧.may_leave self.new) }
-        ensures handle { ⟦<MemDisk as Disk>⟧.handle self.new ≡ ⟦<MemDisk as Disk>⟧.handle self.old }
-        ensures tells { ⟦<MemDisk as Disk>⟧.tells self.new ≡ ⟦<MemDisk as Disk>⟧.tells self.old }
-        ensures cause { HasCause (⟦<MemDisk as Disk>⟧.faults self.old) (⟦<MemDisk as Disk>⟧.faults self.new) (IsErr result) }
-        ensures faultless { ⟦<MemDisk as Disk>⟧.is_faultless self.old → ⟦<MemDisk as Disk>⟧.is_faultless self.new × (⟦<MemDisk as Disk>⟧.faults self.new ≡ ⟦<MemDisk as Disk>⟧.faults self.old) }
-        ensures room { ⟦<MemDisk as Disk>⟧.room_bytes self.old ≤ ⟦<MemDisk as Disk>⟧.room_bytes self.new }
-        ensures calls { ⟦<MemDisk as Disk>⟧.room_calls self.old ≤ ⟦<MemDisk as Disk>⟧.room_calls self.new }
-    {
+    fn length(&mut self) -> Result<u64, Failed> {
         self.begin()?;
         Ok(self.file.bytes.len() as u64)
     }
 
     /// As of any disk. Where it stops, the file becomes the image.
-    fn read(&mut self, at: u64, into: &mut [u8]) -> Result<(), Failed>
-        requires { IsTrue (⟦<MemDisk as Disk>⟧.tells self.old) → at + length into.old ≤ length (⟦<MemDisk as Disk>⟧.seen self.old) }
-        ensures stop { Stops self.old self.new (is_err result) (unsynced self.old) (bytes_of self.old) }
-        ensures unsynced { OnOk result (unsynced self.new ≡ unsynced self.old) }
-        ensures read { OnOk result (IsTrue (⟦<MemDisk as Disk>⟧.tells self.old) → into.new ≡ slice_range (⟦<MemDisk as Disk>⟧.seen self.old) at (at + length into.old)) }
-        ensures seen { OnOk result (⟦<MemDisk as Disk>⟧.seen self.new ≡ ⟦<MemDisk as Disk>⟧.seen self.old) }
-        ensures images { Within (⟦<MemDisk as Disk>⟧.may_leave self.old) (⟦<MemDisk as Disk>⟧.may_leave self.new) }
-        ensures time { Elapses (⟦<MemDisk as Disk>⟧.moment self.old) (⟦<MemDisk as Disk>⟧.moment self.new) (⟦<MemDisk as Disk>⟧.left_since self.old) (⟦<MemDisk as Disk>⟧.left_since self.new) (⟦<MemDisk as Disk>⟧.may_leave self.new) }
-        ensures handle { ⟦<MemDisk as Disk>⟧.handle self.new ≡ ⟦<MemDisk as Disk>⟧.handle self.old }
-        ensures tells { ⟦<MemDisk as Disk>⟧.tells self.new ≡ ⟦<MemDisk as Disk>⟧.tells self.old }
-        ensures cause { HasCause (⟦<MemDisk as Disk>⟧.faults self.old) (⟦<MemDisk as Disk>⟧.faults self.new) (IsErr result) }
-        ensures faultless { ⟦<MemDisk as Disk>⟧.is_faultless self.old → ⟦<MemDisk as Disk>⟧.is_faultless self.new × (⟦<MemDisk as Disk>⟧.faults self.new ≡ ⟦<MemDisk as Disk>⟧.faults self.old) }
-        ensures room { ⟦<MemDisk as Disk>⟧.room_bytes self.old ≤ ⟦<MemDisk as Disk>⟧.room_bytes self.new }
-        ensures calls { ⟦<MemDisk as Disk>⟧.room_calls self.old ≤ ⟦<MemDisk as Disk>⟧.room_calls self.new }
-    {
+    fn read(&mut self, at: u64, into: &mut [u8]) -> Result<(), Failed> {
         self.begin()?;
         let at = at as usize;
         into.copy_from_slice(&self.file.bytes[at..at + into.len()]);
@@ -159,22 +132,7 @@ impl Disk for MemDisk {
     }
 
     /// As of any disk. Where it stops, the file becomes the image that a stop right after the write gives.
-    fn write_at(&mut self, at: u64, bytes: &[u8]) -> Result<(), Failed>
-        requires inside { IsTrue (⟦<MemDisk as Disk>⟧.tells self.old) → at ≤ length (⟦<MemDisk as Disk>⟧.seen self.old) }
-        requires room { length bytes.now ≤ ⟦<MemDisk as Disk>⟧.room_bytes self.old }
-        requires calls { 1 ≤ ⟦<MemDisk as Disk>⟧.room_calls self.old }
-        ensures stop { Stops self.old self.new (is_err result) (written_at (unsynced self.old) (bytes_of self.old) at (length bytes.now)) (overwritten (bytes_of self.old) at bytes.now) }
-        ensures unsynced { OnOk result (unsynced self.new ≡ written_at (unsynced self.old) (bytes_of self.old) at (length bytes.now)) }
-        ensures written { OnOk result (IsTrue (⟦<MemDisk as Disk>⟧.tells self.old) → IsWritten (⟦<MemDisk as Disk>⟧.seen self.old) at bytes.now (⟦<MemDisk as Disk>⟧.seen self.new)) }
-        ensures images { Follows (IsTorn at (length bytes.now)) (⟦<MemDisk as Disk>⟧.may_leave self.old) (⟦<MemDisk as Disk>⟧.may_leave self.new) }
-        ensures time { Elapses (⟦<MemDisk as Disk>⟧.moment self.old) (⟦<MemDisk as Disk>⟧.moment self.new) (⟦<MemDisk as Disk>⟧.left_since self.old) (⟦<MemDisk as Disk>⟧.left_since self.new) (⟦<MemDisk as Disk>⟧.may_leave self.new) }
-        ensures handle { ⟦<MemDisk as Disk>⟧.handle self.new ≡ ⟦<MemDisk as Disk>⟧.handle self.old }
-        ensures tells { ⟦<MemDisk as Disk>⟧.tells self.new ≡ ⟦<MemDisk as Disk>⟧.tells self.old }
-        ensures cause { HasCause (⟦<MemDisk as Disk>⟧.faults self.old) (⟦<MemDisk as Disk>⟧.faults self.new) (IsErr result) }
-        ensures faultless { ⟦<MemDisk as Disk>⟧.is_faultless self.old → ⟦<MemDisk as Disk>⟧.is_faultless self.new × (⟦<MemDisk as Disk>⟧.faults self.new ≡ ⟦<MemDisk as Disk>⟧.faults self.old) }
-        ensures room_left { ⟦<MemDisk as Disk>⟧.room_bytes self.old ≤ ⟦<MemDisk as Disk>⟧.room_bytes self.new + length bytes.now }
-        ensures calls_left { ⟦<MemDisk as Disk>⟧.room_calls self.old ≤ ⟦<MemDisk as Disk>⟧.room_calls self.new + 1 }
-    {
+    fn write_at(&mut self, at: u64, bytes: &[u8]) -> Result<(), Failed> {
         let at = at as usize;
         match self.calls.begin() {
             Turn::Made => {
@@ -190,21 +148,7 @@ impl Disk for MemDisk {
     }
 
     /// As of any disk. Where it stops, nothing is synced by it, and the file becomes the image.
-    fn sync(&mut self) -> Result<(), Failed>
-        requires { 1 ≤ ⟦<MemDisk as Disk>⟧.room_calls self.old }
-        ensures stop { Stops self.old self.new (is_err result) (unsynced self.old) (bytes_of self.old) }
-        ensures unsynced { OnOk result (unsynced self.new ≡ synced_as (bytes_of self.old)) }
-        ensures stable { OnOk result (IsTrue (⟦<MemDisk as Disk>⟧.tells self.old) → Only (⟦<MemDisk as Disk>⟧.seen self.old) (⟦<MemDisk as Disk>⟧.may_leave self.new)) }
-        ensures seen { OnOk result (⟦<MemDisk as Disk>⟧.seen self.new ≡ ⟦<MemDisk as Disk>⟧.seen self.old) }
-        ensures images { Within (⟦<MemDisk as Disk>⟧.may_leave self.old) (⟦<MemDisk as Disk>⟧.may_leave self.new) }
-        ensures time { Elapses (⟦<MemDisk as Disk>⟧.moment self.old) (⟦<MemDisk as Disk>⟧.moment self.new) (⟦<MemDisk as Disk>⟧.left_since self.old) (⟦<MemDisk as Disk>⟧.left_since self.new) (⟦<MemDisk as Disk>⟧.may_leave self.new) }
-        ensures handle { ⟦<MemDisk as Disk>⟧.handle self.new ≡ ⟦<MemDisk as Disk>⟧.handle self.old }
-        ensures tells { ⟦<MemDisk as Disk>⟧.tells self.new ≡ ⟦<MemDisk as Disk>⟧.tells self.old }
-        ensures cause { HasCause (⟦<MemDisk as Disk>⟧.faults self.old) (⟦<MemDisk as Disk>⟧.faults self.new) (IsErr result) }
-        ensures faultless { ⟦<MemDisk as Disk>⟧.is_faultless self.old → ⟦<MemDisk as Disk>⟧.is_faultless self.new × (⟦<MemDisk as Disk>⟧.faults self.new ≡ ⟦<MemDisk as Disk>⟧.faults self.old) }
-        ensures room { ⟦<MemDisk as Disk>⟧.room_bytes self.old ≤ ⟦<MemDisk as Disk>⟧.room_bytes self.new }
-        ensures calls_left { ⟦<MemDisk as Disk>⟧.room_calls self.old ≤ ⟦<MemDisk as Disk>⟧.room_calls self.new + 1 }
-    {
+    fn sync(&mut self) -> Result<(), Failed> {
         self.begin()?;
         self.file.sync();
         Ok(())
@@ -215,4 +159,8 @@ impl Disk for MemDisk {
     ghost counts_now = { λ d t image le here. counts d.file.history.moments.now d.file.history.moments.past t image here };
 
     ghost only_now = { λ d image left. only d.file.history.moments.now d.file.history.moments.past image left };
+
+    ghost after_none = { λ _. refl };
+
+    ghost after_more = { λ old between new calls more first second. leads_more (state_of old) (state_of between) (state_of new) calls more first second };
 }

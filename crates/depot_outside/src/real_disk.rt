@@ -118,6 +118,8 @@ impl<R: Files + Drop> Disk for RealDisk<R> {
 
     ghost faults = { λ d. d.faults.number };
 
+    ghost after = { λ _ _ _. Unit {0} };
+
     ghost room_bytes = { λ _. 2 ^ 64 };
 
     ghost room_calls = { λ _. 2 ^ 64 };
@@ -151,4 +153,8 @@ impl<R: Files + Drop> Disk for RealDisk<R> {
     ghost counts_now = { λ d t image le now. now };
 
     ghost only_now = { λ d image left. left };
+
+    ghost after_none = { λ _. tt };
+
+    ghost after_more = { λ _ _ _ _ _ _ _. tt };
 }

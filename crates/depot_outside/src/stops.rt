@@ -1,5 +1,5 @@
 //! The calls of a disk in memory, in one of which it may stop.
-ghost use Rattle.std.specs.Prelude.{◌≡◌, ◌≤◌, ◌+◌, [], None};
+ghost use Rattle.std.specs.Prelude.{◌≡◌, ◌≤◌, ◌+◌, ◌-◌, ◌^◌, ◌↔◌, min, [], None, Contains};
 ghost use Rattle.depot_outside.specs.StopImages.{IsTurn, counted_down, due, faults_in, numbered};
 
 use crate::Failed;
@@ -94,6 +94,8 @@ impl DiskCalls {
     pub fn begin(&mut self) -> Turn
         ensures turn { IsTurn (due self.old.next) result }
         ensures next { self.new.next ≡ counted_down self.old.next }
+        ensures made { self.new.calls.made ≡ min (self.old.calls.made + 1) (2 ^ 64 - 1) }
+        ensures failing { (result ≡ Turn.Fails) ↔ ((due self.old.next ≡ None) × Contains self.old.calls.fails self.new.calls.made) }
         ensures fails { self.new.calls.fails ≡ self.old.calls.fails }
         ensures faults { self.new.calls.faults.number ≡ self.old.calls.faults.number + faults_in result }
         ensures faultless { self.old.calls.fails ≡ [] → self.old.next ≡ None → result ≡ Turn.Made }

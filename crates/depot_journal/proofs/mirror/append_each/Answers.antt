@@ -1,10 +1,13 @@
 use Rattle.std.proofs.Common.{rules, ◌≡◌, ◌⊎◌, ◌++◌, ◌+◌, ◌∷◌, [], List, ℕ, IsTrue, length, take, subst, sym, ap, refl, ◌∙◌, arith, append-nil, append_assoc, vec_len}
+use Rattle.std.proofs.lemmas.List.{take_all}
+use Rattle.depot_base.specs.Calls.{calls_to_append_all, made}
 use Rattle.depot_base.specs.File.{StandsFor, blocks}
+use Rattle.depot_base.proofs.CallLaws.{fails_next, made_next}
 use Rattle.depot_journal.specs.Mirrored.{bodies_at}
 use Rattle.depot_journal.specs.Steps.{IsBeforeOrAfter, StandsBetween}
 use Rattle.depot_journal.proofs.Blocks.{on_err}
 use Rattle.depot_journal.proofs.Moments.{started, weaker, joined}
-use Rattle.depot_journal.proofs.Walk.{blocks_front, next_text, next_long, between_first, between, next_stands}
+use Rattle.depot_journal.proofs.Walk.{blocks_front, gate_behind, next_text, next_long, between_first, between, next_stands}
 use Rattle.depot_journal.proofs.mirror.append_each.Goals as goal
 
 pub loop-text-init : goal.loop-text-init
@@ -25,6 +28,7 @@ loop-text-init g c =
       stable = c.requires.stable;
       images = λ told. started g.D.Disk.moment g.D.Disk.left_since old.disk (StandsBetween (bodies_at old.bytes.items old.spans.items) c.args.texts.now)
           (λ f left. between_first (g.D.Disk.seen old.disk) f (bodies_at old.bytes.items old.spans.items) c.args.texts.now (vec_len old.bytes) (c.requires.stands told) (c.requires.stable told f (g.met.D.Disk.only_now old.disk f left)));
+      calls = g.met.D.Disk.after_none old.disk;
       faults = refl;
       faultless = λ f. f;
     }
@@ -53,6 +57,8 @@ loop-text-preserved g c =
     let long : length (blocks (take (i + 1) c.args.texts.now)) ≡ length (blocks (take i c.args.texts.now)) + (5 + length c.as_slice.result.now) = next_long c.args.texts.now i _ c.as_slice.result.now c.loop-text-test.true c.text-item.is c.as_slice.ensures in
     let before = bodies_at c.args.mirror.now.bytes.items c.args.mirror.now.spans.items in
     let at = bodies_at c.loop-text.mirror.bytes.items c.loop-text.mirror.spans.items in
+    let gate : vec_len c.loop-text.mirror.bytes ≡ vec_len c.args.mirror.now.bytes + length (blocks (take i c.args.texts.now)) =
+    omega (arith, gate_behind c.args.mirror.now.bytes.items c.loop-text.mirror.bytes.items before at (take i c.args.texts.now) c.requires.mirror.parts was.mirror.parts was.bodies, c.args.mirror.now.bytes.ok.0, c.loop-text.mirror.bytes.ok.0) in
     record {
       mirror = did.mirror;
       bodies = did.bodies ∙ ap (λ (l : List (List ℕ)). l ++ c.as_slice.result.now ∷ []) was.bodies ∙ append_assoc before (take i c.args.texts.now) (c.as_slice.result.now ∷ []) ∙ ap (λ (l : List (List ℕ)). before ++ l) (sym next);
@@ -69,6 +75,7 @@ loop-text-preserved g c =
       images = λ told. joined g.D.Disk.moment g.D.Disk.left_since c.args.mirror.now.disk c.loop-text.mirror.disk c.append_one.new.mirror.disk (StandsBetween before c.args.texts.now) (was.images told)
           (weaker g.D.Disk.moment g.D.Disk.left_since c.loop-text.mirror.disk c.append_one.new.mirror.disk (IsBeforeOrAfter at c.as_slice.result.now) _ (did.any_moment (subst IsTrue (sym was.tells) told))
           (λ f p. between f before c.args.texts.now at c.as_slice.result.now i was.bodies next p));
+      calls = made_next g.D.Disk.after g.met.D.Disk.after_more c.args.mirror.now.disk c.loop-text.mirror.disk c.append_one.new.mirror.disk (vec_len c.args.mirror.now.bytes) (vec_len c.loop-text.mirror.bytes) c.args.texts.now i c.as_slice.result.now next gate was.calls did.made;
       faults = search rules;
       faultless = λ f. (did.faultless (was.faultless f)).0;
     }
@@ -112,3 +119,19 @@ pub returns-in_err-append_one-clause-room_left : goal.returns-in_err-append_one-
 returns-in_err-append_one-clause-room_left g c =
     let i = c.loop-text.text-index in
     omega (arith, c.loop-text.invariant.room_left, c.append_one.ensures.room_left, c.loop-text-test.true, next_long c.args.texts.now i _ c.as_slice.result.now c.loop-text-test.true c.text-item.is c.as_slice.ensures, blocks_front c.args.texts.now (i + 1))
+
+pub returns-in_err-append_one-clause-failing : goal.returns-in_err-append_one-clause-failing
+returns-in_err-append_one-clause-failing g c =
+    let i = c.loop-text.text-index in
+    let was = c.loop-text.invariant in
+    let next : take (i + 1) c.args.texts.now ≡ take i c.args.texts.now ++ c.as_slice.result.now ∷ [] = next_text c.args.texts.now i _ c.as_slice.result.now c.loop-text-test.true c.text-item.is c.as_slice.ensures in
+    let before = bodies_at c.args.mirror.now.bytes.items c.args.mirror.now.spans.items in
+    let at = bodies_at c.loop-text.mirror.bytes.items c.loop-text.mirror.spans.items in
+    let gate : vec_len c.loop-text.mirror.bytes ≡ vec_len c.args.mirror.now.bytes + length (blocks (take i c.args.texts.now)) =
+    omega (arith, gate_behind c.args.mirror.now.bytes.items c.loop-text.mirror.bytes.items before at (take i c.args.texts.now) c.requires.mirror.parts was.mirror.parts was.bodies, c.args.mirror.now.bytes.ok.0, c.loop-text.mirror.bytes.ok.0) in
+    on_err c.from_residual.result _ (fails_next g.D.Disk.after g.met.D.Disk.after_more c.args.mirror.now.disk c.loop-text.mirror.disk c.append_one.new.mirror.disk (vec_len c.args.mirror.now.bytes) (vec_len c.loop-text.mirror.bytes) c.args.texts.now i c.as_slice.result.now next gate was.calls c.in_err-append_one.ensures.failing)
+
+pub returns-clause-made : goal.returns-clause-made
+returns-clause-made g c =
+    let old = c.args.mirror.now in
+    subst (λ (l : List (List ℕ)). g.D.Disk.after old.disk (made (calls_to_append_all (vec_len old.bytes) l)) c.loop-text.mirror.disk) (take_all c.loop-text.text-index c.args.texts.now c.loop-text-test.false) c.loop-text.invariant.calls

@@ -1,5 +1,6 @@
 -- The records before the next one stand on the disk, and no more room was taken than theirs.
 use Rattle.std.proofs.Common.{◌≡◌, ◌++◌, ◌+◌, ◌≤◌, ◌*◌, IsTrue, vec_len, vec_capacity, length, take}
+use Rattle.depot_base.specs.Calls.{calls_to_append_all, made}
 use Rattle.depot_base.specs.Disk.{LeavesOnly, Only}
 use Rattle.depot_base.specs.File.{blocks}
 use Rattle.depot_journal.specs.Mirrored.{IsMirror, bodies_at}
@@ -21,6 +22,7 @@ invariant-loop-text g l = record {
   stands : IsTrue (g.D.Disk.tells l.fn.mirror.disk) → StandsTo (g.D.Disk.seen l.mirror.disk) (bodies_at l.mirror.bytes.items l.mirror.spans.items) (vec_len l.mirror.bytes);
   stable : IsTrue (g.D.Disk.tells l.fn.mirror.disk) → Only (g.D.Disk.seen l.mirror.disk) (g.D.Disk.may_leave l.mirror.disk);
   images : IsTrue (g.D.Disk.tells l.fn.mirror.disk) → LeavesOnly g.D.Disk.moment g.D.Disk.left_since l.fn.mirror.disk l.mirror.disk (StandsBetween (bodies_at l.fn.mirror.bytes.items l.fn.mirror.spans.items) l.texts);
+  calls : g.D.Disk.after l.fn.mirror.disk (made (calls_to_append_all (vec_len l.fn.mirror.bytes) (take l.text-index l.texts))) l.mirror.disk;
   faults : g.D.Disk.faults l.mirror.disk ≡ g.D.Disk.faults l.fn.mirror.disk;
   faultless : g.D.Disk.is_faultless l.fn.mirror.disk → g.D.Disk.is_faultless l.mirror.disk;
 }

@@ -1,5 +1,8 @@
-use Rattle.std.proofs.Common.{◌≡◌, ◌⊎◌, inl, inr, List, ℕ, length, subst}
+use Rattle.std.proofs.Common.{◌≡◌, ◌⊎◌, inl, inr, List, [], ◌∷◌, ℕ, length, subst}
 use Rattle.depot_base.specs.Disk.{IsTorn}
+use Rattle.depot_base.specs.Calls.{syncs, writes_at}
+use Rattle.depot_base.proofs.CallLaws.{fails_first, last_fails, last_made}
+use Rattle.depot_journal.proofs.Blocks.{on_err}
 use Rattle.depot_journal.proofs.Moments.{started, goes_on}
 use Rattle.depot_journal.proofs.write.write_synced.Goals as goal
 
@@ -17,3 +20,14 @@ returns-clause-any_moment g c = λ base only.
     let torn : (f : List ℕ) → g.D.Disk.may_leave c.write_at.new.self f → P f = λ f now. let from = c.write_at.ensures.images f now in inr (subst (λ (d : List ℕ). IsTorn c.args.at (length c.args.bytes.now) d f) (only from.0 from.1) from.2) in
     let written = goes_on g.D.Disk.moment g.D.Disk.left_since c.args.disk.now c.args.disk.now c.write_at.new.self P _ at_start c.write_at.ensures.time torn in
     goes_on g.D.Disk.moment g.D.Disk.left_since c.args.disk.now c.write_at.new.self c.sync.new.self P _ written c.sync.ensures.time (λ f now. torn f (c.sync.ensures.images f now))
+
+pub returns-in_err-write_at-clause-failing : goal.returns-in_err-write_at-clause-failing
+returns-in_err-write_at-clause-failing g c = on_err c.from_residual.result _ (fails_first g.D.Disk.after c.args.disk.now c.write_at.new.self (writes_at c.args.at c.args.bytes.now) (syncs ∷ []) c.in_err-write_at.ensures.made)
+
+pub returns-clause-made : goal.returns-clause-made
+returns-clause-made g c =
+    last_made g.D.Disk.after g.met.D.Disk.after_more c.args.disk.now c.write_at.new.self c.sync.new.self (writes_at c.args.at c.args.bytes.now ∷ []) syncs c.sync.result c.in_ok-write_at.ensures.made c.sync.ensures.made
+
+pub returns-clause-failing : goal.returns-clause-failing
+returns-clause-failing g c =
+    last_fails g.D.Disk.after g.met.D.Disk.after_more c.args.disk.now c.write_at.new.self c.sync.new.self (writes_at c.args.at c.args.bytes.now ∷ []) syncs c.sync.result c.in_ok-write_at.ensures.made c.sync.ensures.made

@@ -1,9 +1,11 @@
-use Rattle.std.proofs.Common.{rules, inr, ◌≡◌, ◌++◌, ◌+◌, ◌-◌, ◌*◌, ◌≤◌, List, ℕ, IsTrue, length, length-append, sym, ap, ◌∙◌, subst, arith, refl, vec_len, false}
+use Rattle.std.proofs.Common.{rules, inr, ◌≡◌, ◌++◌, ◌+◌, ◌-◌, ◌*◌, ◌≤◌, [], List, ℕ, IsTrue, length, length-append, sym, ap, ◌∙◌, subst, arith, refl, vec_len, false}
+use Rattle.depot_base.specs.Calls.{FailsAmong, calls_to_append_all, made}
 use Rattle.depot_base.specs.Disk.{LeavesOnly}
-use Rattle.depot_base.specs.File.{AreWithinLimits, HasFront, IsCutShort, blocks}
+use Rattle.depot_base.specs.File.{AreWithinLimits, HasFront, IsCutShort, IsFileOf, blocks}
+use Rattle.depot_base.proofs.CallLaws.{fails_later, made_later}
 use Rattle.depot_journal.specs.Mirrored.{bodies_at}
 use Rattle.depot_journal.specs.View.{View}
-use Rattle.depot_journal.proofs.Appends.{all_within, blocks_many, counted, cut_short, found, front_within, reserved_less, then_appended}
+use Rattle.depot_journal.proofs.Appends.{all_within, blocks_many, counted, cut_short, found, front_within, reserved_less, then_appended, unmoved, with_none}
 use Rattle.depot_journal.proofs.AtRest.{one_more_at_most, rests}
 use Rattle.depot_journal.proofs.Walk.{stands_of}
 use Rattle.depot_journal.proofs.Blocks.{if_err, if_not_err}
@@ -23,9 +25,36 @@ returns-then-is_err-clause-any_moment g c = λ told running.
     let held = bodies_at c.self.inside.mirror.bytes.items c.self.inside.mirror.spans.items in
     let d = c.self.inside.mirror.disk in
     let was = c.self.invariant.3 (search rules) (search rules) in
-    let found_only = found g.D.Disk.moment g.D.Disk.left_since d c.find_room.new.mirror.disk (g.D.Disk.may_leave d) (g.D.Disk.may_leave c.find_room.new.mirror.disk) (g.D.Disk.seen d) held c.args.texts.now (vec_len c.self.inside.mirror.bytes) was.0 c.self.invariant.1 was.1 (g.met.D.Disk.only_now d) c.find_room.ensures.time c.find_room.ensures.images in
+    let found_only = found g.D.Disk.moment g.D.Disk.left_since d c.find_room.new.mirror.disk (g.D.Disk.may_leave d) (g.D.Disk.may_leave c.find_room.new.mirror.disk) (g.D.Disk.seen d) held (vec_len c.self.inside.mirror.bytes) was.0 c.self.invariant.1 was.1 (g.met.D.Disk.only_now d) c.find_room.ensures.time c.find_room.ensures.images in
     subst (λ (v : View g.row.D.Denot). LeavesOnly g.D.Disk.moment g.D.Disk.left_since v.disk c.find_room.new.mirror.disk (HasFront v.records c.args.texts.now)) c.self.view_is
+    (with_none g.D.Disk.moment g.D.Disk.left_since d c.find_room.new.mirror.disk held c.args.texts.now found_only)
+
+pub returns-then-is_err-clause-idle : goal.returns-then-is_err-clause-idle
+returns-then-is_err-clause-idle g c = λ told running.
+    let held = bodies_at c.self.inside.mirror.bytes.items c.self.inside.mirror.spans.items in
+    let d = c.self.inside.mirror.disk in
+    let was = c.self.invariant.3 (search rules) (search rules) in
+    let found_only = found g.D.Disk.moment g.D.Disk.left_since d c.find_room.new.mirror.disk (g.D.Disk.may_leave d) (g.D.Disk.may_leave c.find_room.new.mirror.disk) (g.D.Disk.seen d) held (vec_len c.self.inside.mirror.bytes) was.0 c.self.invariant.1 was.1 (g.met.D.Disk.only_now d) c.find_room.ensures.time c.find_room.ensures.images in
+    subst (λ (v : View g.row.D.Denot). LeavesOnly g.D.Disk.moment g.D.Disk.left_since v.disk c.find_room.new.mirror.disk (λ file. IsFileOf file v.records)) c.self.view_is
     found_only
+
+pub returns-in-Err-clause-any_moment : goal.returns-in-Err-clause-any_moment
+returns-in-Err-clause-any_moment g c = λ told running.
+    let held = bodies_at c.self.inside.mirror.bytes.items c.self.inside.mirror.spans.items in
+    let d = c.self.inside.mirror.disk in
+    let was = c.self.invariant.3 (search rules) (search rules) in
+    let same = unmoved g.D.Disk.moment g.D.Disk.left_since d (g.D.Disk.may_leave d) (g.D.Disk.seen d) held (vec_len c.self.inside.mirror.bytes) was.0 c.self.invariant.1 was.1 (g.met.D.Disk.only_now d) in
+    subst (λ (v : View g.row.D.Denot). LeavesOnly g.D.Disk.moment g.D.Disk.left_since v.disk v.disk (HasFront v.records c.args.texts.now)) c.self.view_is
+    (with_none g.D.Disk.moment g.D.Disk.left_since d d held c.args.texts.now same)
+
+pub returns-in-Err-clause-idle : goal.returns-in-Err-clause-idle
+returns-in-Err-clause-idle g c = λ told running.
+    let held = bodies_at c.self.inside.mirror.bytes.items c.self.inside.mirror.spans.items in
+    let d = c.self.inside.mirror.disk in
+    let was = c.self.invariant.3 (search rules) (search rules) in
+    let same = unmoved g.D.Disk.moment g.D.Disk.left_since d (g.D.Disk.may_leave d) (g.D.Disk.seen d) held (vec_len c.self.inside.mirror.bytes) was.0 c.self.invariant.1 was.1 (g.met.D.Disk.only_now d) in
+    subst (λ (v : View g.row.D.Denot). LeavesOnly g.D.Disk.moment g.D.Disk.left_since v.disk v.disk (λ file. IsFileOf file v.records)) c.self.view_is
+    same
 
 pub returns-then-is_err-2-clause-disk : goal.returns-then-is_err-2-clause-disk
 returns-then-is_err-2-clause-disk g c = λ failed.
@@ -52,7 +81,7 @@ returns-then-is_err-2-clause-any_moment g c = λ told running.
     let same : at ≡ held = ap (λ (l : List ℕ). bodies_at l c.find_room.new.mirror.spans.items) c.find_room.ensures.bytes_same ∙ ap (bodies_at c.self.inside.mirror.bytes.items) c.find_room.ensures.spans_same in
     let d = c.self.inside.mirror.disk in
     let was = c.self.invariant.3 (search rules) (search rules) in
-    let found_only = found g.D.Disk.moment g.D.Disk.left_since d c.find_room.new.mirror.disk (g.D.Disk.may_leave d) (g.D.Disk.may_leave c.find_room.new.mirror.disk) (g.D.Disk.seen d) held c.args.texts.now (vec_len c.self.inside.mirror.bytes) was.0 c.self.invariant.1 was.1 (g.met.D.Disk.only_now d) c.find_room.ensures.time c.find_room.ensures.images in
+    let found_only = found g.D.Disk.moment g.D.Disk.left_since d c.find_room.new.mirror.disk (g.D.Disk.may_leave d) (g.D.Disk.may_leave c.find_room.new.mirror.disk) (g.D.Disk.seen d) held (vec_len c.self.inside.mirror.bytes) was.0 c.self.invariant.1 was.1 (g.met.D.Disk.only_now d) c.find_room.ensures.time c.find_room.ensures.images in
     let appended = then_appended g.D.Disk.moment g.D.Disk.left_since d c.find_room.new.mirror.disk c.append_each.new.mirror.disk held at c.args.texts.now _ _ room refl exact same found_only (c.append_each.ensures.any_moment (search rules)) in
     subst (λ (v : View g.row.D.Denot). LeavesOnly g.D.Disk.moment g.D.Disk.left_since v.disk c.append_each.new.mirror.disk (HasFront v.records c.args.texts.now)) c.self.view_is
     appended
@@ -68,7 +97,7 @@ returns-clause-any_moment g c = λ told running.
     let same : at ≡ held = ap (λ (l : List ℕ). bodies_at l c.find_room.new.mirror.spans.items) c.find_room.ensures.bytes_same ∙ ap (bodies_at c.self.inside.mirror.bytes.items) c.find_room.ensures.spans_same in
     let d = c.self.inside.mirror.disk in
     let was = c.self.invariant.3 (search rules) (search rules) in
-    let found_only = found g.D.Disk.moment g.D.Disk.left_since d c.find_room.new.mirror.disk (g.D.Disk.may_leave d) (g.D.Disk.may_leave c.find_room.new.mirror.disk) (g.D.Disk.seen d) held c.args.texts.now (vec_len c.self.inside.mirror.bytes) was.0 c.self.invariant.1 was.1 (g.met.D.Disk.only_now d) c.find_room.ensures.time c.find_room.ensures.images in
+    let found_only = found g.D.Disk.moment g.D.Disk.left_since d c.find_room.new.mirror.disk (g.D.Disk.may_leave d) (g.D.Disk.may_leave c.find_room.new.mirror.disk) (g.D.Disk.seen d) held (vec_len c.self.inside.mirror.bytes) was.0 c.self.invariant.1 was.1 (g.met.D.Disk.only_now d) c.find_room.ensures.time c.find_room.ensures.images in
     let appended = then_appended g.D.Disk.moment g.D.Disk.left_since d c.find_room.new.mirror.disk c.append_each.new.mirror.disk held at c.args.texts.now _ _ room refl exact same found_only (c.append_each.ensures.any_moment (search rules)) in
     subst (λ (v : View g.row.D.Denot). LeavesOnly g.D.Disk.moment g.D.Disk.left_since v.disk c.append_each.new.mirror.disk (HasFront v.records c.args.texts.now)) c.self.view_is
     appended
@@ -172,3 +201,23 @@ returns-clause-stands g c = λ told.
     let all : bodies_at new.bytes.items new.spans.items ≡ at ++ c.args.texts.now = search rules in
     let is : bodies_at new.bytes.items new.spans.items ≡ held ++ c.args.texts.now = all ∙ ap (λ (l : List (List ℕ)). l ++ c.args.texts.now) same in
     rests (g.D.Disk.seen new.disk) (bodies_at new.bytes.items new.spans.items) (vec_len new.bytes) false (g.D.Disk.may_leave new.disk) (search rules) (all_within held c.args.texts.now _ _ _ room refl exact is) (search rules)
+
+pub returns-then-is_err-2-clause-failing : goal.returns-then-is_err-2-clause-failing
+returns-then-is_err-2-clause-failing g c = λ failed.
+    let mid = c.find_room.new.mirror in
+    let held = bodies_at c.self.inside.mirror.bytes.items c.self.inside.mirror.spans.items in
+    let gate : vec_len mid.bytes ≡ length (blocks held) = mid.bytes.ok.0 ∙ ap length (c.find_room.ensures.bytes_same ∙ c.self.invariant.0.parts) in
+    let failing = if_err c.append_each.result _ (sym c.is_err-2.ensures.value ∙ c.if-is_err-2.true) c.append_each.ensures.failing in
+    subst (λ (v : View g.row.D.Denot). FailsAmong g.D.Disk.after v.disk c.append_each.new.mirror.disk (calls_to_append_all (length (blocks v.records)) c.args.texts.now)) c.self.view_is
+    (subst (λ (n : ℕ). FailsAmong g.D.Disk.after c.self.inside.mirror.disk c.append_each.new.mirror.disk (calls_to_append_all n c.args.texts.now)) gate
+    (fails_later g.D.Disk.after g.met.D.Disk.after_more c.self.inside.mirror.disk mid.disk c.append_each.new.mirror.disk [] (calls_to_append_all (vec_len mid.bytes) c.args.texts.now) c.find_room.ensures.made failing))
+
+pub returns-clause-made : goal.returns-clause-made
+returns-clause-made g c =
+    let mid = c.find_room.new.mirror in
+    let held = bodies_at c.self.inside.mirror.bytes.items c.self.inside.mirror.spans.items in
+    let gate : vec_len mid.bytes ≡ length (blocks held) = mid.bytes.ok.0 ∙ ap length (c.find_room.ensures.bytes_same ∙ c.self.invariant.0.parts) in
+    let appended = if_not_err c.append_each.result _ (sym c.is_err-2.ensures.value ∙ c.if-is_err-2.false) c.append_each.ensures.made in
+    subst (λ (v : View g.row.D.Denot). g.D.Disk.after v.disk (made (calls_to_append_all (length (blocks v.records)) c.args.texts.now)) c.append_each.new.mirror.disk) c.self.view_is
+    (subst (λ (n : ℕ). g.D.Disk.after c.self.inside.mirror.disk (made (calls_to_append_all n c.args.texts.now)) c.append_each.new.mirror.disk) gate
+    (made_later g.D.Disk.after g.met.D.Disk.after_more c.self.inside.mirror.disk mid.disk c.append_each.new.mirror.disk [] (calls_to_append_all (vec_len mid.bytes) c.args.texts.now) c.find_room.ensures.made appended))
