@@ -42,3 +42,4 @@ pub mod RoomExamples
 pub mod LawfulExamples
 pub mod TakingExamples
 pub mod SchemeExamples
+pub mod CallsOnDisk

@@ -7,7 +7,7 @@ ghost use Rattle.depot_model.specs.Hello.{convicted_nodes, wanted_of, AreLeafPla
 ghost use Rattle.depot_model.specs.Journal.{accepted, held, value_with, is_foreign};
 ghost use Rattle.depot_model.specs.Lists.{AreApart};
 ghost use Rattle.depot_model.specs.Replicas.{IsSameNode, StopsBy, KeepsDisk};
-ghost use Rattle.depot_model.specs.Stops.{Lasts};
+ghost use Rattle.depot_model.specs.Stops.{CallsDisk, Lasts};
 ghost use Rattle.depot_model.specs.Texts.{text_of_signed};
 ghost use Rattle.depot_model.specs.Vouching.{Vouches, is_mine_vouched, new_vouchers, records_of};
 
@@ -70,5 +70,6 @@ pub trait Peer: Replica {
         ensures stops { StopsBy (Self.stopped self.old) (Self.stopped self.new) (IsErrOf result VoucherError.Stopped) (IsErrOf result VoucherError.Disk) }
         ensures disk { KeepsDisk (Self.handle self.old) (Self.handle self.new) (Self.faults self.old) (Self.faults self.new) (Self.is_faultless self.old) (Self.is_faultless self.new) (IsErrOf result VoucherError.Disk) }
         ensures lasts { Lasts Self.tells Self.stopped Self.records Self.moment Self.left_since Self.may_leave self.old self.new (records_of (new_vouchers (Self.stands self.old).me (Self.records self.old) ids.now)) }
+        ensures calls { CallsDisk Self.after Self.reads Self.stopped Self.records self.old self.new (records_of (new_vouchers (Self.stands self.old).me (Self.records self.old) ids.now)) (IsErrOf result VoucherError.Disk) }
         ensures idle { IfErr result (λ e. e ≢ VoucherError.Disk → Lasts Self.tells Self.stopped Self.records Self.moment Self.left_since Self.may_leave self.old self.new []) };
 }

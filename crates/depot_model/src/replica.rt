@@ -1,5 +1,6 @@
 //! What others see of a node's journal, and give it.
-ghost use Rattle.std.specs.Prelude.{◌≡◌, ◌<◌, ◌≤◌, ◌^◌, ℕ, List, [], Bool, IsTrue, true, false, length, map, Some, IsErrOf, slice_get};
+ghost use Rattle.std.specs.Prelude.{◌≡◌, ◌<◌, ◌≤◌, ◌^◌, ◌++◌, ℕ, List, [], Bool, IsTrue, true, false, length, map, Some, IsErrOf, slice_get};
+ghost use Rattle.depot_base.specs.Calls.{Made};
 ghost use Rattle.depot_base.specs.declared.key.PublicKey.{PublicKey};
 ghost use Rattle.depot_base.specs.declared.limits.TheConstants.{MOST_SIGNATURE};
 ghost use Rattle.depot_base.specs.declared.record.Record.{Record};
@@ -9,7 +10,7 @@ ghost use Rattle.depot_model.specs.Lawful.{IsLawful, is_empty};
 ghost use Rattle.depot_model.specs.Records.{text_of_record};
 ghost use Rattle.depot_model.specs.Replicas.{IsSameNode, StopsBy, KeepsDisk};
 ghost use Rattle.depot_model.specs.Roster.{key_of, has_node};
-ghost use Rattle.depot_model.specs.Stops.{Lasts, LeavesAll};
+ghost use Rattle.depot_model.specs.Stops.{CallsDisk, Lasts, LeavesAll};
 ghost use Rattle.depot_model.specs.Taking.{TakesStatement, TakesProof, TakesValue, as_statement, as_proof, as_value, growth_of_text};
 ghost use Rattle.depot_model.specs.Texts.{IsRoster, hash_of_roster};
 
@@ -58,6 +59,12 @@ pub trait Replica {
     /// The files that a stop at some moment from this one on might have left.
     ghost left_since: { Self → ℕ → List ℕ → Type 0 };
 
+    /// The file on it, as it reads.
+    ghost reads: { Self → List ℕ };
+
+    /// The second is what the first became by these calls on the disk, each with whether it failed, and by no other.
+    ghost after: { Self → List Made → Self → Type 0 };
+
     /// Its own number.
     fn me(&self) -> NodeId
         ensures { result ≡ (stands self.now).me };
@@ -88,13 +95,14 @@ pub trait Replica {
     /// where the definition says, and the journal grows by what it says. After Memory and Full it is as before, after a
     /// refused check too, but where a fork or a step back convicts the writer. After Disk the records before the failing one
     /// stand, and the node is stopped. A stop at any moment leaves the records from before and a front of those that are appended;
-    /// of a call that answers Memory, none of these.
+    /// of a call that answers Memory, none of these. On the disk it makes the calls that append records, and no other.
     fn take_statement(&mut self, text: &[u8]) -> Result<Taken, TakeError>
         ensures takes { TakesStatement (stands self.old) (records self.old) text.now result (records self.new) }
         ensures stays { IsSameNode (stands self.old) (stands self.new) (key self.old) (key self.new) (signature_of self.old) (signature_of self.new) }
         ensures stops { StopsBy (stopped self.old) (stopped self.new) (IsErrOf result TakeError.Stopped) (IsErrOf result TakeError.Disk) }
         ensures disk { KeepsDisk (handle self.old) (handle self.new) (faults self.old) (faults self.new) (is_faultless self.old) (is_faultless self.new) (IsErrOf result TakeError.Disk) }
         ensures lasts { Lasts tells stopped records moment left_since may_leave self.old self.new (growth_of_text (stands self.old) (records self.old) as_statement text.now) }
+        ensures calls { CallsDisk after reads stopped records self.old self.new (growth_of_text (stands self.old) (records self.old) as_statement text.now) (IsErrOf result TakeError.Disk) }
         ensures idle { IsErrOf result TakeError.Memory → Lasts tells stopped records moment left_since may_leave self.old self.new [] };
 
     /// The same of the text of a proof.
@@ -104,6 +112,7 @@ pub trait Replica {
         ensures stops { StopsBy (stopped self.old) (stopped self.new) (IsErrOf result TakeError.Stopped) (IsErrOf result TakeError.Disk) }
         ensures disk { KeepsDisk (handle self.old) (handle self.new) (faults self.old) (faults self.new) (is_faultless self.old) (is_faultless self.new) (IsErrOf result TakeError.Disk) }
         ensures lasts { Lasts tells stopped records moment left_since may_leave self.old self.new (growth_of_text (stands self.old) (records self.old) as_proof text.now) }
+        ensures calls { CallsDisk after reads stopped records self.old self.new (growth_of_text (stands self.old) (records self.old) as_proof text.now) (IsErrOf result TakeError.Disk) }
         ensures idle { IsErrOf result TakeError.Memory → Lasts tells stopped records moment left_since may_leave self.old self.new [] };
 
     /// The same of a value, whose text is its bytes.
@@ -113,6 +122,7 @@ pub trait Replica {
         ensures stops { StopsBy (stopped self.old) (stopped self.new) (IsErrOf result TakeError.Stopped) (IsErrOf result TakeError.Disk) }
         ensures disk { KeepsDisk (handle self.old) (handle self.new) (faults self.old) (faults self.new) (is_faultless self.old) (is_faultless self.new) (IsErrOf result TakeError.Disk) }
         ensures lasts { Lasts tells stopped records moment left_since may_leave self.old self.new (growth_of_text (stands self.old) (records self.old) as_value text.now) }
+        ensures calls { CallsDisk after reads stopped records self.old self.new (growth_of_text (stands self.old) (records self.old) as_value text.now) (IsErrOf result TakeError.Disk) }
         ensures idle { IsErrOf result TakeError.Memory → Lasts tells stopped records moment left_since may_leave self.old self.new [] };
 
     /// Its journal is lawful, whether it is stopped or not.
@@ -132,6 +142,15 @@ pub trait Replica {
 
     /// Since this moment there is no other.
     ghost only_now: { (r : Self) (file : List ℕ) → left_since r (moment r) file → may_leave r file };
+
+    /// This moment is one of those since an earlier one.
+    ghost counts_now: { (r : Self) (t : ℕ) (file : List ℕ) → t ≤ moment r → may_leave r file → left_since r t file };
+
+    /// By no call on its disk it becomes itself.
+    ghost after_none: { (r : Self) → after r [] r };
+
+    /// Calls on its disk may follow one another.
+    ghost after_more: { (old between new : Self) (calls more : List Made) → after old calls between → after between more new → after old (calls ++ more) new };
 
     /// What it signs by a leaf of its tree verifies under its key.
     ghost signs: { (r : Self) (seq : ℕ) (body : List ℕ) → seq < 2 ^ (key r).height → Self.Of.verifies (key r) seq body (signature_of r seq body) ≡ true };

@@ -50,3 +50,24 @@ pub trait Signer: Drop {
     /// A signature has at most 8,192 bytes.
     ghost is_short: { (s : Self) (seq : ℕ) (body : List ℕ) → length (signature_of s seq body) ≤ MOST_SIGNATURE };
 }
+
+/// A signer that is lent is a signer with the same key and signatures.
+impl<G: Signer> Signer for &G {
+    type Of = G::Of;
+
+    ghost key_of = { λ s. G.key_of s.now };
+
+    ghost signature_of = { λ s seq body. G.signature_of s.now seq body };
+
+    fn key(&self) -> PublicKey {
+        (**self).key()
+    }
+
+    fn sign(&self, seq: u32, body: &[u8]) -> Result<Bytes, Memory> {
+        (**self).sign(seq, body)
+    }
+
+    ghost verifies_under_key = { λ s seq body leaf. G.verifies_under_key s.now seq body leaf };
+
+    ghost is_short = { λ s seq body. G.is_short s.now seq body };
+}

@@ -3,6 +3,7 @@ pub mod NewStatements
 pub mod Decided
 pub mod LastingCalls
 pub mod TakenGrowth
+pub mod DiskCalls
 pub mod FreshIds
 pub mod NextOwn
 pub mod PutLaws
@@ -17,6 +18,7 @@ pub mod RecordChecks
 pub mod RecordReads
 pub mod Starts
 pub mod StartLaws
+pub mod StartCalls
 mod RecordFaultExamples
 pub mod ReadLaws
 pub mod LackingValues

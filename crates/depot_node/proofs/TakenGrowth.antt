@@ -20,7 +20,7 @@ abbrev pub IsOfText : Form → Setting → List Record → List ℕ → Result T
 IsOfText form here J text answer new = (result : Result Taken TakeError) (then : List Record) → IsCarriedOut here.me J answer new result then → TakesAs form here J text result then
 
 -- where there is room, the growth of a text is the one that was decided
-growth_is : (form : Form) (here : Setting) (J : List Record) (text : List ℕ) (answer : Result Taken Check) (new : List Record) → IsOfText form here J text answer new → full_by here.me J new ≡ None → growth_of_text here J form text ≡ new
+pub growth_is : (form : Form) (here : Setting) (J : List Record) (text : List ℕ) (answer : Result Taken Check) (new : List Record) → IsOfText form here J text answer new → full_by here.me J new ≡ None → growth_of_text here J form text ≡ new
 growth_is form here J text (Ok taken) new takes room =
     append_cancel_left J (growth_of_text here J form text) new (sym (one_answer form here J text (Ok taken) (J ++ new) (takes (Ok taken) (J ++ new) (refl, (room, refl))) tt).1)
 growth_is form here J text (Err c) new takes room =

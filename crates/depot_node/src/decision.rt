@@ -4,7 +4,7 @@ ghost use Rattle.depot_base.specs.declared.check.Full.{Full};
 ghost use Rattle.depot_model.specs.Lawful.{IsLawful, is_empty};
 ghost use Rattle.depot_model.specs.Replicas.{KeepsDisk};
 ghost use Rattle.depot_model.specs.Room.{full_by};
-ghost use Rattle.depot_model.specs.Stops.{Lasts};
+ghost use Rattle.depot_model.specs.Stops.{CallsDisk, Lasts};
 ghost use Rattle.depot_store.specs.NewRecords.{MayGrow};
 ghost use Rattle.depot_store.specs.Holdings.{standing, IsWhole};
 ghost use Rattle.depot_node.specs.Deciding.{Answered, IsCarriedOut};
@@ -51,6 +51,7 @@ pub fn carry_out<D: Disk, S: Scheme>(
     ensures stops { (store.new.stopped ≡ true) ↔ IsErrOf result TakeError.Disk }
     ensures disk { KeepsDisk (D.handle store.old.disk) (D.handle store.new.disk) (D.faults store.old.disk) (D.faults store.new.disk) (D.is_faultless store.old.disk) (D.is_faultless store.new.disk) (IsErrOf result TakeError.Disk) }
     ensures lasts { Lasts (λ v. D.tells v.disk) (λ v. v.stopped) (λ v. v.records) (λ v. D.moment v.disk) (λ v t file. D.left_since v.disk t file) (λ v file. D.may_leave v.disk file) store.old store.new decision.growth }
+    ensures calls { CallsDisk (λ v calls w. D.after v.disk calls w.disk) (λ v. D.seen v.disk) (λ v. v.stopped) (λ v. v.records) store.old store.new decision.growth (IsErrOf result TakeError.Disk) }
     ensures idle { IsErrOf result TakeError.Memory → Lasts (λ v. D.tells v.disk) (λ v. v.stopped) (λ v. v.records) (λ v. D.moment v.disk) (λ v t file. D.left_since v.disk t file) (λ v file. D.may_leave v.disk file) store.old store.new [] }
     ensures full { (what : Full) → full_by store.old.me store.old.records decision.growth ≡ Some what → store.new ≡ store.old }
 {

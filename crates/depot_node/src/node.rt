@@ -8,7 +8,7 @@ ghost use Rattle.depot_model.specs.LawfulFacts.{IsLawful-prop};
 ghost use Rattle.depot_model.specs.Order.{AreLatestIn};
 ghost use Rattle.depot_model.specs.Replicas.{IsSameNode, StopsBy, KeepsDisk};
 ghost use Rattle.depot_model.specs.Roster.{key_of};
-ghost use Rattle.depot_model.specs.Stops.{Lasts};
+ghost use Rattle.depot_model.specs.Stops.{CallsDisk, Lasts};
 ghost use Rattle.depot_model.specs.TextFacts.{IsRoster-prop};
 ghost use Rattle.depot_model.specs.Texts.{IsRoster};
 ghost use Rattle.depot_model.specs.Items.{updates_at};
@@ -57,9 +57,18 @@ impl<D: Disk, S: Scheme, G: Signer<Of = S>> Node<D, S, G> {
         ensures stops { StopsBy (⟦<Node<D, S, G> as Replica>⟧.stopped self.old) (⟦<Node<D, S, G> as Replica>⟧.stopped self.new) (IsErrOf result PutError.Stopped) (IsErrOf result PutError.Disk) }
         ensures disk { KeepsDisk (⟦<Node<D, S, G> as Replica>⟧.handle self.old) (⟦<Node<D, S, G> as Replica>⟧.handle self.new) (⟦<Node<D, S, G> as Replica>⟧.faults self.old) (⟦<Node<D, S, G> as Replica>⟧.faults self.new) (⟦<Node<D, S, G> as Replica>⟧.is_faultless self.old) (⟦<Node<D, S, G> as Replica>⟧.is_faultless self.new) (IsErrOf result PutError.Disk) }
         ensures lasts { Lasts ⟦<Node<D, S, G> as Replica>⟧.tells ⟦<Node<D, S, G> as Replica>⟧.stopped ⟦<Node<D, S, G> as Replica>⟧.records ⟦<Node<D, S, G> as Replica>⟧.moment ⟦<Node<D, S, G> as Replica>⟧.left_since ⟦<Node<D, S, G> as Replica>⟧.may_leave self.old self.new (put_records (⟦<Node<D, S, G> as Replica>⟧.stands self.old) (⟦<Node<D, S, G> as Replica>⟧.records self.old) key value) }
+        ensures calls { CallsDisk ⟦<Node<D, S, G> as Replica>⟧.after ⟦<Node<D, S, G> as Replica>⟧.reads ⟦<Node<D, S, G> as Replica>⟧.stopped ⟦<Node<D, S, G> as Replica>⟧.records self.old self.new (put_records (⟦<Node<D, S, G> as Replica>⟧.stands self.old) (⟦<Node<D, S, G> as Replica>⟧.records self.old) key value) (IsErrOf result PutError.Disk) }
         ensures idle { IfErr result (λ e. e ≢ PutError.Disk → Lasts ⟦<Node<D, S, G> as Replica>⟧.tells ⟦<Node<D, S, G> as Replica>⟧.stopped ⟦<Node<D, S, G> as Replica>⟧.records ⟦<Node<D, S, G> as Replica>⟧.moment ⟦<Node<D, S, G> as Replica>⟧.left_since ⟦<Node<D, S, G> as Replica>⟧.may_leave self.old self.new []) }
     {
         put(self.alloc, &mut self.store, key, value)
+    }
+
+    /// How many updates it accepted. It takes no memory.
+    pub fn update_count(&self) -> u32
+        requires { ⟦<Node<D, S, G> as Replica>⟧.stopped self.now ≡ false }
+        ensures { result ≡ length (accepted (⟦<Node<D, S, G> as Replica>⟧.records self.now)) }
+    {
+        self.store.state().graph().count()
     }
 
     /// The items of the latest writes of a key among the accepted updates, in rising order of clock, writer, seq and id,
@@ -122,6 +131,10 @@ impl<D: Disk, S: Scheme, G: Signer<Of = S>> Replica for Node<D, S, G> {
 
     ghost left_since = { λ n t file. D.left_since n.store.disk t file };
 
+    ghost reads = { λ n. D.seen n.store.disk };
+
+    ghost after = { λ n calls m. D.after n.store.disk calls m.store.disk };
+
     fn me(&self) -> NodeId {
         self.store.me()
     }
@@ -169,6 +182,12 @@ impl<D: Disk, S: Scheme, G: Signer<Of = S>> Replica for Node<D, S, G> {
     ghost verifies_by = { λ n. refl };
 
     ghost only_now = { λ n file left. D.only_now n.store.disk file left };
+
+    ghost counts_now = { λ n t file late leaves. D.counts_now n.store.disk t file late leaves };
+
+    ghost after_none = { λ n. D.after_none n.store.disk };
+
+    ghost after_more = { λ old between new calls more first then. D.after_more old.store.disk between.store.disk new.store.disk calls more first then };
 
     ghost signs = { λ n seq body below. G.verifies_under_key n.signer seq body below };
 

@@ -9,7 +9,7 @@ ghost use Rattle.depot_model.specs.Journal.{accepted};
 ghost use Rattle.depot_model.specs.Lawful.{IsLawful, is_empty};
 ghost use Rattle.depot_model.specs.Own.{entry_of, next_own, IsFresh, leaf_count};
 ghost use Rattle.depot_model.specs.Replicas.{StopsBy, KeepsDisk};
-ghost use Rattle.depot_model.specs.Stops.{Lasts};
+ghost use Rattle.depot_model.specs.Stops.{CallsDisk, Lasts};
 ghost use Rattle.depot_store.specs.Holdings.{standing};
 ghost use Rattle.depot_node.specs.Putting.{Puts, put_records, IsPlanned, IsRefused, IsTooWide};
 
@@ -50,6 +50,7 @@ pub fn put<D: Disk, S: Scheme>(
     ensures stops { StopsBy store.old.stopped store.new.stopped (IsErrOf result PutError.Stopped) (IsErrOf result PutError.Disk) }
     ensures disk { KeepsDisk (D.handle store.old.disk) (D.handle store.new.disk) (D.faults store.old.disk) (D.faults store.new.disk) (D.is_faultless store.old.disk) (D.is_faultless store.new.disk) (IsErrOf result PutError.Disk) }
     ensures lasts { Lasts (λ v. D.tells v.disk) (λ v. v.stopped) (λ v. v.records) (λ v. D.moment v.disk) (λ v t file. D.left_since v.disk t file) (λ v file. D.may_leave v.disk file) store.old store.new (put_records (standing S.verifies store.old) store.old.records key value) }
+    ensures calls { CallsDisk (λ v calls w. D.after v.disk calls w.disk) (λ v. D.seen v.disk) (λ v. v.stopped) (λ v. v.records) store.old store.new (put_records (standing S.verifies store.old) store.old.records key value) (IsErrOf result PutError.Disk) }
     ensures idle { IfErr result (λ e. e ≢ PutError.Disk → Lasts (λ v. D.tells v.disk) (λ v. v.stopped) (λ v. v.records) (λ v. D.moment v.disk) (λ v t file. D.left_since v.disk t file) (λ v file. D.may_leave v.disk file) store.old store.new []) }
 {
     if store.is_stopped() {

@@ -1,10 +1,12 @@
 //! The records of a journal are read one by one, each checked as if it came now.
-ghost use Rattle.std.specs.Prelude.{◌≡◌, ◌≢◌, ◌∷◌, [], ℕ, List, true, false, IsTrue, OnOk, OnErr, IfOk, IfErr, IsErrOf};
+ghost use Rattle.std.specs.Prelude.{◌≡◌, ◌≢◌, ◌∷◌, [], ℕ, List, true, false, map, IsTrue, OnOk, OnErr, IfOk, IfErr, IsErrOf};
+ghost use Rattle.depot_base.specs.Calls.{FailsAmong, made};
 ghost use Rattle.depot_base.specs.declared.record.Record.{Record};
 ghost use Rattle.depot_model.specs.Lawful.{IsLawful};
+ghost use Rattle.depot_model.specs.Records.{text_of_record};
 ghost use Rattle.depot_model.specs.Replicas.{KeepsDisk};
 ghost use Rattle.depot_model.specs.Roster.{has_node};
-ghost use Rattle.depot_model.specs.Stops.{Lasts, LeavesAll};
+ghost use Rattle.depot_model.specs.Stops.{CallsDisk, Lasts, LeavesAll, calls_to_record};
 ghost use Rattle.depot_model.specs.Texts.{hash_of_roster};
 ghost use Rattle.depot_store.specs.Holdings.{standing, IsWhole};
 ghost use Rattle.depot_node.specs.Starting.{AreTextsOf, AreOwn, AreNotRead, LeavesBetween, LeavesFile, LeavesNew, StartLeaves, birth_after, started};
@@ -33,6 +35,8 @@ pub fn fill<D: Disk, S: Scheme>(alloc: Global, store: &mut Store<D, S>) -> Resul
     ensures stands { standing S.verifies store.new ≡ standing S.verifies store.old }
     ensures disk { KeepsDisk (D.handle store.old.disk) (D.handle store.new.disk) (D.faults store.old.disk) (D.faults store.new.disk) (D.is_faultless store.old.disk) (D.is_faultless store.new.disk) (IsErrOf result StartError.Disk) }
     ensures tells { D.tells store.new.disk ≡ D.tells store.old.disk }
+    ensures calls { OnOk result ((J : List Record) → store.old.unread ≡ map text_of_record J → D.after store.old.disk (made (calls_to_record J (birth_after (standing S.verifies store.old) J))) store.new.disk) }
+    ensures failing { IsErrOf result StartError.Disk → (J : List Record) → store.old.unread ≡ map text_of_record J → FailsAmong D.after store.old.disk store.new.disk (calls_to_record J (birth_after (standing S.verifies store.old) J)) }
     ensures any_moment { IsTrue (D.tells store.old.disk) → LeavesBetween (D.moment store.old.disk) (D.moment store.new.disk) (D.left_since store.old.disk) (D.left_since store.new.disk) (StartLeaves (standing S.verifies store.old) (store.old.unread ≡ []) (D.may_leave store.old.disk)) }
     ensures unborn { IfErr result (λ e. e ≢ StartError.Disk → IsTrue (D.tells store.old.disk) → LeavesBetween (D.moment store.old.disk) (D.moment store.new.disk) (D.left_since store.old.disk) (D.left_since store.new.disk) (LeavesNew [] (store.old.unread ≡ []) (D.may_leave store.old.disk))) }
     ensures stable { OnOk result (IsTrue (D.tells store.old.disk) → LeavesAll store.new.records false (D.may_leave store.new.disk)) }
@@ -56,6 +60,7 @@ fn add_birth<D: Disk, S: Scheme>(alloc: Global, store: &mut Store<D, S>) -> Resu
     ensures stands { standing S.verifies store.new ≡ standing S.verifies store.old }
     ensures disk { KeepsDisk (D.handle store.old.disk) (D.handle store.new.disk) (D.faults store.old.disk) (D.faults store.new.disk) (D.is_faultless store.old.disk) (D.is_faultless store.new.disk) (IsErrOf result StartError.Disk) }
     ensures lasts { Lasts (λ v. D.tells v.disk) (λ v. v.stopped) (λ v. v.records) (λ v. D.moment v.disk) (λ v t file. D.left_since v.disk t file) (λ v file. D.may_leave v.disk file) store.old store.new (birth_after (standing S.verifies store.old) []) }
+    ensures calls { CallsDisk (λ v calls w. D.after v.disk calls w.disk) (λ v. D.seen v.disk) (λ v. v.stopped) (λ v. v.records) store.old store.new (birth_after (standing S.verifies store.old) []) (IsErrOf result StartError.Disk) }
     ensures idle { IfErr result (λ e. e ≢ StartError.Disk → Lasts (λ v. D.tells v.disk) (λ v. v.stopped) (λ v. v.records) (λ v. D.moment v.disk) (λ v t file. D.left_since v.disk t file) (λ v file. D.may_leave v.disk file) store.old store.new []) }
 {
     // Called for its clause alone: what a stop may leave has the records.

@@ -1,14 +1,16 @@
 //! A node is started from the journal on its disk.
-ghost use Rattle.std.specs.Prelude.{◌≡◌, ◌≢◌, [], ℕ, List, false, true, IsTrue, Some, None, IfOk, IfErr, IfSome};
+ghost use Rattle.std.specs.Prelude.{◌≡◌, ◌≢◌, [], ℕ, List, false, true, map, IsTrue, Some, None, IfOk, IfErr, IfSome};
+ghost use Rattle.depot_base.specs.Calls.{FailsAmong, made};
 ghost use Rattle.depot_base.specs.Faults.{HasCause};
 ghost use Rattle.depot_base.specs.File.{IsFileOf};
 ghost use Rattle.depot_base.specs.declared.record.Record.{Record};
 ghost use Rattle.depot_model.specs.Lawful.{IsLawful};
+ghost use Rattle.depot_model.specs.Records.{text_of_record};
 ghost use Rattle.depot_model.specs.Roster.{has_node, key_of};
 ghost use Rattle.depot_model.specs.Stops.{LeavesAll};
 ghost use Rattle.depot_accept.specs.View.{IsStateOf, setting};
 ghost use Rattle.depot_store.specs.Holdings.{standing, IsWhole};
-ghost use Rattle.depot_node.specs.Starting.{IsDiskFault, IsKeyFault, IsNotStarted, IsStartedFrom, LeavesBetween, LeavesFile, LeavesNew, StartLeaves, of_journal, started};
+ghost use Rattle.depot_node.specs.Starting.{IsDiskFault, IsKeyFault, IsNotStarted, IsStartedFrom, LeavesBetween, LeavesFile, LeavesNew, StartLeaves, calls_to_start_node, of_journal, started};
 ghost use Rattle.depot_node.specs.declared.answer.StartError.TheVariants as start_error;
 
 use crate::answer::StartError;
@@ -52,6 +54,10 @@ impl<D: Disk, S: Scheme, G: Signer<Of = S>> Node<D, S, G> {
         ensures any_moment_back { IfErr result (λ b. IsTrue (D.tells disk) → LeavesBetween (D.moment disk) (D.moment b.disk) (D.left_since disk) (D.left_since b.disk) (StartLeaves (record { verifies = S.verifies; me = me; listed = roster }) (IsFileOf (D.seen disk) []) (D.may_leave disk))) }
         ensures unborn { IfErr result (λ b. b.error ≢ start_error.Disk → IsTrue (D.tells disk) → LeavesBetween (D.moment disk) (D.moment b.disk) (D.left_since disk) (D.left_since b.disk) (LeavesNew [] (IsFileOf (D.seen disk) []) (D.may_leave disk))) }
         ensures stable { IfOk result (λ n. IsTrue (D.tells disk) → LeavesAll (⟦<Node<D, S, G> as Replica>⟧.records n) false (⟦<Node<D, S, G> as Replica>⟧.may_leave n)) }
+
+        // The calls that it makes on a disk that tells its bytes: those that start its journal, and those that append a birth.
+        ensures calls { IfOk result (λ n. IsTrue (D.tells disk) → (J : List Record) → IsFileOf (D.seen disk) (map text_of_record J) → D.after disk (made (calls_to_start_node (record { verifies = S.verifies; me = me; listed = roster }) (D.seen disk) J)) n.store.disk) }
+        ensures failing { IfErr result (λ b. b.error ≡ start_error.Disk → IsTrue (D.tells disk) → (J : List Record) → IsFileOf (D.seen disk) (map text_of_record J) → FailsAmong D.after disk b.disk (calls_to_start_node (record { verifies = S.verifies; me = me; listed = roster }) (D.seen disk) J)) }
 
         // The disk that comes back, in the node or without it, is the one that was given.
         ensures handle { IfOk result (λ n. ⟦<Node<D, S, G> as Replica>⟧.handle n ≡ D.handle disk) }
@@ -101,6 +107,8 @@ fn open<D: Disk, S: Scheme>(
     ensures any_moment_back { IfErr result (λ b. IsTrue (D.tells disk) → LeavesBetween (D.moment disk) (D.moment b.disk) (D.left_since disk) (D.left_since b.disk) (StartLeaves (setting S.verifies state) (IsFileOf (D.seen disk) []) (D.may_leave disk))) }
     ensures unborn { IfErr result (λ b. b.error ≢ start_error.Disk → IsTrue (D.tells disk) → LeavesBetween (D.moment disk) (D.moment b.disk) (D.left_since disk) (D.left_since b.disk) (LeavesNew [] (IsFileOf (D.seen disk) []) (D.may_leave disk))) }
     ensures stable { IfOk result (λ s. IsTrue (D.tells disk) → LeavesAll s.records false (D.may_leave s.disk)) }
+    ensures calls { IfOk result (λ s. IsTrue (D.tells disk) → (J : List Record) → IsFileOf (D.seen disk) (map text_of_record J) → D.after disk (made (calls_to_start_node (setting S.verifies state) (D.seen disk) J)) s.disk) }
+    ensures failing { IfErr result (λ b. b.error ≡ start_error.Disk → IsTrue (D.tells disk) → (J : List Record) → IsFileOf (D.seen disk) (map text_of_record J) → FailsAmong D.after disk b.disk (calls_to_start_node (setting S.verifies state) (D.seen disk) J)) }
     ensures handle { IfOk result (λ s. D.handle s.disk ≡ D.handle disk) }
     ensures handle_back { IfErr result (λ b. D.handle b.disk ≡ D.handle disk) }
     ensures tells { IfOk result (λ s. D.tells s.disk ≡ D.tells disk) }

@@ -2,7 +2,7 @@
 ghost use Rattle.std.specs.Prelude.{◌≡◌, [], false, IsErrOf};
 ghost use Rattle.depot_model.specs.Lawful.{IsLawful, is_empty};
 ghost use Rattle.depot_model.specs.Replicas.{StopsBy, KeepsDisk};
-ghost use Rattle.depot_model.specs.Stops.{Lasts};
+ghost use Rattle.depot_model.specs.Stops.{CallsDisk, Lasts};
 ghost use Rattle.depot_model.specs.Taking.{TakesStatement, TakesProof, TakesValue, as_statement, as_proof, as_value, growth_of_text};
 ghost use Rattle.depot_store.specs.Holdings.{standing};
 
@@ -32,6 +32,7 @@ pub fn take_statement<D: Disk, S: Scheme>(
     ensures stops { StopsBy store.old.stopped store.new.stopped (IsErrOf result TakeError.Stopped) (IsErrOf result TakeError.Disk) }
     ensures disk { KeepsDisk (D.handle store.old.disk) (D.handle store.new.disk) (D.faults store.old.disk) (D.faults store.new.disk) (D.is_faultless store.old.disk) (D.is_faultless store.new.disk) (IsErrOf result TakeError.Disk) }
     ensures lasts { Lasts (λ v. D.tells v.disk) (λ v. v.stopped) (λ v. v.records) (λ v. D.moment v.disk) (λ v t file. D.left_since v.disk t file) (λ v file. D.may_leave v.disk file) store.old store.new (growth_of_text (standing S.verifies store.old) store.old.records as_statement text.now) }
+    ensures calls { CallsDisk (λ v calls w. D.after v.disk calls w.disk) (λ v. D.seen v.disk) (λ v. v.stopped) (λ v. v.records) store.old store.new (growth_of_text (standing S.verifies store.old) store.old.records as_statement text.now) (IsErrOf result TakeError.Disk) }
     ensures idle { IsErrOf result TakeError.Memory → Lasts (λ v. D.tells v.disk) (λ v. v.stopped) (λ v. v.records) (λ v. D.moment v.disk) (λ v t file. D.left_since v.disk t file) (λ v file. D.may_leave v.disk file) store.old store.new [] }
 {
     if store.is_stopped() {
@@ -58,6 +59,7 @@ pub fn take_proof<D: Disk, S: Scheme>(
     ensures stops { StopsBy store.old.stopped store.new.stopped (IsErrOf result TakeError.Stopped) (IsErrOf result TakeError.Disk) }
     ensures disk { KeepsDisk (D.handle store.old.disk) (D.handle store.new.disk) (D.faults store.old.disk) (D.faults store.new.disk) (D.is_faultless store.old.disk) (D.is_faultless store.new.disk) (IsErrOf result TakeError.Disk) }
     ensures lasts { Lasts (λ v. D.tells v.disk) (λ v. v.stopped) (λ v. v.records) (λ v. D.moment v.disk) (λ v t file. D.left_since v.disk t file) (λ v file. D.may_leave v.disk file) store.old store.new (growth_of_text (standing S.verifies store.old) store.old.records as_proof text.now) }
+    ensures calls { CallsDisk (λ v calls w. D.after v.disk calls w.disk) (λ v. D.seen v.disk) (λ v. v.stopped) (λ v. v.records) store.old store.new (growth_of_text (standing S.verifies store.old) store.old.records as_proof text.now) (IsErrOf result TakeError.Disk) }
     ensures idle { IsErrOf result TakeError.Memory → Lasts (λ v. D.tells v.disk) (λ v. v.stopped) (λ v. v.records) (λ v. D.moment v.disk) (λ v t file. D.left_since v.disk t file) (λ v file. D.may_leave v.disk file) store.old store.new [] }
 {
     if store.is_stopped() {
@@ -84,6 +86,7 @@ pub fn take_value<D: Disk, S: Scheme>(
     ensures stops { StopsBy store.old.stopped store.new.stopped (IsErrOf result TakeError.Stopped) (IsErrOf result TakeError.Disk) }
     ensures disk { KeepsDisk (D.handle store.old.disk) (D.handle store.new.disk) (D.faults store.old.disk) (D.faults store.new.disk) (D.is_faultless store.old.disk) (D.is_faultless store.new.disk) (IsErrOf result TakeError.Disk) }
     ensures lasts { Lasts (λ v. D.tells v.disk) (λ v. v.stopped) (λ v. v.records) (λ v. D.moment v.disk) (λ v t file. D.left_since v.disk t file) (λ v file. D.may_leave v.disk file) store.old store.new (growth_of_text (standing S.verifies store.old) store.old.records as_value text.now) }
+    ensures calls { CallsDisk (λ v calls w. D.after v.disk calls w.disk) (λ v. D.seen v.disk) (λ v. v.stopped) (λ v. v.records) store.old store.new (growth_of_text (standing S.verifies store.old) store.old.records as_value text.now) (IsErrOf result TakeError.Disk) }
     ensures idle { IsErrOf result TakeError.Memory → Lasts (λ v. D.tells v.disk) (λ v. v.stopped) (λ v. v.records) (λ v. D.moment v.disk) (λ v t file. D.left_since v.disk t file) (λ v file. D.may_leave v.disk file) store.old store.new [] }
 {
     if store.is_stopped() {

@@ -8,7 +8,7 @@ ghost use Rattle.depot_model.specs.Lawful.{IsLawful, is_empty};
 ghost use Rattle.depot_model.specs.Lists.{AreApart};
 ghost use Rattle.depot_model.specs.Own.{leaf_count};
 ghost use Rattle.depot_model.specs.Replicas.{StopsBy, KeepsDisk};
-ghost use Rattle.depot_model.specs.Stops.{Lasts};
+ghost use Rattle.depot_model.specs.Stops.{CallsDisk, Lasts};
 ghost use Rattle.depot_model.specs.Vouching.{Vouches, groups_of, is_mine_vouched, new_vouchers, numbered, records_of, rising};
 ghost use Rattle.depot_store.specs.Holdings.{standing};
 ghost use Rattle.depot_node.specs.PlannedVouchers.{ArePlanned, AreRefused};
@@ -46,6 +46,7 @@ pub fn own_vouchers<D: Disk, S: Scheme>(
     ensures stops { StopsBy store.old.stopped store.new.stopped (IsErrOf result VoucherError.Stopped) (IsErrOf result VoucherError.Disk) }
     ensures disk { KeepsDisk (D.handle store.old.disk) (D.handle store.new.disk) (D.faults store.old.disk) (D.faults store.new.disk) (D.is_faultless store.old.disk) (D.is_faultless store.new.disk) (IsErrOf result VoucherError.Disk) }
     ensures lasts { Lasts (λ v. D.tells v.disk) (λ v. v.stopped) (λ v. v.records) (λ v. D.moment v.disk) (λ v t file. D.left_since v.disk t file) (λ v file. D.may_leave v.disk file) store.old store.new (records_of (new_vouchers store.old.me store.old.records ids.now)) }
+    ensures calls { CallsDisk (λ v calls w. D.after v.disk calls w.disk) (λ v. D.seen v.disk) (λ v. v.stopped) (λ v. v.records) store.old store.new (records_of (new_vouchers store.old.me store.old.records ids.now)) (IsErrOf result VoucherError.Disk) }
     ensures idle { IfErr result (λ e. e ≢ VoucherError.Disk → Lasts (λ v. D.tells v.disk) (λ v. v.stopped) (λ v. v.records) (λ v. D.moment v.disk) (λ v t file. D.left_since v.disk t file) (λ v file. D.may_leave v.disk file) store.old store.new []) }
 {
     if store.is_stopped() {

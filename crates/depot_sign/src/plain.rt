@@ -39,9 +39,7 @@ impl PlainSigner {
     pub fn from_seed(alloc: Global, seed: &Hash32, height: u8) -> PlainSigner
         ensures key { ⟦<PlainSigner as Signer>⟧.key_of result
             ≡ record { root = plain_root seed.now; height = height } }
-        ensures signs { (seq : ℕ) (body : List ℕ) →
-            ⟦<PlainSigner as Signer>⟧.signature_of result seq body
-            ≡ plain_signature (plain_root seed.now) seq body }
+        ensures signs { ⟦<PlainSigner as Signer>⟧.signature_of result ≡ plain_signature (plain_root seed.now) }
     {
         PlainSigner {
             alloc,

@@ -10,7 +10,7 @@ use Rattle.depot_model.specs.Lawful.{IsLawful}
 use Rattle.depot_model.specs.Lists.{first}
 use Rattle.depot_model.specs.Records.{journal_bytes, text_of_record}
 use Rattle.depot_model.specs.Room.{foreign_leaves, full_with, full_by}
-use Rattle.depot_journal.proofs.Blocks.{framed_long}
+use Rattle.depot_base.proofs.CallLaws.{framed_long}
 use Rattle.depot_laws.proofs.Counts.{bytes_more}
 use Rattle.depot_store.specs.NewRecords.{AreNew, AreTextsFor}
 use Rattle.depot_store.specs.RecordTexts.{AreTexts, records_of}

@@ -10,10 +10,10 @@ use Rattle.depot_base.specs.File.{IsFileOf, PassesLimit, blocks, framed}
 use Rattle.depot_base.specs.declared.check.FullOf.{FullOf}
 use Rattle.depot_base.specs.declared.check.FullOf.TheVariants as full_of
 use Rattle.depot_base.specs.declared.record.Record.{Record}
+use Rattle.depot_base.proofs.CallLaws.{framed_long}
 use Rattle.depot_model.specs.Records.{IsRecord, journal_bytes, text_of_record}
 use Rattle.depot_model.specs.Stops.{HasFront, LeavesAll}
 use Rattle.depot_journal.specs.Stable as stable
-use Rattle.depot_journal.proofs.Blocks.{framed_long}
 use Rattle.depot_laws.proofs.Counts.{bytes_more}
 use Rattle.depot_store.specs.NewRecords.{AreTextsFor, bytes_of}
 use Rattle.depot_store.specs.RecordTexts.{AreTexts, records_of}

@@ -20,7 +20,7 @@ use Rattle.depot_values.specs.Values as values
 use Rattle.depot_values.specs.declared.values.Values.{Values}
 use Rattle.depot_accept.specs.View.{View, IsAsBefore, IsStateOf, setting}
 use Rattle.depot_store.specs.StoreParts.{IsKept, Keeps, MayKeep, StillKeeps}
-use Rattle.depot_store.specs.RoomByCounts.{leaves_then, leaves_with}
+use Rattle.depot_store.specs.RoomByCounts.{leaves_then}
 use Rattle.depot_store.specs.Totals.{AreTotals, AreTaken}
 use Rattle.depot_store.specs.declared.totals.Totals.{Totals}
 use Rattle.depot_store.proofs.HeldLaws.{Adds, held_grows, held_stays}
@@ -143,6 +143,3 @@ both_kept verifies J p s v w kept before t l taken stays state k =
 -- the leaves that are counted are those of the journal
 pub counted_then : {S : Type 0} (J : List Record) (v : View S) (kept : Values) (t : Totals) (s : Statement) → IsKept J v kept t → leaves_then v.accepted t.leaves s ≡ leaves_then (accepted J) (length (foreign_leaves v.me J)) s
 counted_then J v kept t s k = rw (k.state.accepted, k.totals.leaves) refl
-
-pub counted_with : {S : Type 0} (J new : List Record) (v : View S) (kept : Values) (t : Totals) → IsKept J v kept t → leaves_with v.accepted t.leaves new ≡ leaves_with (accepted J) (length (foreign_leaves v.me J)) new
-counted_with J new v kept t k = rw (k.state.accepted, k.totals.leaves) refl

@@ -6,7 +6,7 @@ ghost use Rattle.depot_model.specs.Limits.{IsCutShort};
 ghost use Rattle.depot_model.specs.Records.{text_of_record};
 ghost use Rattle.depot_model.specs.Replicas.{KeepsDisk};
 ghost use Rattle.depot_model.specs.Room.{foreign_leaves};
-ghost use Rattle.depot_model.specs.Stops.{Lasts};
+ghost use Rattle.depot_model.specs.Stops.{CallsDisk, Lasts};
 ghost use Rattle.depot_store.specs.declared.append.WriteError.TheVariants as write_error;
 ghost use Rattle.depot_store.specs.RoomByCounts.{leaves_with};
 ghost use Rattle.depot_store.specs.Holdings.{standing, with_records, IsWhole};
@@ -66,6 +66,7 @@ impl<D: Disk, S: Scheme> Store<D, S> {
         ensures stops { (self.new.stopped ≡ true) ↔ IsErrOf result WriteError.Disk }
         ensures faults { KeepsDisk (D.handle self.old.disk) (D.handle self.new.disk) (D.faults self.old.disk) (D.faults self.new.disk) (D.is_faultless self.old.disk) (D.is_faultless self.new.disk) (IsErrOf result WriteError.Disk) }
         ensures lasts { Lasts (λ v. D.tells v.disk) (λ v. v.stopped) (λ v. v.records) (λ v. D.moment v.disk) (λ v t file. D.left_since v.disk t file) (λ v file. D.may_leave v.disk file) self.old self.new new }
+        ensures calls { CallsDisk (λ v calls w. D.after v.disk calls w.disk) (λ v. D.seen v.disk) (λ v. v.stopped) (λ v. v.records) self.old self.new new (IsErrOf result WriteError.Disk) }
         ensures idle { IsErrOf result WriteError.Memory → Lasts (λ v. D.tells v.disk) (λ v. v.stopped) (λ v. v.records) (λ v. D.moment v.disk) (λ v t file. D.left_since v.disk t file) (λ v file. D.may_leave v.disk file) self.old self.new [] }
     {
         let leaves = self.leaves_with(&new);
@@ -89,6 +90,7 @@ impl<D: Disk, S: Scheme> Store<D, S> {
         ensures stops { (self.new.stopped ≡ true) ↔ IsErrOf result WriteError.Disk }
         ensures faults { KeepsDisk (D.handle self.old.disk) (D.handle self.new.disk) (D.faults self.old.disk) (D.faults self.new.disk) (D.is_faultless self.old.disk) (D.is_faultless self.new.disk) (IsErrOf result WriteError.Disk) }
         ensures lasts { Lasts (λ v. D.tells v.disk) (λ v. v.stopped) (λ v. v.records) (λ v. D.moment v.disk) (λ v t file. D.left_since v.disk t file) (λ v file. D.may_leave v.disk file) self.old self.new new }
+        ensures calls { CallsDisk (λ v calls w. D.after v.disk calls w.disk) (λ v. D.seen v.disk) (λ v. v.stopped) (λ v. v.records) self.old self.new new (IsErrOf result WriteError.Disk) }
         ensures idle { IsErrOf result WriteError.Memory → Lasts (λ v. D.tells v.disk) (λ v. v.stopped) (λ v. v.records) (λ v. D.moment v.disk) (λ v t file. D.left_since v.disk t file) (λ v file. D.may_leave v.disk file) self.old self.new [] }
     {
         let Growth { news, texts, bytes } = new;

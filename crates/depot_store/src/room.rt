@@ -6,7 +6,7 @@ ghost use Rattle.depot_model.specs.Lawful.{IsLawful, is_empty};
 ghost use Rattle.depot_model.specs.Records.{journal_bytes};
 ghost use Rattle.depot_model.specs.Replicas.{KeepsDisk};
 ghost use Rattle.depot_model.specs.Room.{full_by, foreign_leaves};
-ghost use Rattle.depot_model.specs.Stops.{Lasts};
+ghost use Rattle.depot_model.specs.Stops.{CallsDisk, Lasts};
 ghost use Rattle.depot_store.specs.NewRecords.{AreNew, MayGrow};
 ghost use Rattle.depot_store.specs.RoomByCounts.{Commits, leaves_with, limit};
 ghost use Rattle.depot_store.specs.Holdings.{standing, IsWhole};
@@ -49,6 +49,7 @@ impl<D: Disk, S: Scheme> Store<D, S> {
         ensures stops { (self.new.stopped ≡ true) ↔ IsErrOf result CommitError.Disk }
         ensures faults { KeepsDisk (D.handle self.old.disk) (D.handle self.new.disk) (D.faults self.old.disk) (D.faults self.new.disk) (D.is_faultless self.old.disk) (D.is_faultless self.new.disk) (IsErrOf result CommitError.Disk) }
         ensures lasts { Lasts (λ v. D.tells v.disk) (λ v. v.stopped) (λ v. v.records) (λ v. D.moment v.disk) (λ v t file. D.left_since v.disk t file) (λ v file. D.may_leave v.disk file) self.old self.new new }
+        ensures calls { CallsDisk (λ v calls w. D.after v.disk calls w.disk) (λ v. D.seen v.disk) (λ v. v.stopped) (λ v. v.records) self.old self.new new (IsErrOf result CommitError.Disk) }
         ensures idle { IfErr result (λ e. e ≢ CommitError.Disk → Lasts (λ v. D.tells v.disk) (λ v. v.stopped) (λ v. v.records) (λ v. D.moment v.disk) (λ v t file. D.left_since v.disk t file) (λ v file. D.may_leave v.disk file) self.old self.new []) }
     {
         let leaves = self.leaves_with(&new);

@@ -56,8 +56,7 @@ impl WinterSigner {
         requires low { 2 ≤ height }
         requires high { height ≤ 12 }
         ensures key { IfOk result (λ signer. ⟦<WinterSigner as Signer>⟧.key_of signer ≡ key_of_seed seed.now height) }
-        ensures signature { IfOk result (λ signer. (seq : ℕ) (body : List ℕ) →
-            ⟦<WinterSigner as Signer>⟧.signature_of signer seq body ≡ winternitz_signature seed.now height seq body) }
+        ensures signature { IfOk result (λ signer. ⟦<WinterSigner as Signer>⟧.signature_of signer ≡ winternitz_signature seed.now height) }
     {
         let nodes = tree_of_seed(alloc, seed, height)?;
         Ok(WinterSigner {

@@ -1,8 +1,12 @@
 use Rattle.std.proofs.Common.{Err, subst}
 use Rattle.std.proofs.lemmas.Result.{err_from_is_err_and}
+use Rattle.depot_model.proofs.CallsOnDisk.{nothing_called}
 use Rattle.depot_store.specs.Holdings.{standing}
 use Rattle.depot_store.specs.RoomByCounts.{Commits}
 use Rattle.depot_store.specs.declared.room.CommitError.{CommitError}
+use Rattle.depot_node.specs.Putting.{IsRefused}
+use Rattle.depot_node.specs.declared.answer.PutError.TheVariants as put_error
+use Rattle.depot_node.proofs.DiskCalls.{is_other}
 use Rattle.depot_node.proofs.LastingCalls.{idle_lasts}
 use Rattle.depot_node.proofs.PutLaws.{plan_may_grow, plan_is_cut, plan_is_put, plan_has_no_room, refused_puts}
 use Rattle.depot_node.proofs.put.put.Goals as goal
@@ -43,3 +47,14 @@ pub returns-in_err-plan-clause-idle : goal.returns-in_err-plan-clause-idle
 returns-in_err-plan-clause-idle g c =
     let p = err_from_is_err_and c.from_residual.result c.from_residual.ensures.1 in
     rw (p.1, p.2) (λ _. idle_lasts (λ v file left. g.met.D.Disk.only_now v.disk file left) _ _ (c.is_stopped.ensures.stable c.requires.read))
+
+-- ---- the calls on the disk
+
+pub returns-then-is_stopped-clause-calls : goal.returns-then-is_stopped-clause-calls
+returns-then-is_stopped-clause-calls g c = nothing_called (λ v. g.met.D.Disk.after_none v.disk) _ _ (λ e. cc)
+
+pub returns-in_err-plan-clause-calls : goal.returns-in_err-plan-clause-calls
+returns-in_err-plan-clause-calls g c =
+    let p = err_from_is_err_and c.from_residual.result c.from_residual.ensures.1 in
+    let here = standing g.S.Scheme.verifies c.args.store.now in
+    rw (p.1, p.2) (nothing_called (λ v. g.met.D.Disk.after_none v.disk) _ _ (is_other (IsRefused here c.args.store.now.records c.args.key c.args.value) c.in_err-plan.field-0.0 put_error.Disk c.in_err-plan.ensures.refused (λ never. never)))

@@ -1,10 +1,14 @@
-use Rattle.std.proofs.Common.{◌≡◌, ◌<◌, ◌≤◌, IsTrue, ℕ, List, [], sym, ap, subst, ◌∙◌, arith}
+use Rattle.std.proofs.Common.{◌≡◌, ◌<◌, ◌≤◌, IsTrue, ℕ, List, [], map, Err, sym, ap, subst, ◌∙◌, arith}
+use Rattle.depot_base.specs.Calls.{FailsAmong, made}
 use Rattle.depot_base.specs.File.{IsFileOf}
 use Rattle.depot_accept.specs.View.{setting}
 use Rattle.depot_model.specs.Checks.{Setting}
 use Rattle.depot_base.specs.declared.record.Record.{Record}
+use Rattle.depot_model.specs.Records.{text_of_record}
+use Rattle.depot_model.specs.Stops.{calls_to_record}
 use Rattle.depot_store.specs.Holdings.{Holding, standing}
-use Rattle.depot_node.specs.Starting.{AreNotRead, AreTextsOf, LeavesBetween, LeavesNew, StartLeaves, birth_after, started}
+use Rattle.depot_node.specs.Starting.{AreNotRead, AreTextsOf, LeavesBetween, LeavesNew, StartLeaves, birth_after, calls_to_start_node, started}
+use Rattle.depot_node.proofs.StartCalls.{calls_of_start, cause_behind, disk_of_journal, reading_fails, start_fails}
 use Rattle.depot_node.proofs.Starts.{fault_has_text, left_by_both, left_by_journal, reading_fault, started_from}
 use Rattle.depot_node.proofs.start.open.Given.{Over}
 use Rattle.depot_node.proofs.start.open.Goals as goal
@@ -84,3 +88,26 @@ pub returns-in-Err-fill-clause-unborn : goal.returns-in-Err-fill-clause-unborn
 returns-in-Err-fill-clause-unborn g c = λ other told.
     let at = (goal.at.returns-in-Err-fill-clause-unborn g c).After-fill in
     subst (λ (d : g.row.D.Denot). LeavesBetween (g.D.Disk.moment c.args.disk) (g.D.Disk.moment d) (g.D.Disk.left_since c.args.disk) (g.D.Disk.left_since d) (LeavesNew [] (IsFileOf (g.D.Disk.seen c.args.disk) []) (g.D.Disk.may_leave c.args.disk))) (sym c.into_disk.ensures) (left g at [] told (c.in-Err-fill.ensures.unborn other (told_in g at told)))
+
+-- ---- the calls on the disk
+
+pub returns-in-Err-clause-failing : goal.returns-in-Err-clause-failing
+returns-in-Err-clause-failing g c = λ failed told J has.
+    start_fails g.D.Disk.after (setting g.S.Scheme.verifies c.args.state) (g.D.Disk.seen c.args.disk) c.args.disk c.in-Err.field-0.disk (c.in-Err.ensures.failing (disk_of_journal c.in-Err.field-0.error (sym c.error_of.ensures ∙ failed)) told) J
+
+pub returns-in-Ok-fill-clause-calls : goal.returns-in-Ok-fill-clause-calls
+returns-in-Ok-fill-clause-calls g c = λ told J has.
+    let filled = subst (λ (v : Holding g.row.D.Denot). (K : List Record) → v.unread ≡ map text_of_record K → g.D.Disk.after v.disk (made (calls_to_record K (birth_after (standing g.S.Scheme.verifies v) K))) c.fill.new.store.disk) c.new-store.ensures c.in-Ok-fill.ensures.calls in
+    calls_of_start g.D.Disk.after g.met.D.Disk.after_more (setting g.S.Scheme.verifies c.args.state) (g.D.Disk.seen c.args.disk) c.args.disk c.in-Ok.journal.disk c.fill.new.store.disk c.in-Ok.journal.records (c.in-Ok.ensures.read told) (c.in-Ok.ensures.made told) filled J has
+
+pub returns-in-Err-fill-clause-failing : goal.returns-in-Err-fill-clause-failing
+returns-in-Err-fill-clause-failing g c = λ failed told J has.
+    let here = setting g.S.Scheme.verifies c.args.state in
+    let filled = subst (λ (v : Holding g.row.D.Denot). (K : List Record) → v.unread ≡ map text_of_record K → FailsAmong g.D.Disk.after v.disk c.fill.new.store.disk (calls_to_record K (birth_after (standing g.S.Scheme.verifies v) K))) c.new-store.ensures (c.in-Err-fill.ensures.failing (ap Err failed)) in
+    let fails = reading_fails g.D.Disk.after g.met.D.Disk.after_more here (g.D.Disk.seen c.args.disk) c.args.disk c.in-Ok.journal.disk c.fill.new.store.disk c.in-Ok.journal.records (c.in-Ok.ensures.read told) (c.in-Ok.ensures.made told) filled J has in
+    subst (λ (d : g.row.D.Denot). FailsAmong g.D.Disk.after c.args.disk d (calls_to_start_node here (g.D.Disk.seen c.args.disk) J)) (sym c.into_disk.ensures) fails
+
+pub returns-in-Err-fill-clause-cause : goal.returns-in-Err-fill-clause-cause
+returns-in-Err-fill-clause-cause g c =
+    let before : g.D.Disk.faults c.new-store.result.disk ≡ g.D.Disk.faults c.args.disk = ap (λ (v : Holding g.row.D.Denot). g.D.Disk.faults v.disk) c.new-store.ensures ∙ c.in-Ok.ensures.calm in
+    cause_behind _ _ _ _ _ _ before (ap g.D.Disk.faults c.into_disk.ensures) (λ is. ap Err is) (λ is. cc) c.in-Err-fill.ensures.disk.cause

@@ -1,10 +1,12 @@
-use Rattle.std.proofs.Common.{refl}
+use Rattle.std.proofs.Common.{rules, refl}
 use Rattle.std.proofs.lemmas.Result.{err_from_is_err_and}
 use Rattle.depot_base.specs.Closed.{rest_of}
 use Rattle.depot_model.specs.Checks.{given_value}
 use Rattle.depot_model.specs.Taking.{as_value}
+use Rattle.depot_model.proofs.CallsOnDisk.{nothing_called}
 use Rattle.depot_store.specs.Holdings.{standing}
 use Rattle.depot_node.proofs.Decided.{may_grow, takes_decided}
+use Rattle.depot_node.proofs.DiskCalls.{calls_taken}
 use Rattle.depot_node.proofs.LastingCalls.{idle_lasts}
 use Rattle.depot_node.proofs.TakenGrowth.{lasts_taken}
 use Rattle.depot_node.proofs.take.take_value.Goals as goal
@@ -36,3 +38,16 @@ pub returns-clause-lasts : goal.returns-clause-lasts
 returns-clause-lasts g c =
     lasts_taken (λ v file left. g.met.D.Disk.only_now v.disk file left) as_value (standing g.S.Scheme.verifies c.args.store.now) c.args.text.now _ _ c.args.store.now c.carry_out.new.store (c.is_stopped.ensures.stable c.requires.read)
     (λ result then carried. takes_decided (rest_of 65536) (λ v. given_value v) (standing g.S.Scheme.verifies c.args.store.now) c.args.store.now.records c.args.text.now _ _ result then c.in_ok-decision.ensures carried) c.carry_out.ensures.full c.carry_out.ensures.lasts
+
+-- ---- the calls on the disk
+
+pub returns-then-is_stopped-clause-calls : goal.returns-then-is_stopped-clause-calls
+returns-then-is_stopped-clause-calls g c = nothing_called (λ v. g.met.D.Disk.after_none v.disk) _ _ (λ e. cc)
+
+pub returns-in_err-decision-clause-calls : goal.returns-in_err-decision-clause-calls
+returns-in_err-decision-clause-calls g c = let p = err_from_is_err_and c.from_residual.result c.from_residual.ensures.1 in rw (p.1, p.2) (nothing_called (λ v. g.met.D.Disk.after_none v.disk) _ _ (λ e. cc))
+
+pub returns-clause-calls : goal.returns-clause-calls
+returns-clause-calls g c =
+    calls_taken (λ v. g.met.D.Disk.after_none v.disk) as_value (standing g.S.Scheme.verifies c.args.store.now) c.args.text.now _ _ c.args.store.now c.carry_out.new.store (search rules) (λ failed. c.carry_out.ensures.stops.1 failed)
+    (λ result then carried. takes_decided (rest_of 65536) (λ v. given_value v) (standing g.S.Scheme.verifies c.args.store.now) c.args.store.now.records c.args.text.now _ _ result then c.in_ok-decision.ensures carried) c.carry_out.ensures.full c.carry_out.ensures.calls

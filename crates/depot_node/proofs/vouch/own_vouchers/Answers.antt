@@ -1,9 +1,12 @@
 use Rattle.std.proofs.Common.{ℕ, List, Err, subst}
 use Rattle.std.proofs.lemmas.Result.{err_from_is_err_and}
+use Rattle.depot_model.specs.declared.bundle.VoucherError.TheVariants as voucher_error
+use Rattle.depot_model.proofs.CallsOnDisk.{nothing_called}
 use Rattle.depot_store.specs.Holdings.{standing}
 use Rattle.depot_store.specs.RoomByCounts.{Commits}
 use Rattle.depot_store.specs.declared.room.CommitError.{CommitError}
 use Rattle.depot_node.specs.PlannedVouchers.{ArePlanned, AreRefused}
+use Rattle.depot_node.proofs.DiskCalls.{is_other}
 use Rattle.depot_node.proofs.LastingCalls.{idle_lasts}
 use Rattle.depot_node.proofs.VoucherPlans.{cut_vouchers, may_vouch, no_room, refused_vouches, vouched}
 use Rattle.depot_node.proofs.vouch.own_vouchers.Given.{Over}
@@ -54,3 +57,14 @@ pub returns-in_err-growth-clause-idle : goal.returns-in_err-growth-clause-idle
 returns-in_err-growth-clause-idle g c =
     let p = err_from_is_err_and c.from_residual.result c.from_residual.ensures.1 in
     rw (p.1, p.2) (λ _. idle_lasts (λ v file left. g.met.D.Disk.only_now v.disk file left) _ _ (c.is_stopped.ensures.stable c.requires.read))
+
+-- ---- the calls on the disk
+
+pub returns-then-is_stopped-clause-calls : goal.returns-then-is_stopped-clause-calls
+returns-then-is_stopped-clause-calls g c = nothing_called (λ v. g.met.D.Disk.after_none v.disk) _ _ (λ e. cc)
+
+pub returns-in_err-growth-clause-calls : goal.returns-in_err-growth-clause-calls
+returns-in_err-growth-clause-calls g c =
+    let p = err_from_is_err_and c.from_residual.result c.from_residual.ensures.1 in
+    let refused = refusal g (goal.at.returns-in_err-growth-clause-calls g c).In_err-growth in
+    rw (p.1, p.2) (nothing_called (λ v. g.met.D.Disk.after_none v.disk) _ _ (is_other (AreRefused (standing g.S.Scheme.verifies c.args.store.now) c.args.store.now.records c.args.ids.now) c.in_err-growth.field-0.0 voucher_error.Disk refused (λ never. never)))

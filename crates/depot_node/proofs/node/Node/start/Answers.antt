@@ -1,5 +1,6 @@
 use Rattle.std.proofs.Common.{◌≡◌, List, [], Some, is_some, sym, ap, subst, ◌∙◌}
 use Rattle.depot_accept.specs.View.{View, setting}
+use Rattle.depot_base.specs.Calls.{FailsAmong, made}
 use Rattle.depot_base.specs.File.{IsFileOf}
 use Rattle.depot_base.specs.declared.key.RosterEntry.{RosterEntry}
 use Rattle.depot_base.specs.declared.record.Record.{Record}
@@ -8,7 +9,7 @@ use Rattle.depot_model.specs.Lawful.{IsLawful, is_empty}
 use Rattle.depot_model.specs.Roster.{key_of}
 use Rattle.depot_model.specs.Texts.{IsRoster}
 use Rattle.depot_store.specs.Holdings.{standing}
-use Rattle.depot_node.specs.Starting.{LeavesBetween, StartLeaves, started}
+use Rattle.depot_node.specs.Starting.{LeavesBetween, StartLeaves, calls_to_start_node, started}
 use Rattle.depot_node.proofs.Started.{none_accepted, started_is_lawful, started_has_one}
 use Rattle.depot_node.proofs.node.Node.start.Given.{Over}
 use Rattle.depot_node.proofs.node.Node.start.Goals as goal
@@ -43,3 +44,13 @@ pub returns-in-Ok-open-clause-any_moment : goal.returns-in-Ok-open-clause-any_mo
 returns-in-Ok-open-clause-any_moment g c = λ told.
     let l = subst (λ (v : View g.row.S.Denot). LeavesBetween (g.D.Disk.moment c.args.disk) (g.D.Disk.moment c.in-Ok-open.store.disk) (g.D.Disk.left_since c.args.disk) (g.D.Disk.left_since c.in-Ok-open.store.disk) (StartLeaves (setting g.S.Scheme.verifies v) (IsFileOf (g.D.Disk.seen c.args.disk) []) (g.D.Disk.may_leave c.args.disk))) c.in-Ok.ensures (c.in-Ok-open.ensures.any_moment told) in
     record { later = l.later; each = l.each; before_it = l.before_it }
+
+-- ---- the calls on the disk
+
+pub returns-in-Ok-open-clause-calls : goal.returns-in-Ok-open-clause-calls
+returns-in-Ok-open-clause-calls g c = λ told J has.
+    subst (λ (v : View g.row.S.Denot). g.D.Disk.after c.args.disk (made (calls_to_start_node (setting g.S.Scheme.verifies v) (g.D.Disk.seen c.args.disk) J)) c.in-Ok-open.store.disk) c.in-Ok.ensures (c.in-Ok-open.ensures.calls told J has)
+
+pub returns-in-Err-clause-failing : goal.returns-in-Err-clause-failing
+returns-in-Err-clause-failing g c = λ failed told J has.
+    subst (λ (v : View g.row.S.Denot). FailsAmong g.D.Disk.after c.args.disk c.in-Err.back.disk (calls_to_start_node (setting g.S.Scheme.verifies v) (g.D.Disk.seen c.args.disk) J)) c.in-Ok.ensures (c.in-Err.ensures.failing failed told J has)

@@ -1,5 +1,6 @@
 use Rattle.std.proofs.Common.{List, ℕ, take, Err, refl, sym, ap, subst, ◌∙◌, arith}
 use Rattle.std.specs.Result.{IsErrOf}
+use Rattle.std.proofs.lemmas.Result.{err_from_is_err_and}
 use Rattle.depot_base.specs.declared.record.Record.{Record}
 use Rattle.depot_model.specs.Replicas.{KeepsDisk}
 use Rattle.depot_store.specs.Holdings.{Holding}
@@ -8,6 +9,7 @@ use Rattle.depot_store.specs.RecordTexts.{records_of}
 use Rattle.depot_store.specs.StoreParts.{AreReadings}
 use Rattle.depot_store.specs.declared.append.WriteError.TheVariants as write_error
 use Rattle.depot_store.proofs.AppendLaws.{appended, cut_appended, cut_seen, disk_kept, growth_failed, lasts_then, lasts_unappended}
+use Rattle.depot_store.proofs.CallingLaws.{calls_appended, calls_failed, calls_unappended}
 use Rattle.depot_store.proofs.JournalTexts.{read_count, whole_texts}
 use Rattle.depot_store.proofs.RoomLaws.{growth_takes}
 use Rattle.depot_store.proofs.SeenLaws.{lawful_inside, runs_inside, seen_with, whole_inside}
@@ -59,6 +61,18 @@ returns-in_err-read-clause-idle g c =
     λ _. lasts_unappended g.D.Disk.tells g.D.Disk.moment g.D.Disk.left_since g.D.Disk.may_leave g.met.D.Disk.only_now _ _ _ c.self.inside.journal.records _ c.self.view_is whole.runs t (ap (λ (x : List (List ℕ)). records_of (take c.self.inside.read x)) c.reserve.ensures.same)
     c.reserve.ensures.running c.reserve.ensures.tells c.is_stopped-runs.ensures.stable c.reserve.ensures.images c.reserve.ensures.time
 
+pub returns-in_err-reserve-clause-calls : goal.returns-in_err-reserve-clause-calls
+returns-in_err-reserve-clause-calls g c =
+    let p = err_from_is_err_and c.from_residual.result c.from_residual.ensures.1 in
+    rw (p.1, p.2) (calls_unappended g.D.Disk.after g.D.Disk.seen g.met.D.Disk.after_more _ _ _ _ c.self.view_is (whole_inside _ _ c.self.view_is c.requires.whole).runs
+    (ap (λ (x : List (List ℕ)). records_of (take c.self.inside.read x)) c.reserve.ensures.same) c.reserve.ensures.made (λ e. cc))
+
+pub returns-in_err-read-clause-calls : goal.returns-in_err-read-clause-calls
+returns-in_err-read-clause-calls g c =
+    let p = err_from_is_err_and c.from_residual-in_err-read.result c.from_residual-in_err-read.ensures.1 in
+    rw (p.1, p.2) (calls_unappended g.D.Disk.after g.D.Disk.seen g.met.D.Disk.after_more _ _ _ _ c.self.view_is (whole_inside _ _ c.self.view_is c.requires.whole).runs
+    (ap (λ (x : List (List ℕ)). records_of (take c.self.inside.read x)) c.reserve.ensures.same) c.reserve.ensures.made (λ e. cc))
+
 -- ---- all were appended
 
 pub invariant_of-self-in-Ok : goal.invariant_of-self-in-Ok
@@ -92,6 +106,14 @@ returns-in-Ok-clause-lasts g c =
     lasts_then g.D.Disk.tells g.D.Disk.moment g.D.Disk.left_since g.D.Disk.may_leave g.met.D.Disk.only_now _ _ _ c.reserve.new.self.disk _ c.reserve.new.self.records _ _ _ _ c.self.view_is c.new.view_is whole.runs t u then_t
     c.reserve.ensures.same c.reserve.ensures.tells c.append_all-written.ensures.tells c.is_stopped-runs.ensures.stable c.reserve.ensures.images c.reserve.ensures.time
     (λ told. c.append_all-written.ensures.any_moment told (c.reserve.ensures.running ∙ whole.runs)) c.append_all-written.ensures.stands
+
+pub returns-in-Ok-clause-calls : goal.returns-in-Ok-clause-calls
+returns-in-Ok-clause-calls g c =
+    let whole = whole_inside _ _ c.self.view_is c.requires.whole in
+    let t = whole_texts c.self.inside.read c.self.inside.journal.records c.self.invariant.0 whole.read in
+    let u = subst (λ (x : List (List ℕ)). AreTextsFor (records_in c.new.inside.news) x) (sym c.deref.ensures.value) c.new.invariant.made in
+    let r = appended c.count-self-inside.result _ (records_in c.new.inside.news) _ _ _ _ t u c.reserve.ensures.same c.in-Ok.ensures.ok c.count-self-inside.ensures in
+    calls_appended g.D.Disk.after g.D.Disk.seen g.met.D.Disk.after_more _ _ _ c.reserve.new.self.disk _ c.reserve.new.self.records _ _ _ c.self.view_is c.new.view_is whole.runs t u c.reserve.ensures.same r.records c.reserve.ensures.made c.in-Ok.ensures.made (λ e. cc)
 
 -- ---- the disk failed
 
@@ -148,3 +170,13 @@ returns-clause-lasts g c =
     lasts_then g.D.Disk.tells g.D.Disk.moment g.D.Disk.left_since g.D.Disk.may_leave g.met.D.Disk.only_now _ _ _ c.reserve.new.self.disk _ c.reserve.new.self.records _ _ _ _ c.self.view_is c.new.view_is whole.runs old_t u then_t
     c.reserve.ensures.same c.reserve.ensures.tells c.append_all-written.ensures.tells c.is_stopped-runs.ensures.stable c.reserve.ensures.images c.reserve.ensures.time
     (λ told. c.append_all-written.ensures.any_moment told (c.reserve.ensures.running ∙ whole.runs)) c.append_all-written.ensures.stands
+
+pub returns-clause-calls : goal.returns-clause-calls
+returns-clause-calls g c =
+    let failed = growth_failed g.S.Scheme.verifies _ _ c.self.inside.read c.self.inside.journal.records c.new.inside.texts.items c.deref.result.now c.new.inside.news c.new.inside.bytes c.len-count.result _ c.reserve.new.self c.append_all-written.result c.in-Err.field-0 c.self.view_is c.new.view_is
+    refl refl c.requires.whole c.self.invariant.0 c.new.invariant c.requires.lawful c.reserve.ensures.same c.reserve.ensures.running c.deref.ensures.value (omega (arith, c.len-count.ensures, c.new.inside.texts.ok.0)) c.in_ok-reserve.ensures.records c.in_ok-reserve.ensures.bytes c.in-Err.is
+    c.append_all-written.ensures.limits c.append_all-written.ensures.memory c.append_all-written.ensures.stopped in
+    let whole = whole_inside _ _ c.self.view_is c.requires.whole in
+    let t = whole_texts c.self.inside.read c.self.inside.journal.records c.self.invariant.0 whole.read in
+    let u = subst (λ (x : List (List ℕ)). AreTextsFor (records_in c.new.inside.news) x) (sym c.deref.ensures.value) c.new.invariant.made in
+    calls_failed g.D.Disk.after g.D.Disk.seen g.met.D.Disk.after_more _ _ _ c.reserve.new.self.disk _ c.reserve.new.self.records _ _ _ c.self.view_is c.new.view_is whole.runs t u c.reserve.ensures.same c.reserve.ensures.made (c.append_all-written.ensures.failing failed) refl

@@ -1,6 +1,7 @@
 use Rattle.std.proofs.Common.{Err, [], refl, ap, sym, ◌∙◌}
 use Rattle.depot_laws.proofs.OwnTexts.{lawful_is_short}
 use Rattle.depot_store.specs.Holdings.{standing}
+use Rattle.depot_model.proofs.CallsOnDisk.{nothing_called}
 use Rattle.depot_store.proofs.AppendLaws.{lawful_cut}
 use Rattle.depot_store.proofs.LastingLaws.{lasts_untouched}
 use Rattle.depot_store.proofs.store.Store.commit.Goals as goal
@@ -25,3 +26,6 @@ returns-in-Err-Disk-clause-lawful g c =
     let failed = c.append_counted.ensures.disk (c.in-Err-Disk.is ∙ ap Err c.in-Err-Disk.field-0-is) in
     let none = sym c.room_for.ensures ∙ c.in_default.is in
     lawful_cut (standing g.S.Scheme.verifies c.args.self.now) _ c.args.self.now.records c.args.new c.append_counted.new.self.records c.append_counted.ensures.stands (c.requires.may.lawful none) failed
+
+pub returns-in-Some-clause-calls : goal.returns-in-Some-clause-calls
+returns-in-Some-clause-calls g c = nothing_called (λ v. g.met.D.Disk.after_none v.disk) c.args.self.now c.args.new (λ e. cc)

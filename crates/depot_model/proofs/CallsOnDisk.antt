@@ -1,0 +1,80 @@
+-- What calls on a node, one after another, do on its disk.
+use Rattle.std.proofs.Common.{◌≡◌, ℕ, ◌+◌, Bool, true, false, List, [], ◌∷◌, ◌++◌, append_assoc, length, map, refl, sym, ap, subst, ◌∙◌, arith}
+use Rattle.std.proofs.lemmas.List.{append-nil, append_cancel_left, length-append, map-append}
+use Rattle.depot_base.specs.Calls.{Call, Made, made, FailsAmong, calls_to_append_all}
+use Rattle.depot_base.specs.File.{blocks, framed}
+use Rattle.depot_base.specs.declared.record.Record.{Record}
+use Rattle.depot_base.proofs.CallLaws.{fails_wider, fails_later, made_later, appends_append}
+use Rattle.depot_model.specs.Records.{text_of_record}
+use Rattle.depot_model.specs.Stops.{calls_to_record, CallsDisk}
+
+-- ---- the calls that append records
+
+blocks_length : (xs ys : List (List ℕ)) → length (blocks (xs ++ ys)) ≡ length (blocks xs) + length (blocks ys)
+blocks_length [] ys = omega arith
+blocks_length (x ∷ xs) ys = omega (arith, blocks_length xs ys, length-append (framed x) (blocks (xs ++ ys)), length-append (framed x) (blocks xs))
+
+-- records that are appended behind others
+pub calls_behind : (J a b : List Record) → calls_to_record J (a ++ b) ≡ calls_to_record J a ++ calls_to_record (J ++ a) b
+calls_behind J a b =
+    let gate : ℕ = length (blocks (map text_of_record J)) in
+    let behind : gate + length (blocks (map text_of_record a)) ≡ length (blocks (map text_of_record (J ++ a))) = sym (ap (λ (ts : List (List ℕ)). length (blocks ts)) (map-append text_of_record J a) ∙ blocks_length (map text_of_record J) (map text_of_record a)) in
+    ap (calls_to_append_all gate) (map-append text_of_record a b)
+    ∙ appends_append gate (map text_of_record a) (map text_of_record b)
+    ∙ ap (λ (n : ℕ). calls_to_record J a ++ calls_to_append_all n (map text_of_record b)) behind
+
+-- ---- one call
+
+-- a node that wasn't called
+pub nothing_called : {N : Type 0} {after : N → List Made → N → Type 0} {reads : N → List ℕ} {stopped : N → Bool} {records : N → List Record} {failed : Type 0}
+    → ((v : N) → after v [] v) → (v : N) (appends : List Record) → (failed → ⊥) → CallsDisk after reads stopped records v v appends failed
+nothing_called {after = after} {records = records} none v appends well = record {
+  whole = λ _ grown is. subst (λ (adds : List Record). after v (made (calls_to_record (records v) adds)) v) (append_cancel_left (records v) [] grown (append-nil (records v) ∙ is)) (none v);
+  part = λ f. absurd (well f);
+  still = λ _. refl;
+}
+
+-- where the disk didn't fail, it doesn't matter what was to be appended
+pub called_well : {N : Type 0} {after : N → List Made → N → Type 0} {reads : N → List ℕ} {stopped : N → Bool} {records : N → List Record} {was failed : Type 0}
+    → (old new : N) (a b : List Record) → (was → ⊥) → (failed → ⊥) → CallsDisk after reads stopped records old new a was → CallsDisk after reads stopped records old new b failed
+called_well old new a b was_well well c = record { whole = λ _. c.whole was_well; part = λ f. absurd (well f); still = c.still }
+
+-- the same failure in other words, and the same records
+pub calls_alike : {N : Type 0} {after : N → List Made → N → Type 0} {reads : N → List ℕ} {stopped : N → Bool} {records : N → List Record} {was failed : Type 0}
+    → (old new : N) (a b : List Record) → (failed → was) → (was → failed) → a ≡ b → CallsDisk after reads stopped records old new a was → CallsDisk after reads stopped records old new b failed
+calls_alike {after = after} {records = records} old new a b back on is c = record {
+  whole = λ well. c.whole (λ f. well (on f));
+  part = λ f. subst (λ (adds : List Record). FailsAmong after old new (calls_to_record (records old) adds)) is (c.part (back f));
+  still = c.still;
+}
+
+-- of more records to append the disk fails on one, too
+pub calls_longer : {N : Type 0} {after : N → List Made → N → Type 0} {reads : N → List ℕ} {stopped : N → Bool} {records : N → List Record} {failed : Type 0}
+    → (old new : N) (a b : List Record) → CallsDisk after reads stopped records old new a failed → CallsDisk after reads stopped records old new (a ++ b) failed
+calls_longer {after = after} {records = records} old new a b c = record {
+  whole = c.whole;
+  part = λ f. subst (λ (calls : List Call). FailsAmong after old new calls) (sym (calls_behind (records old) a b)) (fails_wider after old new _ _ (c.part f));
+  still = c.still;
+}
+
+-- ---- one call, and then another
+
+-- A call on a running node that appended these records, and on whose disk none failed. Then another one, which appended more.
+pub calls_joined : {N : Type 0} {after : N → List Made → N → Type 0} {reads : N → List ℕ} {stopped : N → Bool} {records : N → List Record} {was failed : Type 0}
+    → ((x y z : N) (calls more : List Made) → after x calls y → after y more z → after x (calls ++ more) z)
+    → (old mid new : N) (a b c more : List Record) → stopped old ≡ false → records mid ≡ records old ++ a → records new ≡ records mid ++ more → (was → ⊥)
+    → CallsDisk after reads stopped records old mid c was → CallsDisk after reads stopped records mid new b failed → CallsDisk after reads stopped records old new (a ++ b) failed
+calls_joined {after = after} {records = records} join old mid new a b c more ran grown grown_more well one two =
+    let J : List Record = records old in
+    let first : after old (made (calls_to_record J a)) mid = one.whole well a grown in
+    let split : (x : List Record) → calls_to_record J a ++ calls_to_record (records mid) x ≡ calls_to_record J (a ++ x) = λ x. ap (λ (K : List Record). calls_to_record J a ++ calls_to_record K x) grown ∙ sym (calls_behind J a x) in
+    let all : records new ≡ J ++ (a ++ more) = grown_more ∙ ap (λ (K : List Record). K ++ more) grown ∙ append_assoc J a more in
+    record {
+      whole = λ well grown_by is. subst (λ (adds : List Record). after old (made (calls_to_record J adds)) new) (append_cancel_left J (a ++ more) grown_by (sym all ∙ is))
+          (subst (λ (calls : List Call). after old (made calls) new) (split more) (made_later after join old mid new _ _ first (two.whole well more grown_more)));
+      part = λ f. subst (λ (calls : List Call). FailsAmong after old new calls) (split b) (fails_later after join old mid new _ _ first (two.part f));
+      still = λ is. absurd (untrue (sym is ∙ ran));
+    }
+  where
+    untrue : true ≡ false → ⊥
+    untrue e = cc

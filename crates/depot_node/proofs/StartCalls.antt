@@ -1,0 +1,88 @@
+-- Which calls on the disk a start makes.
+use Rattle.std.proofs.Common.{◌≡◌, ℕ, List, [], ◌∷◌, ◌++◌, map, Result, Ok, Err, refl, sym, ap, subst, ◌∙◌, arith}
+use Rattle.std.specs.Result.{IsErrOf, OnOk}
+use Rattle.depot_base.specs.Calls.{Made, made, FailsAmong, calls_to_start}
+use Rattle.depot_base.specs.Faults.{HasCause}
+use Rattle.depot_base.specs.File.{IsFileOf}
+use Rattle.depot_base.specs.declared.record.Record.{Record}
+use Rattle.depot_base.proofs.CallLaws.{fails_later, fails_wider, made_later}
+use Rattle.depot_journal.specs.declared.error.JournalError.{JournalError}
+use Rattle.depot_journal.specs.declared.error.JournalError.TheVariants as journal_error
+use Rattle.depot_journal.proofs.OneList.{one_list}
+use Rattle.depot_model.specs.Checks.{Setting}
+use Rattle.depot_model.specs.Records.{text_of_record}
+use Rattle.depot_model.specs.Stops.{CallsDisk, calls_to_record}
+use Rattle.depot_store.specs.Holdings.{Holding}
+use Rattle.depot_node.specs.Starting.{birth_after, calls_to_start_node, of_journal, started}
+use Rattle.depot_node.specs.declared.answer.StartError.{StartError}
+use Rattle.depot_node.specs.declared.answer.StartError.TheVariants as refused
+
+-- ---- records are read
+
+no_birth : {D : Type 0} (after : D → List Made → D → Type 0) (here : Setting) (old new : D) (texts rest : List (List ℕ)) (text : List ℕ) → texts ≡ text ∷ rest → after old [] new
+    → (J : List Record) → texts ≡ map text_of_record J → after old (made (calls_to_record J (birth_after here J))) new
+no_birth after here old new texts rest text some none [] is = absurd cc
+no_birth after here old new texts rest text some none (r ∷ J) is = none
+
+-- where there is a record, no birth is appended
+pub calls_as_read : {D : Type 0} (after : D → List Made → D → Type 0) (here : Setting) (old new : D) (texts rest : List (List ℕ)) (text : List ℕ) (result : Result (Unit {0}) StartError) → texts ≡ text ∷ rest → after old [] new
+    → OnOk result ((J : List Record) → texts ≡ map text_of_record J → after old (made (calls_to_record J (birth_after here J))) new)
+calls_as_read after here old new texts rest text (Ok done) some none = no_birth after here old new texts rest text some none
+calls_as_read after here old new texts rest text (Err e) some none = tt
+
+-- ---- a birth is appended
+
+no_record : (J : List Record) → map text_of_record J ≡ [] → J ≡ []
+no_record [] is = refl
+no_record (r ∷ J) is = absurd cc
+
+module _ {D : Type 0} (after : D → List Made → D → Type 0) (reads : D → List ℕ) (here : Setting) (old new : Holding D) where
+  -- the calls that a call makes on a store's disk
+  abbrev pub CallsOn : List Record → Type 0 → Type 0
+  CallsOn appends failed = CallsDisk (λ v calls w. after v.disk calls w.disk) (λ v. reads v.disk) (λ v. v.stopped) (λ v. v.records) old new appends failed
+
+  pub calls_of_birth : (result : Result (Unit {0}) StartError) → old.records ≡ [] → old.unread ≡ [] → OnOk result (new.records ≡ started here []) → CallsOn (birth_after here []) (IsErrOf result refused.Disk)
+      → OnOk result ((J : List Record) → old.unread ≡ map text_of_record J → after old.disk (made (calls_to_record J (birth_after here J))) new.disk)
+  calls_of_birth (Ok done) none unread grown c = λ J is.
+      let birth : List Record = birth_after here [] in
+      let calls = c.whole (λ e. cc) birth (grown ∙ ap (λ (K : List Record). K ++ birth) (sym none)) in
+      let from_none = subst (λ (K : List Record). after old.disk (made (calls_to_record K birth)) new.disk) none calls in
+      subst (λ (K : List Record). after old.disk (made (calls_to_record K (birth_after here K))) new.disk) (sym (no_record J (sym is ∙ unread))) from_none
+  calls_of_birth (Err e) none unread grown c = tt
+
+  pub birth_fails : (result : Result (Unit {0}) StartError) → old.records ≡ [] → old.unread ≡ [] → CallsOn (birth_after here []) (IsErrOf result refused.Disk)
+      → IsErrOf result refused.Disk → (J : List Record) → old.unread ≡ map text_of_record J → FailsAmong after old.disk new.disk (calls_to_record J (birth_after here J))
+  birth_fails result none unread c failed J is =
+      let p = c.part failed in
+      let fails : FailsAmong after old.disk new.disk (calls_to_record old.records (birth_after here [])) = record { before = p.before; failing = p.failing; rest = p.rest; parts = p.parts; fails = p.fails } in
+      let from_none = subst (λ (K : List Record). FailsAmong after old.disk new.disk (calls_to_record K (birth_after here []))) none fails in
+      subst (λ (K : List Record). FailsAmong after old.disk new.disk (calls_to_record K (birth_after here K))) (sym (no_record J (sym is ∙ unread))) from_none
+
+-- ---- a journal is started, and then its records are read
+
+module _ {D : Type 0} (after : D → List Made → D → Type 0) (more : (a b c : D) (xs ys : List Made) → after a xs b → after b ys c → after a (xs ++ ys) c) (here : Setting) (file : List ℕ) where
+  pub calls_of_start : (disk mid new : D) (texts : List (List ℕ)) → IsFileOf file texts → after disk (made (calls_to_start file)) mid → ((J : List Record) → texts ≡ map text_of_record J → after mid (made (calls_to_record J (birth_after here J))) new)
+      → (J : List Record) → IsFileOf file (map text_of_record J) → after disk (made (calls_to_start_node here file J)) new
+  calls_of_start disk mid new texts read first then J has = made_later after more disk mid new (calls_to_start file) (calls_to_record J (birth_after here J)) first (then J (one_list file texts (map text_of_record J) read has))
+
+  pub reading_fails : (disk mid new : D) (texts : List (List ℕ)) → IsFileOf file texts → after disk (made (calls_to_start file)) mid → ((J : List Record) → texts ≡ map text_of_record J → FailsAmong after mid new (calls_to_record J (birth_after here J)))
+      → (J : List Record) → IsFileOf file (map text_of_record J) → FailsAmong after disk new (calls_to_start_node here file J)
+  reading_fails disk mid new texts read first then J has = fails_later after more disk mid new (calls_to_start file) (calls_to_record J (birth_after here J)) first (then J (one_list file texts (map text_of_record J) read has))
+
+-- the journal couldn't be started
+pub start_fails : {D : Type 0} (after : D → List Made → D → Type 0) (here : Setting) (file : List ℕ) (disk new : D) → FailsAmong after disk new (calls_to_start file) → (J : List Record) → FailsAmong after disk new (calls_to_start_node here file J)
+start_fails after here file disk new fails J = fails_wider after disk new (calls_to_start file) (calls_to_record J (birth_after here J)) fails
+
+-- that is so where the journal says that the disk failed
+pub disk_of_journal : (e : JournalError) → of_journal e ≡ refused.Disk → e ≡ journal_error.Disk
+disk_of_journal journal_error.Memory is = absurd cc
+disk_of_journal journal_error.Disk is = refl
+disk_of_journal (journal_error.Damaged at) is = absurd cc
+
+-- a fault behind a call in which none came
+pub cause_behind : (before mid new back : ℕ) (failed answered : Type 0) → mid ≡ before → back ≡ new → (answered → failed) → (failed → answered) → HasCause mid new failed → HasCause before back answered
+cause_behind before mid new back failed answered first last on from c = record {
+  never_falls = omega (arith, c.never_falls, first, last);
+  rose = λ is. omega (arith, c.rose (on is), first, last);
+  only = λ rose. from (c.only (omega (arith, rose, first, last)));
+}
