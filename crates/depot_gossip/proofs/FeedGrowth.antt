@@ -18,7 +18,7 @@ use Rattle.depot_gossip.proofs.PieceLaws.{IsUnderWay}
 -- ---- a feed only adds to its journal
 
 -- a journal has the records of another one, and then more
-record IsGrown (J K : List Record) : Type 0 where
+pub record IsGrown (J K : List Record) : Type 0 where
   pub more : List Record
   pub is : K ≡ J ++ more
 
@@ -56,7 +56,7 @@ byte_grows here s b = by_tests (is_some s.closed) (is_over s) (at_grows here s (
   by_tests false false grown = grown
 
 -- and so do all bytes
-feed_grows : (here : Setting) (s : Feeding) (bytes : List ℕ) → IsGrown s.journal (fed here s bytes).journal
+pub feed_grows : (here : Setting) (s : Feeding) (bytes : List ℕ) → IsGrown s.journal (fed here s bytes).journal
 unfolding fed
 feed_grows here s [] = record { more = []; is = sym (append-nil s.journal) }
 feed_grows here s (b ∷ bytes) =
@@ -67,15 +67,14 @@ feed_grows here s (b ∷ bytes) =
 -- ---- one frame
 
 -- a frame other than End brings what is appended for it
-pub given_lasts : {N : Type 0} {tells stopped : N → Bool} {records : N → List Record} {moment : N → ℕ} {left_since : N → ℕ → List ℕ → Type 0} {may_leave : N → List ℕ → Type 0}
-    → (here : Setting) (f : Frame) (old new : N) → f.tag ≤ 3 → Lasts tells stopped records moment left_since may_leave old new (appended_by (take_frame here (records old) f)) → Lasts tells stopped records moment left_since may_leave old new (brought_by here (records old) f)
-given_lasts {tells = tells} {stopped = stopped} {records = records} {moment = moment} {left_since = left_since} {may_leave = may_leave} here f old new le lasts = by_end (f.tag == 4) (other f.tag le) where
+pub given_brings : (here : Setting) (J : List Record) (f : Frame) → f.tag ≤ 3 → appended_by (take_frame here J f) ≡ brought_by here J f
+given_brings here J f le = by_end (f.tag == 4) (other f.tag le) where
   other : (t : ℕ) → t ≤ 3 → (t == 4) ≡ false
   other t e = grind (arith, nat_tests, e)
 
-  by_end : (b : Bool) → b ≡ false → Lasts tells stopped records moment left_since may_leave old new (cond b [] (appended_by (take_frame here (records old) f)))
+  by_end : (b : Bool) → b ≡ false → appended_by (take_frame here J f) ≡ cond b [] (appended_by (take_frame here J f))
   by_end true e = absurd cc
-  by_end false e = lasts
+  by_end false e = refl
 
 -- ---- bytes
 
@@ -86,12 +85,16 @@ nothing_fed only_now here s bytes v same stable =
     let g = feed_grows here s bytes in
     record { appends = g.more; brings = g.is ∙ ap (λ (J : List Record). J ++ g.more) same; lasts = lasts_longer v v [] g.more (nothing_lasts only_now v stable) }
 
+-- bytes that take one frame bring what it brings
+pub taken_brings : (here : Setting) (s now : Feeding) (bytes : List ℕ) (n : ℕ) (f : Frame) (J : List Record) → fed here s bytes ≡ fed_frame here n f now → now.journal ≡ J → (fed here s bytes).journal ≡ J ++ brought_by here J f
+taken_brings here s now bytes n f J takes same = ap (λ (x : Feeding). x.journal) takes ∙ frame_brings here n f now ∙ ap (λ (K : List Record). K ++ brought_by here K f) same
+
 -- the bytes take one frame
 pub frame_fed : {N : Type 0} {tells stopped : N → Bool} {records : N → List Record} {moment : N → ℕ} {left_since : N → ℕ → List ℕ → Type 0} {may_leave : N → List ℕ → Type 0}
     → (here : Setting) (s now : Feeding) (bytes : List ℕ) (n : ℕ) (f : Frame) (old new : N) → fed here s bytes ≡ fed_frame here n f now → now.journal ≡ records old → Lasts tells stopped records moment left_since may_leave old new (brought_by here (records old) f) → LastsFed tells stopped records moment left_since may_leave here s bytes old new
 frame_fed {records = records} here s now bytes n f old new takes same lasts = record {
   appends = brought_by here (records old) f;
-  brings = ap (λ (x : Feeding). x.journal) takes ∙ frame_brings here n f now ∙ ap (λ (J : List Record). J ++ brought_by here J f) same;
+  brings = taken_brings here s now bytes n f (records old) takes same;
   lasts = lasts;
 }
 
@@ -104,26 +107,33 @@ piece_fed here s now bytes rest old new none u same lasts = record {
   lasts = lasts.lasts;
 }
 
--- a chunk fails: with what the bytes behind it would bring, the list is only longer
-pub piece_fails : {N : Type 0} {tells stopped : N → Bool} {records : N → List Record} {moment : N → ℕ} {left_since : N → ℕ → List ℕ → Type 0} {may_leave : N → List ℕ → Type 0}
-    → (here there : Setting) (s now : Feeding) (bytes rest c behind : List ℕ) (old mid new : N) → there ≡ here → stopped old ≡ false → stopped mid ≡ false → IsUnderWay here s bytes rest now → rest ≡ c ++ behind
-    → LastsIn tells stopped records moment left_since may_leave here false old mid → LastsFed tells stopped records moment left_since may_leave there now c mid new → LastsFed tells stopped records moment left_since may_leave here s bytes old new
-piece_fails {records = records} here there s now bytes rest c behind old mid new stays ran runs u parts one two =
+-- bytes bring what was brought before a chunk, what the chunk brings, and what the bytes behind it would bring
+pub record Brings (here : Setting) (s : Feeding) (bytes : List ℕ) (J a b : List Record) : Type 0 where
+  pub more : List Record
+  pub is : (fed here s bytes).journal ≡ J ++ ((a ++ b) ++ more)
+
+pub chunk_brings : (here there : Setting) (s now : Feeding) (bytes rest c behind : List ℕ) (J K a b : List Record) → there ≡ here → IsUnderWay here s bytes rest now → rest ≡ c ++ behind
+    → K ≡ J ++ a → (fed there now c).journal ≡ K ++ b → Brings here s bytes J a b
+chunk_brings here there s now bytes rest c behind J K a b stays u parts before brings =
     let g = feed_grows here (fed here now c) behind in
-    let a = one.appends in
-    let b = two.appends in
     let whole : fed here s bytes ≡ fed here (fed here now c) behind =
     ap (fed here s) (u.parts ∙ ap (λ (x : List ℕ). u.done ++ x) parts)
     ∙ fed_in_pieces here s u.done (c ++ behind)
     ∙ ap (λ (x : Feeding). fed here x (c ++ behind)) u.is
     ∙ fed_in_pieces here now c behind in
-    let brought : (fed here now c).journal ≡ records old ++ (a ++ b) =
+    let brought : (fed here now c).journal ≡ J ++ (a ++ b) =
     ap (λ (h : Setting). (fed h now c).journal) (sym stays)
-    ∙ two.brings
-    ∙ ap (λ (J : List Record). J ++ b) (one.is.all refl)
-    ∙ append_assoc (records old) a b in
-    record {
-      appends = (a ++ b) ++ g.more;
-      brings = ap (λ (x : Feeding). x.journal) whole ∙ g.is ∙ ap (λ (J : List Record). J ++ g.more) brought ∙ append_assoc (records old) (a ++ b) g.more;
-      lasts = lasts_longer old new (a ++ b) g.more (lasts_joined old mid new a b ran runs (one.is.all refl) one.lasts two.lasts);
-    }
+    ∙ brings
+    ∙ ap (λ (x : List Record). x ++ b) before
+    ∙ append_assoc J a b in
+    record { more = g.more; is = ap (λ (x : Feeding). x.journal) whole ∙ g.is ∙ ap (λ (x : List Record). x ++ g.more) brought ∙ append_assoc J (a ++ b) g.more }
+
+-- a chunk fails: with what the bytes behind it would bring, the list is only longer
+pub piece_fails : {N : Type 0} {tells stopped : N → Bool} {records : N → List Record} {moment : N → ℕ} {left_since : N → ℕ → List ℕ → Type 0} {may_leave : N → List ℕ → Type 0}
+    → (here there : Setting) (s now : Feeding) (bytes rest c behind : List ℕ) (old mid new : N) → there ≡ here → stopped old ≡ false → stopped mid ≡ false → IsUnderWay here s bytes rest now → rest ≡ c ++ behind
+    → LastsIn tells stopped records moment left_since may_leave here false old mid → LastsFed tells stopped records moment left_since may_leave there now c mid new → LastsFed tells stopped records moment left_since may_leave here s bytes old new
+piece_fails {records = records} here there s now bytes rest c behind old mid new stays ran runs u parts one two =
+    let a = one.appends in
+    let b = two.appends in
+    let all = chunk_brings here there s now bytes rest c behind (records old) (records mid) a b stays u parts (one.is.all refl) two.brings in
+    record { appends = (a ++ b) ++ all.more; brings = all.is; lasts = lasts_longer old new (a ++ b) all.more (lasts_joined old mid new a b ran runs (one.is.all refl) one.lasts two.lasts) }

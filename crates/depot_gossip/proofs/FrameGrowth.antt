@@ -19,7 +19,7 @@ use Rattle.depot_model.specs.Taking.{as_proof, as_statement, as_value, Outcome, 
 use Rattle.depot_laws.specs.Given.{HasText}
 use Rattle.depot_laws.proofs.Growing.{grown_is_lawful}
 use Rattle.depot_laws.proofs.LawfulFeeds.{given_has_text}
-use Rattle.depot_gossip.specs.Calls.{Answers, told, says_disk, says_stopped}
+use Rattle.depot_gossip.specs.NodeCalls.{Answers, told, says_disk, says_stopped}
 use Rattle.depot_gossip.specs.Lasting.{IsToAppend, LastsIn}
 use Rattle.depot_gossip.proofs.LastingLaws.{all_of, cut_of, to_append, none_in, IsPart}
 

@@ -15,7 +15,7 @@ use Rattle.depot_gossip.specs.declared.error.FeedError.{FeedError}
 use Rattle.depot_gossip.specs.declared.error.FeedError.TheVariants as error
 use Rattle.depot_gossip.specs.declared.tally.Tally.{Tally}
 use Rattle.depot_gossip.specs.Pieces.{at_work}
-use Rattle.depot_gossip.specs.Calls.{stream_by, told, IsTold, Answers, TakesFrame}
+use Rattle.depot_gossip.specs.NodeCalls.{stream_by, told, IsTold, Answers, TakesFrame}
 
 told_answers : (o : Outcome) (J : List Record) (r : Result Taken TakeError) (then : List Record) → Tells o J r then → Answers o J (told r) then
 told_answers o J (Ok taken) then t = record { new = t.new; is = t.is; grown = t.grown }

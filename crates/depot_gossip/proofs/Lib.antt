@@ -1,6 +1,6 @@
 pub mod ApartLaws
 pub mod BundleAnswers
-pub mod CallLaws
+pub mod NodeCallLaws
 pub mod ChoiceLaws
 pub mod ChunkLaws
 pub mod FeedGrowth
@@ -12,6 +12,7 @@ pub mod HashLaws
 pub mod LastingLaws
 pub mod LeafPlaces
 pub mod PieceLaws
+pub mod StreamCalls
 pub mod StreamLaws
 pub mod ToldLaws
 pub mod ValueLaws

@@ -14,7 +14,7 @@ use Rattle.depot_gossip.specs.declared.error.FeedError.TheVariants as error
 use Rattle.depot_gossip.specs.declared.tally.Tally.{Tally}
 use Rattle.depot_gossip.specs.FrameHeads.{missing}
 use Rattle.depot_gossip.specs.Pieces.{Stream, stream_of, at_work, shut, AreOf, Feeds}
-use Rattle.depot_gossip.specs.Calls.{stream_by, stream_after, TakesFrame, says_stopped}
+use Rattle.depot_gossip.specs.NodeCalls.{stream_by, stream_after, TakesFrame, says_stopped}
 use Rattle.depot_gossip.proofs.ChunkLaws.{stays_open, chunk_is_fed, closed_before, over_is_fed}
 
 -- ---- a piece in two parts

@@ -80,7 +80,8 @@ module _ (here : Setting) (sign : Signs) (J : List Record) (stopped : Bool) (tex
   not_prepared_stops (error.Spent n) p = absurd p
   not_prepared_stops (error.Full what) p = absurd p
 
-  no_disk : (e : BundleError) → Prepares here sign J stopped text (Err e) → IsErrOf {T = Bundled} (Err e) error.Disk → ⊥
+  -- nor was it the disk that failed
+  pub no_disk : (e : BundleError) → Prepares here sign J stopped text (Err e) → IsErrOf {T = Bundled} (Err e) error.Disk → ⊥
   no_disk error.Disk p is = p
   no_disk error.Memory p is = cc
   no_disk error.Stopped p is = cc

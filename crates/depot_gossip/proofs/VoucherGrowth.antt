@@ -54,7 +54,7 @@ not_vouched_in here sign ran text p (refused.Full what) old new l some is never 
 -- ---- they are those of the bundle
 
 -- vouchers that meet no limit are those that are journaled for the answer
-are_journaled : (here : Setting) (sign : Signs) (J : List Record) (stopped : Bool) (text : List ℕ) (p : Prepared) → IsPrepared here sign J stopped text p → limit_of_vouchers here J p.unvouched ≡ None
+pub are_journaled : (here : Setting) (sign : Signs) (J : List Record) (stopped : Bool) (text : List ℕ) (p : Prepared) → IsPrepared here sign J stopped text p → limit_of_vouchers here J p.unvouched ≡ None
     → records_of (new_vouchers here.me J p.unvouched) ≡ journaled_for (bundle_answer here sign J text)
 unfolding bundle_of
 are_journaled here sign J stopped text p is none =

@@ -1,10 +1,12 @@
--- What a stop may leave of a node's journal in a call that makes several calls on the node, and after it.
+-- What a stop may leave of a node's journal in a call that makes several calls on the node, and after it, and which calls it makes on
+-- the node's disk.
 use Rattle.std.specs.Prelude.{◌≡◌, ℕ, List, ◌++◌, take, Bool, false}
+use Rattle.depot_base.specs.Calls.{Made}
 use Rattle.depot_base.specs.declared.record.Record.{Record}
 use Rattle.depot_model.specs.Checks.{Setting}
 use Rattle.depot_model.specs.Feeding.{Feeding, fed}
 use Rattle.depot_model.specs.Lawful.{IsLawful}
-use Rattle.depot_model.specs.Stops.{Lasts}
+use Rattle.depot_model.specs.Stops.{CallsDisk, Lasts}
 
 -- The call was to append these, with which the journal is lawful. It has appended them all, or, where the disk failed, a front of them.
 pub record IsToAppend (here : Setting) (J new then : List Record) (failed : Bool) : Type 0 where
@@ -26,3 +28,10 @@ pub record LastsFed {N : Type 0} (tells stopped : N → Bool) (records : N → L
   pub appends : List Record
   pub brings : (fed here s bytes).journal ≡ records old ++ appends
   pub lasts : Lasts tells stopped records moment left_since may_leave old new appends
+
+-- These are all the records that the bytes bring where nothing fails. On its disk the node made the calls that append what the journal
+-- grew by, or, where the disk failed, some of those that append these, in order, of which the last failed.
+pub record CallsFed {N : Type 0} (after : N → List Made → N → Type 0) (reads : N → List ℕ) (stopped : N → Bool) (records : N → List Record) (here : Setting) (s : Feeding) (bytes : List ℕ) (old new : N) (failed : Type 0) : Type 0 where
+  pub appends : List Record
+  pub brings : (fed here s bytes).journal ≡ records old ++ appends
+  pub calls : CallsDisk after reads stopped records old new appends failed

@@ -1,5 +1,5 @@
 pub mod Bundling
-pub mod Calls
+pub mod NodeCalls
 pub mod Choosing
 pub mod Errors
 pub mod FrameHeads

@@ -6,8 +6,8 @@ ghost use Rattle.depot_model.specs.Stops.{LeavesAll};
 ghost use Rattle.depot_model.specs.Replicas.{IsSameNode, StopsBy, KeepsDisk};
 ghost use Rattle.depot_gossip.specs.FrameHeads.{missing};
 ghost use Rattle.depot_gossip.specs.Pieces.{Feeds, at_work, no_stream, told_of};
-ghost use Rattle.depot_gossip.specs.Calls.{stream_by, stream_after, IsTally, IsKept, says_disk, says_stopped};
-ghost use Rattle.depot_gossip.specs.Lasting.{LastsIn, LastsFed};
+ghost use Rattle.depot_gossip.specs.NodeCalls.{stream_by, stream_after, IsTally, IsKept, says_disk, says_stopped};
+ghost use Rattle.depot_gossip.specs.Lasting.{CallsFed, LastsIn, LastsFed};
 
 use crate::error::FeedError;
 use crate::frame::{Standing, missing, stands};
@@ -34,7 +34,7 @@ impl Model for Feed {
     ghost use Rattle.std.specs.Prelude.{◌≡◌};
     ghost use Rattle.depot_model.specs.Frames.{frame_at, open_frame};
     ghost use Rattle.depot_gossip.specs.Pieces.{Stream};
-    ghost use Rattle.depot_gossip.specs.Calls.{stream_by, IsTally};
+    ghost use Rattle.depot_gossip.specs.NodeCalls.{stream_by, IsTally};
 
     ghost Value = { Stream };
 
@@ -62,6 +62,7 @@ fn feed_chunk<R: Replica>(
     ensures begun { OnOk result (frame_at begun.new.items ≡ open_frame) }
     ensures lasts { LastsIn R.tells R.stopped R.records R.moment R.left_since R.may_leave (R.stands node.old) (says_disk result) node.old node.new }
     ensures brings { LastsFed R.tells R.stopped R.records R.moment R.left_since R.may_leave (R.stands node.old) (at_work (stream_by tally.old begun.old.items false) (R.records node.old)) chunk.now node.old node.new }
+    ensures calls { CallsFed R.after R.reads R.stopped R.records (R.stands node.old) (at_work (stream_by tally.old begun.old.items false) (R.records node.old)) chunk.now node.old node.new (IsErrOf result FeedError.Disk) }
 {
     if tally.is_over() {
         return Err(FeedError::IllFormed(tally.start));
@@ -94,6 +95,7 @@ fn feed_piece<R: Replica>(
     ensures begun { OnOk result (frame_at begun.new.items ≡ open_frame) }
     ensures lasts { LastsIn R.tells R.stopped R.records R.moment R.left_since R.may_leave (R.stands node.old) (says_disk result) node.old node.new }
     ensures brings { LastsFed R.tells R.stopped R.records R.moment R.left_since R.may_leave (R.stands node.old) (at_work (stream_by tally.old begun.old.items false) (R.records node.old)) bytes.now node.old node.new }
+    ensures calls { CallsFed R.after R.reads R.stopped R.records (R.stands node.old) (at_work (stream_by tally.old begun.old.items false) (R.records node.old)) bytes.now node.old node.new (IsErrOf result FeedError.Disk) }
 {
     let mut rest = bytes;
     while !rest.is_empty() {
@@ -136,7 +138,8 @@ impl Feed {
     /// Every error closes the feed; the frames before it stay taken, and the frame at hand isn't. `IllFormed` comes exactly where the
     /// stream so far has no frame at that offset, and `Full` exactly where there is no room for what a frame would add, unless
     /// Memory or Disk come first. `Stopped` comes exactly where the node was stopped, whatever the bytes are. A stop at any moment
-    /// leaves the records from before and a front of those that the frames bring.
+    /// leaves the records from before and a front of those that the frames bring. On the node's disk the piece makes the calls that
+    /// append what the journal grows by, and no other; where one of them fails, it is the last.
     pub fn piece<R: Replica>(&mut self, node: &mut R, bytes: &[u8]) -> Result<(), FeedError>
         requires { self.old.closed ≡ false }
         ensures feeds { Feeds (R.stands node.old) (at_work self.old (R.records node.old)) bytes.now result self.new (R.records node.new) }
@@ -145,6 +148,7 @@ impl Feed {
         ensures disk { KeepsDisk (R.handle node.old) (R.handle node.new) (R.faults node.old) (R.faults node.new) (R.is_faultless node.old) (R.is_faultless node.new) (IsErrOf result FeedError.Disk) }
         ensures lasts { LastsIn R.tells R.stopped R.records R.moment R.left_since R.may_leave (R.stands node.old) (says_disk result) node.old node.new }
         ensures brings { LastsFed R.tells R.stopped R.records R.moment R.left_since R.may_leave (R.stands node.old) (at_work self.old (R.records node.old)) bytes.now node.old node.new }
+        ensures calls { CallsFed R.after R.reads R.stopped R.records (R.stands node.old) (at_work self.old (R.records node.old)) bytes.now node.old node.new (IsErrOf result FeedError.Disk) }
     {
         if node.is_stopped() {
             self.begun.clear();

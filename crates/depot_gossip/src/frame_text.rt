@@ -7,7 +7,7 @@ use depot_base::{Bytes, Memory};
 
 /// Writes a frame at the end: its tag, the length of its payload in four bytes, and the payload, of at most 131,072 bytes.
 #[tactic(auto, using(depot_base::proofs::Writing::texts))]
-pub(crate) fn put_frame(out: &mut Bytes, tag: u8, payload: &[u8]) -> Result<(), Memory>
+pub fn put_frame(out: &mut Bytes, tag: u8, payload: &[u8]) -> Result<(), Memory>
     requires { length payload.now ≤ MOST_PAYLOAD }
     ensures { OnOk result (out.new ≡ out.old ++ text_of_frame (record { tag = tag; payload = payload.now })) }
 {

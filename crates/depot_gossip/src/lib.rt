@@ -30,6 +30,7 @@ pub use depot_base::DecodeError;
 pub use depot_model::{Counts, Ending, Refusal, Refusals, Report};
 pub use error::{BundleError, FeedError};
 pub use feed::Feed;
+pub use frame_text::put_frame;
 pub use hello_text::{decode_hello, encode_hello};
 pub use laws::{
     bundles_tell_own_statements, hellos_are_prefix_free, hellos_are_read_in_one_way,

@@ -3,7 +3,7 @@ ghost use Rattle.std.specs.Prelude.{◌≡◌, ◌++◌, [], ◌∷◌, false, n
 ghost use Rattle.depot_model.specs.Replicas.{IsSameNode, StopsBy, KeepsDisk};
 ghost use Rattle.std.specs.List.{filter};
 ghost use Rattle.depot_model.specs.Bundle.{bundle_answer};
-ghost use Rattle.depot_model.specs.Stops.{Lasts, LeavesAll};
+ghost use Rattle.depot_model.specs.Stops.{CallsDisk, Lasts, LeavesAll};
 ghost use Rattle.depot_model.specs.Vouching.{is_mine_vouched};
 ghost use Rattle.depot_gossip.specs.Bundling.{Bundles, Hears, Prepares, finds_disk, journaled_for};
 ghost use Rattle.depot_gossip.specs.Fronts.{IsJoined, IsStream};
@@ -155,7 +155,8 @@ fn told_of<R: Peer>(
 /// The errors come in this order: `Stopped` where the node was stopped; `IllFormed` where the text is no hello's, with the offset of
 /// its first fault; `OtherRoster`; `IllFormed(2)` where the roster lacks the hello's node; `Spent` and `Full` where the vouchers meet
 /// that limit. After these the node is as before. After `Memory` it is as before or has all the vouchers; after `Disk` it is stopped
-/// and has the vouchers before the failing one. A stop at any moment leaves the records from before and a front of the vouchers.
+/// and has the vouchers before the failing one. A stop at any moment leaves the records from before and a front of the vouchers. On
+/// the node's disk it makes the calls that append the vouchers, and no other; where one of them fails, it is the last.
 pub fn bundle<R: Peer>(alloc: Global, node: &mut R, hello: &[u8]) -> Result<Bundled, BundleError>
     ensures bundles { Bundles (R.stands node.old) (R.signature_of node.old) (R.records node.old) (R.stopped node.old) hello.now result (R.records node.new) }
     ensures stays { IsSameNode (R.stands node.old) (R.stands node.new) (R.key node.old) (R.key node.new) (R.signature_of node.old) (R.signature_of node.new) }
@@ -163,6 +164,7 @@ pub fn bundle<R: Peer>(alloc: Global, node: &mut R, hello: &[u8]) -> Result<Bund
     ensures disk { KeepsDisk (R.handle node.old) (R.handle node.new) (R.faults node.old) (R.faults node.new) (R.is_faultless node.old) (R.is_faultless node.new) (IsErrOf result BundleError.Disk) }
     ensures lasts { LastsIn R.tells R.stopped R.records R.moment R.left_since R.may_leave (R.stands node.old) (finds_disk result) node.old node.new }
     ensures brings { Lasts R.tells R.stopped R.records R.moment R.left_since R.may_leave node.old node.new (journaled_for (bundle_answer (R.stands node.old) (R.signature_of node.old) (R.records node.old) hello.now)) }
+    ensures calls { CallsDisk R.after R.reads R.stopped R.records node.old node.new (journaled_for (bundle_answer (R.stands node.old) (R.signature_of node.old) (R.records node.old) hello.now)) (IsErrOf result BundleError.Disk) }
 {
     let chosen = prepare(alloc, node, hello)?;
     node.own_vouchers(&chosen.unvouched)?;

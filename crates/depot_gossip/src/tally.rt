@@ -1,15 +1,15 @@
 //! What a feed counts, and how a frame is given to a node.
-ghost use Rattle.std.specs.Prelude.{◌≡◌, ◌<◌, ◌≤◌, ◌==◌, ◌||◌, ◌+◌, ◌*◌, ℕ, List, [], ◌++◌, false, Some, IsTrue, is_some, vec_len};
+ghost use Rattle.std.specs.Prelude.{◌≡◌, ◌<◌, ◌≤◌, ◌==◌, ◌||◌, ◌+◌, ◌*◌, ℕ, List, [], ◌++◌, false, Some, IsErrOf, IsTrue, is_some, vec_len};
 ghost use Rattle.std.specs.Vec.{vec_capacity};
 ghost use Rattle.depot_base.specs.declared.limits.TheConstants.{MOST_FRAMES};
 ghost use Rattle.depot_base.specs.declared.record.Record.{Record};
 ghost use Rattle.depot_model.specs.Frames.{Frame};
-ghost use Rattle.depot_model.specs.Stops.{Lasts, LeavesAll};
+ghost use Rattle.depot_model.specs.Stops.{CallsDisk, Lasts, LeavesAll};
 ghost use Rattle.depot_model.specs.Taking.{appended_by};
 ghost use Rattle.depot_model.specs.Feeding.{take_frame, says_more, passed, counted};
 ghost use Rattle.depot_gossip.specs.FrameHeads.{most_frame};
 ghost use Rattle.depot_gossip.specs.Pieces.{at_work, no_stream, brought_by};
-ghost use Rattle.depot_gossip.specs.Calls.{stream_by, IsTally, IsKept, says_disk, says_stopped, told, Answers, TakesFrame};
+ghost use Rattle.depot_gossip.specs.NodeCalls.{stream_by, IsTally, IsKept, says_disk, says_stopped, told, Answers, TakesFrame};
 ghost use Rattle.depot_gossip.specs.Lasting.{LastsIn};
 
 use crate::error::FeedError;
@@ -62,6 +62,7 @@ fn give<R: Replica>(
     ensures kept { IsKept (R.stands node.old) (R.stands node.new) (R.key node.old) (R.key node.new) (R.signature_of node.old) (R.signature_of node.new) (R.handle node.old) (R.handle node.new) (R.faults node.old) (R.faults node.new) (R.is_faultless node.old) (R.is_faultless node.new) (R.stopped node.new) (says_disk result) (says_stopped result) }
     ensures lasts { LastsIn R.tells R.stopped R.records R.moment R.left_since R.may_leave (R.stands node.old) (says_disk result) node.old node.new }
     ensures brings { Lasts R.tells R.stopped R.records R.moment R.left_since R.may_leave node.old node.new (appended_by (take_frame (R.stands node.old) (R.records node.old) (record { tag = tag; payload = payload.now }))) }
+    ensures calls { CallsDisk R.after R.reads R.stopped R.records node.old node.new (appended_by (take_frame (R.stands node.old) (R.records node.old) (record { tag = tag; payload = payload.now }))) (IsErrOf result FeedError.Disk) }
 {
     match tag {
         1 => told(node.take_proof(payload)),
@@ -166,6 +167,7 @@ impl Tally {
         ensures tally { IsTally self.new }
         ensures lasts { LastsIn R.tells R.stopped R.records R.moment R.left_since R.may_leave (R.stands node.old) (says_disk result) node.old node.new }
         ensures brings { Lasts R.tells R.stopped R.records R.moment R.left_since R.may_leave node.old node.new (brought_by (R.stands node.old) (R.records node.old) (record { tag = tag; payload = payload.now })) }
+        ensures calls { CallsDisk R.after R.reads R.stopped R.records node.old node.new (brought_by (R.stands node.old) (R.records node.old) (record { tag = tag; payload = payload.now })) (IsErrOf result FeedError.Disk) }
     {
         if tag == 4 {
             self.take_end(payload, count);

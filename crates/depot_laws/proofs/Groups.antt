@@ -1,12 +1,14 @@
 -- Lists cut into groups, byte strings put in rising order, and the vouchers that are made of them: each member is kept.
-use Rattle.std.proofs.Common.{◌≡◌, ℕ, zero, suc, ◌-◌, ◌≤◌, List, [], ◌∷◌, length, arith, Bool, true, false, cond, refl, sym, subst, ◌∙◌, inl, inr, ◌⊎◌}
+use Rattle.std.proofs.Common.{◌≡◌, ℕ, zero, suc, ◌+◌, ◌-◌, ◌≤◌, List, [], ◌∷◌, length, arith, Bool, true, false, cond, refl, sym, subst, ◌∙◌, inl, inr, ◌⊎◌}
 use Rattle.std.specs.List.{AllByRecursion}
 use Rattle.std.specs.Str.{bytes_eq}
 use Rattle.std.proofs.lemmas.Slice.Eq.{bytes_eq-Decides}
 use Rattle.depot_base.specs.Parts.{is_below}
 use Rattle.depot_base.specs.declared.voucher.Voucher.{Voucher}
+use Rattle.depot_base.specs.declared.record.Record.{Record}
 use Rattle.depot_model.specs.Lists.{IsIn}
-use Rattle.depot_model.specs.Vouching.{put_rising, rising, into_first, groups_behind, groups_of, numbered}
+use Rattle.depot_model.specs.Journal.{own}
+use Rattle.depot_model.specs.Vouching.{put_rising, rising, into_first, groups_behind, groups_of, numbered, new_vouchers}
 
 -- ---- groups
 
@@ -76,6 +78,23 @@ pub groups_sized : {X : Type 0} (size : ℕ) (xs : List X) → 1 ≤ size → Al
 unfolding groups_of
 groups_sized size [] some = tt
 groups_sized size (x ∷ xs) some = first_fits size x (groups_behind size (size - 1) xs) some (groups_begin size (size - 1) xs some)
+
+-- one more in front makes a group only where there is none
+into_first_few : {X : Type 0} (x : X) (gs : List (List X)) (most : ℕ) → 1 ≤ most → length gs ≤ most → length (into_first x gs) ≤ most
+into_first_few x [] most some few = some
+into_first_few x (g ∷ gs) most some few = few
+
+groups_behind_few : {X : Type 0} (size room : ℕ) (xs : List X) → length (groups_behind size room xs) ≤ 1 + length xs
+unfolding groups_behind
+groups_behind_few size room [] = omega arith
+groups_behind_few size zero (x ∷ xs) = let few = into_first_few x (groups_behind size (size - 1) xs) (1 + length xs) (omega arith) (groups_behind_few size (size - 1) xs) in omega (arith, few)
+groups_behind_few size (suc room) (x ∷ xs) = into_first_few x (groups_behind size room xs) (1 + length (x ∷ xs)) (omega arith) (omega (arith, groups_behind_few size room xs))
+
+-- there are no more groups than members
+groups_few : {X : Type 0} (size : ℕ) (xs : List X) → length (groups_of size xs) ≤ length xs
+unfolding groups_of
+groups_few size [] = omega arith
+groups_few size (x ∷ xs) = into_first_few x (groups_behind size (size - 1) xs) (length (x ∷ xs)) (omega arith) (omega (arith, groups_behind_few size (size - 1) xs))
 
 -- a member of a group is one of the list, or the one in front
 from_first_group : {X : Type 0} (x y : X) (gs : List (List X)) (g : List X) → IsIn g (into_first x gs) → IsIn y g → (x ≡ y) ⊎ HasGroup y gs
@@ -159,3 +178,12 @@ numbered_keep me n (x ∷ xs) h g = elim g.on [
 -- each id is named by a voucher of its group
 pub vouchers_keep : (me n size : ℕ) (ids : List (List ℕ)) (h : List ℕ) → IsIn h ids → HasVoucher h (numbered me n (groups_of size ids))
 vouchers_keep me n size ids h on = numbered_keep me n (groups_of size ids) h (groups_keep size h ids on)
+
+numbered_count : (me n : ℕ) (gs : List (List (List ℕ))) → length (numbered me n gs) ≡ length gs
+numbered_count me n [] = refl
+numbered_count me n (g ∷ gs) = omega (arith, numbered_count me (suc n) gs)
+
+-- there are no more new vouchers than ids
+pub vouchers_few : (me : ℕ) (J : List Record) (ids : List (List ℕ)) → length (new_vouchers me J ids) ≤ length ids
+unfolding new_vouchers
+vouchers_few me J ids = omega (arith, numbered_count me (length (own J)) (groups_of 256 ids), groups_few 256 ids)

@@ -147,7 +147,7 @@ vouchers_told [] = refl
 vouchers_told (v ∷ vs) = ap (λ (ws : List Voucher). v ∷ ws) (vouchers_told vs)
 
 -- the own vouchers with new ones behind
-own_with : (J : List Record) (vs : List Voucher) → own_vouchers (with_vouchers J vs) ≡ own_vouchers J ++ vs
+pub own_with : (J : List Record) (vs : List Voucher) → own_vouchers (with_vouchers J vs) ≡ own_vouchers J ++ vs
 own_with J vs = flat_map-append own_voucher_by J (records_of vs) ∙ ap (λ (ws : List Voucher). own_vouchers J ++ ws) (vouchers_told vs)
 
 -- Each id for which a bundle makes vouchers, unless one of them names it already, is named by an own voucher.

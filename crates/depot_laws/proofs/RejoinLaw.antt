@@ -1,12 +1,11 @@
 -- The law of histories that rejoin.
 use Rattle.std.proofs.Common.{◌≡◌, ℕ, ◌+◌, ◌<◌, ◌≤◌, List, [], ◌∷◌, ◌++◌, map, length, Bool, false, cond, is_some, Option, Some, None, refl, sym, ap, subst, ◌∙◌, inl, inr, ◌⊎◌, arith, append_assoc, length-append}
 use Rattle.std.specs.List.{flat_map}
-use Rattle.std.proofs.lemmas.List.{append-nil, length-map}
+use Rattle.std.proofs.lemmas.List.{append-nil}
 use Rattle.std.proofs.lemmas.Grind.{flat_map-append}
 use Rattle.depot_base.specs.declared.update.Update.{Update}
 use Rattle.depot_base.specs.declared.voucher.Voucher.{Voucher}
 use Rattle.depot_base.specs.declared.statement.Statement.TheVariants as statement
-use Rattle.depot_base.specs.declared.proof.Proof.{Proof}
 use Rattle.depot_base.specs.declared.record.Record.{Record}
 use Rattle.depot_base.specs.declared.check.Full.{Full}
 use Rattle.depot_model.specs.declared.hello.Hello.{Hello}
@@ -14,7 +13,7 @@ use Rattle.depot_model.specs.declared.bundle.Refusal.{Refusal}
 use Rattle.depot_model.specs.declared.bundle.Ending.{Ending}
 use Rattle.depot_model.specs.declared.bundle.Ending.TheVariants as ending
 use Rattle.depot_model.specs.Lists.{IsIn}
-use Rattle.depot_model.specs.Journal.{accepted, accepted_by, proof_by, value_by, held_as}
+use Rattle.depot_model.specs.Journal.{accepted, accepted_by, value_by, held_as}
 use Rattle.depot_model.specs.Checks.{Setting}
 use Rattle.depot_model.specs.Contents.{NamedValue, values_named}
 use Rattle.depot_model.specs.Vouching.{own_vouchers, new_vouchers, records_of}
@@ -26,7 +25,6 @@ use Rattle.depot_model.proofs.Members.{in_left}
 use Rattle.depot_model.proofs.FeedLaws.{fed_in_pieces, frame_is_taken}
 use Rattle.depot_laws.specs.Streams.{fed_pieces}
 use Rattle.depot_laws.specs.Rejoin.{updates_of, hello_at, bundle_at, Meet, HasRejoined}
-use Rattle.depot_laws.proofs.OwnTexts.{lawful_is_short}
 use Rattle.depot_laws.proofs.ContraryConvict.{contrary_convict}
 use Rattle.depot_laws.proofs.HeldValues.{held_as_is, held_as_from}
 use Rattle.depot_laws.proofs.Groups.{HasVoucher}
@@ -36,7 +34,7 @@ use Rattle.depot_laws.proofs.Joining.{HasJoined}
 use Rattle.depot_laws.proofs.Arrivals.{one_value}
 use Rattle.depot_laws.proofs.Carrying.{taking}
 use Rattle.depot_laws.proofs.Feeds.{pieces_are_one, GoesOnWith, not_over, IsFullAt, IsFedTo, frames_find_room, frames_are_fed}
-use Rattle.depot_laws.proofs.BundleSizes.{filter_short, few_told, sent_is_short}
+use Rattle.depot_laws.proofs.BundleSizes.{bundle_is_short}
 use Rattle.depot_laws.proofs.WholeBundles.{frames, frames_are, frames_are_plain, take_all}
 
 -- ---- the parts of a bundle
@@ -145,20 +143,7 @@ module _ (W : World) (world : IsWorld W) (authentic : IsAuthentic W) (free : IsC
   framed f on = subst (λ (fs : List Frame). IsIn f fs) (sym frames_in_order) (in_left f fronts (end_frame false ∷ []) on)
 
   few_frames : length fronts ≤ 524287
-  unfolding shape_of
-  few_frames =
-      let K = J ++ new_records in
-      let ps = proofs_for K hello in
-      let ws = vouchers_for K (sent_foreign v.node (parcels sign J hello)) in
-      let ps_few : length ps ≤ length (flat_map proof_by K) = filter_short _ (flat_map proof_by K) in
-      let ws_few : length ws ≤ length (own_vouchers K) = filter_short _ (own_vouchers K) in
-      let told = few_told K in
-      let records : length K ≤ 131072 = lawful_is_short (setting_of W v) K (sender_lawful W a v K with_new) in
-      let sent : length (flat_map frames_of (parcels sign J hello)) ≤ 262144 = subst (λ (xs : List Parcel). length (flat_map frames_of xs) ≤ 262144) (sent_is_all v.node sign J hello whole) (sent_is_short sign J hello) in
-      let count = ap length (sym shape_is) ∙ shape_count ps ws (flat_map frames_of (parcels sign J hello)) in
-      omega (arith, count, ps_few, ws_few, told, records, sent) where
-        shape_count : (ps : List Proof) (ws : List Voucher) (fs : List Frame) → length (map proof_frame ps ++ (map (λ w. statement_frame (signed_with sign (statement.Voucher w))) ws ++ fs)) ≡ length ps + (length ws + length fs)
-        shape_count ps ws fs = omega (arith, length-append (map proof_frame ps) (map (λ (w : Voucher). statement_frame (signed_with sign (statement.Voucher w))) ws ++ fs), length-append (map (λ (w : Voucher). statement_frame (signed_with sign (statement.Voucher w))) ws) fs, length-map ps proof_frame, length-map ws (λ (w : Voucher). statement_frame (signed_with sign (statement.Voucher w))))
+  few_frames = omega (arith, bundle_is_short (setting_of W v) sign J hello (sender_lawful W a v J before_new), ap length frames_in_order, length-append fronts (end_frame false ∷ []))
 
   -- ---- the feed
 

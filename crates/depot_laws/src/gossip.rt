@@ -1,9 +1,11 @@
 //! What nodes send each other: bundles, feeds, and histories that rejoin.
-ghost use Rattle.std.specs.Prelude.{◌≡◌, ℕ, List, [], ◌∷◌, ◌++◌, false, Some, ◌⊎◌};
+ghost use Rattle.std.specs.Prelude.{◌≡◌, ◌≤◌, ℕ, List, [], ◌∷◌, ◌++◌, length, false, Some, ◌⊎◌};
 ghost use Rattle.std.specs.List.{AllByRecursion, flat_map};
+ghost use Rattle.depot_base.specs.declared.limits.TheConstants.{MOST_FRAMES};
 ghost use Rattle.depot_base.specs.declared.update.Update.{Update};
 ghost use Rattle.depot_base.specs.declared.record.Record.{Record};
 ghost use Rattle.depot_base.specs.declared.check.Full.{Full};
+ghost use Rattle.depot_model.specs.declared.hello.Hello.{Hello};
 ghost use Rattle.depot_model.specs.Lists.{IsIn};
 ghost use Rattle.depot_model.specs.Texts.{IsRoster};
 ghost use Rattle.depot_model.specs.Order.{parents};
@@ -12,7 +14,7 @@ ghost use Rattle.depot_model.specs.Checks.{Setting};
 ghost use Rattle.depot_model.specs.Lawful.{IsLawful, is_empty};
 ghost use Rattle.depot_model.specs.Hello.{IsHello, hello_of};
 ghost use Rattle.depot_model.specs.Frames.{Frame, text_of_frame, IsFrame};
-ghost use Rattle.depot_model.specs.Bundle.{Signs, sent_for, bytes_of_bundle};
+ghost use Rattle.depot_model.specs.Bundle.{Signs, sent_for, bundle_of, bytes_of_bundle};
 ghost use Rattle.depot_model.specs.Feeding.{Feeding, out_of_room, feeding_from, fed};
 ghost use Rattle.depot_model.specs.World.{Correct, World, setting_of, IsWorld, IsAuthentic, IsCollisionFree};
 ghost use Rattle.depot_laws.specs.Streams.{fed_pieces, fed_frames, StaysOpen, AreBytes, IsInOrder};
@@ -34,6 +36,12 @@ pub fn feeds_take_frames()
 /// Whatever bytes a feed is given, a lawful journal stays lawful.
 pub fn feeds_keep_journals_lawful()
     ensures { (here : Setting) (s : Feeding) (bytes : List ℕ) → AreBytes bytes → IsInOrder here s → IsInOrder here (fed here s bytes) }
+{}
+
+/// Whatever hello it is for, and whether it leaves something out or not, the bundle of a lawful journal has no more frames than a
+/// stream may have, which is 524,288 with End. So no feed of it is over before its last frame.
+pub fn bundles_fit_a_stream()
+    ensures { (here : Setting) (sign : Signs) (J : List Record) (h : Hello) → IsLawful here J → length (bundle_of here.me sign J h).frames ≤ MOST_FRAMES }
 {}
 
 /// Where a bundle doesn't say that there is more, each update that its sender had accepted is one that the reader has accepted or the bundle sends. Each parent of an update that it sends the reader has

@@ -19,8 +19,8 @@ pub use causality::{
     fjc_law, own_puts_follow_all, own_puts_pass_everywhere, own_puts_stand_once, pasts_agree,
 };
 pub use gossip::{
-    bundles_are_closed, feeds_keep_journals_lawful, feeds_take_frames, hellos_have_a_text,
-    rejoin_law,
+    bundles_are_closed, bundles_fit_a_stream, feeds_keep_journals_lawful, feeds_take_frames,
+    hellos_have_a_text, rejoin_law,
 };
 pub use growth::{
     a_birth_is_lawful, clocks_are_bounded, growth_keeps_journals_lawful,

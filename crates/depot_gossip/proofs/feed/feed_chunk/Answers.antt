@@ -2,8 +2,9 @@ use Rattle.std.proofs.Common.{◌≡◌, ℕ, List, ◌++◌, length, false, Ok,
 use Rattle.std.proofs.lemmas.Result.{err_from_is_err_and}
 use Rattle.depot_model.specs.Frames.{frame_at, open_frame, no_frame, whole_frame}
 use Rattle.depot_gossip.specs.Pieces.{Feeds, at_work}
-use Rattle.depot_gossip.specs.Calls.{stream_by, TakesFrame}
+use Rattle.depot_gossip.specs.NodeCalls.{stream_by, TakesFrame}
 use Rattle.depot_gossip.proofs.ChunkLaws.{in_reach}
+use Rattle.depot_gossip.proofs.StreamCalls.{nothing_called_for, called_for_frame}
 use Rattle.depot_gossip.proofs.PieceLaws.{over_is_ill, chunk_is_dropped, chunk_is_open, chunk_is_ill, frame_is_fed, chunk_is_taken}
 use Rattle.depot_gossip.proofs.FeedGrowth.{nothing_fed, frame_fed}
 use Rattle.depot_gossip.proofs.LastingLaws.{nothing_in}
@@ -105,3 +106,38 @@ returns-clause-brings g c =
     (frame_is_fed (g.R.Replica.stands c.args.node.now) c.args.tally.now c.args.begun.now.items c.args.chunk.now (g.R.Replica.records c.args.node.now) (record { tag = c.in-Whole.tag; payload = c.in-Whole.payload.now })
     (sym c.is_over.ensures ∙ c.if-is_over.false) c.requires.begun c.requires.some c.requires.short at)
     refl c.take.ensures.brings
+
+-- ---- which calls it makes on its disk
+
+pub returns-then-is_over-clause-calls : goal.returns-then-is_over-clause-calls
+returns-then-is_over-clause-calls g c = nothing_called_for (g.met.R.Replica.after_none) _ _ _ c.args.node.now refl (λ e. cc)
+
+pub returns-in_err-extend_from_slice-clause-calls : goal.returns-in_err-extend_from_slice-clause-calls
+returns-in_err-extend_from_slice-clause-calls g c =
+    let p = err_from_is_err_and c.from_residual.result c.from_residual.ensures.1 in
+    rw (p.1, p.2) (nothing_called_for (g.met.R.Replica.after_none) _ _ _ c.args.node.now refl (λ e. cc))
+
+pub returns-in-Open-clause-calls : goal.returns-in-Open-clause-calls
+returns-in-Open-clause-calls g c = nothing_called_for (g.met.R.Replica.after_none) _ _ _ c.args.node.now refl (λ e. cc)
+
+pub returns-in-Nothing-clause-calls : goal.returns-in-Nothing-clause-calls
+returns-in-Nothing-clause-calls g c = nothing_called_for (g.met.R.Replica.after_none) _ _ _ c.args.node.now refl (λ e. cc)
+
+pub returns-in_err-take-in-Whole-clause-calls : goal.returns-in_err-take-in-Whole-clause-calls
+returns-in_err-take-in-Whole-clause-calls g c =
+    let p = err_from_is_err_and c.from_residual-in_err-take-in-Whole.result c.from_residual-in_err-take-in-Whole.ensures.1 in
+    let items : c.as_slice-frame.result.now ≡ c.args.begun.now.items ++ c.args.chunk.now = c.as_slice-frame.ensures.value ∙ c.in_ok-extend_from_slice.ensures.items in
+    let at : frame_at (c.args.begun.now.items ++ c.args.chunk.now) ≡ whole_frame (record { tag = c.in-Whole.tag; payload = c.in-Whole.payload.now }) = ap frame_at (sym items) ∙ c.in-Whole.ensures.0 in
+    rw (p.1, p.2) (called_for_frame (g.R.Replica.stands c.args.node.now) _ _ c.args.chunk.now _ (record { tag = c.in-Whole.tag; payload = c.in-Whole.payload.now }) c.args.node.now c.take.new.node
+    (frame_is_fed (g.R.Replica.stands c.args.node.now) c.args.tally.now c.args.begun.now.items c.args.chunk.now (g.R.Replica.records c.args.node.now) (record { tag = c.in-Whole.tag; payload = c.in-Whole.payload.now })
+    (sym c.is_over.ensures ∙ c.if-is_over.false) c.requires.begun c.requires.some c.requires.short at)
+    refl c.in_err-take-in-Whole.ensures.calls)
+
+pub returns-clause-calls : goal.returns-clause-calls
+returns-clause-calls g c =
+    let items : c.as_slice-frame.result.now ≡ c.args.begun.now.items ++ c.args.chunk.now = c.as_slice-frame.ensures.value ∙ c.in_ok-extend_from_slice.ensures.items in
+    let at : frame_at (c.args.begun.now.items ++ c.args.chunk.now) ≡ whole_frame (record { tag = c.in-Whole.tag; payload = c.in-Whole.payload.now }) = ap frame_at (sym items) ∙ c.in-Whole.ensures.0 in
+    called_for_frame (g.R.Replica.stands c.args.node.now) _ _ c.args.chunk.now _ (record { tag = c.in-Whole.tag; payload = c.in-Whole.payload.now }) c.args.node.now c.take.new.node
+    (frame_is_fed (g.R.Replica.stands c.args.node.now) c.args.tally.now c.args.begun.now.items c.args.chunk.now (g.R.Replica.records c.args.node.now) (record { tag = c.in-Whole.tag; payload = c.in-Whole.payload.now })
+    (sym c.is_over.ensures ∙ c.if-is_over.false) c.requires.begun c.requires.some c.requires.short at)
+    refl c.in_ok-take-in-Whole.ensures.calls

@@ -5,9 +5,11 @@ use Rattle.depot_model.specs.Bundle.{Signs, sent_for}
 use Rattle.depot_model.specs.Journal.{accepted, is_foreign}
 use Rattle.depot_model.specs.Lists.{AreApart}
 use Rattle.depot_model.specs.Vouching.{is_mine_vouched}
+use Rattle.depot_model.proofs.CallsOnDisk.{nothing_called, called_well}
 use Rattle.depot_gossip.specs.Fronts.{IsStream}
 use Rattle.depot_gossip.proofs.ApartLaws.{unvouched_apart, unvouched_foreign, unvouched_fresh}
-use Rattle.depot_gossip.proofs.StreamLaws.{not_bundled, not_prepared_stops, not_prepared_keeps, not_vouched, only_vouched, all_bundled, stops_alike, keeps_alike, same_fault, memory_stops, memory_keeps, good_stops, good_keeps}
+use Rattle.depot_gossip.proofs.StreamCalls.{not_vouched_calls}
+use Rattle.depot_gossip.proofs.StreamLaws.{not_bundled, not_prepared_stops, not_prepared_keeps, no_disk, not_vouched, only_vouched, all_bundled, stops_alike, keeps_alike, same_fault, memory_stops, memory_keeps, good_stops, good_keeps}
 use Rattle.depot_gossip.proofs.LastingLaws.{nothing_lasts, nothing_in, lasts_longer}
 use Rattle.depot_gossip.proofs.VoucherGrowth.{vouched_in, not_vouched_in, vouched_lasts, not_vouched_lasts}
 use Rattle.depot_gossip.proofs.own_bundle.bundle.Goals as goal
@@ -141,3 +143,25 @@ returns-in_err-told_of-clause-brings g c = vouched_lasts (g.R.Replica.stands c.a
 
 pub returns-clause-brings : goal.returns-clause-brings
 returns-clause-brings g c = vouched_lasts (g.R.Replica.stands c.args.node.now) (g.R.Replica.signature_of c.args.node.now) (g.R.Replica.stopped c.args.node.now) c.args.hello.now c.in_ok-chosen.chosen c.args.node.now c.own_vouchers.new.self c.in_ok-chosen.ensures.prepares c.in_ok-own_vouchers.ensures.vouches.0 c.own_vouchers.ensures.lasts
+
+-- ---- which calls it makes on its disk
+
+pub returns-in_err-chosen-clause-calls : goal.returns-in_err-chosen-clause-calls
+returns-in_err-chosen-clause-calls g c =
+    let p = err_from_is_err_and c.from_residual.result c.from_residual.ensures.1 in
+    rw (p.1, p.2) (nothing_called (g.met.R.Replica.after_none) c.args.node.now _
+    (no_disk (g.R.Replica.stands c.args.node.now) (g.R.Replica.signature_of c.args.node.now) (g.R.Replica.records c.args.node.now) (g.R.Replica.stopped c.args.node.now) c.args.hello.now c.in_err-chosen.field-0.0 c.in_err-chosen.ensures.prepares))
+
+pub returns-in_err-own_vouchers-clause-calls : goal.returns-in_err-own_vouchers-clause-calls
+returns-in_err-own_vouchers-clause-calls g c =
+    let p = err_from_is_err_and c.from_residual-in_err-own_vouchers.result c.from_residual-in_err-own_vouchers.ensures.1 in
+    rw (p.1, p.2) (not_vouched_calls (g.R.Replica.stands c.args.node.now) (g.R.Replica.signature_of c.args.node.now) (g.R.Replica.stopped c.args.node.now) c.args.hello.now c.in_ok-chosen.chosen c.in_err-own_vouchers.field-0.0 c.args.node.now c.own_vouchers.new.self c.in_ok-chosen.ensures.prepares
+    c.in_err-own_vouchers.ensures.vouches c.in_err-own_vouchers.ensures.calls)
+
+pub returns-in_err-told_of-clause-calls : goal.returns-in_err-told_of-clause-calls
+returns-in_err-told_of-clause-calls g c =
+    let p = err_from_is_err_and c.from_residual-in_err-told_of.result c.from_residual-in_err-told_of.ensures.1 in
+    rw (p.1, p.2) (called_well c.args.node.now c.own_vouchers.new.self _ _ (λ e. cc) (λ e. cc) c.in_ok-own_vouchers.ensures.calls)
+
+pub returns-clause-calls : goal.returns-clause-calls
+returns-clause-calls g c = called_well c.args.node.now c.own_vouchers.new.self _ _ (λ e. cc) (λ e. cc) c.in_ok-own_vouchers.ensures.calls

@@ -1,4 +1,6 @@
 use Rattle.std.proofs.Common.{arith}
+use Rattle.depot_model.proofs.CallsOnDisk.{calls_alike}
+use Rattle.depot_gossip.proofs.StreamCalls.{disk_told, disk_was_told}
 use Rattle.depot_gossip.proofs.GivenLaws.{proof_answers, statement_answers, value_answers}
 use Rattle.depot_gossip.proofs.FrameGrowth.{proof_brings, statement_brings, value_brings, told_runs, given_in}
 use Rattle.depot_gossip.proofs.LastingLaws.{lasts_alike}
@@ -47,3 +49,17 @@ returns-in-2-clause-brings g c = lasts_alike c.args.node.now c.take_statement.ne
 
 pub returns-in_default-clause-brings : goal.returns-in_default-clause-brings
 returns-in_default-clause-brings g c = lasts_alike c.args.node.now c.take_value.new.self _ _ (value_brings (g.R.Replica.stands c.args.node.now) (g.R.Replica.records c.args.node.now) c.args.tag c.args.payload.now (omega arith)) c.take_value.ensures.lasts
+
+-- ---- which calls it makes on its disk
+
+pub returns-in-1-clause-calls : goal.returns-in-1-clause-calls
+returns-in-1-clause-calls g c =
+    rw c.told.ensures (calls_alike c.args.node.now c.take_proof.new.self _ _ (disk_was_told c.take_proof.result) (disk_told c.take_proof.result) (proof_brings (g.R.Replica.stands c.args.node.now) (g.R.Replica.records c.args.node.now) c.args.tag c.args.payload.now (omega arith)) c.take_proof.ensures.calls)
+
+pub returns-in-2-clause-calls : goal.returns-in-2-clause-calls
+returns-in-2-clause-calls g c =
+    rw c.told-in-2.ensures (calls_alike c.args.node.now c.take_statement.new.self _ _ (disk_was_told c.take_statement.result) (disk_told c.take_statement.result) (statement_brings (g.R.Replica.stands c.args.node.now) (g.R.Replica.records c.args.node.now) c.args.tag c.args.payload.now (omega arith)) c.take_statement.ensures.calls)
+
+pub returns-in_default-clause-calls : goal.returns-in_default-clause-calls
+returns-in_default-clause-calls g c =
+    rw c.told-in_default.ensures (calls_alike c.args.node.now c.take_value.new.self _ _ (disk_was_told c.take_value.result) (disk_told c.take_value.result) (value_brings (g.R.Replica.stands c.args.node.now) (g.R.Replica.records c.args.node.now) c.args.tag c.args.payload.now (omega arith)) c.take_value.ensures.calls)

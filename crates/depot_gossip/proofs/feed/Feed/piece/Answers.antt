@@ -1,5 +1,6 @@
 use Rattle.std.proofs.Common.{refl}
 use Rattle.depot_model.specs.Frames.{frame_at}
+use Rattle.depot_gossip.proofs.StreamCalls.{nothing_called_for}
 use Rattle.depot_gossip.proofs.FeedGrowth.{nothing_fed}
 use Rattle.depot_gossip.proofs.LastingLaws.{nothing_in}
 use Rattle.depot_gossip.proofs.feed.Feed.piece.Goals as goal
@@ -17,3 +18,6 @@ returns-then-is_stopped-clause-lasts g c = nothing_in (g.met.R.Replica.only_now)
 
 pub returns-then-is_stopped-clause-brings : goal.returns-then-is_stopped-clause-brings
 returns-then-is_stopped-clause-brings g c = nothing_fed (g.met.R.Replica.only_now) _ _ _ c.args.node.now refl c.is_stopped.ensures.stable
+
+pub returns-then-is_stopped-clause-calls : goal.returns-then-is_stopped-clause-calls
+returns-then-is_stopped-clause-calls g c = nothing_called_for (g.met.R.Replica.after_none) _ _ _ c.args.node.now refl (λ e. cc)

@@ -3,11 +3,13 @@ use Rattle.std.proofs.lemmas.Result.{err_from_is_err_and}
 use Rattle.depot_base.specs.declared.record.Record.{Record}
 use Rattle.depot_model.specs.declared.bundle.Refusal.{Refusal}
 use Rattle.depot_model.specs.Feeding.{passed, counted}
+use Rattle.depot_model.proofs.CallsOnDisk.{nothing_called, called_well, calls_alike}
 use Rattle.depot_gossip.specs.Pieces.{at_work}
-use Rattle.depot_gossip.specs.Calls.{stream_by}
+use Rattle.depot_gossip.specs.NodeCalls.{stream_by}
+use Rattle.depot_gossip.proofs.StreamCalls.{same_error}
 use Rattle.depot_gossip.proofs.GivenLaws.{end_is_passed, counted_is_fed, error_leaves}
-use Rattle.depot_gossip.proofs.FeedGrowth.{given_lasts}
-use Rattle.depot_gossip.proofs.LastingLaws.{nothing_lasts, nothing_in, lasts_longer}
+use Rattle.depot_gossip.proofs.FeedGrowth.{given_brings}
+use Rattle.depot_gossip.proofs.LastingLaws.{nothing_lasts, nothing_in, lasts_longer, lasts_alike}
 use Rattle.depot_gossip.proofs.tally.Tally.take.Goals as goal
 
 pub returns-then-tag-eq4-clause-takes : goal.returns-then-tag-eq4-clause-takes
@@ -49,7 +51,25 @@ pub returns-in_err-reserve-clause-brings : goal.returns-in_err-reserve-clause-br
 returns-in_err-reserve-clause-brings g c = lasts_longer c.args.node.now c.args.node.now [] _ (nothing_lasts (g.met.R.Replica.only_now) c.args.node.now c.requires.stable)
 
 pub returns-in_err-answer-clause-brings : goal.returns-in_err-answer-clause-brings
-returns-in_err-answer-clause-brings g c = given_lasts (g.R.Replica.stands c.args.node.now) (record { tag = c.args.tag; payload = c.args.payload.now }) c.args.node.now c.give.new.node (omega arith) c.give.ensures.brings
+returns-in_err-answer-clause-brings g c = lasts_alike c.args.node.now c.give.new.node _ _ (given_brings (g.R.Replica.stands c.args.node.now) (g.R.Replica.records c.args.node.now) (record { tag = c.args.tag; payload = c.args.payload.now }) (omega arith)) c.give.ensures.brings
 
 pub returns-clause-brings : goal.returns-clause-brings
-returns-clause-brings g c = given_lasts (g.R.Replica.stands c.args.node.now) (record { tag = c.args.tag; payload = c.args.payload.now }) c.args.node.now c.give.new.node (omega arith) c.give.ensures.brings
+returns-clause-brings g c = lasts_alike c.args.node.now c.give.new.node _ _ (given_brings (g.R.Replica.stands c.args.node.now) (g.R.Replica.records c.args.node.now) (record { tag = c.args.tag; payload = c.args.payload.now }) (omega arith)) c.give.ensures.brings
+
+-- ---- which calls it makes on its disk
+
+pub returns-then-tag-eq4-clause-calls : goal.returns-then-tag-eq4-clause-calls
+returns-then-tag-eq4-clause-calls g c = nothing_called (g.met.R.Replica.after_none) c.args.node.now _ (λ e. cc)
+
+pub returns-in_err-reserve-clause-calls : goal.returns-in_err-reserve-clause-calls
+returns-in_err-reserve-clause-calls g c =
+    let p = err_from_is_err_and c.from_residual.result c.from_residual.ensures.1 in
+    rw (p.1, p.2) (nothing_called (g.met.R.Replica.after_none) c.args.node.now _ (λ e. cc))
+
+pub returns-in_err-answer-clause-calls : goal.returns-in_err-answer-clause-calls
+returns-in_err-answer-clause-calls g c =
+    let p = err_from_is_err_and c.from_residual-in_err-answer.result c.from_residual-in_err-answer.ensures.1 in
+    rw (p.1, p.2) (calls_alike c.args.node.now c.give.new.node _ _ (same_error c.in_err-answer.field-0.0 _) (same_error c.in_err-answer.field-0.0 _) (given_brings (g.R.Replica.stands c.args.node.now) (g.R.Replica.records c.args.node.now) (record { tag = c.args.tag; payload = c.args.payload.now }) (omega arith)) c.in_err-answer.ensures.calls)
+
+pub returns-clause-calls : goal.returns-clause-calls
+returns-clause-calls g c = called_well c.args.node.now c.give.new.node _ _ (λ e. cc) (λ e. cc) c.in_ok-answer.ensures.calls

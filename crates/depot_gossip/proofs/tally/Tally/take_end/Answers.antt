@@ -1,7 +1,7 @@
 use Rattle.std.proofs.Common.{Bool, false, Some, [], ap, ◌∙◌}
 use Rattle.depot_model.specs.Feeding.{passed}
 use Rattle.depot_gossip.specs.Pieces.{at_work}
-use Rattle.depot_gossip.specs.Calls.{stream_by}
+use Rattle.depot_gossip.specs.NodeCalls.{stream_by}
 use Rattle.depot_gossip.proofs.tally.Tally.take_end.Goals as goal
 
 pub returns-clause-takes : goal.returns-clause-takes

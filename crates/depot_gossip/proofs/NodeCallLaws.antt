@@ -3,7 +3,7 @@ use Rattle.std.proofs.Common.{◌≡◌, ◌<◌, ◌≤◌, ℕ, Bool, true, fa
 use Rattle.depot_base.specs.declared.key.PublicKey.{PublicKey}
 use Rattle.depot_model.specs.Checks.{Setting}
 use Rattle.depot_model.specs.Bundle.{Signs}
-use Rattle.depot_gossip.specs.Calls.{IsKept}
+use Rattle.depot_gossip.specs.NodeCalls.{IsKept}
 
 -- a node that wasn't called
 pub uncalled : (here : Setting) (key : PublicKey) (sign : Signs) (handle count : ℕ) (faultless : Type 0) (stopped : Bool) → stopped ≡ false
