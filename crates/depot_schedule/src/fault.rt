@@ -1,4 +1,4 @@
-//! Why a text is no schedule.
+//! Why a text is no schedule, or what is wrong with a line of another text of lines.
 ghost use Rattle.std.specs.Prelude.{◌≡◌};
 ghost use Rattle.depot_schedule.specs.declared.fault.LineError.TheVariants as error;
 
@@ -14,7 +14,7 @@ pub enum LineFault {
     Long,
     /// A line of the header isn't in its form or place, declares a node twice or one too many, or is absent.
     Header,
-    /// It isn't words apart by one space, or its first word names no event.
+    /// It isn't words apart by one space, or its first word names no event or command.
     Word,
     /// It has too few or too many words.
     Fields,
@@ -25,7 +25,7 @@ pub enum LineFault {
     /// A number is that of no declared node of the kind that the event needs.
     Node,
     /// A label isn't in its form, is made twice, isn't made before or isn't of the kind needed; a name is no kind of contradiction; an
-    /// image isn't 0, 1 or 2; or there are too many references.
+    /// image isn't 0, 1 or 2; or there are too many references. In a script the name of a file isn't in its form.
     Label,
 }
 

@@ -37,7 +37,7 @@ fn text_of(bytes: &[u8]) -> Option<&str>
 }
 
 impl FileName {
-    /// The name of these bytes. None exactly where they are no name.
+    /// The name of these bytes, copied. None exactly where they are no name.
     pub fn new(alloc: Global, bytes: &[u8]) -> Result<Option<FileName>, Memory>
         ensures { IfOk result (λ name. name ≡ when (is_file_name bytes.now) bytes.now) }
     {

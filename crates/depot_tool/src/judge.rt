@@ -1,5 +1,5 @@
 //! `judge ROSTER PROOF`: whether a text proves a contradiction.
-ghost use Rattle.std.specs.Prelude.{◌≡◌, ◌++◌, ◌∷◌, [], IfOk, codes, Ok, Err, string_bytes};
+ghost use Rattle.std.specs.Prelude.{◌≡◌, ◌++◌, ◌∷◌, [], IfOk, codes, Ok, Err};
 ghost use Rattle.depot_model.specs.Lines.{text_of_verdict, text_of_point, text_of_roster_error};
 ghost use Rattle.depot_model.specs.Judgement.{IsJudgementOf};
 ghost use Rattle.depot_model.specs.Winternitz.{winternitz_verifies};
@@ -8,93 +8,48 @@ ghost use Rattle.depot_tool.specs.Runs.{shelves, loads, HasLoaded, EndsAtFault, 
 use crate::load::load;
 use crate::outcome::Outcome;
 use crate::status::Status;
-use depot_base::Memory;
-use depot_judge::{Half, JudgeError, Verdict};
+use depot_base::{Bytes, Memory};
+use depot_judge::{JudgeError, Verdict};
 use depot_outside::Shelf;
-use depot_schedule::spelling::name_of_kind;
 use depot_sign::{Roster, RosterError};
 use depot_winter::WinterScheme;
 use std::alloc::Global;
 
-/// A failed point, and what it carries.
-fn text_of_point(alloc: Global, point: &JudgeError) -> Result<String, Memory>
-    ensures { IfOk result (λ text. string_bytes text ≡ text_of_point point.now) }
+/// A text as a line.
+fn line(status: Status, mut text: Bytes) -> Result<Outcome, Memory>
+    ensures { IfOk result (λ o. o ≡ record { status = status; text = text ++ codes "\n" }) }
 {
-    match point {
-        JudgeError::Memory => Ok(String::new(alloc)),
-        JudgeError::IllFormed(at) => Ok(format!(in alloc; "IllFormed {at}")?),
-        JudgeError::UnknownWriter(node) => {
-            let node = node.number();
-            Ok(format!(in alloc; "UnknownWriter {node}")?)
-        }
-        JudgeError::BadSignature(Half::First) => Ok(String::from_str(alloc, "BadSignature first")?),
-        JudgeError::BadSignature(Half::Second) => Ok(String::from_str(
-            alloc,
-            "BadSignature second",
-        )?),
-        JudgeError::TwoWriters(first, second) => {
-            let first = first.number();
-            let second = second.number();
-            Ok(format!(in alloc; "TwoWriters {first} {second}")?)
-        }
-        JudgeError::Same => Ok(String::from_str(alloc, "Same")?),
-        JudgeError::WrongOrder => Ok(String::from_str(alloc, "WrongOrder")?),
-        JudgeError::NotContradictory(kind) => {
-            let kind = name_of_kind(*kind);
-            Ok(format!(in alloc; "NotContradictory {kind}")?)
-        }
-    }
-}
-
-/// Where a roster goes wrong.
-fn text_of_roster_error(alloc: Global, error: RosterError) -> Result<String, Memory>
-    ensures { IfOk result (λ text. string_bytes text ≡ text_of_roster_error error) }
-{
-    match error {
-        RosterError::Memory => Ok(String::new(alloc)),
-        RosterError::IllFormed(at) => Ok(format!(in alloc; "at {at}")?),
-        RosterError::TwiceNode(node) => {
-            let node = node.number();
-            Ok(format!(in alloc; "twice {node}")?)
-        }
-        RosterError::TooMany(count) => Ok(format!(in alloc; "many {count}")?),
-    }
-}
-
-/// The node and the kind of a verdict.
-fn text_of_verdict(alloc: Global, verdict: Verdict) -> Result<String, Memory>
-    ensures { IfOk result (λ text. string_bytes text ≡ text_of_verdict verdict) }
-{
-    let node = verdict.node.number();
-    let kind = name_of_kind(verdict.kind);
-    Ok(format!(in alloc; "{node} {kind}")?)
+    text.push_all(b"\n")?;
+    Ok(Outcome { status, text })
 }
 
 /// A verdict, printed.
 fn verdict(alloc: Global, verdict: Verdict) -> Result<Outcome, Memory>
     ensures { IfOk result (λ o. o ≡ record { status = Status.Done; text = text_of_verdict verdict ++ codes "\n" }) }
 {
-    let text = text_of_verdict(alloc, verdict)?;
-    let line = format!(in alloc; "{text}\n")?;
-    Outcome::of_line(alloc, Status::Done, line.as_str())
+    let mut text = Bytes::new(alloc);
+    depot_answers::verdict(alloc, &mut text, &verdict)?;
+    line(Status::Done, text)
 }
 
 /// A failed point, printed.
 fn no_proof(alloc: Global, point: &JudgeError) -> Result<Outcome, Memory>
     ensures { IfOk result (λ o. o ≡ record { status = Status.NoProof; text = text_of_point point.now ++ codes "\n" }) }
 {
-    let text = text_of_point(alloc, point)?;
-    let line = format!(in alloc; "{text}\n")?;
-    Outcome::of_line(alloc, Status::NoProof, line.as_str())
+    let mut text = Bytes::new(alloc);
+    depot_answers::point(alloc, &mut text, point)?;
+    line(Status::NoProof, text)
 }
 
 /// The file of that name is no roster, printed.
+#[tactic(auto, using(depot_base::proofs::Writing::texts))]
 fn no_roster(alloc: Global, name: &str, error: RosterError) -> Result<Outcome, Memory>
     ensures { IfOk result (λ o. o ≡ record { status = Status.Input; text = codes "input " ++ name.now ++ codes " " ++ text_of_roster_error error ++ codes "\n" }) }
 {
-    let place = text_of_roster_error(alloc, error)?;
-    let line = format!(in alloc; "input {name} {place}\n")?;
-    Outcome::of_line(alloc, Status::Input, line.as_str())
+    let front = format!(in alloc; "input {name} ")?;
+    let mut text = Bytes::from_slice(alloc, front.as_bytes())?;
+    depot_answers::roster_error(alloc, &mut text, &error)?;
+    line(Status::Input, text)
 }
 
 /// The judgement of the bytes of a proof, printed.

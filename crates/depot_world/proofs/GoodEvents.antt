@@ -12,7 +12,7 @@ use Rattle.depot_model.proofs.Members.{in_pushed}
 use Rattle.depot_model.proofs.TextLaws.{proof_lawful}
 use Rattle.depot_schedule.specs.declared.event.Event.{Event}
 use Rattle.depot_schedule.specs.declared.event.Event.TheVariants as event
-use Rattle.depot_world.specs.Answers.{spaced}
+use Rattle.depot_answers.specs.Answers.{spaced}
 use Rattle.depot_world.specs.Deeds.{put_by, get_by, hello_by, bundle_by, give_by, restart_by}
 use Rattle.depot_world.specs.Run.{Station, Run, station_in, bytes_of, seen_with, with_station}
 use Rattle.depot_world.specs.Signing.{counted_bytes, no_reference, update_text, updated, vouched_text, proof_text, proof_in, flip_at}

@@ -30,7 +30,7 @@ use Rattle.depot_schedule.specs.EventLines.{put, get, hello as hello_schedule_ev
 use Rattle.depot_schedule.specs.Schedules.{text_of_schedule, read_line, schedule_of}
 use Rattle.depot_schedule.specs.Spelling.{value_behind}
 use Rattle.depot_schedule.specs.Vocabulary.{named_by}
-use Rattle.depot_world.specs.Answers.{text_of_check, text_of_limit, text_of_report}
+use Rattle.depot_answers.specs.Answers.{text_of_check, text_of_limit, text_of_report}
 use Rattle.depot_world.specs.Deeds.{put_by, get_by, hello_by, bundle_by, give_by, restart_by}
 use Rattle.depot_world.specs.Latest.{latest_in}
 use Rattle.depot_world.specs.Insertion.{insert_by, order_by}

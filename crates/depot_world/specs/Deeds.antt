@@ -1,10 +1,8 @@
 -- What the events of correct nodes do.
 use Rattle.std.specs.Prelude.{ℕ, ◌-◌, List, [], ◌∷◌, ◌++◌, length, map, Some, None, codes}
 use Rattle.std.specs.List.{flat_map}
-use Rattle.std.specs.Fmt.{decimal}
 use Rattle.depot_base.specs.declared.record.Record.{Record}
 use Rattle.depot_base.specs.declared.record.Record.TheVariants.{OwnPut}
-use Rattle.depot_base.specs.declared.update.Update.{Update}
 use Rattle.depot_model.specs.Bundle.{Signs, BundleAnswer, bundled, bad_hello, other_roster, limited, bundle_answer, bytes_of_bundle}
 use Rattle.depot_model.specs.Checks.{Setting}
 use Rattle.depot_model.specs.Feeding.{Feeding, feed_of}
@@ -14,7 +12,7 @@ use Rattle.depot_model.specs.Limits.{limit_of_put}
 use Rattle.depot_model.specs.Own.{next_own}
 use Rattle.depot_model.specs.Vouching.{records_of}
 use Rattle.depot_model.specs.World.{Correct, Read, Shown, value_under}
-use Rattle.depot_world.specs.Answers.{spaced, numbered, text_of_limit, text_of_write, text_of_named, text_of_counts, name_of_more, text_of_report, text_of_refusal}
+use Rattle.depot_answers.specs.Answers.{spaced, numbered, text_of_limit, text_of_put, text_of_write, text_of_records, text_of_named, text_of_counts, name_of_more, text_of_report, text_of_refusal}
 use Rattle.depot_world.specs.Latest.{latest_in}
 use Rattle.depot_world.specs.Stops.{Deed, calls_to_append}
 
@@ -27,10 +25,6 @@ abbrev pub grown : Correct → List Record → List ℕ → List ℕ → Deed
 grown c longer answer bytes = record { journal = longer; reads = c.reads; calls = calls_to_append (length longer - length c.journal); answer = spaced answer; behind = []; bytes = bytes }
 
 -- ---- writing and reading
-
--- an update's seq and clock
-abbrev pub text_of_put : Update → List ℕ
-text_of_put u = decimal u.seq ++ codes "/" ++ decimal u.clock
 
 -- a put: the next own update, unless it meets a limit
 unfoldable pub put_by : Setting → Correct → List ℕ → List ℕ → Deed
@@ -89,10 +83,6 @@ unfoldable pub give_by : Setting → Correct → List ℕ → Deed
 give_by here c stream = fed_by c (feed_of here c.journal stream)
 
 -- ---- starting again
-
--- how many records a journal has
-abbrev pub text_of_records : List Record → List ℕ
-text_of_records J = numbered (codes "records") (length J)
 
 -- A node is started again from its disk: a sync, a look at the file's length, and a read of its bytes.
 unfoldable pub restart_by : Correct → Deed

@@ -1,4 +1,3 @@
-pub mod Answers
 pub mod Deeds
 pub mod Insertion
 pub mod Latest

@@ -26,7 +26,7 @@ use Rattle.depot_model.specs.Vouching.{rising}
 use Rattle.depot_schedule.specs.declared.event.HistoryWord.{HistoryWord}
 use Rattle.depot_schedule.specs.declared.event.HistoryWord.TheVariants as history
 use Rattle.depot_schedule.specs.declared.event.Ref.{Ref}
-use Rattle.depot_world.specs.Answers.{spaced, numbered}
+use Rattle.depot_answers.specs.Answers.{spaced, numbered}
 use Rattle.depot_world.specs.Run.{Run, referred, signed_of}
 use Rattle.depot_world.specs.Suite.{Stage}
 

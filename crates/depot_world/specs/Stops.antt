@@ -2,7 +2,7 @@
 use Rattle.std.specs.Prelude.{ℕ, ◌+◌, ◌-◌, ◌*◌, ◌/◌, ◌%◌, List, [], ◌∷◌, ◌++◌, length, take, drop, ◌&&◌, ◌==◌, nat_le, Option, Some, None, codes, if◌then◌else◌}
 use Rattle.depot_base.specs.declared.record.Record.{Record}
 use Rattle.depot_model.specs.World.{Read}
-use Rattle.depot_world.specs.Answers.{numbered}
+use Rattle.depot_answers.specs.Answers.{numbered}
 use Rattle.depot_world.specs.Run.{Armed, Station}
 
 -- An event of a node as it goes where no stop falls into it: the journal and the reads after it, how many calls it makes of the disk, what

@@ -7,6 +7,8 @@ use Rattle.depot_base.specs.declared.check.Check.TheVariants as check
 use Rattle.depot_base.specs.declared.check.Full.{Full}
 use Rattle.depot_base.specs.declared.check.FullOf.{FullOf}
 use Rattle.depot_base.specs.declared.check.FullOf.TheVariants as full_of
+use Rattle.depot_base.specs.declared.record.Record.{Record}
+use Rattle.depot_base.specs.declared.update.Update.{Update}
 use Rattle.depot_model.specs.declared.bundle.Counts.{Counts}
 use Rattle.depot_model.specs.declared.bundle.Refusal.{Refusal}
 use Rattle.depot_model.specs.declared.hello.Hello.{Hello}
@@ -16,6 +18,8 @@ use Rattle.depot_model.specs.declared.bundle.Ending.TheVariants as ending
 use Rattle.depot_model.specs.Limits.{Limit, spent, tips, collides, full}
 use Rattle.depot_model.specs.Lines.{name_of_kind}
 use Rattle.depot_model.specs.World.{Shown}
+use Rattle.depot_schedule.specs.declared.fault.LineFault.{LineFault}
+use Rattle.depot_schedule.specs.declared.fault.LineFault.TheVariants as line_fault
 
 -- a text behind a space
 abbrev pub spaced : List ℕ → List ℕ
@@ -63,7 +67,11 @@ text_of_limit (tips n) = numbered (codes "Tips") n
 text_of_limit (collides id) = codes "Collides"
 text_of_limit (full f) = text_of_full f
 
--- ---- writes
+-- ---- writes and reads
+
+-- what a put made: the update's seq and clock
+abbrev pub text_of_put : Update → List ℕ
+text_of_put u = decimal u.seq ++ codes "/" ++ decimal u.clock
 
 abbrev pub text_of_value : Option (List ℕ) → List ℕ
 text_of_value None = codes "?"
@@ -72,6 +80,12 @@ text_of_value (Some value) = encode_lower value
 -- a write that a read shows: `WRITER/SEQ/CLOCK=VALUE`
 abbrev pub text_of_write : Shown → List ℕ
 text_of_write s = decimal s.update.writer ++ codes "/" ++ decimal s.update.seq ++ codes "/" ++ decimal s.update.clock ++ codes "=" ++ text_of_value s.value
+
+-- ---- journals
+
+-- how many records a journal has
+abbrev pub text_of_records : List Record → List ℕ
+text_of_records J = numbered (codes "records") (length J)
 
 -- ---- hellos, bundles, reports
 
@@ -112,3 +126,20 @@ text_of_report s = numbered (codes "accepted") s.accepted ++ spaced (numbered (c
 -- a refusal, on a line of its own: the number of the frame, and the check
 abbrev pub text_of_refusal : Refusal → List ℕ
 text_of_refusal r = spaced (numbered (codes "refused") r.frame ++ spaced (text_of_check r.check))
+
+-- ---- texts of lines
+
+abbrev pub name_of_line_fault : LineFault → List ℕ
+name_of_line_fault line_fault.End = codes "End"
+name_of_line_fault line_fault.Long = codes "Long"
+name_of_line_fault line_fault.Header = codes "Header"
+name_of_line_fault line_fault.Word = codes "Word"
+name_of_line_fault line_fault.Fields = codes "Fields"
+name_of_line_fault line_fault.Number = codes "Number"
+name_of_line_fault line_fault.Hex = codes "Hex"
+name_of_line_fault line_fault.Node = codes "Node"
+name_of_line_fault line_fault.Label = codes "Label"
+
+-- which line of a text isn't in its form, and why
+abbrev pub text_of_faulty_line : ℕ → LineFault → List ℕ
+text_of_faulty_line number fault = numbered (codes "line") number ++ spaced (name_of_line_fault fault)

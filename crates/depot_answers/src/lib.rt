@@ -1,0 +1,29 @@
+//! What is printed of answers: of a put and a read, of a refusal, of what two nodes exchanged, of a judgement.
+//!
+//! Each function adds one text at the end of the bytes so far: the one that `specs/Answers.antt` or `depot_model/specs/Lines.antt`
+//! gives for that answer, without LF. Where no memory is found, a front of it may have been added.
+//!
+//! `checks` has failed checks and refusals, `limits` the limits that a node meets, `journals` what is put, read and counted of a
+//! journal, `exchanges` hellos, bundles and streams, `judgements` rosters and proofs, `faults` faulty lines, and `words` what these are made of.
+//!
+//! Nothing here reads, decides or prints.
+#![tactic(auto)]
+
+mod checks;
+mod exchanges;
+mod faults;
+mod journals;
+mod judgements;
+mod limits;
+mod words;
+
+pub use checks::{check, refusal};
+pub use exchanges::{Closing, counts, named, report};
+pub use faults::faulty_line;
+pub use journals::{put, records, write};
+pub use judgements::{point, roster_error, verdict};
+pub use limits::{collides, full, spent, tips};
+pub use words::numbered;
+
+#[cfg(test)]
+mod tests;
