@@ -1,22 +1,18 @@
 -- What a run comes to where nothing fails.
-use Rattle.std.proofs.Common.{◌≡◌, ℕ, ◌⊎◌, List, Option, Some, None, Err, Result, refl, subst, inl, inr, arith}
-use Rattle.std.specs.Bool.{IsTrue}
-use Rattle.std.specs.Result.{IsErrOf}
-use Rattle.depot_base.specs.Faults.{HasCause}
-use Rattle.depot_outside.specs.Outside.{Writes}
-use Rattle.depot_outside.specs.declared.error.OutError.{OutError}
-use Rattle.depot_outside.specs.declared.error.OutError.TheVariants as error
+use Rattle.std.proofs.Common.{◌≡◌, ℕ, ◌⊎◌, List, Option, Some, None, refl, ap, ◌∙◌, subst, inl, inr, arith}
 use Rattle.depot_base.specs.Format.{whole}
 use Rattle.depot_base.specs.declared.update.Update.{Update}
 use Rattle.depot_base.specs.declared.key.RosterEntry.{RosterEntry}
 use Rattle.depot_model.specs.Log.{first_orphan}
 use Rattle.depot_sign.proofs.Causes.{refused_is_none}
 use Rattle.depot_model.proofs.LogLaws.{one_log, log_has_no_fault}
+use Rattle.depot_schedule.specs.Schedules.{schedule_of}
+use Rattle.depot_schedule.proofs.ScheduleLaws.{schedule_again}
 use Rattle.depot_tool.specs.declared.status.Status.{Status}
-use Rattle.depot_tool.specs.declared.status.Status.TheVariants.{Done, Words, Input, Shelf, Disk, Sink, Memory, NoProof, Limit, NotLawful, Identity}
+use Rattle.depot_tool.specs.declared.status.Status.TheVariants.{Done, Input, Shelf, Memory, NoProof, NotLawful}
 use Rattle.depot_tool.specs.declared.command.Command.{Command}
 use Rattle.depot_tool.specs.declared.command.Command.TheVariants as asked
-use Rattle.depot_tool.specs.Runs.{Shelves, Loads, Sinks, HasFile, LacksFile, IsNoLog, IsOrphaned, Scans, PrintsKey, IsRosterText, IsNoRoster, HasRoster, JudgesProof, Judges, Answers, IsWell, IsWholeLog, Completes, EndsCutShort}
+use Rattle.depot_tool.specs.Runs.{Shelves, Loads, Sinks, HasFile, LacksFile, IsNoLog, IsOrphaned, Scans, PrintsKey, IsRosterText, IsNoRoster, HasRoster, JudgesProof, Judges, IsNoSchedule, Replays, Answers, Begins, Ends, IsWell, IsWholeLog, IsScheduleText, Completes}
 
 -- a file that is there isn't lacking where the shelf is well
 not_lacking : (shelf : Shelves) (sink : Sinks) (name bytes : List ℕ) → IsWell shelf sink → shelf.file name ≡ Some bytes → LacksFile shelf name → ⊥
@@ -47,26 +43,11 @@ scan_completes shelf sink log key Done text well answer whole = inl refl
 scan_completes shelf sink log key Input text well answer whole = absurd (no_log shelf log text whole (answer well.tells))
 scan_completes shelf sink log key NotLawful text well answer whole = absurd (no_orphan shelf log text whole (answer well.tells))
 scan_completes shelf sink log key Shelf text well answer whole = absurd (not_lacking shelf sink log whole.bytes well whole.there answer.0)
-scan_completes shelf sink log key Words text well answer whole = absurd answer
-scan_completes shelf sink log key Disk text well answer whole = absurd answer
-scan_completes shelf sink log key Sink text well answer whole = absurd answer
-scan_completes shelf sink log key Memory text well answer whole = absurd answer
-scan_completes shelf sink log key NoProof text well answer whole = absurd answer
-scan_completes shelf sink log key Limit text well answer whole = absurd answer
-scan_completes shelf sink log key Identity text well answer whole = absurd answer
+scan_completes shelf sink log key status text well answer whole = absurd answer
 
 key_completes : (seed : List ℕ) (height : ℕ) (status : Status) (text : List ℕ) → PrintsKey seed height status text → (status ≡ Done) ⊎ (status ≡ Memory)
 key_completes seed height Done text answer = inl refl
-key_completes seed height Words text answer = absurd answer
-key_completes seed height Input text answer = absurd answer
-key_completes seed height Shelf text answer = absurd answer
-key_completes seed height Disk text answer = absurd answer
-key_completes seed height Sink text answer = absurd answer
-key_completes seed height Memory text answer = absurd answer
-key_completes seed height NoProof text answer = absurd answer
-key_completes seed height Limit text answer = absurd answer
-key_completes seed height NotLawful text answer = absurd answer
-key_completes seed height Identity text answer = absurd answer
+key_completes seed height status text answer = absurd answer
 
 -- a roster's text is not refused
 no_roster : (shelf : Shelves) (name text : List ℕ) → HasRoster shelf name → HasFile shelf name (IsNoRoster name text) → ⊥
@@ -79,35 +60,46 @@ proof_completes : (shelf : Shelves) (sink : Sinks) (listed : List RosterEntry) (
 proof_completes shelf sink listed proof Done text well answer there = inl refl
 proof_completes shelf sink listed proof NoProof text well answer there = inr (inl refl)
 proof_completes shelf sink listed proof Shelf text well answer there = absurd (not_lacking shelf sink proof there.bytes well there.there answer.0)
-proof_completes shelf sink listed proof Words text well answer there = absurd answer
-proof_completes shelf sink listed proof Input text well answer there = absurd answer
-proof_completes shelf sink listed proof Disk text well answer there = absurd answer
-proof_completes shelf sink listed proof Sink text well answer there = absurd answer
-proof_completes shelf sink listed proof Memory text well answer there = absurd answer
-proof_completes shelf sink listed proof Limit text well answer there = absurd answer
-proof_completes shelf sink listed proof NotLawful text well answer there = absurd answer
-proof_completes shelf sink listed proof Identity text well answer there = absurd answer
+proof_completes shelf sink listed proof status text well answer there = absurd answer
 
 judge_completes : (shelf : Shelves) (loads : Loads) (sink : Sinks) (name proof : List ℕ) (status : Status) (text : List ℕ) → IsWell shelf sink → Judges shelf loads name proof status text → HasRoster shelf name → HasFile shelf proof (λ bytes. Unit {0}) → (status ≡ Done) ⊎ ((status ≡ NoProof) ⊎ (status ≡ Memory))
 judge_completes shelf loads sink name proof status text well (inl (loaded, (is, (lacks, line)))) good there = absurd (not_lacking shelf sink name good.bytes well good.there lacks)
 judge_completes shelf loads sink name proof status text well (inr (inl (loaded, (is, broken)))) good there = absurd (no_roster shelf name text good (broken well.tells))
 judge_completes shelf loads sink name proof status text well (inr (inr (loaded, (listed, (there_too, judged))))) good there = proof_completes shelf sink listed proof status text well judged there
 
+-- a schedule's text has no faulty line
+no_schedule : (shelf : Shelves) (name text : List ℕ) → HasFile shelf name IsScheduleText → HasFile shelf name (IsNoSchedule name text) → ⊥
+no_schedule shelf name text good broken =
+    let same = one_file shelf name good.bytes broken.bytes good.there broken.there in
+    let is = subst IsScheduleText same good.holds in
+    let read = ap schedule_of is.1.is ∙ schedule_again is.0 is.1.has in
+    let first = broken.holds.first in
+    cc
+
+replay_completes : (shelf : Shelves) (sink : Sinks) (name : List ℕ) (status : Status) (text : List ℕ) → IsWell shelf sink → Replays shelf name status text → HasFile shelf name IsScheduleText → (status ≡ Done) ⊎ (status ≡ Memory)
+replay_completes shelf sink name Done text well answer good = inl refl
+replay_completes shelf sink name Input text well answer good = absurd (no_schedule shelf name text good (answer well.tells))
+replay_completes shelf sink name Shelf text well answer good = absurd (not_lacking shelf sink name good.bytes well good.there answer.0)
+replay_completes shelf sink name status text well answer good = absurd answer
+
 -- what a command answers is what it comes to
-pub completes : (shelf : Shelves) (loads : Loads) (sink : Sinks) (command : Option Command) (status : Status) (text : List ℕ) → Answers shelf loads command status text → IsWell shelf sink → Completes shelf command status
+completes : (shelf : Shelves) (loads : Loads) (sink : Sinks) (command : Option Command) (status : Status) (text : List ℕ) → Answers shelf loads command status text → IsWell shelf sink → Completes shelf command status
 completes shelf loads sink None status text (loaded, (is, line)) well = inl is
 completes shelf loads sink (Some (asked.Scan log key)) status text (loaded, answer) well = scan_completes shelf sink log key status text well answer
 completes shelf loads sink (Some (asked.Root seed height)) status text (loaded, answer) well = key_completes seed height status text answer
 completes shelf loads sink (Some (asked.Judge name proof)) status text answer well = judge_completes shelf loads sink name proof status text well answer
+completes shelf loads sink (Some (asked.Replay name)) status text (loaded, answer) well = replay_completes shelf sink name status text well answer
 
--- a write that failed leaves a run cut short
-pub cut_short : (answers : Status → List ℕ → Type 0) (sink : Sinks) (answer : Status) (text : List ℕ) (result : Result (Unit {0}) OutError) → answers answer text → result ≡ Err error.Failed
-    → (IsTrue sink.tells → Writes sink.before sink.after text result) → HasCause sink.faults_before sink.faults_after (IsErrOf result error.Failed) → EndsCutShort answers sink Sink
-cut_short answers sink answer text result answered failed writes cause = record {
-  is = refl;
-  rose = cause.rose (rw failed refl);
-  answer = answer;
-  text = text;
-  answered = answered;
-  wrote = λ tells. rw failed at (writes tells);
-}
+-- memory may run out in place of each
+without_memory : (shelf : Shelves) (command : Option Command) (status : Status) → status ≡ Memory → Completes shelf command status
+without_memory shelf None status is = inr is
+without_memory shelf (Some (asked.Scan log key)) status is = λ there. inr is
+without_memory shelf (Some (asked.Root seed height)) status is = inr is
+without_memory shelf (Some (asked.Judge name proof)) status is = λ good there. inr (inr is)
+without_memory shelf (Some (asked.Replay name)) status is = λ good. inr is
+
+-- a run that ends as its command answers completes it, where nothing failed
+pub ends_complete : (shelf : Shelves) (loads : Loads) (sink : Sinks) (command : Option Command) (status : Status) → Ends (Answers shelf loads command) (Begins shelf loads command) sink status → IsWell shelf sink → Completes shelf command status
+ends_complete shelf loads sink command status (inl e) well = completes shelf loads sink command status e.text e.answered well
+ends_complete shelf loads sink command status (inr (inl e)) well = without_memory shelf command status e.is
+ends_complete shelf loads sink command status (inr (inr e)) well = absurd (omega (arith, e.rose, well.sink_is_well))

@@ -4,5 +4,6 @@ pub mod OrderSteps
 pub mod CoveredLaws
 pub mod WalkSteps
 pub mod ListedOrder
+pub mod Endings
 pub mod Completing
 pub mod Printing

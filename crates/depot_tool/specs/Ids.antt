@@ -1,5 +1,5 @@
 -- The table of ids: which it knows, and which of those are covered.
-use Rattle.std.specs.Prelude.{◌≡◌, ℕ, List, ◌||◌, Bool, false, Option, Some, is_some, unwrap_or, if◌then◌else◌}
+use Rattle.std.specs.Prelude.{◌≡◌, ℕ, List, ◌||◌, Bool, false, Some, is_some, unwrap_or, if◌then◌else◌}
 use Rattle.std.specs.HashMap.{HashMap, get}
 use Rattle.std.specs.Str.{bytes_eq}
 use Rattle.std.specs.declared.hash.FoldHasher.{FoldHasher}

@@ -1,8 +1,9 @@
 -- What each command answers and prints, and how a run ends.
-use Rattle.std.specs.Prelude.{◌≡◌, ◌<◌, ◌⊎◌, ℕ, List, [], ◌∷◌, ◌++◌, codes, take, Bool, IsTrue, Option, Some, None, Ok, Err}
+use Rattle.std.specs.Prelude.{◌≡◌, ◌<◌, ◌⊎◌, ℕ, List, [], ◌∷◌, ◌++◌, codes, take, Bool, IsTrue, Option, Some, None, Result, Ok, Err}
 use Rattle.std.specs.List.{flat_map}
 use Rattle.std.specs.Fmt.{decimal}
 use Rattle.hex.specs.Hex.{encode_lower}
+use Rattle.depot_base.specs.declared.memory.Memory as absent
 use Rattle.depot_base.specs.declared.update.Update.{Update}
 use Rattle.depot_base.specs.declared.key.RosterEntry.{RosterEntry}
 use Rattle.depot_model.specs.declared.judgement.Verdict.{Verdict}
@@ -16,10 +17,20 @@ use Rattle.depot_model.specs.Log.{IsLog, IsLogFault, firsts, first_orphan}
 use Rattle.depot_model.specs.Judgement.{IsJudgementOf}
 use Rattle.depot_model.specs.Winternitz.{root_of, winternitz_verifies}
 use Rattle.depot_model.specs.Lines.{text_of_verdict, text_of_point, text_of_roster_error}
+use Rattle.depot_model.specs.Causality.{IsForkJoinCausal, ConvictsNoCorrectNode}
+use Rattle.depot_model.specs.World.{IsAuthentic, IsCollisionFree}
+use Rattle.depot_answers.specs.Answers.{text_of_faulty_line}
+use Rattle.depot_schedule.specs.Readers.{IsTextOf}
+use Rattle.depot_schedule.specs.Schedules.{schedule_of}
+use Rattle.depot_schedule.specs.declared.fault.LineFault.{LineFault}
+use Rattle.depot_schedule.specs.declared.schedule.Schedule.{Schedule}
+use Rattle.depot_world.specs.Transcript.{transcript_of, world_of}
 use Rattle.depot_tool.specs.Lines.{line_of_write}
 use Rattle.depot_outside.specs.declared.shelf.Shelf.{Ghosts}
+use Rattle.depot_outside.specs.declared.sink.Sink as sink_of
 use Rattle.depot_tool.specs.declared.command.Command.{Command}
 use Rattle.depot_tool.specs.declared.command.Command.TheVariants as asked
+use Rattle.depot_tool.specs.declared.outcome.Outcome.{Outcome}
 use Rattle.depot_tool.specs.declared.status.Status.{Status}
 use Rattle.depot_tool.specs.declared.status.Status.TheVariants.{Done, Words, Input, Shelf, Sink, Memory, NoProof, NotLawful}
 
@@ -163,6 +174,37 @@ Judges shelf loads roster proof status text =
     ((HasLoaded loads (roster ∷ []) × ((status ≡ Input) × WhereTold shelf (HasFile shelf roster (IsNoRoster roster text)))) ⊎
     (HasLoaded loads (roster ∷ proof ∷ []) × ((listed : List RosterEntry) × (WhereTold shelf (HasFile shelf roster (λ bytes. IsRosterText bytes listed)) × JudgesProof shelf listed proof status text))))
 
+-- ---- replay
+
+-- The bytes are the text of a schedule, and the text is its transcript. So it tells of a world that is fork-join causal, while no correct
+-- node's signature is forged and no two hashed texts collide in it, and that convicts no correct node, while none is forged.
+pub record IsReplayed (text bytes : List ℕ) : Type 0 where
+  pub schedule : Schedule
+  pub read : IsTextOf bytes schedule
+  pub is : text ≡ transcript_of schedule
+  pub causal : IsAuthentic (world_of schedule) → IsCollisionFree (world_of schedule) → IsForkJoinCausal (world_of schedule)
+  pub convicts : IsAuthentic (world_of schedule) → ConvictsNoCorrectNode (world_of schedule)
+
+-- the bytes are no schedule's, and the text tells the first faulty line and its first fault
+pub record IsNoSchedule (name text bytes : List ℕ) : Type 0 where
+  pub number : ℕ
+  pub fault : LineFault
+  pub first : schedule_of bytes ≡ Err (number, fault)
+  pub is : text ≡ codes "input " ++ name ++ codes " " ++ text_of_faulty_line number fault ++ codes "\n"
+
+-- what a replay of these bytes answers
+abbrev pub ReplayOf : List ℕ → List ℕ → Status → List ℕ → Type 0
+ReplayOf name bytes Done text = IsReplayed text bytes
+ReplayOf name bytes Input text = IsNoSchedule name text bytes
+ReplayOf name bytes status text = ⊥
+
+-- what `replay` answers, whether or not its schedule can be had
+abbrev pub Replays : Shelves → List ℕ → Status → List ℕ → Type 0
+Replays shelf name Done text = WhereTold shelf (HasFile shelf name (IsReplayed text))
+Replays shelf name Input text = WhereTold shelf (HasFile shelf name (IsNoSchedule name text))
+Replays shelf name Shelf text = LacksFile shelf name × (text ≡ shelf_line name)
+Replays shelf name status text = ⊥
+
 -- ---- any command
 
 -- what the command answers and prints, and which files it loads, where memory is found and the sink doesn't fail
@@ -171,6 +213,16 @@ Answers shelf loads None status text = HasLoaded loads [] × ((status ≡ Words)
 Answers shelf loads (Some (asked.Scan log key)) status text = HasLoaded loads (log ∷ []) × Scans shelf log key status text
 Answers shelf loads (Some (asked.Root seed height)) status text = HasLoaded loads [] × PrintsKey seed height status text
 Answers shelf loads (Some (asked.Judge roster proof)) status text = Judges shelf loads roster proof status text
+Answers shelf loads (Some (asked.Replay schedule)) status text = HasLoaded loads (schedule ∷ []) × Replays shelf schedule status text
+
+-- nothing, or a front of a text of which this holds
+abbrev pub IsFrontOf : (List ℕ → Type 0) → List ℕ → Type 0
+IsFrontOf P text = (text ≡ []) ⊎ ((whole : List ℕ) × ((n : ℕ) × ((text ≡ take n whole) × P whole)))
+
+-- what was written when memory ran out: nothing, or a front of the transcript that `replay` writes line by line
+abbrev pub Begins : Shelves → Loads → Option Command → List ℕ → Type 0
+Begins shelf loads (Some (asked.Replay schedule)) text = IsFrontOf (Answers shelf loads (Some (asked.Replay schedule)) Done) text
+Begins shelf loads command text = text ≡ []
 
 -- ---- the sink as a run leaves it
 
@@ -182,8 +234,8 @@ pub record Sinks : Type 0 where
   pub faults_before : ℕ
   pub faults_after : ℕ
 
-abbrev pub sinks : Bool → List ℕ → List ℕ → ℕ → ℕ → Sinks
-sinks tells before after faults_before faults_after = record { tells = tells; before = before; after = after; faults_before = faults_before; faults_after = faults_after }
+abbrev pub sinks : {S : Type 0} → sink_of.Ghosts S → S → S → Sinks
+sinks g old new = record { tells = g.tells old; before = g.written old; after = g.written new; faults_before = g.faults old; faults_after = g.faults new }
 
 -- this text was added, where the sink tells it
 abbrev pub Wrote : Sinks → List ℕ → Type 0
@@ -199,10 +251,12 @@ pub record EndsWhole (answers : Status → List ℕ → Type 0) (sink : Sinks) (
   pub answered : answers status text
   pub wrote : Wrote sink text
 
--- memory ran out before anything was written
-pub record EndsWithoutMemory (sink : Sinks) (status : Status) : Type 0 where
+-- memory ran out when this had been written
+pub record EndsWithoutMemory (begins : List ℕ → Type 0) (sink : Sinks) (status : Status) : Type 0 where
   pub is : status ≡ Memory
-  pub wrote : Wrote sink []
+  pub text : List ℕ
+  pub begun : begins text
+  pub wrote : Wrote sink text
 
 -- the sink failed in this run: a prefix of the text that the command answers went out
 pub record EndsCutShort (answers : Status → List ℕ → Type 0) (sink : Sinks) (status : Status) : Type 0 where
@@ -214,8 +268,17 @@ pub record EndsCutShort (answers : Status → List ℕ → Type 0) (sink : Sinks
   pub wrote : WrotePrefix sink text
 
 -- How a run ends.
-abbrev pub Ends : (Status → List ℕ → Type 0) → Sinks → Status → Type 0
-Ends answers sink status = EndsWhole answers sink status ⊎ (EndsWithoutMemory sink status ⊎ EndsCutShort answers sink status)
+abbrev pub Ends : (Status → List ℕ → Type 0) → (List ℕ → Type 0) → Sinks → Status → Type 0
+Ends answers begins sink status = EndsWhole answers sink status ⊎ (EndsWithoutMemory begins sink status ⊎ EndsCutShort answers sink status)
+
+-- how a run ends that writes at once the text that it came to
+abbrev pub Finishes : Result Outcome absent.Memory → Sinks → Status → Type 0
+Finishes (Ok o) sink status = Ends (λ answer text. (answer ≡ o.status) × (text ≡ o.text)) (λ text. text ≡ []) sink status
+Finishes (Err e) sink status = EndsWithoutMemory (λ text. text ≡ []) sink status
+
+-- how a run ends that plays a schedule: the whole transcript is written, or a front of it
+abbrev pub Plays : Schedule → Sinks → Status → Type 0
+Plays s sink status = Ends (λ answer text. (answer ≡ Done) × (text ≡ transcript_of s)) (λ text. (n : ℕ) × (text ≡ take n (transcript_of s))) sink status
 
 -- ---- what nothing stands in the way of
 
@@ -231,9 +294,14 @@ pub record IsWholeLog (bytes : List ℕ) : Type 0 where
   pub log : IsLog bytes updates
   pub whole : first_orphan updates ≡ None
 
+-- the bytes are the text of a schedule
+abbrev pub IsScheduleText : List ℕ → Type 0
+IsScheduleText bytes = (s : Schedule) × IsTextOf bytes s
+
 -- what such a run comes to, where its files are there and in their grammars; Memory may stand in place of each status
 abbrev pub Completes : Shelves → Option Command → Status → Type 0
 Completes shelf None status = (status ≡ Words) ⊎ (status ≡ Memory)
 Completes shelf (Some (asked.Scan log key)) status = HasFile shelf log IsWholeLog → (status ≡ Done) ⊎ (status ≡ Memory)
 Completes shelf (Some (asked.Root seed height)) status = (status ≡ Done) ⊎ (status ≡ Memory)
 Completes shelf (Some (asked.Judge roster proof)) status = HasRoster shelf roster → HasFile shelf proof (λ bytes. Unit {0}) → (status ≡ Done) ⊎ ((status ≡ NoProof) ⊎ (status ≡ Memory))
+Completes shelf (Some (asked.Replay schedule)) status = HasFile shelf schedule IsScheduleText → (status ≡ Done) ⊎ (status ≡ Memory)

@@ -1,10 +1,10 @@
 -- Which words are a command.
-use Rattle.std.specs.Prelude.{ℕ, List, [], ◌∷◌, codes, Option, Some, None, if◌then◌else◌}
+use Rattle.std.specs.Prelude.{ℕ, List, [], ◌∷◌, codes, Option, Some, None, option_map, if◌then◌else◌}
 use Rattle.std.specs.Str.{bytes_eq}
 use Rattle.depot_model.specs.Lists.{when}
 use Rattle.depot_schedule.specs.Spelling.{is_within, hex_word, sized, number_word, is_name}
 use Rattle.depot_tool.specs.declared.command.Command.{Command}
-use Rattle.depot_tool.specs.declared.command.Command.TheVariants.{Scan, Root, Judge}
+use Rattle.depot_tool.specs.declared.command.Command.TheVariants.{Scan, Root, Judge, Replay}
 
 -- ---- commands
 
@@ -29,6 +29,14 @@ key_command seed height = both (sized (is_within 32 32) (hex_word seed)) (number
 abbrev pub judge_command : List ℕ → List ℕ → Option Command
 judge_command roster proof = both (name_word roster) (name_word proof) (λ roster proof. Judge roster proof)
 
+-- `replay SCHEDULE`
+abbrev pub replay_command : List ℕ → Option Command
+replay_command schedule = option_map (λ name. Replay name) (name_word schedule)
+
+-- a command of two words
+unfoldable pub command_with : List ℕ → List ℕ → Option Command
+command_with verb a = if bytes_eq verb (codes "replay") then replay_command a else None
+
 -- a command of three words
 unfoldable pub command_by : List ℕ → List ℕ → List ℕ → Option Command
 command_by verb a b =
@@ -38,5 +46,6 @@ command_by verb a b =
 
 -- the command that the words are, if they are one
 abbrev pub command_of : List (List ℕ) → Option Command
+command_of (verb ∷ a ∷ []) = command_with verb a
 command_of (verb ∷ a ∷ b ∷ []) = command_by verb a b
 command_of words = None

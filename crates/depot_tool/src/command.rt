@@ -1,6 +1,6 @@
 //! The commands, and which words ask for them.
 ghost use Rattle.std.specs.Prelude.{◌≡◌, ◌≤◌, IfOk, None, Some, option_map};
-ghost use Rattle.depot_tool.specs.Words.{command_of, command_by, scan_command, key_command, judge_command};
+ghost use Rattle.depot_tool.specs.Words.{command_of, command_by, command_with, scan_command, key_command, judge_command, replay_command};
 
 use crate::height::Height;
 use crate::word::Word;
@@ -17,6 +17,8 @@ pub enum Command {
     Root(Hash32, Height),
     /// `judge ROSTER PROOF`: whether a text proves a contradiction. The names of the roster and of the text.
     Judge(Word, Word),
+    /// `replay SCHEDULE`: the transcript of a schedule. The name of the schedule.
+    Replay(Word),
 }
 
 /// The command of `scan`'s two words.
@@ -58,6 +60,27 @@ fn judge_command(roster: &Word, proof: &Word) -> Result<Option<Command>, Memory>
     Ok(Some(Command::Judge(roster, proof)))
 }
 
+/// The command of `replay`'s word.
+fn replay_command(schedule: &Word) -> Result<Option<Command>, Memory>
+    ensures { IfOk result (λ c. c ≡ replay_command schedule.now) }
+{
+    match name_word(schedule)? {
+        Some(schedule) => Ok(Some(Command::Replay(schedule))),
+        None => Ok(None),
+    }
+}
+
+/// The command of two words.
+#[tactic(auto, unfolding(crate::specs::Words::command_with))]
+fn two_words(verb: &Word, word: &Word) -> Result<Option<Command>, Memory>
+    ensures { IfOk result (λ c. c ≡ command_with verb.now word.now) }
+{
+    if verb.is("replay") {
+        return replay_command(word);
+    }
+    Ok(None)
+}
+
 /// The command of three words.
 #[tactic(auto, unfolding(crate::specs::Words::command_by))]
 fn three_words(
@@ -85,6 +108,7 @@ pub fn parse(alloc: Global, words: &[Word]) -> Result<Option<Command>, Memory>
     ensures { IfOk result (λ c. c ≡ command_of words.now) }
 {
     match words {
+        [verb, word] => two_words(verb, word),
         [verb, first, second] => three_words(alloc, verb, first, second),
         _ => Ok(None),
     }

@@ -1,8 +1,10 @@
-//! What a command came to, before it is written.
+//! What a command came to, and how it is written.
 ghost use Rattle.std.specs.Prelude.{◌≡◌, ◌++◌, IfOk, codes, string_bytes};
+ghost use Rattle.depot_tool.specs.Runs.{sinks, Finishes};
 
 use crate::status::Status;
 use depot_base::{Bytes, Memory};
+use depot_outside::{OutError, Sink};
 use std::alloc::Global;
 
 /// What a command came to: the status, and the whole text that it prints.
@@ -36,5 +38,19 @@ impl Outcome {
     {
         let line = format!(in alloc; "shelf {name}\n")?;
         Outcome::of_line(alloc, Status::Shelf, line.as_str())
+    }
+}
+
+/// Writes the text that a command came to, where memory was found for it, and says how the run ended.
+pub fn finish<S: Sink>(found: Result<Outcome, Memory>, out: &mut S) -> Status
+    ensures { Finishes found (sinks S.Sink out.old out.new) result }
+{
+    let Ok(outcome) = found else {
+        return Status::Memory;
+    };
+    match out.write(outcome.text.as_slice()) {
+        Ok(()) => outcome.status,
+        Err(OutError::Memory) => Status::Memory,
+        Err(OutError::Failed) => Status::Sink,
     }
 }

@@ -29,6 +29,14 @@ const ROSTER: &str = "010400020008\
 025d92fbbc23d40d2955a3392b0890fd14637d7942735afaef041d679a74657029\
 000902c70aaf512f592cc5a9e6523dfb6a94c86629a8ac80f9dffe32e77976aa098491";
 
+/// A schedule of one node, which puts and reads what it put.
+const SCHEDULE: &str = "depot schedule 1
+scheme plain 2
+node 1
+put 1 6b 61
+get 1 6b
+";
+
 /// The numbers of the call that fails, or no number for 0.
 fn fails(alloc: Global, call: u32) -> Result<Items, Fail> {
     let mut calls = Items::new(alloc);
@@ -57,10 +65,11 @@ fn push_half(alloc: Global, proof: &mut Bytes, seq: u8, value: u8) -> Result<(),
     Ok(())
 }
 
-/// A shelf with a log, a roster and three texts that may be a proof.
+/// A shelf with a log, a schedule, a roster and three texts that may be a proof.
 fn files(alloc: Global, failing: u32) -> Result<MemShelf, Fail> {
     let mut shelf = MemShelf::new(alloc, fails(alloc, failing)?);
     shelf.put("LOG", &hex::decode(alloc, LOG)?)?;
+    shelf.put("SCHEDULE", SCHEDULE.as_bytes())?;
     shelf.put("ROSTER", &hex::decode(alloc, ROSTER)?)?;
     let mut proof = Bytes::from_slice(alloc, &[1, 2])?;
     push_half(alloc, &mut proof, 0, b'a')?;
@@ -80,7 +89,7 @@ fn runs_end_as_their_commands_say(rt: HostRuntime) -> Result<(), Fail> {
     use Status::{Done, Input, NoProof, Shelf, Sink};
     let alloc = rt.alloc();
     // The words, the calls of the shelf and the sink that fail, how the run ends, what it prints.
-    let cases: [(&str, u32, u32, Status, &str); 9] = [
+    let cases: [(&str, u32, u32, Status, &str); 12] = [
         ("scan LOG 6b", 0, 0, Done, LINE),
         ("scan LOG 6b", 1, 0, Shelf, "shelf LOG\n"),
         ("scan LOG 6b", 0, 1, Sink, ""),
@@ -95,6 +104,15 @@ fn runs_end_as_their_commands_say(rt: HostRuntime) -> Result<(), Fail> {
             0,
             NoProof,
             "BadSignature second\n",
+        ),
+        ("replay EMPTY", 0, 0, Input, "input EMPTY line 1 Header\n"),
+        ("replay SCHEDULE", 1, 0, Shelf, "shelf SCHEDULE\n"),
+        (
+            "replay SCHEDULE",
+            0,
+            0,
+            Done,
+            "put 1 6b -> 0/1\nget 1 6b -> 1/0/1=61\n",
         ),
     ];
     for (line, shelf_fails, sink_fails, status, text) in cases {

@@ -1,0 +1,131 @@
+-- What an event of a seated node came to: it went as it goes, or a stop fell into it.
+use Rattle.std.proofs.Common.{◌≡◌, ◌≤◌, ℕ, ◌+◌, ◌-◌, ◌*◌, List, [], ◌∷◌, ◌++◌, append_assoc, length, length-append, map, take, drop, Bool, true, false, Option, None, Some, refl, sym, ap, subst, ◌∙◌, arith}
+use Rattle.std.proofs.Math.Seq.{drop-append_seam}
+use Rattle.std.proofs.lemmas.List.{append-nil, take-append-drop}
+use Rattle.depot_base.specs.Calls.{Call, made}
+use Rattle.depot_base.specs.declared.record.Record.{Record}
+use Rattle.depot_laws.proofs.Splits.{lawful_front}
+use Rattle.depot_model.specs.Bundle.{Signs}
+use Rattle.depot_model.specs.Lawful.{IsLawful, is_empty}
+use Rattle.depot_model.specs.Roster.{Verifies}
+use Rattle.depot_model.specs.Stops.{calls_to_record}
+use Rattle.depot_base.specs.declared.key.RosterEntry.{RosterEntry}
+use Rattle.depot_outside.specs.Stopping.{State, Leads}
+use Rattle.depot_world.specs.Run.{Armed, Station}
+use Rattle.depot_world.specs.Stops.{Deed, Went, left_of, standing_after, stopped_with, went, went_by}
+use Rattle.depot_world.specs.Suite.{Stage}
+use Rattle.depot_replay.specs.Acting.{CameTo, IsSeated, View}
+use Rattle.depot_replay.specs.Disks.{Stopped, armed_of}
+use Rattle.depot_replay.specs.Printing.{EndsAs}
+use Rattle.depot_replay.specs.SeatFacts.{lawful_there}
+use Rattle.depot_replay.specs.declared.seat_exchanges.Printed.{Printed}
+use Rattle.depot_replay.specs.Seats.{Appends, IsBegunOn, IsCalled, IsKeptOn, lines_of_deed, stopped_line}
+use Rattle.depot_replay.proofs.SeatLaws.{IsCut, IsToCome, calls_counted, cut_short, kept_after, went_cut, went_well}
+
+-- ---- the node after it
+
+-- the node afterwards is the one before it, with this journal and this stop
+pub record IsThen (v w : View) (J : List Record) (armed : Option Armed) : Type 0 where
+  pub here : w.here ≡ v.here
+  pub sign : w.sign ≡ v.sign
+  pub journal : w.journal ≡ J
+  pub armed_is : w.armed ≡ armed
+
+-- an event that went as it goes, by calls of which none failed
+pub came_well : (stage : Stage) (x : Station) (d : Deed) (v w : View) (s t : State) (calls : List Call) (lines bytes : List ℕ) → IsSeated stage x v → v.armed ≡ armed_of s.next → IsToCome s → Leads s (made calls) t → d.calls ≡ length calls
+    → IsThen v w d.journal (armed_of t.next) → lines ≡ lines_of_deed d → bytes ≡ d.bytes → CameTo stage (went x d) w lines bytes
+came_well stage x d v w s t calls lines bytes seat armed to_come led count then is gives =
+    subst (λ (g : Went). CameTo stage g w lines bytes) (sym (went_well x d s t calls (sym seat.armed ∙ armed) to_come led count))
+    (record { seated = record { here = then.here ∙ seat.here; sign = then.sign ∙ seat.sign; journal = then.journal; armed = then.armed_is }; lines_are = is; bytes_are = gives })
+
+-- an event into which a stop fell
+pub came_stopped : (stage : Stage) (x : Station) (d : Deed) (v w : View) (s t : State) (cut : Stopped s t d.calls) (lines : List ℕ) → IsSeated stage x v → v.armed ≡ armed_of s.next → IsThen v w (left_of v.journal d.journal cut.armed) None → lines ≡ stopped_line w.journal
+    → CameTo stage (went x d) w lines []
+came_stopped stage x d v w s t cut lines seat armed then is =
+    let left : w.journal ≡ left_of x.correct.journal d.journal cut.armed = then.journal ∙ ap (λ (J : List Record). left_of J d.journal cut.armed) seat.journal in
+    subst (λ (g : Went). CameTo stage g w lines []) (sym (went_cut x d s t cut (sym seat.armed ∙ armed)))
+    (record {
+      seated = record { here = then.here ∙ seat.here; sign = then.sign ∙ seat.sign; journal = left; armed = then.armed_is };
+      lines_are = is ∙ ap stopped_line left ∙ sym (append-nil (stopped_line (left_of x.correct.journal d.journal cut.armed)));
+      bytes_are = refl;
+    })
+
+-- ---- a call that appends
+
+module _ {v : View} {s t : State} {K longer : List Record} {failed : Type 0} (c : IsCalled v s t K longer failed) where
+  -- the disk has the journal after it
+  pub called_kept : (failed → ⊥) → IsKeptOn t K
+  called_kept well =
+      let whole = c.whole well in
+      subst (IsKeptOn t) (sym (whole.0 ∙ c.grows)) (kept_after s t v.journal c.new c.begun.kept whole.1)
+
+  counted : (d : Deed) → Appends d v.journal longer → d.calls ≡ 4 * length c.new
+  counted d a = a.calls ∙ omega (arith, ap length c.grows, length-append v.journal c.new)
+
+  -- it went as it goes
+  pub called_well : (stage : Stage) (x : Station) (d : Deed) (w : View) (lines bytes : List ℕ) → (failed → ⊥) → IsSeated stage x v → Appends d v.journal longer → IsThen v w K (armed_of t.next) → lines ≡ lines_of_deed d → bytes ≡ d.bytes → CameTo stage (went x d) w lines bytes
+  called_well stage x d w lines bytes well seat a then is gives =
+      let whole = c.whole well in
+      came_well stage x d v w s t (calls_to_record v.journal c.new) lines bytes seat c.armed c.begun.kept.to_come whole.1 (counted d a ∙ sym (calls_counted v.journal c.new))
+      (record { here = then.here; sign = then.sign; journal = then.journal ∙ whole.0 ∙ sym a.journal; armed_is = then.armed_is }) is gives
+
+  -- what a stop leaves of it
+  pub cut_of : failed → IsCut s t v.journal c.new
+  cut_of f = cut_short s t v.journal c.new c.begun.kept (c.part f)
+
+  pub left_by_cut : failed → List Record
+  left_by_cut f = v.journal ++ take (standing_after (cut_of f).stopped.armed) c.new
+
+  still_some : (J more : List Record) → is_empty J ≡ false → is_empty (J ++ more) ≡ false
+  still_some [] more none = absurd cc
+  still_some (r ∷ J) more some = refl
+
+  pub begun_cut : (f : failed) → IsBegunOn v.here t (left_by_cut f)
+  unfolding left_by_cut
+  begun_cut f =
+      let n = standing_after (cut_of f).stopped.armed in
+      let all : longer ≡ (v.journal ++ take n c.new) ++ drop n c.new = c.grows ∙ ap (λ (x : List Record). v.journal ++ x) (sym (take-append-drop n c.new)) ∙ sym (append_assoc v.journal (take n c.new) (drop n c.new)) in
+      record {
+        lawful = lawful_front v.here (v.journal ++ take n c.new) (drop n c.new) (subst (IsLawful v.here) all c.lawful);
+        some = still_some v.journal (take n c.new) c.begun.some;
+        kept = (cut_of f).kept;
+      }
+
+  -- a stop fell into it
+  pub called_cut : (stage : Stage) (x : Station) (d : Deed) (w : View) (lines : List ℕ) (f : failed) → IsSeated stage x v → Appends d v.journal longer → IsThen v w (left_by_cut f) None → lines ≡ stopped_line w.journal → CameTo stage (went x d) w lines []
+  unfolding left_by_cut
+  called_cut stage x d w lines f seat a then is =
+      let cut = cut_of f in
+      let n = standing_after cut.stopped.armed in
+      came_stopped stage x d v w s t (record { armed = cut.stopped.armed; waited = cut.stopped.waited; within = omega (arith, cut.stopped.within, counted d a); at_rest = cut.stopped.at_rest; none_waits = cut.stopped.none_waits }) lines seat c.armed
+      (record {
+        here = then.here;
+        sign = then.sign;
+        journal = then.journal ∙ ap (λ (x : List Record). v.journal ++ take n x) (sym (ap (drop (length v.journal)) (a.journal ∙ c.grows) ∙ drop-append_seam v.journal c.new));
+        armed_is = then.armed_is;
+      }) is
+
+-- ---- what is printed of it
+
+pub well_ends : {v : View} {s t : State} {K longer : List Record} (p : Printed) (c : IsCalled v s t K longer (Some p ≡ None)) (w : View) → IsThen v w K (armed_of t.next) → EndsAs v longer (Some p) w p.lines p.bytes
+well_ends p c w then stage x d seat a print = called_well c stage x d w p.lines p.bytes (λ never. cc) seat a then print.0 print.1
+
+pub cut_ends : {v : View} {s t : State} {K longer : List Record} (p : Option Printed) (none : p ≡ None) (c : IsCalled v s t K longer (p ≡ None)) (w : View) (lines bytes : List ℕ) → IsThen v w (left_by_cut c none) None → lines ≡ stopped_line w.journal → bytes ≡ []
+    → EndsAs v longer p w lines bytes
+cut_ends p none c w lines bytes then is gives stage x d seat a print = subst (λ (b : List ℕ). CameTo stage (went x d) w lines b) (sym gives) (called_cut c stage x d w lines none seat a then is)
+
+-- ---- a seated node
+
+-- its journal has begun on its disk
+pub begun_there : (verifies : Verifies) (me own : ℕ) (listed given : List RosterEntry) (s : State) (J : List Record) → me ≡ own → listed ≡ given → IsLawful (record { verifies = verifies; me = me; listed = listed }) J → is_empty J ≡ false → IsKeptOn s J
+    → IsBegunOn (record { verifies = verifies; me = own; listed = given }) s J
+begun_there verifies me own listed given s J is_me is_listed l some kept = record { lawful = lawful_there verifies me own listed given J is_me is_listed l; some = some; kept = kept }
+
+-- two signers that give the same signatures
+pub same_signs : (a b : Signs) → ((seq : ℕ) (body : List ℕ) → a seq body ≡ b seq body) → a ≡ b
+same_signs a b same = λ i. λ seq body. same seq body i
+
+-- a node that is seen so
+pub view_is : (verifies : Verifies) (me : ℕ) (listed given : List RosterEntry) (sign : Signs) (J K : List Record) (armed waits : Option Armed) → listed ≡ given → J ≡ K → armed ≡ waits
+    → ◌≡◌ {A = View} (record { here = record { verifies = verifies; me = me; listed = listed }; sign = sign; journal = J; armed = armed }) (record { here = record { verifies = verifies; me = me; listed = given }; sign = sign; journal = K; armed = waits })
+view_is verifies me listed given sign J K armed waits is_listed is_journal is_armed = λ i. record { here = record { verifies = verifies; me = me; listed = is_listed i }; sign = sign; journal = is_journal i; armed = is_armed i }

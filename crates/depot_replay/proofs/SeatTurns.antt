@@ -1,0 +1,95 @@
+-- The events of a seated node that append: what the call on the node came to, and what the event did.
+use Rattle.std.proofs.Common.{◌≡◌, ◌↔◌, ℕ, false, List, ◌++◌, Option, None, Result, refl, sym, ap, subst, ◌∙◌}
+use Rattle.std.specs.Prelude.{IfOk, IsErrOf}
+use Rattle.depot_base.specs.Sized.{IsKey, IsValue}
+use Rattle.depot_base.specs.declared.key.RosterEntry.{RosterEntry}
+use Rattle.depot_base.specs.declared.record.Record.{Record}
+use Rattle.depot_gossip.specs.Bundling.{Bundles, journaled_for}
+use Rattle.depot_gossip.specs.declared.error.BundleError.{BundleError}
+use Rattle.depot_gossip.specs.declared.error.BundleError.TheVariants as bundle_error
+use Rattle.depot_gossip.specs.declared.error.FeedError.{FeedError}
+use Rattle.depot_gossip.specs.declared.error.FeedError.TheVariants as feed_error
+use Rattle.depot_gossip.specs.declared.own_bundle.Bundled.{Bundled}
+use Rattle.depot_laws.specs.Streams.{AreBytes}
+use Rattle.depot_model.specs.Bundle.{Signs, bundle_answer}
+use Rattle.depot_model.specs.Checks.{Setting}
+use Rattle.depot_model.specs.Feeding.{Feeding, feed_of}
+use Rattle.depot_model.specs.Roster.{Verifies}
+use Rattle.depot_model.specs.World.{Correct}
+use Rattle.depot_node.specs.Putting.{Puts, put_records}
+use Rattle.depot_node.specs.declared.answer.PutDone.{PutDone}
+use Rattle.depot_node.specs.declared.answer.PutError.{PutError}
+use Rattle.depot_node.specs.declared.answer.PutError.TheVariants as put_error
+use Rattle.depot_outside.specs.Stopping.{State}
+use Rattle.depot_world.specs.Deeds.{bundle_by, fed_by, give_by, put_by}
+use Rattle.depot_world.specs.Run.{Station}
+use Rattle.depot_world.specs.Stops.{went}
+use Rattle.depot_world.specs.Suite.{Stage, signs_on, stands_on}
+use Rattle.depot_replay.specs.Acting.{CameTo, IsSeated, View}
+use Rattle.depot_replay.specs.Disks.{armed_of}
+use Rattle.depot_replay.specs.Printing.{EndsAs, IsPrintOf, IsToldOf, SettlesBundle, SettlesFeed}
+use Rattle.depot_replay.specs.PutPrinting.{SettlesPut}
+use Rattle.depot_replay.specs.Seats.{IsBegunOn, IsCalled}
+use Rattle.depot_replay.specs.declared.seat_exchanges.Printed.{Printed}
+use Rattle.depot_replay.specs.declared.seat_feeds.Fed.{Fed}
+use Rattle.depot_replay.proofs.SeatCalls.{IsDoneOn, appends_there, bundle_appends, bundle_called, bundle_longer, give_appends, give_called, give_longer}
+use Rattle.depot_replay.proofs.SeatFeeds.{if_ok}
+use Rattle.depot_replay.proofs.SeatPuts.{put_appends, put_called, put_longer}
+
+-- a node stands where it was started
+pub same_setting : (verifies : Verifies) (me own : ℕ) (listed given : List RosterEntry) → me ≡ own → listed ≡ given → ◌≡◌ {A = Setting} (record { verifies = verifies; me = me; listed = listed }) (record { verifies = verifies; me = own; listed = given })
+same_setting verifies me own listed given is_me is_listed = λ i. record { verifies = verifies; me = is_me i; listed = is_listed i }
+
+-- how it is seen
+abbrev pub seen_so : Setting → Signs → State → List Record → View
+seen_so here sign s J = record { here = here; sign = sign; journal = J; armed = armed_of s.next }
+
+-- The node stands there, and was started with what it is seen with; its call made of one state of its disk another one, and of its journal
+-- another one.
+module _ (there here : Setting) (stands : there ≡ here) (given sign : Signs) (signs : given ≡ sign) (s t : State) (J K : List Record) (begun : IsBegunOn here s J) where
+  -- ---- puts
+
+  pub put_seated : (key value : List ℕ) (r : Result PutDone PutError) (printed : Option Printed) → IsKey key → IsValue value → Puts there J key value r K → SettlesPut r → IsDoneOn s t J K (put_records there J key value) (IsErrOf r put_error.Disk) → (printed ≡ None) ↔ IsErrOf r put_error.Disk
+      → IsCalled (seen_so here sign s J) s t K (put_longer key value here sign J) (printed ≡ None)
+  put_seated key value r printed is_key is_value puts settled done is =
+      put_called (seen_so here sign s J) s t K key value refl begun r printed is_key is_value (subst (λ (h : Setting). Puts h J key value r K) stands puts) settled
+      (subst (λ (h : Setting). IsDoneOn s t J K (put_records h J key value) (IsErrOf r put_error.Disk)) stands done) is
+
+  pub put_turn : (key value : List ℕ) (r : Result PutDone PutError) (printed : Option Printed) (w : View) (lines bytes : List ℕ) → Puts there J key value r K
+      → ((h : Setting) (c : Correct) (k v : List ℕ) (then : List Record) → h.me ≡ c.node → Puts h c.journal k v r then → IsPrintOf printed (put_by h c k v)) → EndsAs (seen_so here sign s J) (put_longer key value here sign J) printed w lines bytes
+      → (stage : Stage) (x : Station) → IsSeated stage x (seen_so here sign s J) → CameTo stage (went x (put_by (stands_on stage x.correct.node) x.correct key value)) w lines bytes
+  put_turn key value r printed w lines bytes puts prints ends stage x seat =
+      ends stage x (put_by (stands_on stage x.correct.node) x.correct key value) seat (appends_there (put_longer key value) (λ h _ c. put_by h c key value) (put_appends key value) stage x (seen_so here sign s J) seat)
+      (prints (stands_on stage x.correct.node) x.correct key value K refl (subst (λ (l : List Record). Puts (stands_on stage x.correct.node) l key value r K) seat.journal (subst (λ (h : Setting). Puts h J key value r K) (stands ∙ seat.here) puts)))
+
+  -- ---- bundles
+
+  pub bundle_seated : (text : List ℕ) (r : Result Bundled BundleError) (printed : Option Printed) → Bundles there given J false text r K → SettlesBundle r → IsDoneOn s t J K (journaled_for (bundle_answer there given J text)) (IsErrOf r bundle_error.Disk) → (printed ≡ None) ↔ IsErrOf r bundle_error.Disk
+      → IsCalled (seen_so here sign s J) s t K (bundle_longer text here sign J) (printed ≡ None)
+  bundle_seated text r printed made settled done is =
+      bundle_called (seen_so here sign s J) s t K text r printed refl begun (subst (λ (g : Signs). Bundles here g J false text r K) signs (subst (λ (h : Setting). Bundles h given J false text r K) stands made)) settled
+      (subst (λ (g : Signs). IsDoneOn s t J K (journaled_for (bundle_answer here g J text)) (IsErrOf r bundle_error.Disk)) signs (subst (λ (h : Setting). IsDoneOn s t J K (journaled_for (bundle_answer h given J text)) (IsErrOf r bundle_error.Disk)) stands done)) is
+
+  pub bundle_turn : (text : List ℕ) (r : Result Bundled BundleError) (printed : Option Printed) (w : View) (lines bytes : List ℕ) → Bundles there given J false text r K
+      → ((h : Setting) (g : Signs) (c : Correct) (hello : List ℕ) (then : List Record) → Bundles h g c.journal false hello r then → IsPrintOf printed (bundle_by h g c hello)) → EndsAs (seen_so here sign s J) (bundle_longer text here sign J) printed w lines bytes
+      → (stage : Stage) (x : Station) → IsSeated stage x (seen_so here sign s J) → CameTo stage (went x (bundle_by (stands_on stage x.correct.node) (signs_on stage x.correct.node) x.correct text)) w lines bytes
+  bundle_turn text r printed w lines bytes made prints ends stage x seat =
+      ends stage x (bundle_by (stands_on stage x.correct.node) (signs_on stage x.correct.node) x.correct text) seat (appends_there (bundle_longer text) (λ h g c. bundle_by h g c text) (bundle_appends text) stage x (seen_so here sign s J) seat)
+      (prints (stands_on stage x.correct.node) (signs_on stage x.correct.node) x.correct text K (subst (λ (l : List Record). Bundles (stands_on stage x.correct.node) (signs_on stage x.correct.node) l false text r K) seat.journal
+      (subst (λ (g : Signs). Bundles (stands_on stage x.correct.node) g J false text r K) (signs ∙ seat.sign) (subst (λ (h : Setting). Bundles h given J false text r K) (stands ∙ seat.here) made))))
+
+  -- ---- streams
+
+  pub give_seated : (stream : List ℕ) (appends : List Record) (r : Result Fed FeedError) (printed : Option Printed) → AreBytes stream → IfOk r (λ _. K ≡ (feed_of there J stream).journal) → SettlesFeed r → (feed_of there J stream).journal ≡ J ++ appends → IsDoneOn s t J K appends (IsErrOf r feed_error.Disk)
+      → (printed ≡ None) ↔ IsErrOf r feed_error.Disk → IsCalled (seen_so here sign s J) s t K (give_longer stream here sign J) (printed ≡ None)
+  give_seated stream appends r printed are grown settled brings done is =
+      give_called (seen_so here sign s J) s t K stream appends r printed refl begun are (subst (λ (h : Setting). IfOk r (λ _. K ≡ (feed_of h J stream).journal)) stands grown) settled (subst (λ (h : Setting). (feed_of h J stream).journal ≡ J ++ appends) stands brings) done is
+
+  pub give_turn : (stream : List ℕ) (r : Result Fed FeedError) (printed : Option Printed) (w : View) (lines bytes : List ℕ) → IfOk r (λ told. IsToldOf (feed_of there J stream) told)
+      → ((c : Correct) (f : Feeding) → IfOk r (λ told. IsToldOf f told) → IsPrintOf printed (fed_by c f)) → EndsAs (seen_so here sign s J) (give_longer stream here sign J) printed w lines bytes
+      → (stage : Stage) (x : Station) → IsSeated stage x (seen_so here sign s J) → CameTo stage (went x (give_by (stands_on stage x.correct.node) x.correct stream)) w lines bytes
+  unfolding give_by
+  give_turn stream r printed w lines bytes told prints ends stage x seat =
+      ends stage x (give_by (stands_on stage x.correct.node) x.correct stream) seat (appends_there (give_longer stream) (λ h _ c. give_by h c stream) (give_appends stream) stage x (seen_so here sign s J) seat)
+      (prints x.correct (feed_of (stands_on stage x.correct.node) x.correct.journal stream) (subst (λ (l : List Record). IfOk r (λ told. IsToldOf (feed_of (stands_on stage x.correct.node) l stream) told)) seat.journal
+      (subst (λ (h : Setting). IfOk r (λ told. IsToldOf (feed_of h J stream) told)) (stands ∙ seat.here) told)))

@@ -1,0 +1,35 @@
+use Rattle.std.proofs.Common.{refl, sym, ◌∙◌}
+use Rattle.depot_outside.specs.Stopping.{state_of}
+use Rattle.depot_replay.proofs.SeatCalls.{done_on}
+use Rattle.depot_replay.proofs.SeatEvents.{begun_there, same_signs}
+use Rattle.depot_replay.proofs.SeatFeeds.{if_ok}
+use Rattle.depot_replay.proofs.SeatTurns.{bundle_seated, bundle_turn, same_setting}
+use Rattle.depot_replay.proofs.seat.SeatActor.bundle.Goals as goal
+
+pub seated-requires-clause-signs : goal.seated-requires-clause-signs
+seated-requires-clause-signs g c = c.bundle-made.ensures.stays.signs ∙ same_signs _ _ c.args.self.signs
+
+pub seated-requires-clause-called : goal.seated-requires-clause-called
+seated-requires-clause-called g c =
+    let a = c.args.self in
+    let n = a.node in
+    let m = c.bundle-made.new.node in
+    let there = same_setting g.S.Scheme.verifies n.store.me a.means.me n.store.listed a.means.roster a.is_me a.is_listed in
+    let begun = begun_there g.S.Scheme.verifies n.store.me a.means.me n.store.listed a.means.roster (state_of n.store.disk) n.store.records a.is_me a.is_listed n.lawful n.some a.kept in
+    let done = done_on n m (state_of n.store.disk) (state_of m.store.disk) _ (λ calls led. led) c.bundle-made.ensures.calls in
+    let called = bundle_seated _ _ there _ _ (same_signs _ _ a.signs) (state_of n.store.disk) (state_of m.store.disk) n.store.records m.store.records begun c.args.hello.now c.bundle-made.result c.in_ok-printed.printed (rw a.runs at c.bundle-made.ensures.bundles)
+    c.in_ok-printed.ensures.settled done c.in_ok-printed.ensures.stopped in
+    (_, (_, (_, (refl, called))))
+
+pub returns : goal.returns
+returns g c =
+    let a = c.args.self in
+    let n = a.node in
+    let m = c.bundle-made.new.node in
+    let there = same_setting g.S.Scheme.verifies n.store.me a.means.me n.store.listed a.means.roster a.is_me a.is_listed in
+    let begun = begun_there g.S.Scheme.verifies n.store.me a.means.me n.store.listed a.means.roster (state_of n.store.disk) n.store.records a.is_me a.is_listed n.lawful n.some a.kept in
+    let done = done_on n m (state_of n.store.disk) (state_of m.store.disk) _ (λ calls led. led) c.bundle-made.ensures.calls in
+    let called = bundle_seated _ _ there _ _ (same_signs _ _ a.signs) (state_of n.store.disk) (state_of m.store.disk) n.store.records m.store.records begun c.args.hello.now c.bundle-made.result c.in_ok-printed.printed (rw a.runs at c.bundle-made.ensures.bundles)
+    c.in_ok-printed.ensures.settled done c.in_ok-printed.ensures.stopped in
+    if_ok _ _ c.seated.result (λ told ends. bundle_turn _ _ there _ _ (same_signs _ _ a.signs) (state_of n.store.disk) (state_of m.store.disk) n.store.records m.store.records begun c.args.hello.now c.bundle-made.result c.in_ok-printed.printed _ _ _ (rw a.runs at c.bundle-made.ensures.bundles) c.in_ok-printed.ensures.printed
+    (ends _ _ _ refl refl called)) c.seated.ensures

@@ -1,0 +1,36 @@
+use Rattle.std.proofs.Common.{refl, sym, ◌∙◌}
+use Rattle.depot_node.specs.Putting.{put_records}
+use Rattle.depot_outside.specs.Stopping.{state_of}
+use Rattle.depot_replay.proofs.SeatCalls.{done_on}
+use Rattle.depot_replay.proofs.SeatEvents.{begun_there, same_signs}
+use Rattle.depot_replay.proofs.SeatFeeds.{if_ok}
+use Rattle.depot_replay.proofs.SeatTurns.{put_seated, put_turn, same_setting}
+use Rattle.depot_replay.proofs.seat.SeatActor.put.Goals as goal
+
+pub seated-requires-clause-signs : goal.seated-requires-clause-signs
+seated-requires-clause-signs g c = c.put-done.ensures.stays.signs ∙ same_signs _ _ c.args.self.signs
+
+pub seated-requires-clause-called : goal.seated-requires-clause-called
+seated-requires-clause-called g c =
+    let a = c.args.self in
+    let n = a.node in
+    let m = c.put-done.new.self in
+    let there = same_setting g.S.Scheme.verifies n.store.me a.means.me n.store.listed a.means.roster a.is_me a.is_listed in
+    let begun = begun_there g.S.Scheme.verifies n.store.me a.means.me n.store.listed a.means.roster (state_of n.store.disk) n.store.records a.is_me a.is_listed n.lawful n.some a.kept in
+    let done = done_on n m (state_of n.store.disk) (state_of m.store.disk) _ (λ calls led. led) c.put-done.ensures.calls in
+    let called = put_seated _ _ there _ _ (same_signs _ _ a.signs) (state_of n.store.disk) (state_of m.store.disk) n.store.records m.store.records begun c.args.key c.args.value c.put-done.result c.in_ok-printed.printed c.have_sizes.ensures.key c.have_sizes.ensures.value c.put-done.ensures.puts
+    c.in_ok-printed.ensures.settled done c.in_ok-printed.ensures.stopped in
+    (_, (_, (_, (refl, called))))
+
+pub returns : goal.returns
+returns g c =
+    let a = c.args.self in
+    let n = a.node in
+    let m = c.put-done.new.self in
+    let there = same_setting g.S.Scheme.verifies n.store.me a.means.me n.store.listed a.means.roster a.is_me a.is_listed in
+    let begun = begun_there g.S.Scheme.verifies n.store.me a.means.me n.store.listed a.means.roster (state_of n.store.disk) n.store.records a.is_me a.is_listed n.lawful n.some a.kept in
+    let done = done_on n m (state_of n.store.disk) (state_of m.store.disk) _ (λ calls led. led) c.put-done.ensures.calls in
+    let called = put_seated _ _ there _ _ (same_signs _ _ a.signs) (state_of n.store.disk) (state_of m.store.disk) n.store.records m.store.records begun c.args.key c.args.value c.put-done.result c.in_ok-printed.printed c.have_sizes.ensures.key c.have_sizes.ensures.value c.put-done.ensures.puts
+    c.in_ok-printed.ensures.settled done c.in_ok-printed.ensures.stopped in
+    if_ok _ _ c.seated.result (λ told ends. put_turn _ _ there _ _ (same_signs _ _ a.signs) (state_of n.store.disk) (state_of m.store.disk) n.store.records m.store.records begun c.args.key c.args.value c.put-done.result c.in_ok-printed.printed _ _ _ c.put-done.ensures.puts c.in_ok-printed.ensures.printed
+    (ends _ _ _ refl refl called)) c.seated.ensures

@@ -1,0 +1,38 @@
+use Rattle.std.proofs.Common.{◌≡◌, List, Some, refl, sym, ap, subst, ◌∙◌, arith}
+use Rattle.depot_model.specs.Bundle.{Signs}
+use Rattle.depot_outside.specs.Stopping.{State, state_of}
+use Rattle.depot_outside.specs.declared.mem_disk.MemDisk.{MemDisk}
+use Rattle.depot_outside.specs.declared.stops.Stop.{Stop}
+use Rattle.depot_replay.specs.Seats.{IsKeptOn}
+use Rattle.depot_replay.proofs.SeatEvents.{begun_there, view_is}
+use Rattle.depot_replay.proofs.SeatStarts.{armed_begun, armed_on, started_on}
+use Rattle.depot_replay.proofs.seat.SeatActor.stop_at.Goals as goal
+
+-- the stop is set on the node's own disk
+set_on : (d e n : MemDisk) (stop : Stop) → state_of n ≡ record (state_of d) { next = Some stop } → d ≡ e → state_of n ≡ record (state_of e) { next = Some stop }
+set_on d e n stop is same = subst (λ (x : MemDisk). state_of n ≡ record (state_of x) { next = Some stop }) same is
+
+pub invariant_of-result : goal.invariant_of-result
+invariant_of-result g c =
+    let a = c.args.self in
+    let n = a.node in
+    let begun = begun_there g.S.Scheme.verifies n.store.me a.means.me n.store.listed a.means.roster (state_of n.store.disk) n.store.records a.is_me a.is_listed n.lawful n.some a.kept in
+    let armed = armed_begun _ (state_of n.store.disk) (state_of c.stop_at.new.self) n.store.records _ begun (set_on c.into_disk-disk.result n.store.disk c.stop_at.new.self _ c.stop_at.ensures.state c.into_disk-disk.ensures) (omega arith) in
+    let x = started_on _ (state_of c.stop_at.new.self) (state_of c.in-Ok.node.store.disk) n.store.records c.in-Ok.node.store.records armed c.in-Ok.ensures.records c.in-Ok.ensures.calls in
+    record {
+      runs = c.in-Ok.ensures.runs;
+      is_me = c.in-Ok.ensures.me;
+      is_listed = c.in-Ok.ensures.listed;
+      signs = λ seq body. ap (λ (s : Signs). s seq body) c.in-Ok.ensures.signs;
+      kept = subst (IsKeptOn (state_of c.in-Ok.node.store.disk)) (sym x.same) x.begun.kept;
+    }
+
+pub returns-in-Ok : goal.returns-in-Ok
+returns-in-Ok g c =
+    let a = c.args.self in
+    let n = a.node in
+    let begun = begun_there g.S.Scheme.verifies n.store.me a.means.me n.store.listed a.means.roster (state_of n.store.disk) n.store.records a.is_me a.is_listed n.lawful n.some a.kept in
+    let is = set_on c.into_disk-disk.result n.store.disk c.stop_at.new.self _ c.stop_at.ensures.state c.into_disk-disk.ensures in
+    let armed = armed_begun _ (state_of n.store.disk) (state_of c.stop_at.new.self) n.store.records _ begun is (omega arith) in
+    let x = started_on _ (state_of c.stop_at.new.self) (state_of c.in-Ok.node.store.disk) n.store.records c.in-Ok.node.store.records armed c.in-Ok.ensures.records c.in-Ok.ensures.calls in
+    view_is _ _ _ _ _ _ _ _ _ refl x.same (armed_on _ (state_of n.store.disk) (state_of c.stop_at.new.self) (state_of c.in-Ok.node.store.disk) n.store.records c.in-Ok.node.store.records c.args.call c.args.image c.requires.image is x)

@@ -1,0 +1,25 @@
+-- What labels name, in a map that keeps them in order.
+use Rattle.std.specs.Prelude.{◌≡◌, ℕ, List, [], Option, Vec, option_map}
+use Rattle.std.specs.Cmp.Lexicographic.{slice_cmp}
+use Rattle.std.specs.Map.{lookup}
+use Rattle.std.specs.Option.{option_map_or}
+use Rattle.std.specs.Ordering.{nat_cmp, is_eq}
+use Rattle.std.specs.declared.alloc.Global.{Global}
+use Rattle.depot_world.specs.Run.{Made, made_in}
+use Rattle.depot_replay.specs.declared.labels.Given.{Given}
+
+-- what a label names among these
+abbrev pub named_in : List ℕ → List (Vec ℕ Global × Given) → Option Given
+named_in label entries = lookup (λ k. is_eq (slice_cmp nat_cmp label k.items)) entries
+
+-- what was made under a label, as it is kept
+abbrev pub given_by : Made → Given
+given_by m = record { bytes = m.bytes; signed = m.signed }
+
+-- each label names what it names in a run
+abbrev pub AreLabels : List (Vec ℕ Global × Given) → List Made → Type 0
+AreLabels entries labels = (label : List ℕ) → named_in label entries ≡ option_map given_by (made_in labels label)
+
+-- the bytes of a label of a run with these labels
+abbrev pub bytes_in : List Made → List ℕ → List ℕ
+bytes_in labels label = option_map_or (λ m. m.bytes) (made_in labels label) []

@@ -1,0 +1,21 @@
+-- What is printed of a put.
+use Rattle.std.specs.Prelude.{◌≡◌, ℕ, List, ◌++◌, Result, Err}
+use Rattle.depot_answers.specs.Answers.{text_of_limit}
+use Rattle.depot_model.specs.Limits.{collides, full, spent, tips}
+use Rattle.depot_node.specs.declared.answer.PutDone.{PutDone}
+use Rattle.depot_node.specs.declared.answer.PutError.{PutError}
+use Rattle.depot_node.specs.declared.answer.PutError.TheVariants as put_error
+
+-- a line has grown by the limit that a put met
+abbrev pub IsLimitOf : PutError → List ℕ → List ℕ → Type 0
+IsLimitOf (put_error.Spent n) old new = new ≡ old ++ text_of_limit (spent n)
+IsLimitOf (put_error.Tips n) old new = new ≡ old ++ text_of_limit (tips n)
+IsLimitOf (put_error.Collides id) old new = new ≡ old ++ text_of_limit (collides id)
+IsLimitOf (put_error.Full what) old new = new ≡ old ++ text_of_limit (full what)
+IsLimitOf other old new = ⊥
+
+-- the answer is that of a node that was found running, and memory was found
+abbrev pub SettlesPut : Result PutDone PutError → Type 0
+SettlesPut (Err put_error.Memory) = ⊥
+SettlesPut (Err put_error.Stopped) = ⊥
+SettlesPut other = Unit {0}

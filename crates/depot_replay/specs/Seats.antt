@@ -1,0 +1,86 @@
+-- A node that is seated: how its disk stands between two events, and what a call on it came to.
+use Rattle.std.specs.Prelude.{◌≡◌, ◌≤◌, ◌<◌, ℕ, ◌-◌, List, [], ◌∷◌, ◌++◌, length, map, take, false, Option, Some, None, slice_get, codes}
+use Rattle.std.specs.List.{flat_map}
+use Rattle.depot_base.specs.Calls.{FailsAmong, made}
+use Rattle.depot_base.specs.File.{blocks}
+use Rattle.depot_base.specs.declared.record.Record.{Record}
+use Rattle.depot_model.specs.Bundle.{Signs}
+use Rattle.depot_model.specs.Checks.{Setting}
+use Rattle.depot_model.specs.Lawful.{IsLawful, is_empty}
+use Rattle.depot_model.specs.Records.{text_of_record}
+use Rattle.depot_model.specs.Stops.{calls_to_record}
+use Rattle.depot_model.specs.World.{Shown}
+use Rattle.depot_outside.specs.Stopping.{State, Leads}
+use Rattle.depot_model.specs.Feeding.{Feeding}
+use Rattle.depot_answers.specs.Answers.{numbered, spaced, text_of_refusal, text_of_report, text_of_write}
+use Rattle.depot_world.specs.Run.{Armed}
+use Rattle.depot_world.specs.Stops.{Deed, calls_to_append}
+use Rattle.depot_world.specs.Transcript.{ended}
+use Rattle.depot_replay.specs.Acting.{View}
+use Rattle.depot_replay.specs.Disks.{IsAtRest, armed_of}
+
+-- ---- its disk
+
+-- These records stand in the file behind open gates, and the gate behind them is closed.
+pub record StandIn (file : List ℕ) (bodies : List (List ℕ)) : Type 0 where
+  pub inside : length (blocks bodies) < length file
+  pub front : take (length (blocks bodies)) file ≡ blocks bodies
+  pub closed : slice_get file (length (blocks bodies)) ≡ Some 1 → ⊥
+
+-- The disk is at rest and has these records, and a stop that waits comes in a call to come.
+pub record IsKeptOn (s : State) (J : List Record) : Type 0 where
+  pub at_rest : IsAtRest s
+  pub stand : StandIn s.file (map text_of_record J)
+  pub to_come : (a : Armed) → armed_of s.next ≡ Some a → 1 ≤ a.call
+
+-- The records are those of a node that has begun, and the disk has them.
+pub record IsBegunOn (here : Setting) (s : State) (J : List Record) : Type 0 where
+  pub lawful : IsLawful here J
+  pub some : is_empty J ≡ false
+  pub kept : IsKeptOn s J
+
+-- ---- a call
+
+-- A call on a node that was seen so, and had this disk, was to make its journal a longer one. It did so, or it failed on the disk while
+-- it appended.
+pub record IsCalled (v : View) (s t : State) (K longer : List Record) (failed : Type 0) : Type 0 where
+  pub armed : v.armed ≡ armed_of s.next
+  pub begun : IsBegunOn v.here s v.journal
+  pub new : List Record
+  pub grows : longer ≡ v.journal ++ new
+  pub lawful : IsLawful v.here longer
+  pub whole : (failed → ⊥) → (K ≡ longer) × Leads s (made (calls_to_record v.journal new)) t
+  pub part : failed → FailsAmong Leads s t (calls_to_record v.journal new)
+
+-- an event whose calls are those that append what its journal grows by
+pub record Appends (d : Deed) (J longer : List Record) : Type 0 where
+  pub journal : d.journal ≡ longer
+  pub calls : d.calls ≡ calls_to_append (length longer - length J)
+
+-- the line of a node that was stopped and has these records
+abbrev pub stopped_line : List Record → List ℕ
+stopped_line J = ended (32 ∷ numbered (codes "stopped records") (length J))
+
+-- A node was started again from a disk that had a journal that has begun, and is seated: it is seen so, and these are the lines of the event
+-- into which the stop fell, and the bytes that it gives a label.
+pub record IsSeatedAgain (here : Setting) (sign : Signs) (s : State) (w : View) (lines bytes : List ℕ) : Type 0 where
+  pub here_is : w.here ≡ here
+  pub sign_is : w.sign ≡ sign
+  pub journal : (J : List Record) → IsBegunOn here s J → w.journal ≡ J
+  pub none_waits : armed_of s.next ≡ None → w.armed ≡ None
+  pub line : lines ≡ stopped_line w.journal
+  pub none : bytes ≡ []
+
+-- ---- what is printed
+
+-- the lines of an event that goes as it goes
+abbrev pub lines_of_deed : Deed → List ℕ
+lines_of_deed d = ended d.answer ++ flat_map ended d.behind
+
+-- the lines of a stream that was fed
+abbrev pub fed_lines : Feeding → List ℕ
+fed_lines s = ended (spaced (text_of_report s)) ++ flat_map ended (map text_of_refusal s.refused)
+
+-- what is printed of the writes that a read shows
+abbrev pub shown_text : List Shown → List ℕ
+shown_text ws = flat_map (λ w. spaced (text_of_write w)) ws

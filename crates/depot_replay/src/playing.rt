@@ -1,0 +1,145 @@
+//! A schedule is played, and its transcript is written.
+ghost use Rattle.std.specs.Prelude.{◌≡◌, ◌++◌, [], ◌∷◌, ℕ, take, Some, None, IsTrue, OnOk, OnErr, IsErrOf, IfOk};
+ghost use Rattle.depot_base.specs.Faults.{HasCause};
+ghost use Rattle.depot_base.specs.Reading.{AddsFrontOf};
+ghost use Rattle.depot_base.specs.declared.record.Record.TheVariants.{Birth};
+ghost use Rattle.depot_model.specs.Lists.{IsIn};
+ghost use Rattle.depot_model.specs.Roster.{key_of};
+ghost use Rattle.depot_model.specs.Texts.{hash_of_roster};
+ghost use Rattle.depot_schedule.specs.Schedules.{IsSchedule};
+ghost use Rattle.depot_schedule.specs.declared.event.Event.{Event};
+ghost use Rattle.depot_world.specs.Run.{Run, run_of};
+ghost use Rattle.depot_world.specs.Suite.{Stage, stage_of, suite_of};
+ghost use Rattle.depot_world.specs.Transcript.{printed, transcript_of};
+ghost use Rattle.depot_replay.specs.Casting.{AreSigners, IsOn, MayHappen, hands_of};
+ghost use Rattle.depot_replay.specs.Playing.{IsAtPlay};
+
+use crate::actor::Actor;
+use crate::begins::Begins;
+use crate::error::ReplayError;
+use crate::labels::Labels;
+use crate::play::Play;
+use crate::scene::Scene;
+use crate::seat::Seat;
+use crate::seen::Seen;
+use crate::stage::{plain_signers, roster_of, winter_signers};
+use depot_base::Memory;
+use depot_model::{Scheme, Signer};
+use depot_outside::{OutError, Sink};
+use depot_schedule::{Event, Schedule};
+use depot_sign::PlainScheme;
+use depot_winter::WinterScheme;
+use std::alloc::Global;
+
+/// Plays a schedule, each of its correct nodes over a disk in memory, and writes its transcript, the lines of each event after the
+/// event was done. After an error a front of the transcript went out.
+pub fn replay<K: Sink>(alloc: Global, schedule: &Schedule, out: &mut K) -> Result<(), ReplayError>
+    requires { IsSchedule schedule.now }
+    ensures done { IsTrue (K.tells out.old) → OnOk result (K.written out.new ≡ K.written out.old ++ transcript_of schedule.now) }
+    ensures front { IsTrue (K.tells out.old) → OnErr result ((n : ℕ) × (K.written out.new ≡ K.written out.old ++ take n (transcript_of schedule.now))) }
+    ensures tells { K.tells out.new ≡ K.tells out.old }
+    ensures cause { HasCause (K.faults out.old) (K.faults out.new) (IsErrOf result ReplayError.Sink) }
+    ensures faultless { K.is_faultless out.old → K.is_faultless out.new × (K.faults out.new ≡ K.faults out.old) }
+{
+    let members = schedule.members.as_slice();
+    if schedule.winter {
+        let signers = winter_signers(alloc, members, schedule.height)?;
+        return replay_with(alloc, schedule, WinterScheme, signers.as_slice(), out);
+    }
+    let signers = plain_signers(alloc, members, schedule.height)?;
+    replay_with(alloc, schedule, PlainScheme, signers.as_slice(), out)
+}
+
+/// The same, with the signers of the members.
+fn replay_with<S: Scheme + Copy, G: Signer<Of = S>, K: Sink>(
+    alloc: Global,
+    schedule: &Schedule,
+    scheme: S,
+    signers: &[G],
+    out: &mut K,
+) -> Result<(), ReplayError>
+    requires schedule { IsSchedule schedule.now }
+    requires scheme { (suite_of schedule.now.winter).verifies ≡ S.verifies }
+    requires signers { AreSigners (suite_of schedule.now.winter) schedule.now.height schedule.now.members (hands_of G.key_of G.signature_of signers.now) }
+    ensures done { IsTrue (K.tells out.old) → OnOk result (K.written out.new ≡ K.written out.old ++ transcript_of schedule.now) }
+    ensures front { IsTrue (K.tells out.old) → OnErr result (AddsFrontOf (K.written out.old) (transcript_of schedule.now) (K.written out.new)) }
+    ensures tells { K.tells out.new ≡ K.tells out.old }
+    ensures cause { HasCause (K.faults out.old) (K.faults out.new) (IsErrOf result ReplayError.Sink) }
+    ensures faultless { K.is_faultless out.old → K.is_faultless out.new × (K.faults out.new ≡ K.faults out.old) }
+{
+    let roster = roster_of(alloc, schedule, signers)?;
+    let scene = Scene {
+        roster: &roster,
+        scheme,
+        height: schedule.height,
+        members: schedule.members.as_slice(),
+        signers,
+    };
+    let mut play = begun::<Seat<S, &G>, S, G>(alloc, schedule, &scene)?;
+    play_all(&mut play, &scene, schedule.events.as_slice(), out)
+}
+
+/// The run before its first event.
+fn begun<'a, A: Begins<S, &'a G>, S: Scheme + Copy, G: Signer<Of = S>>(
+    alloc: Global,
+    schedule: &Schedule,
+    scene: &Scene<'a, S, G>,
+) -> Result<Play<A>, Memory>
+    requires schedule { IsSchedule schedule.now }
+    requires members { scene.now.members.now ≡ schedule.now.members }
+    requires scene { IsOn S.verifies G.key_of G.signature_of (stage_of schedule.now) scene.now }
+    ensures { IfOk result (λ play. IsAtPlay A.view (stage_of schedule.now) (run_of (stage_of schedule.now) schedule.now.members) play) }
+{
+    let mut actors = Vec::new(alloc);
+    for place in 0..scene.members.len() {
+        let member = scene.members[place];
+        if !member.correct {
+            continue;
+        }
+        let signer = &scene.signers[place];
+        actors.push(A::born(alloc, scene.roster, scene.scheme, signer, member.node)?)?;
+    }
+    Ok(Play {
+        alloc,
+        actors,
+        labels: Labels::new(alloc),
+        seen: Seen::new(alloc),
+    })
+}
+
+/// Plays events, one after the other.
+fn play_all<A: Actor, S: Scheme, G: Signer, K: Sink>(
+    play: &mut Play<A>,
+    scene: &Scene<'_, S, G>,
+    events: &[Event],
+    out: &mut K,
+) -> Result<(), ReplayError>
+    requires may { (e : Event) → IsIn e events.now → MayHappen scene.now.height scene.now.members.now e }
+    requires played { (stage : Stage) × ((run : Run) × (IsOn S.verifies G.key_of G.signature_of stage scene.now × IsAtPlay A.view stage run play.old)) }
+    ensures done { (stage : Stage) (run : Run) → IsOn S.verifies G.key_of G.signature_of stage scene.now → IsAtPlay A.view stage run play.old → IsTrue (K.tells out.old) → OnOk result (K.written out.new ≡ K.written out.old ++ printed stage run events.now) }
+    ensures front { (stage : Stage) (run : Run) → IsOn S.verifies G.key_of G.signature_of stage scene.now → IsAtPlay A.view stage run play.old → IsTrue (K.tells out.old) → OnErr result (AddsFrontOf (K.written out.old) (printed stage run events.now) (K.written out.new)) }
+    ensures tells { K.tells out.new ≡ K.tells out.old }
+    ensures cause { HasCause (K.faults out.old) (K.faults out.new) (IsErrOf result ReplayError.Sink) }
+    ensures faultless { K.is_faultless out.old → K.is_faultless out.new × (K.faults out.new ≡ K.faults out.old) }
+{
+    for event in events {
+        let lines = play.event(scene, event)?;
+        write(out, lines.as_slice())?;
+    }
+    Ok(())
+}
+
+/// Writes bytes.
+fn write<K: Sink>(out: &mut K, bytes: &[u8]) -> Result<(), ReplayError>
+    ensures done { IsTrue (K.tells out.old) → OnOk result (K.written out.new ≡ K.written out.old ++ bytes.now) }
+    ensures front { IsTrue (K.tells out.old) → OnErr result (AddsFrontOf (K.written out.old) bytes.now (K.written out.new)) }
+    ensures tells { K.tells out.new ≡ K.tells out.old }
+    ensures cause { HasCause (K.faults out.old) (K.faults out.new) (IsErrOf result ReplayError.Sink) }
+    ensures faultless { K.is_faultless out.old → K.is_faultless out.new × (K.faults out.new ≡ K.faults out.old) }
+{
+    match out.write(bytes) {
+        Ok(()) => Ok(()),
+        Err(OutError::Memory) => Err(ReplayError::Memory),
+        Err(OutError::Failed) => Err(ReplayError::Sink),
+    }
+}

@@ -1,0 +1,256 @@
+//! A correct node over a disk in memory.
+ghost use Rattle.std.specs.Prelude.{◌≡◌, ◌≢◌, ◌↔◌, [], ◌∷◌, ℕ, List, false, Some, None, IfOk, IfErr, IsTrue};
+ghost use Rattle.depot_base.specs.Calls.{FailsAmong, made};
+ghost use Rattle.depot_base.specs.declared.record.Record.{Record};
+ghost use Rattle.depot_base.specs.declared.record.Record.TheVariants.{Birth};
+ghost use Rattle.depot_model.specs.Roster.{key_of};
+ghost use Rattle.depot_model.specs.Stops.{HasRecords};
+ghost use Rattle.depot_model.specs.Texts.{hash_of_roster};
+ghost use Rattle.depot_node.specs.Starting.{IsStartedFrom, calls_to_start_node};
+ghost use Rattle.depot_node.specs.declared.answer.StartError.TheVariants as start_error;
+ghost use Rattle.depot_outside.specs.Stopping.{State, Leads, state_of};
+ghost use Rattle.depot_world.specs.Run.{own_update};
+ghost use Rattle.depot_replay.specs.Acting.{View};
+ghost use Rattle.depot_replay.specs.Disks.{armed_of};
+ghost use Rattle.depot_replay.specs.Printing.{EndsAs};
+ghost use Rattle.depot_replay.specs.SeatFacts.{IsKeptOn-prop, is_node-prop, is_roster-prop, same_signs-prop, lawful_there};
+ghost use Rattle.depot_replay.specs.Seats.{IsBegunOn, IsCalled, IsKeptOn, IsSeatedAgain};
+
+use crate::actor::{Actor, Told};
+use crate::seat_exchanges::{Printed, bundle_printed, hello_line};
+use crate::seat_feeds::{fed_printed, feed_all, piece_of};
+use crate::seat_writes::{counted_line, have_sizes, put_printed, shown_line};
+use depot_base::{Bytes, Items, Key, Memory, NodeId, Update, Value};
+use depot_gossip::{bundle, hello};
+use depot_model::{Replica, Scheme, Signer};
+use depot_node::{Node, StartError};
+use depot_outside::{Back, MemDisk};
+use depot_sign::Roster;
+use std::alloc::Global;
+
+/// How many calls on a disk start a node from a journal that has begun.
+const START_CALLS: u32 = 3;
+
+/// What a node is started with, the first time and again.
+#[derive(Drop)]
+struct Means<S: Scheme + Copy, G: Signer<Of = S> + Copy> {
+    alloc: Global,
+    me: NodeId,
+    roster: Roster,
+    scheme: S,
+    signer: G,
+}
+
+/// A correct node over a disk in memory. Between two events it isn't stopped, and its disk is at rest and has its journal.
+#[derive(Drop)]
+pub struct Seat<S: Scheme + Copy, G: Signer<Of = S> + Copy> {
+    node: Node<MemDisk, S, G>,
+    means: Means<S, G>,
+    ghost runs: { node.store.stopped ≡ false },
+    ghost is_me: { node.store.me ≡ means.me } by { is_node-prop node.store.me means.me },
+    ghost is_listed: { node.store.listed ≡ means.roster } by { is_roster-prop node.store.listed means.roster },
+    ghost signs: { (seq : ℕ) (body : List ℕ) → G.signature_of node.signer seq body ≡ G.signature_of means.signer seq body } by { same_signs-prop (G.signature_of node.signer) (G.signature_of means.signer) },
+    ghost kept: { IsKeptOn (state_of node.store.disk) node.store.records } by { IsKeptOn-prop (state_of node.store.disk) node.store.records },
+}
+
+impl<S: Scheme + Copy, G: Signer<Of = S> + Copy> Means<S, G> {
+    /// Starts the node from a disk.
+    fn start(&self, disk: MemDisk) -> Result<Node<MemDisk, S, G>, Back<StartError, MemDisk>>
+        ensures me { IfOk result (λ n. n.store.me ≡ self.now.me) }
+        ensures listed { IfOk result (λ n. n.store.listed ≡ self.now.roster) }
+        ensures signs { IfOk result (λ n. G.signature_of n.signer ≡ G.signature_of self.now.signer) }
+        ensures runs { IfOk result (λ n. n.store.stopped ≡ false) }
+        ensures records { IfOk result (λ n. IsStartedFrom (record { verifies = S.verifies; me = self.now.me; listed = self.now.roster }) (state_of disk).file n.store.records) }
+        ensures calls { IfOk result (λ n. (J : List Record) → HasRecords J (state_of disk).file → Leads (state_of disk) (made (calls_to_start_node (record { verifies = S.verifies; me = self.now.me; listed = self.now.roster }) (state_of disk).file J)) (state_of n.store.disk)) }
+        ensures failing { IfErr result (λ b. b.error ≡ start_error.Disk → (J : List Record) → HasRecords J (state_of disk).file → FailsAmong Leads (state_of disk) (state_of b.disk) (calls_to_start_node (record { verifies = S.verifies; me = self.now.me; listed = self.now.roster }) (state_of disk).file J)) }
+    {
+        let Ok(roster) = self.roster.copy() else {
+            return Err(Back {
+                error: StartError::Memory,
+                disk,
+            });
+        };
+        Node::start(self.alloc, disk, roster, self.scheme, self.signer, self.me)
+    }
+
+    /// Seats the node that was stopped while its disk has a journal that has begun: it is started again.
+    fn stopped(self, disk: MemDisk) -> Result<Told<Seat<S, G>>, Memory>
+        requires { (J : List Record) × IsBegunOn (record { verifies = S.verifies; me = self.me; listed = self.roster }) (state_of disk) J }
+        ensures { IfOk result (λ t. IsSeatedAgain (record { verifies = S.verifies; me = self.me; listed = self.roster }) (G.signature_of self.signer) (state_of disk) (⟦<Seat<S, G> as Actor>⟧.view t.actor) t.lines t.bytes) }
+    {
+        let Ok(node) = self.start(disk) else {
+            return Err(Memory);
+        };
+        let lines = counted_line(self.alloc, "stopped records", node.record_count())?;
+        Ok(Told {
+            bytes: Bytes::new(self.alloc),
+            actor: Seat { node, means: self },
+            lines,
+        })
+    }
+}
+
+impl<S: Scheme + Copy, G: Signer<Of = S> + Copy> Means<S, G> {
+    /// Seats the node of which a start was refused. Where a stop fell into it, it is started again; nothing but memory can be wanting else.
+    fn refused(self, back: Back<StartError, MemDisk>) -> Result<Told<Seat<S, G>>, Memory>
+        requires { back.error ≡ start_error.Disk → (J : List Record) × IsBegunOn (record { verifies = S.verifies; me = self.me; listed = self.roster }) (state_of back.disk) J }
+        ensures stopped { IfOk result (λ _. back.error ≡ start_error.Disk) }
+        ensures again { IfOk result (λ t. IsSeatedAgain (record { verifies = S.verifies; me = self.me; listed = self.roster }) (G.signature_of self.signer) (state_of back.disk) (⟦<Seat<S, G> as Actor>⟧.view t.actor) t.lines t.bytes) }
+    {
+        match back.error {
+            StartError::Disk => self.stopped(back.disk),
+            _ => Err(Memory),
+        }
+    }
+}
+
+/// Whether an update is the one that a node wrote with a number.
+fn is_by(update: &Update, writer: NodeId, seq: u32) -> bool
+    ensures { IsTrue result ↔ ((update.now.writer ≡ writer) × (update.now.seq ≡ seq)) }
+{
+    update.writer == writer && update.seq == seq
+}
+
+/// Seats a node behind a call, with what is printed of it. Where a stop fell into the call, nothing is printed of that, and the node is
+/// started again.
+fn seated<S: Scheme + Copy, G: Signer<Of = S> + Copy>(
+    node: Node<MemDisk, S, G>,
+    means: Means<S, G>,
+    printed: Option<Printed>,
+) -> Result<Told<Seat<S, G>>, Memory>
+    requires me { node.store.me ≡ means.me }
+    requires listed { node.store.listed ≡ means.roster }
+    requires signs { G.signature_of node.signer ≡ G.signature_of means.signer }
+    requires runs { printed ≢ None → node.store.stopped ≡ false }
+    requires called { (v : View) × ((s : State) × ((longer : List Record) × ((v.here ≡ record { verifies = S.verifies; me = means.me; listed = means.roster }) × IsCalled v s (state_of node.store.disk) node.store.records longer (printed ≡ None)))) }
+    ensures { IfOk result (λ t. (v : View) (s : State) (longer : List Record) → v.here ≡ record { verifies = S.verifies; me = means.me; listed = means.roster } → v.sign ≡ G.signature_of means.signer → IsCalled v s (state_of node.store.disk) node.store.records longer (printed ≡ None) → EndsAs v longer printed (⟦<Seat<S, G> as Actor>⟧.view t.actor) t.lines t.bytes) }
+{
+    match printed {
+        Some(printed) => Ok(Told {
+            actor: Seat { node, means },
+            lines: printed.lines,
+            bytes: printed.bytes,
+        }),
+        None => means.stopped(node.into_disk()),
+    }
+}
+
+impl<S: Scheme + Copy, G: Signer<Of = S> + Copy> Seat<S, G> {
+    /// A node that is started on an empty disk.
+    pub fn born(
+        alloc: Global,
+        roster: &Roster,
+        scheme: S,
+        signer: G,
+        node: NodeId,
+    ) -> Result<Seat<S, G>, Memory>
+        requires { key_of roster.now node ≡ Some (G.key_of signer) }
+        ensures { IfOk result (λ a. ⟦<Seat<S, G> as Actor>⟧.view a ≡ record { here = record { verifies = S.verifies; me = node; listed = roster.now }; sign = G.signature_of signer; journal = Birth node (hash_of_roster roster.now) ∷ []; armed = None }) }
+    {
+        let means = Means {
+            alloc,
+            me: node,
+            roster: roster.copy()?,
+            scheme,
+            signer,
+        };
+        let disk = MemDisk::new(Bytes::new(alloc), Items::new(alloc));
+        match means.start(disk) {
+            Ok(node) => Ok(Seat { node, means }),
+            Err(_) => Err(Memory),
+        }
+    }
+}
+
+impl<S: Scheme + Copy, G: Signer<Of = S> + Copy> Actor for Seat<S, G> {
+    ghost view = { λ a. record { here = record { verifies = S.verifies; me = a.means.me; listed = a.means.roster }; sign = G.signature_of a.means.signer; journal = a.node.store.records; armed = armed_of (state_of a.node.store.disk).next } };
+
+    fn number(&self) -> NodeId {
+        self.means.me
+    }
+
+    fn update_count(&self) -> u32 {
+        self.node.update_count()
+    }
+
+    fn update(&self, item: u32) -> &Update {
+        self.node.update(item)
+    }
+
+    fn own_update(&self, seq: u32) -> Option<&Update> {
+        for item in 0..self.node.update_count() {
+            let update = self.node.update(item);
+            if is_by(update, self.means.me, seq) {
+                return Some(update);
+            }
+        }
+        None
+    }
+
+    fn put(self, key: Key, value: Value) -> Result<Told<Self>, Memory> {
+        let Seat { mut node, means } = self;
+        have_sizes(&key, &value);
+        let done = node.put(key, value);
+        let printed = put_printed(means.alloc, done)?;
+        seated(node, means, printed)
+    }
+
+    fn get(self, key: &Key) -> Result<Told<Self>, Memory> {
+        let lines = shown_line(self.means.alloc, &self.node, key)?;
+        Ok(Told {
+            bytes: Bytes::new(self.means.alloc),
+            actor: self,
+            lines,
+        })
+    }
+
+    fn hello(self) -> Result<Told<Self>, Memory> {
+        let bytes = hello(self.means.alloc, &self.node)?;
+        let lines = hello_line(self.means.alloc, bytes.as_slice())?;
+        Ok(Told {
+            actor: self,
+            lines,
+            bytes,
+        })
+    }
+
+    fn bundle(self, hello: &[u8]) -> Result<Told<Self>, Memory> {
+        let Seat { mut node, means } = self;
+        let made = bundle(means.alloc, &mut node, hello);
+        let printed = bundle_printed(means.alloc, made)?;
+        seated(node, means, printed)
+    }
+
+    fn give(self, stream: &[u8], size: Option<u32>) -> Result<Told<Self>, Memory> {
+        let Seat { mut node, means } = self;
+        let fed = feed_all(means.alloc, &mut node, stream, piece_of(stream, size));
+        let printed = fed_printed(means.alloc, fed)?;
+        seated(node, means, printed)
+    }
+
+    fn restart(self) -> Result<Told<Self>, Memory> {
+        let Seat { node, means } = self;
+        let node = match means.start(node.into_disk()) {
+            Ok(node) => node,
+            Err(back) => return means.refused(back),
+        };
+        let lines = counted_line(means.alloc, "records", node.record_count())?;
+        Ok(Told {
+            bytes: Bytes::new(means.alloc),
+            actor: Seat { node, means },
+            lines,
+        })
+    }
+
+    fn stop_at(self, call: u32, image: u8) -> Result<Self, Memory> {
+        let Seat { node, means } = self;
+        let mut disk = node.into_disk();
+        disk.stop_at(call + START_CALLS, image);
+        match means.start(disk) {
+            Ok(node) => Ok(Seat { node, means }),
+            Err(_) => Err(Memory),
+        }
+    }
+
+    ghost lawful = { λ a. lawful_there S.verifies a.node.store.me a.means.me a.node.store.listed a.means.roster a.node.store.records a.is_me a.is_listed a.node.lawful };
+}
