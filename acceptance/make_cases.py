@@ -193,7 +193,7 @@ def words():
         "words_seed_too_short": ["key", "0" * 63, "2"],
         "words_seed_too_long": ["key", "0" * 65, "2"],
         "words_seed_in_capitals": ["key", "AB" * 32, "2"],
-        "words_unknown_command": ["replay", "SCHEDULE"],
+        "words_unknown_command": ["play", "SCHEDULE"],
         "words_that_are_no_text": ["scan", b"\xff", "6b"],
     }.items():
         case(name, args, "words\n", 1)

@@ -17,5 +17,11 @@ if command -v valgrind >/dev/null; then
   echo "instructions of a scan of 20000 updates, in all and outside of SHA-256:"
   callgrind_annotate --threshold=100 scan.out | tr -d , | awk '/PROGRAM TOTALS/ { all = $1 } /sha2::/ { hash += $1 } END { print all, all - hash }'
 fi
+python3 "$here/make_schedule.py" busy
+echo "replay of five busy nodes with keys of height 10:"
+time "$here/../depot" replay busy >/dev/null
+python3 "$here/make_schedule.py" branches --branches 1025
+echo "replay of a node that takes 1025 branches:"
+time "$here/../depot" replay branches >/dev/null
 echo "key of height 12:"
 time "$here/../depot" key "$(printf '0%.0s' {1..64})" 12
