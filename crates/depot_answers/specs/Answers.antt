@@ -9,6 +9,8 @@ use Rattle.depot_base.specs.declared.check.FullOf.{FullOf}
 use Rattle.depot_base.specs.declared.check.FullOf.TheVariants as full_of
 use Rattle.depot_base.specs.declared.record.Record.{Record}
 use Rattle.depot_base.specs.declared.update.Update.{Update}
+use Rattle.depot_model.specs.declared.record_fault.RecordFault.{RecordFault}
+use Rattle.depot_model.specs.declared.record_fault.RecordFault.TheVariants as record_fault
 use Rattle.depot_model.specs.declared.bundle.Counts.{Counts}
 use Rattle.depot_model.specs.declared.bundle.Refusal.{Refusal}
 use Rattle.depot_model.specs.declared.hello.Hello.{Hello}
@@ -49,6 +51,19 @@ text_of_check (check.VoucherConvicted node) = numbered (codes "13 VoucherConvict
 text_of_check (check.Unwanted hash) = codes "14 Unwanted"
 text_of_check check.NotContradictory = codes "15 NotContradictory"
 text_of_check check.AgainstMe = codes "16 AgainstMe"
+
+-- ---- faulty records
+
+-- what is wrong with a record: the fault's name, and the offset or the check that it carries
+abbrev pub text_of_record_fault : RecordFault → List ℕ
+text_of_record_fault (record_fault.Ill at) = numbered (codes "Ill") at
+text_of_record_fault record_fault.Birth = codes "Birth"
+text_of_record_fault record_fault.NotNext = codes "NotNext"
+text_of_record_fault record_fault.OwnVoucher = codes "OwnVoucher"
+text_of_record_fault (record_fault.Refused failed) = text_of_check failed
+text_of_record_fault record_fault.ProofDue = codes "ProofDue"
+text_of_record_fault record_fault.Idle = codes "Idle"
+text_of_record_fault record_fault.NoRoom = codes "NoRoom"
 
 -- ---- limits
 

@@ -4,7 +4,7 @@
 //! gives for that answer, without LF. Where no memory is found, a front of it may have been added.
 //!
 //! `checks` has failed checks and refusals, `limits` the limits that a node meets, `journals` what is put, read and counted of a
-//! journal, `exchanges` hellos, bundles and streams, `judgements` rosters and proofs, `faults` faulty lines, and `words` what these are made of.
+//! journal, `exchanges` hellos, bundles and streams, `judgements` rosters and proofs, `record_faults` faulty records, `faults` faulty lines, and `words` what these are made of.
 //!
 //! Nothing here reads, decides or prints.
 #![tactic(auto)]
@@ -15,6 +15,7 @@ mod faults;
 mod journals;
 mod judgements;
 mod limits;
+mod record_faults;
 mod words;
 
 pub use checks::{check, refusal};
@@ -23,6 +24,7 @@ pub use faults::faulty_line;
 pub use journals::{put, records, write};
 pub use judgements::{point, roster_error, verdict};
 pub use limits::{collides, full, spent, tips};
+pub use record_faults::record_fault;
 pub use words::numbered;
 
 #[cfg(test)]

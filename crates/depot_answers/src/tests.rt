@@ -1,13 +1,13 @@
 //! Each text once, as docs/FORMATS.md or the worked schedules of `depot_world` have it.
 
 use crate::{
-    Closing, check, collides, counts, faulty_line, full, named, numbered, point, put, records,
-    refusal, report, roster_error, spent, tips, verdict, write,
+    Closing, check, collides, counts, faulty_line, full, named, numbered, point, put, record_fault,
+    records, refusal, report, roster_error, spent, tips, verdict, write,
 };
 use depot_base::{Bytes, Check, Deps, Full, FullOf, Hash32, Ids, Key, Kind, NodeId, Nodes, Update};
 use depot_model::{
-    Counts, Ending, Half, Hello, HelloLeaf, HelloLeaves, JudgeError, Refusal, Refusals, Report,
-    RosterError, Verdict,
+    Counts, Ending, Half, Hello, HelloLeaf, HelloLeaves, JudgeError, RecordFault, Refusal,
+    Refusals, Report, RosterError, Verdict,
 };
 use depot_schedule::LineFault;
 use std::alloc::Global;
@@ -25,6 +25,7 @@ enum Answer {
     Put(u32, u64),
     Write(Option<&'static [u8]>),
     Records(u32),
+    RecordFault(RecordFault),
     Named,
     Counts(Counts, bool),
     Report(Ending, Option<Closing>),
@@ -96,6 +97,7 @@ fn print(alloc: Global, out: &mut Bytes, answer: &Answer) -> Result<(), Fail> {
         Answer::Put(seq, clock) => put(alloc, out, *seq, *clock)?,
         Answer::Write(value) => write(alloc, out, &update(alloc)?, *value)?,
         Answer::Records(count) => records(alloc, out, *count)?,
+        Answer::RecordFault(fault) => record_fault(alloc, out, fault)?,
         Answer::Named => named(alloc, out, &hello(alloc)?)?,
         Answer::Counts(found, more) => counts(alloc, out, found, *more)?,
         Answer::Report(ending, closing) => report(
@@ -153,6 +155,11 @@ fn each_answer_has_its_text(rt: HostRuntime) -> Result<(), Fail> {
         (Answer::Write(Some(b"")), "1/0/2="),
         (Answer::Write(None), "1/0/2=?"),
         (Answer::Records(2), "records 2"),
+        (Answer::RecordFault(RecordFault::Ill(3)), "Ill 3"),
+        (
+            Answer::RecordFault(RecordFault::Refused(Check::BadSignature(node))),
+            "4 BadSignature 9",
+        ),
         (Answer::Named, "convicted 1 leaves 2 wanted 0"),
         (
             Answer::Counts(sent, true),

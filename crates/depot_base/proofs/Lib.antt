@@ -9,3 +9,4 @@ pub mod Decoding
 pub mod Writing
 pub mod Trees
 pub mod CallLaws
+pub mod Blocks

@@ -1,26 +1,22 @@
 -- What bytes bring a journal, and what a stop leaves of it while they are fed.
-use Rattle.std.proofs.Common.{◌≡◌, ◌≤◌, ℕ, List, [], ◌∷◌, ◌++◌, append_assoc, Bool, true, false, IsTrue, cond, ◌==◌, is_some, Some, Ok, Err, refl, sym, ap, ◌∙◌, arith}
+use Rattle.std.proofs.Common.{◌≡◌, ◌≤◌, ℕ, List, [], ◌++◌, append_assoc, Bool, true, false, IsTrue, cond, ◌==◌, Some, Ok, Err, refl, sym, ap, ◌∙◌, arith}
 use Rattle.std.proofs.lemmas.Bool.Decides.{nat_tests}
 use Rattle.std.proofs.lemmas.List.{append-nil}
 use Rattle.depot_base.specs.declared.record.Record.{Record}
 use Rattle.depot_model.specs.declared.taken.Taken.TheVariants.{New, Known}
 use Rattle.depot_model.specs.Checks.{Setting}
-use Rattle.depot_model.specs.Frames.{Frame, FrameAt, whole_frame, open_frame, no_frame, frame_at}
-use Rattle.depot_model.specs.Feeding.{Feeding, ill_formed, closed_by, after_outcome, passed, says_more, fed, fed_at, fed_byte, fed_frame, take_frame, is_over}
+use Rattle.depot_model.specs.Frames.{Frame}
+use Rattle.depot_model.specs.Feeding.{Feeding, after_outcome, passed, says_more, fed, fed_frame, take_frame}
 use Rattle.depot_model.specs.Stops.{LeavesAll, Lasts}
 use Rattle.depot_model.specs.Taking.{Outcome, no_room, answered, appended_by}
+use Rattle.depot_model.proofs.FeedGrowth.{feed_grows}
 use Rattle.depot_model.proofs.FeedLaws.{fed_in_pieces}
 use Rattle.depot_gossip.specs.Lasting.{LastsIn, LastsFed}
 use Rattle.depot_gossip.specs.Pieces.{brought_by}
 use Rattle.depot_gossip.proofs.LastingLaws.{nothing_lasts, lasts_longer, lasts_joined}
 use Rattle.depot_gossip.proofs.PieceLaws.{IsUnderWay}
 
--- ---- a feed only adds to its journal
-
--- a journal has the records of another one, and then more
-pub record IsGrown (J K : List Record) : Type 0 where
-  pub more : List Record
-  pub is : K ≡ J ++ more
+-- ---- what a frame brings
 
 -- an outcome adds what is appended for it
 outcome_brings : (n : ℕ) (s : Feeding) (o : Outcome) → (after_outcome n s o).journal ≡ s.journal ++ appended_by o
@@ -36,33 +32,6 @@ frame_brings here n f s = by_end (f.tag == 4) where
   by_end : (b : Bool) → (cond b (passed n (record s { ended = Some (says_more f.payload) })) (after_outcome n s (take_frame here s.journal f))).journal ≡ s.journal ++ cond b [] (appended_by (take_frame here s.journal f))
   by_end true = sym (append-nil s.journal)
   by_end false = outcome_brings n s (take_frame here s.journal f)
-
--- what stands with a byte: a whole frame, or nothing is added
-at_grows : (here : Setting) (s : Feeding) (bytes : List ℕ) (at : FrameAt) → IsGrown s.journal (fed_at here s bytes at).journal
-at_grows here s bytes open_frame = record { more = []; is = sym (append-nil s.journal) }
-at_grows here s bytes no_frame = record { more = []; is = sym (append-nil s.journal) }
-at_grows here s bytes (whole_frame f) = record { more = brought_by here s.journal f; is = frame_brings here _ f s }
-
--- one byte only adds to it
-byte_grows : (here : Setting) (s : Feeding) (b : ℕ) → IsGrown s.journal (fed_byte here s b).journal
-unfolding fed_byte
-byte_grows here s b = by_tests (is_some s.closed) (is_over s) (at_grows here s (s.begun ++ b ∷ []) (frame_at (s.begun ++ b ∷ []))) where
-  next : Feeding
-  next = fed_at here s (s.begun ++ b ∷ []) (frame_at (s.begun ++ b ∷ []))
-
-  by_tests : (closed over : Bool) → IsGrown s.journal next.journal → IsGrown s.journal (cond closed s (cond over (closed_by (ill_formed s.start) s) next)).journal
-  by_tests true over grown = record { more = []; is = sym (append-nil s.journal) }
-  by_tests false true grown = record { more = []; is = sym (append-nil s.journal) }
-  by_tests false false grown = grown
-
--- and so do all bytes
-pub feed_grows : (here : Setting) (s : Feeding) (bytes : List ℕ) → IsGrown s.journal (fed here s bytes).journal
-unfolding fed
-feed_grows here s [] = record { more = []; is = sym (append-nil s.journal) }
-feed_grows here s (b ∷ bytes) =
-    let one = byte_grows here s b in
-    let rest = feed_grows here (fed_byte here s b) bytes in
-    record { more = one.more ++ rest.more; is = rest.is ∙ ap (λ (J : List Record). J ++ rest.more) one.is ∙ append_assoc s.journal one.more rest.more }
 
 -- ---- one frame
 

@@ -25,7 +25,8 @@ use Rattle.depot_gossip.specs.NodeCalls.{told}
 use Rattle.depot_gossip.specs.Errors.{from_vouching}
 use Rattle.depot_gossip.specs.Lasting.{CallsFed, LastsIn, LastsFed}
 use Rattle.depot_gossip.specs.Pieces.{brought_by}
-use Rattle.depot_gossip.proofs.FeedGrowth.{feed_grows, taken_brings, chunk_brings}
+use Rattle.depot_model.proofs.FeedGrowth.{feed_grows}
+use Rattle.depot_gossip.proofs.FeedGrowth.{taken_brings, chunk_brings}
 use Rattle.depot_gossip.proofs.PieceLaws.{IsUnderWay}
 use Rattle.depot_gossip.proofs.StreamLaws.{same_fault}
 use Rattle.depot_gossip.proofs.VoucherGrowth.{are_journaled}

@@ -8,7 +8,8 @@ use Rattle.depot_journal.specs.Steps.{FailsAt, StandsBetween, StandsTo}
 use Rattle.depot_journal.specs.View.{IsReserved}
 use Rattle.depot_base.proofs.CallLaws.{framed_long}
 use Rattle.depot_journal.proofs.Moments.{started, goes_on, joined, weaker}
-use Rattle.depot_journal.proofs.Walk.{blocks-append, stands_of}
+use Rattle.depot_base.proofs.Blocks.{blocks-append}
+use Rattle.depot_journal.proofs.Walk.{stands_of}
 
 -- a record takes 5 bytes more than its body
 pub blocks_many : (bodies : List (List ℕ)) → 5 * length bodies ≤ length (blocks bodies)

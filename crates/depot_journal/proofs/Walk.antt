@@ -1,13 +1,10 @@
 -- The records of a list that are appended one by one.
-use Rattle.std.proofs.Common.{◌≡◌, ◌<◌, ◌≤◌, ◌⊎◌, inl, inr, ℕ, ◌+◌, List, [], ◌∷◌, ◌++◌, length, length-append, take, drop, get_or, refl, sym, ◌∙◌, ap, subst, arith, append_assoc, append-nil, take-append-drop}
+use Rattle.std.proofs.Common.{◌≡◌, ◌<◌, ◌≤◌, ◌⊎◌, inl, inr, ℕ, ◌+◌, List, [], ◌∷◌, ◌++◌, length, take, drop, get_or, refl, sym, ◌∙◌, ap, subst, arith, append_assoc, append-nil, take-append-drop}
 use Rattle.std.proofs.lemmas.List.{take_more}
-use Rattle.depot_base.specs.File.{StandsFor, blocks, framed}
+use Rattle.depot_base.specs.File.{StandsFor, blocks}
+use Rattle.depot_base.proofs.Blocks.{blocks-append}
 use Rattle.depot_journal.specs.Steps.{IsBeforeOrAfter, StandsBetween, StandsTo}
 use Rattle.depot_journal.proofs.Blocks.{one_longer}
-
-pub blocks-append : (a b : List (List ℕ)) → length (blocks (a ++ b)) ≡ length (blocks a) + length (blocks b)
-blocks-append [] b = omega arith
-blocks-append (x ∷ a) b = omega (arith, blocks-append a b, length-append (framed x) (blocks (a ++ b)), length-append (framed x) (blocks a))
 
 -- the gate behind the records so far
 pub gate_behind : (bytes bytes' : List ℕ) (old at front : List (List ℕ)) → bytes ≡ blocks old → bytes' ≡ blocks at → at ≡ old ++ front → length bytes' ≡ length bytes + length (blocks front)

@@ -1,24 +1,21 @@
 -- What calls on a node, one after another, do on its disk.
-use Rattle.std.proofs.Common.{◌≡◌, ℕ, ◌+◌, Bool, true, false, List, [], ◌∷◌, ◌++◌, append_assoc, length, map, refl, sym, ap, subst, ◌∙◌, arith}
-use Rattle.std.proofs.lemmas.List.{append-nil, append_cancel_left, length-append, map-append}
+use Rattle.std.proofs.Common.{◌≡◌, ℕ, ◌+◌, Bool, true, false, List, [], ◌++◌, append_assoc, length, map, refl, sym, ap, subst, ◌∙◌}
+use Rattle.std.proofs.lemmas.List.{append-nil, append_cancel_left, map-append}
 use Rattle.depot_base.specs.Calls.{Call, Made, made, FailsAmong, calls_to_append_all}
-use Rattle.depot_base.specs.File.{blocks, framed}
+use Rattle.depot_base.specs.File.{blocks}
 use Rattle.depot_base.specs.declared.record.Record.{Record}
+use Rattle.depot_base.proofs.Blocks.{blocks-append}
 use Rattle.depot_base.proofs.CallLaws.{fails_wider, fails_later, made_later, appends_append}
 use Rattle.depot_model.specs.Records.{text_of_record}
 use Rattle.depot_model.specs.Stops.{calls_to_record, CallsDisk}
 
 -- ---- the calls that append records
 
-blocks_length : (xs ys : List (List ℕ)) → length (blocks (xs ++ ys)) ≡ length (blocks xs) + length (blocks ys)
-blocks_length [] ys = omega arith
-blocks_length (x ∷ xs) ys = omega (arith, blocks_length xs ys, length-append (framed x) (blocks (xs ++ ys)), length-append (framed x) (blocks xs))
-
 -- records that are appended behind others
 pub calls_behind : (J a b : List Record) → calls_to_record J (a ++ b) ≡ calls_to_record J a ++ calls_to_record (J ++ a) b
 calls_behind J a b =
     let gate : ℕ = length (blocks (map text_of_record J)) in
-    let behind : gate + length (blocks (map text_of_record a)) ≡ length (blocks (map text_of_record (J ++ a))) = sym (ap (λ (ts : List (List ℕ)). length (blocks ts)) (map-append text_of_record J a) ∙ blocks_length (map text_of_record J) (map text_of_record a)) in
+    let behind : gate + length (blocks (map text_of_record a)) ≡ length (blocks (map text_of_record (J ++ a))) = sym (ap (λ (ts : List (List ℕ)). length (blocks ts)) (map-append text_of_record J a) ∙ blocks-append (map text_of_record J) (map text_of_record a)) in
     ap (calls_to_append_all gate) (map-append text_of_record a b)
     ∙ appends_append gate (map text_of_record a) (map text_of_record b)
     ∙ ap (λ (n : ℕ). calls_to_record J a ++ calls_to_append_all n (map text_of_record b)) behind

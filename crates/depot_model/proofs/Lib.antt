@@ -19,6 +19,7 @@ pub mod WorldExamples
 pub mod HelloLaws
 pub mod ContentLaws
 pub mod FeedLaws
+pub mod FeedGrowth
 pub mod LimitLaws
 pub mod CausalityExamples
 pub mod FrameLaws

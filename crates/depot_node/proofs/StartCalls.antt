@@ -1,6 +1,6 @@
 -- Which calls on the disk a start makes.
-use Rattle.std.proofs.Common.{◌≡◌, ℕ, List, [], ◌∷◌, ◌++◌, map, Result, Ok, Err, refl, sym, ap, subst, ◌∙◌, arith}
-use Rattle.std.specs.Result.{IsErrOf, OnOk}
+use Rattle.std.proofs.Common.{◌≡◌, ℕ, List, [], ◌∷◌, ◌++◌, map, Result, Ok, Err, refl, arith}
+use Rattle.std.specs.Result.{OnOk}
 use Rattle.depot_base.specs.Calls.{Made, made, FailsAmong, calls_to_start}
 use Rattle.depot_base.specs.Faults.{HasCause}
 use Rattle.depot_base.specs.File.{IsFileOf}
@@ -11,9 +11,8 @@ use Rattle.depot_journal.specs.declared.error.JournalError.TheVariants as journa
 use Rattle.depot_journal.proofs.OneList.{one_list}
 use Rattle.depot_model.specs.Checks.{Setting}
 use Rattle.depot_model.specs.Records.{text_of_record}
-use Rattle.depot_model.specs.Stops.{CallsDisk, calls_to_record}
-use Rattle.depot_store.specs.Holdings.{Holding}
-use Rattle.depot_node.specs.Starting.{birth_after, calls_to_start_node, of_journal, started}
+use Rattle.depot_model.specs.Stops.{calls_to_record}
+use Rattle.depot_node.specs.Starting.{birth_after, calls_to_start_node, of_journal}
 use Rattle.depot_node.specs.declared.answer.StartError.{StartError}
 use Rattle.depot_node.specs.declared.answer.StartError.TheVariants as refused
 
@@ -29,34 +28,6 @@ pub calls_as_read : {D : Type 0} (after : D → List Made → D → Type 0) (her
     → OnOk result ((J : List Record) → texts ≡ map text_of_record J → after old (made (calls_to_record J (birth_after here J))) new)
 calls_as_read after here old new texts rest text (Ok done) some none = no_birth after here old new texts rest text some none
 calls_as_read after here old new texts rest text (Err e) some none = tt
-
--- ---- a birth is appended
-
-no_record : (J : List Record) → map text_of_record J ≡ [] → J ≡ []
-no_record [] is = refl
-no_record (r ∷ J) is = absurd cc
-
-module _ {D : Type 0} (after : D → List Made → D → Type 0) (reads : D → List ℕ) (here : Setting) (old new : Holding D) where
-  -- the calls that a call makes on a store's disk
-  abbrev pub CallsOn : List Record → Type 0 → Type 0
-  CallsOn appends failed = CallsDisk (λ v calls w. after v.disk calls w.disk) (λ v. reads v.disk) (λ v. v.stopped) (λ v. v.records) old new appends failed
-
-  pub calls_of_birth : (result : Result (Unit {0}) StartError) → old.records ≡ [] → old.unread ≡ [] → OnOk result (new.records ≡ started here []) → CallsOn (birth_after here []) (IsErrOf result refused.Disk)
-      → OnOk result ((J : List Record) → old.unread ≡ map text_of_record J → after old.disk (made (calls_to_record J (birth_after here J))) new.disk)
-  calls_of_birth (Ok done) none unread grown c = λ J is.
-      let birth : List Record = birth_after here [] in
-      let calls = c.whole (λ e. cc) birth (grown ∙ ap (λ (K : List Record). K ++ birth) (sym none)) in
-      let from_none = subst (λ (K : List Record). after old.disk (made (calls_to_record K birth)) new.disk) none calls in
-      subst (λ (K : List Record). after old.disk (made (calls_to_record K (birth_after here K))) new.disk) (sym (no_record J (sym is ∙ unread))) from_none
-  calls_of_birth (Err e) none unread grown c = tt
-
-  pub birth_fails : (result : Result (Unit {0}) StartError) → old.records ≡ [] → old.unread ≡ [] → CallsOn (birth_after here []) (IsErrOf result refused.Disk)
-      → IsErrOf result refused.Disk → (J : List Record) → old.unread ≡ map text_of_record J → FailsAmong after old.disk new.disk (calls_to_record J (birth_after here J))
-  birth_fails result none unread c failed J is =
-      let p = c.part failed in
-      let fails : FailsAmong after old.disk new.disk (calls_to_record old.records (birth_after here [])) = record { before = p.before; failing = p.failing; rest = p.rest; parts = p.parts; fails = p.fails } in
-      let from_none = subst (λ (K : List Record). FailsAmong after old.disk new.disk (calls_to_record K (birth_after here []))) none fails in
-      subst (λ (K : List Record). FailsAmong after old.disk new.disk (calls_to_record K (birth_after here K))) (sym (no_record J (sym is ∙ unread))) from_none
 
 -- ---- a journal is started, and then its records are read
 

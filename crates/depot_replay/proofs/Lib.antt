@@ -27,15 +27,12 @@ pub mod RememberedEvents
 pub mod RememberedRuns
 pub mod SeatCalls
 pub mod SeatEvents
-pub mod SeatFeeds
 pub mod SeatLaws
-pub mod SeatPrinting
 pub mod SeatPuts
 pub mod SeatReads
 pub mod SeatStarts
 pub mod SeatTurns
 pub mod Seats
 pub mod SeenLaws
-pub mod ShownWrites
 pub mod SignedLaws
 pub mod SignedUpdates

@@ -15,26 +15,26 @@ use Rattle.depot_model.proofs.Elements.{in_at}
 use Rattle.depot_laws.proofs.Causes.{lawful_is_causal}
 use Rattle.depot_laws.proofs.OwnTexts.{accepted_fit}
 use Rattle.depot_world.specs.Run.{seen_with}
-use Rattle.depot_world.proofs.ByteFeeds.{Extends}
+use Rattle.depot_model.proofs.FeedGrowth.{IsGrown}
 use Rattle.depot_replay.specs.Playing.{WereSeen}
 use Rattle.depot_replay.proofs.Remembered.{IdsWereSeen, seen_with-append, seen_add_nothing, only_new_add, causal_come, parents_of_next}
 
 -- ---- what a journal that grew accepted
 
 -- what it accepted before, and then more
-pub accepted_more : (J K : List Record) (e : Extends J K) → accepted K ≡ accepted J ++ accepted e.more
+pub accepted_more : (J K : List Record) (e : IsGrown J K) → accepted K ≡ accepted J ++ accepted e.more
 accepted_more J K e = ap (λ (x : List Record). accepted x) e.is ∙ flat_map-append accepted_by J e.more
 
 -- it accepted no fewer
-pub accepts_no_fewer : (J K : List Record) → Extends J K → length (accepted J) ≤ length (accepted K)
+pub accepts_no_fewer : (J K : List Record) → IsGrown J K → length (accepted J) ≤ length (accepted K)
 accepts_no_fewer J K e = omega (arith, ap length (accepted_more J K e), length-append (accepted J) (accepted e.more))
 
 -- what it accepted before stands in front
-pub accepted_front : (J K : List Record) → Extends J K → take (length (accepted J)) (accepted K) ≡ accepted J
+pub accepted_front : (J K : List Record) → IsGrown J K → take (length (accepted J)) (accepted K) ≡ accepted J
 accepted_front J K e = ap (λ (x : List Update). take (length (accepted J)) x) (accepted_more J K e) ∙ take-append_seam (accepted J) (accepted e.more)
 
 -- and what is new behind it
-pub accepted_new : (J K : List Record) (e : Extends J K) → drop (length (accepted J)) (accepted K) ≡ accepted e.more
+pub accepted_new : (J K : List Record) (e : IsGrown J K) → drop (length (accepted J)) (accepted K) ≡ accepted e.more
 accepted_new J K e = ap (λ (x : List Update). drop (length (accepted J)) x) (accepted_more J K e) ∙ drop-append_seam (accepted J) (accepted e.more)
 
 -- where what it accepted before was seen, the new ones add what all add
@@ -44,7 +44,7 @@ new_add J K seen more were is = ap (λ (x : List Update). seen_with seen x) is �
 -- ---- one by one, from the first that is new
 
 -- those before the first new one add nothing
-pub adding_begins : (J K : List Record) (seen : List Update) → Extends J K → WereSeen seen (accepted J) → seen ≡ seen_with seen (take (length (accepted J)) (accepted K))
+pub adding_begins : (J K : List Record) (seen : List Update) → IsGrown J K → WereSeen seen (accepted J) → seen ≡ seen_with seen (take (length (accepted J)) (accepted K))
 adding_begins J K seen e were = sym (ap (λ (x : List Update). seen_with seen x) (accepted_front J K e) ∙ seen_add_nothing seen (accepted J) were)
 
 next_front : (us : List Update) (i : ℕ) (u : Update) → slice_get us i ≡ Some u → take (i + 1) us ≡ take i us ++ u ∷ []

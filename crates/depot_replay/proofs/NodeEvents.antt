@@ -19,7 +19,7 @@ use Rattle.depot_world.specs.Run.{Made, Run, Station, bytes_of, station_in, put_
 use Rattle.depot_world.specs.Stops.{Deed, Went, went}
 use Rattle.depot_world.specs.Suite.{Stage, stands_on, signs_on}
 use Rattle.depot_world.specs.Transcript.{Done, armed_at, by_node, done, done_by_node}
-use Rattle.depot_world.proofs.ByteFeeds.{Extends, extends_self}
+use Rattle.depot_model.proofs.FeedGrowth.{IsGrown, grown_none}
 use Rattle.depot_world.proofs.GoodRuns.{found_is}
 use Rattle.depot_replay.specs.Acting.{View, AreSeated, CameTo, IsSeated, lines_behind}
 use Rattle.depot_replay.specs.Doing.{HasDone, HasLeft, deed_of, is_deed, label_by, labels_with, lines_from_arrow}
@@ -38,7 +38,7 @@ use Rattle.depot_replay.proofs.PlaceLaws.{seat_at, no_seat}
 -- ---- what an event does at its node
 
 -- the journal keeps its records
-deed_grows : (stage : Stage) (run : Run) (e : Event) (s : Station) → Extends s.correct.journal (went s (deed_of stage run e s)).station.correct.journal
+deed_grows : (stage : Stage) (run : Run) (e : Event) (s : Station) → IsGrown s.correct.journal (went s (deed_of stage run e s)).station.correct.journal
 deed_grows stage run (event.Put node key value) s = put_grows (stands_on stage s.correct.node) s key value
 deed_grows stage run (event.Get node key) s = get_grows s key
 deed_grows stage run (event.Hello node label) s = hello_grows (stands_on stage s.correct.node) s
@@ -157,7 +157,7 @@ place_within A view node before left away l =
 -- ---- and comes back
 
 -- what it had accepted when it left was seen
-pub had_seen : (A : Type 0) (view : A → View) (stage : Stage) (run : Run) (node : ℕ) (left : Play A) (away : Away A) (K : List Record) → (i : IsLeft A view stage run node left away) → Extends i.station.correct.journal K
+pub had_seen : (A : Type 0) (view : A → View) (stage : Stage) (run : Run) (node : ℕ) (left : Play A) (away : Away A) (K : List Record) → (i : IsLeft A view stage run node left away) → IsGrown i.station.correct.journal K
     → WereSeen (updates_in left.seen.graph.items.entries) (take away.count (accepted K))
 had_seen A view stage run node left away K i grown =
     let J = i.station.correct.journal in
@@ -257,7 +257,7 @@ pub armed_had_seen : (A : Type 0) (view : A → View) (stage : Stage) (run : Run
     → WereSeen (updates_in left.seen.graph.items.entries) (take away.count (accepted (view after).journal))
 armed_had_seen A view stage run node left away after call image i is =
     let seat = armed_seat stage i.station (view away.actor) (view after) call image i.seated is in
-    subst (λ (x : List Record). WereSeen (updates_in left.seen.graph.items.entries) (take away.count (accepted x))) (sym seat.journal) (had_seen A view stage run node left away i.station.correct.journal i (extends_self i.station.correct.journal))
+    subst (λ (x : List Record). WereSeen (updates_in left.seen.graph.items.entries) (take away.count (accepted x))) (sym seat.journal) (had_seen A view stage run node left away i.station.correct.journal i (grown_none i.station.correct.journal))
 
 -- the stop was set
 pub stop_set : (A : Type 0) (view : A → View) (stage : Stage) (run : Run) (node call image : ℕ) (before left new : Play A) (away : Away A) (after : A) → IsLawful (view after).here (view after).journal → IsAtPlay view stage run before

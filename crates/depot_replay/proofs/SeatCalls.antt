@@ -36,10 +36,10 @@ use Rattle.depot_world.specs.Suite.{Stage, signs_on, stands_on}
 use Rattle.depot_world.proofs.ByteBundles.{unvouched_are_foreign}
 use Rattle.depot_replay.specs.Acting.{IsSeated, View}
 use Rattle.depot_replay.specs.Disks.{armed_of}
-use Rattle.depot_replay.specs.Printing.{SettlesBundle, SettlesFeed}
+use Rattle.depot_deeds.specs.Printing.{SettlesBundle, SettlesFeed}
 use Rattle.depot_replay.specs.Seats.{Appends, IsBegunOn, IsCalled}
-use Rattle.depot_replay.specs.declared.seat_exchanges.Printed.{Printed}
-use Rattle.depot_replay.specs.declared.seat_feeds.Fed.{Fed}
+use Rattle.depot_deeds.specs.declared.printed.Printed.{Printed}
+use Rattle.depot_deeds.specs.declared.feeds.Fed.{Fed}
 
 -- ---- calls on a node, as its disk sees them
 

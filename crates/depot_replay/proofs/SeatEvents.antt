@@ -18,8 +18,9 @@ use Rattle.depot_replay.specs.Acting.{CameTo, IsSeated, View}
 use Rattle.depot_replay.specs.Disks.{Stopped, armed_of}
 use Rattle.depot_replay.specs.Printing.{EndsAs}
 use Rattle.depot_replay.specs.SeatFacts.{lawful_there}
-use Rattle.depot_replay.specs.declared.seat_exchanges.Printed.{Printed}
-use Rattle.depot_replay.specs.Seats.{Appends, IsBegunOn, IsCalled, IsKeptOn, lines_of_deed, stopped_line}
+use Rattle.depot_deeds.specs.declared.printed.Printed.{Printed}
+use Rattle.depot_deeds.specs.Printing.{lines_of_deed}
+use Rattle.depot_replay.specs.Seats.{Appends, IsBegunOn, IsCalled, IsKeptOn, stopped_line}
 use Rattle.depot_replay.proofs.SeatLaws.{IsCut, IsToCome, calls_counted, cut_short, kept_after, went_cut, went_well}
 
 -- ---- the node after it

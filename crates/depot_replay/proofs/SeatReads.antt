@@ -16,7 +16,8 @@ use Rattle.depot_world.specs.Suite.{Stage, stands_on}
 use Rattle.depot_world.specs.Transcript.{ended}
 use Rattle.depot_replay.specs.Acting.{CameTo, IsSeated, View}
 use Rattle.depot_replay.specs.Disks.{Stopped, StoppedReading, armed_of}
-use Rattle.depot_replay.specs.Seats.{lines_of_deed, shown_text, stopped_line}
+use Rattle.depot_deeds.specs.Printing.{lines_of_deed, shown_text}
+use Rattle.depot_replay.specs.Seats.{stopped_line}
 use Rattle.depot_replay.proofs.SeatEvents.{IsThen, came_stopped, came_well}
 use Rattle.depot_replay.proofs.SeatLaws.{IsToCome}
 

@@ -27,13 +27,14 @@ use Rattle.depot_world.specs.Stops.{went}
 use Rattle.depot_world.specs.Suite.{Stage, signs_on, stands_on}
 use Rattle.depot_replay.specs.Acting.{CameTo, IsSeated, View}
 use Rattle.depot_replay.specs.Disks.{armed_of}
-use Rattle.depot_replay.specs.Printing.{EndsAs, IsPrintOf, IsToldOf, SettlesBundle, SettlesFeed}
-use Rattle.depot_replay.specs.PutPrinting.{SettlesPut}
+use Rattle.depot_deeds.specs.Printing.{IsPrintOf, IsToldOf, SettlesBundle, SettlesFeed}
+use Rattle.depot_replay.specs.Printing.{EndsAs}
+use Rattle.depot_deeds.specs.PutPrinting.{SettlesPut}
 use Rattle.depot_replay.specs.Seats.{IsBegunOn, IsCalled}
-use Rattle.depot_replay.specs.declared.seat_exchanges.Printed.{Printed}
-use Rattle.depot_replay.specs.declared.seat_feeds.Fed.{Fed}
+use Rattle.depot_deeds.specs.declared.printed.Printed.{Printed}
+use Rattle.depot_deeds.specs.declared.feeds.Fed.{Fed}
 use Rattle.depot_replay.proofs.SeatCalls.{IsDoneOn, appends_there, bundle_appends, bundle_called, bundle_longer, give_appends, give_called, give_longer}
-use Rattle.depot_replay.proofs.SeatFeeds.{if_ok}
+use Rattle.depot_deeds.proofs.FedStreams.{if_ok}
 use Rattle.depot_replay.proofs.SeatPuts.{put_appends, put_called, put_longer}
 
 -- a node stands where it was started

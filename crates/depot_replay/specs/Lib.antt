@@ -7,7 +7,6 @@ pub mod Entries
 pub mod Labels
 pub mod Playing
 pub mod Printing
-pub mod PutPrinting
 pub mod SeatFacts
 pub mod Seats
 pub mod Seen

@@ -1,6 +1,5 @@
 -- A node that is seated: how its disk stands between two events, and what a call on it came to.
-use Rattle.std.specs.Prelude.{◌≡◌, ◌≤◌, ◌<◌, ℕ, ◌-◌, List, [], ◌∷◌, ◌++◌, length, map, take, false, Option, Some, None, slice_get, codes}
-use Rattle.std.specs.List.{flat_map}
+use Rattle.std.specs.Prelude.{◌≡◌, ◌≤◌, ◌<◌, ℕ, ◌-◌, List, [], ◌∷◌, ◌++◌, length, map, take, false, Some, None, slice_get, codes}
 use Rattle.depot_base.specs.Calls.{FailsAmong, made}
 use Rattle.depot_base.specs.File.{blocks}
 use Rattle.depot_base.specs.declared.record.Record.{Record}
@@ -9,10 +8,8 @@ use Rattle.depot_model.specs.Checks.{Setting}
 use Rattle.depot_model.specs.Lawful.{IsLawful, is_empty}
 use Rattle.depot_model.specs.Records.{text_of_record}
 use Rattle.depot_model.specs.Stops.{calls_to_record}
-use Rattle.depot_model.specs.World.{Shown}
 use Rattle.depot_outside.specs.Stopping.{State, Leads}
-use Rattle.depot_model.specs.Feeding.{Feeding}
-use Rattle.depot_answers.specs.Answers.{numbered, spaced, text_of_refusal, text_of_report, text_of_write}
+use Rattle.depot_answers.specs.Answers.{numbered}
 use Rattle.depot_world.specs.Run.{Armed}
 use Rattle.depot_world.specs.Stops.{Deed, calls_to_append}
 use Rattle.depot_world.specs.Transcript.{ended}
@@ -70,17 +67,3 @@ pub record IsSeatedAgain (here : Setting) (sign : Signs) (s : State) (w : View) 
   pub none_waits : armed_of s.next ≡ None → w.armed ≡ None
   pub line : lines ≡ stopped_line w.journal
   pub none : bytes ≡ []
-
--- ---- what is printed
-
--- the lines of an event that goes as it goes
-abbrev pub lines_of_deed : Deed → List ℕ
-lines_of_deed d = ended d.answer ++ flat_map ended d.behind
-
--- the lines of a stream that was fed
-abbrev pub fed_lines : Feeding → List ℕ
-fed_lines s = ended (spaced (text_of_report s)) ++ flat_map ended (map text_of_refusal s.refused)
-
--- what is printed of the writes that a read shows
-abbrev pub shown_text : List Shown → List ℕ
-shown_text ws = flat_map (λ w. spaced (text_of_write w)) ws

@@ -8,7 +8,7 @@ ghost use Rattle.depot_schedule.specs.Schedules.{event_words};
 ghost use Rattle.depot_world.specs.Transcript.{head_count};
 
 use depot_base::{Bytes, Key, Memory, NodeId};
-use depot_schedule::lines::{hex, word};
+use depot_schedule::lines::{hex, label, node};
 use depot_schedule::{Event, Label};
 use std::alloc::Global;
 
@@ -77,20 +77,4 @@ fn node_and_labels(
 {
     node_and_label(alloc, out, id, first)?;
     label(out, second)
-}
-
-/// A label, behind a space.
-fn label(out: &mut Bytes, name: &Label) -> Result<(), Memory>
-    ensures { OnOk result (out.new ≡ out.old ++ (32 ∷ name.now)) }
-{
-    word(out, name.bytes())
-}
-
-/// The number of a node, behind a space.
-fn node(alloc: Global, out: &mut Bytes, id: NodeId) -> Result<(), Memory>
-    ensures { OnOk result (out.new ≡ out.old ++ (32 ∷ decimal id)) }
-{
-    let number = id.number();
-    let text = format!(in alloc; "{number}")?;
-    word(out, text.as_bytes())
 }

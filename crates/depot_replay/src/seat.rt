@@ -1,5 +1,5 @@
 //! A correct node over a disk in memory.
-ghost use Rattle.std.specs.Prelude.{◌≡◌, ◌≢◌, ◌↔◌, [], ◌∷◌, ℕ, List, false, Some, None, IfOk, IfErr, IsTrue};
+ghost use Rattle.std.specs.Prelude.{◌≡◌, ◌≢◌, ◌↔◌, ◌≤◌, [], ◌∷◌, ℕ, List, false, Some, None, IfOk, IfErr, IsTrue};
 ghost use Rattle.depot_base.specs.Calls.{FailsAmong, made};
 ghost use Rattle.depot_base.specs.declared.record.Record.{Record};
 ghost use Rattle.depot_base.specs.declared.record.Record.TheVariants.{Birth};
@@ -17,10 +17,11 @@ ghost use Rattle.depot_replay.specs.SeatFacts.{IsKeptOn-prop, is_node-prop, is_r
 ghost use Rattle.depot_replay.specs.Seats.{IsBegunOn, IsCalled, IsKeptOn, IsSeatedAgain};
 
 use crate::actor::{Actor, Told};
-use crate::seat_exchanges::{Printed, bundle_printed, hello_line};
-use crate::seat_feeds::{fed_printed, feed_all, piece_of};
-use crate::seat_writes::{counted_line, have_sizes, put_printed, shown_line};
 use depot_base::{Bytes, Items, Key, Memory, NodeId, Update, Value};
+use depot_deeds::{
+    Printed, bundle_printed, counted_line, fed_printed, feed_all, have_sizes, hello_line,
+    put_printed, shown_line,
+};
 use depot_gossip::{bundle, hello};
 use depot_model::{Replica, Scheme, Signer};
 use depot_node::{Node, StartError};
@@ -101,6 +102,16 @@ impl<S: Scheme + Copy, G: Signer<Of = S> + Copy> Means<S, G> {
             StartError::Disk => self.stopped(back.disk),
             _ => Err(Memory),
         }
+    }
+}
+
+/// How many bytes each piece of a stream has, at least one: all of it where no size is given.
+fn piece_of(stream: &[u8], size: Option<u32>) -> usize
+    ensures { 1 ≤ result }
+{
+    match size {
+        Some(size) => (size as usize).max(1),
+        None => stream.len().max(1),
     }
 }
 

@@ -8,4 +8,4 @@ pub use crate::line::are_words;
 pub use crate::parse::{allowed, in_line, next_line};
 pub use crate::parts::Parts;
 pub use crate::vocabulary::{key, value};
-pub use crate::word_writers::{hex, word};
+pub use crate::word_writers::{hex, label, node, word};

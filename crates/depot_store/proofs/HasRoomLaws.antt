@@ -10,6 +10,7 @@ use Rattle.depot_model.specs.Lawful.{IsLawful}
 use Rattle.depot_model.specs.Lists.{first}
 use Rattle.depot_model.specs.Records.{journal_bytes, text_of_record}
 use Rattle.depot_model.specs.Room.{foreign_leaves, full_with, full_by}
+use Rattle.depot_base.proofs.Blocks.{blocks-append}
 use Rattle.depot_base.proofs.CallLaws.{framed_long}
 use Rattle.depot_laws.proofs.Counts.{bytes_more}
 use Rattle.depot_store.specs.NewRecords.{AreNew, AreTextsFor}
@@ -19,10 +20,6 @@ use Rattle.depot_store.proofs.JournalTexts.{as_many, journal_long, texts_for}
 use Rattle.depot_store.proofs.RoomLaws.{writers, writers_with}
 
 -- ---- records and bytes
-
-blocks_of_both : (xs ys : List (List ℕ)) → length (blocks (xs ++ ys)) ≡ length (blocks xs) + length (blocks ys)
-blocks_of_both [] ys = omega arith
-blocks_of_both (x ∷ xs) ys = omega (arith, blocks_of_both xs ys, length-append (framed x) (blocks (xs ++ ys)), length-append (framed x) (blocks xs))
 
 -- a journal with the record that is read next keeps to the limits of records and bytes
 record IsWithin (J : List Record) (r : Record) : Type 0 where
@@ -36,7 +33,7 @@ next_within J r texts rest all t split within = record {
     arith,
     within.bytes,
     ap (λ (x : List (List ℕ)). length (blocks x)) split,
-    blocks_of_both texts (text_of_record r ∷ rest),
+    blocks-append texts (text_of_record r ∷ rest),
     length-append (framed (text_of_record r)) (blocks rest),
     framed_long (text_of_record r),
     journal_long J texts t,

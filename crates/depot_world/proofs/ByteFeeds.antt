@@ -17,6 +17,7 @@ use Rattle.depot_model.specs.Frames.{Frame, FrameAt, whole_frame, open_frame, no
 use Rattle.depot_model.specs.Room.{full_by}
 use Rattle.depot_model.specs.Taking.{at_start, outcome_within, outcome_of, Form, as_statement, as_proof, as_value, given_as}
 use Rattle.depot_model.specs.Texts.{signed, proof}
+use Rattle.depot_model.proofs.FeedGrowth.{IsGrown, grown_none}
 use Rattle.depot_model.proofs.TextLaws.{signed_lawful, proof_lawful}
 use Rattle.depot_laws.proofs.Feeds.{frame_leaves_none}
 use Rattle.depot_laws.proofs.Tests.{all_both}
@@ -50,17 +51,9 @@ frame_gives_bytes f x only e = form_gives_bytes (form_of f.tag) f.payload x only
 
 -- ---- journals that grew
 
--- the second journal is the first with more behind it
-pub record Extends (J K : List Record) : Type 0 where
-  pub more : List Record
-  pub is : K ≡ J ++ more
-
-pub extends_self : (J : List Record) → Extends J J
-extends_self J = record { more = []; is = sym (append-nil J) }
-
 -- the journal has grown from the first one, and its records are made of bytes
 pub record HasGrown (J K : List Record) : Type 0 where
-  pub grown : Extends J K
+  pub grown : IsGrown J K
   pub holds : AllHold K
 
 grow : (J K new : List Record) → HasGrown J K → AllHold new → HasGrown J (K ++ new)
@@ -139,4 +132,4 @@ feeds here J s (b ∷ bytes) only h = feeds here J (fed_byte here s b) bytes onl
 
 -- what a stream of bytes leaves
 pub feed_grows : (here : Setting) (J : List Record) (stream : List ℕ) → OnlyBytes stream → AllHold J → HasGrown J (feed_of here J stream).journal
-feed_grows here J stream only hold = (feeds here J (feeding_from J) stream only (record { journal = record { grown = extends_self J; holds = hold }; begun = tt })).journal
+feed_grows here J stream only hold = (feeds here J (feeding_from J) stream only (record { journal = record { grown = grown_none J; holds = hold }; begun = tt })).journal

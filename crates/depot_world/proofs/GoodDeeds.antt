@@ -36,7 +36,8 @@ use Rattle.depot_world.specs.Stops.{Deed}
 use Rattle.depot_world.specs.Suite.{Stage, stands_on}
 use Rattle.depot_world.proofs.OnlyBytes.{OnlyBytes, by_places}
 use Rattle.depot_world.proofs.ByteBundles.{unvouched_are_foreign, bundle_vouchers_hold, bundle_holds}
-use Rattle.depot_world.proofs.ByteFeeds.{Extends, extends_self, feed_grows}
+use Rattle.depot_model.proofs.FeedGrowth.{IsGrown, grown_none}
+use Rattle.depot_world.proofs.ByteFeeds.{feed_grows}
 use Rattle.depot_world.proofs.ByteJournals.{HoldsBytes, AllHold}
 use Rattle.depot_world.proofs.ByteOwn.{only_next_own, only_own_hello}
 use Rattle.depot_world.proofs.ByteSignatures.{SignsBytes}
@@ -45,10 +46,10 @@ use Rattle.depot_world.proofs.LatestWrites.{latest_are_listed}
 
 -- an event that leaves the node as it is
 same_is_good : (stage : Stage) (c : Correct) (calls : ℕ) (answer : List ℕ) (bytes : List ℕ) → IsGoodNode stage c → OnlyBytes bytes → IsGoodDeed stage c (record { journal = c.journal; reads = c.reads; calls = calls; answer = answer; behind = []; bytes = bytes })
-same_is_good stage c calls answer bytes g only = record { grown = extends_self c.journal; lawful = g.lawful; reads = g.reads; in_order = g.in_order; holds = g.holds; bytes = only }
+same_is_good stage c calls answer bytes g only = record { grown = grown_none c.journal; lawful = g.lawful; reads = g.reads; in_order = g.in_order; holds = g.holds; bytes = only }
 
 -- an event by which the journal grows
-more_is_good : (stage : Stage) (c : Correct) (d : Deed) → IsGoodNode stage c → Extends c.journal d.journal → d.reads ≡ c.reads → IsLawful (stands_on stage c.node) d.journal → AllHold d.journal → OnlyBytes d.bytes → IsGoodDeed stage c d
+more_is_good : (stage : Stage) (c : Correct) (d : Deed) → IsGoodNode stage c → IsGrown c.journal d.journal → d.reads ≡ c.reads → IsLawful (stands_on stage c.node) d.journal → AllHold d.journal → OnlyBytes d.bytes → IsGoodDeed stage c d
 more_is_good stage c d g e same lawful holds only = record {
   grown = e;
   lawful = lawful;
@@ -84,7 +85,7 @@ put_is_good stage c key value g is_key is_value only_key only_value = by_limit (
 
 -- ---- reads
 
-read_is : (here : Setting) (J : List Record) (key : List ℕ) → IsLawful here J → is_empty J ≡ false → IsRead J (read_of J key)
+pub read_is : (here : Setting) (J : List Record) (key : List ℕ) → IsLawful here J → is_empty J ≡ false → IsRead J (read_of J key)
 read_is here J key l some =
     let whole_J : take (length J) J ≡ J = take-length J in
     let us = latest_in key (accepted J) in
@@ -107,14 +108,14 @@ read_is here J key l some =
       told s t = subst (λ (x : Shown). x.value ≡ value_under J key x.update) t.1.1 refl
 
 -- a read that is made now falls behind none before it
-never_falls : (rs : List Read) (r : Read) → NeverFall rs → ((s : Read) → IsIn s rs → s.at ≤ r.at) → NeverFall (rs ++ r ∷ [])
+pub never_falls : (rs : List Read) (r : Read) → NeverFall rs → ((s : Read) → IsIn s rs → s.at ≤ r.at) → NeverFall (rs ++ r ∷ [])
 never_falls [] r falls low = (tt, tt)
 never_falls (s ∷ rs) r falls low = (all_push (λ (t : Read). s.at ≤ t.at) rs r falls.0 (low s (inl refl)), never_falls rs r falls.1 (λ t on. low t (inr on)))
 
 pub get_is_good : (stage : Stage) (c : Correct) (key : List ℕ) → IsGoodNode stage c → IsGoodDeed stage c (get_by c key)
 unfolding get_by
 get_is_good stage c key g = record {
-  grown = extends_self c.journal;
+  grown = grown_none c.journal;
   lawful = g.lawful;
   reads = λ r on. elim (in_pushed r c.reads (read_of c.journal key) on) [
     | inl old ↦ g.reads r old

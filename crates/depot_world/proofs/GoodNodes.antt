@@ -16,7 +16,7 @@ use Rattle.depot_world.specs.Stops.{Deed, Went, standing_after, left_of, went_by
 use Rattle.depot_world.specs.Suite.{Stage, stands_on}
 use Rattle.depot_world.proofs.OnlyBytes.{OnlyBytes}
 use Rattle.depot_world.proofs.ByteJournals.{HoldsBytes, AllHold}
-use Rattle.depot_world.proofs.ByteFeeds.{Extends}
+use Rattle.depot_model.proofs.FeedGrowth.{IsGrown}
 
 -- what a world asks of a correct node, and that its journal is made of bytes
 pub record IsGoodNode (stage : Stage) (c : Correct) : Type 0 where
@@ -29,7 +29,7 @@ pub record IsGoodNode (stage : Stage) (c : Correct) : Type 0 where
 
 -- what an event leaves where no stop falls into it: more behind the journal, and the reads of the journal
 pub record IsGoodDeed (stage : Stage) (c : Correct) (d : Deed) : Type 0 where
-  pub grown : Extends c.journal d.journal
+  pub grown : IsGrown c.journal d.journal
   pub lawful : IsLawful (stands_on stage c.node) d.journal
   pub reads : (r : Read) → IsIn r d.reads → IsRead d.journal r
   pub in_order : NeverFall d.reads
@@ -38,12 +38,12 @@ pub record IsGoodDeed (stage : Stage) (c : Correct) (d : Deed) : Type 0 where
 
 -- ---- journals that grow
 
-pub begun_grows : (J K : List Record) → Extends J K → is_empty J ≡ false → is_empty K ≡ false
+pub begun_grows : (J K : List Record) → IsGrown J K → is_empty J ≡ false → is_empty K ≡ false
 begun_grows [] K e some = absurd cc
 begun_grows (r ∷ J) K e some = ap is_empty e.is
 
 -- a read stays the read of its journal
-pub read_grows : (J K : List Record) (r : Read) → Extends J K → IsRead J r → IsRead K r
+pub read_grows : (J K : List Record) (r : Read) → IsGrown J K → IsRead J r → IsRead K r
 read_grows J K r e is =
     let same : take r.at K ≡ take r.at J = ap (λ (x : List Record). take r.at x) e.is ∙ take-append-le r.at J e.more is.within in
     record {
@@ -56,11 +56,11 @@ read_grows J K r e is =
 -- ---- stops
 
 record HasLeft (J K left : List Record) : Type 0 where
-  pub grown : Extends J left
+  pub grown : IsGrown J left
   pub rest : List Record
   pub is : K ≡ left ++ rest
 
-left_behind : (J K : List Record) (a : Armed) → Extends J K → HasLeft J K (left_of J K a)
+left_behind : (J K : List Record) (a : Armed) → IsGrown J K → HasLeft J K (left_of J K a)
 left_behind J K a e =
     let n = standing_after a in
     let new : drop (length J) K ≡ e.more = ap (λ (x : List Record). drop (length J) x) e.is ∙ drop-append_seam J e.more in

@@ -18,3 +18,4 @@ pub mod GoodRuns
 pub mod GoodEvents
 pub mod GoodWorlds
 pub mod PutAndGet
+pub mod DeedGrowth

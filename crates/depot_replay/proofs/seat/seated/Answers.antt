@@ -8,7 +8,7 @@ use Rattle.depot_replay.specs.Acting.{View}
 use Rattle.depot_replay.specs.Disks.{armed_of}
 use Rattle.depot_replay.specs.Seats.{IsBegunOn, IsCalled}
 use Rattle.depot_replay.proofs.SeatEvents.{begun_cut, called_kept, called_well, cut_ends, cut_of, left_by_cut}
-use Rattle.depot_replay.proofs.SeatFeeds.{if_ok}
+use Rattle.depot_deeds.proofs.FedStreams.{if_ok}
 use Rattle.depot_replay.proofs.seat.seated.Goals as goal
 
 pub invariant_of-result : goal.invariant_of-result

@@ -2,7 +2,7 @@ use Rattle.std.proofs.Common.{refl, sym, ◌∙◌}
 use Rattle.depot_outside.specs.Stopping.{state_of}
 use Rattle.depot_replay.proofs.SeatCalls.{done_on}
 use Rattle.depot_replay.proofs.SeatEvents.{begun_there, same_signs}
-use Rattle.depot_replay.proofs.SeatFeeds.{if_ok}
+use Rattle.depot_deeds.proofs.FedStreams.{if_ok}
 use Rattle.depot_replay.proofs.SeatTurns.{bundle_seated, bundle_turn, same_setting}
 use Rattle.depot_replay.proofs.seat.SeatActor.bundle.Goals as goal
 

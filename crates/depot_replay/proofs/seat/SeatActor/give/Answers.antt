@@ -2,7 +2,7 @@ use Rattle.std.proofs.Common.{refl, sym, ◌∙◌, arith}
 use Rattle.depot_outside.specs.Stopping.{state_of}
 use Rattle.depot_replay.proofs.SeatCalls.{done_on}
 use Rattle.depot_replay.proofs.SeatEvents.{begun_there, same_signs}
-use Rattle.depot_replay.proofs.SeatFeeds.{if_ok}
+use Rattle.depot_deeds.proofs.FedStreams.{if_ok}
 use Rattle.depot_replay.proofs.SeatTurns.{give_seated, give_turn, same_setting}
 use Rattle.depot_replay.proofs.seat.SeatActor.give.Goals as goal
 

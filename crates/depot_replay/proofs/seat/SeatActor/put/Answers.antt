@@ -3,7 +3,7 @@ use Rattle.depot_node.specs.Putting.{put_records}
 use Rattle.depot_outside.specs.Stopping.{state_of}
 use Rattle.depot_replay.proofs.SeatCalls.{done_on}
 use Rattle.depot_replay.proofs.SeatEvents.{begun_there, same_signs}
-use Rattle.depot_replay.proofs.SeatFeeds.{if_ok}
+use Rattle.depot_deeds.proofs.FedStreams.{if_ok}
 use Rattle.depot_replay.proofs.SeatTurns.{put_seated, put_turn, same_setting}
 use Rattle.depot_replay.proofs.seat.SeatActor.put.Goals as goal
 

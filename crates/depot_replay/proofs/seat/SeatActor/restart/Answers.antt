@@ -11,7 +11,7 @@ use Rattle.depot_world.specs.Transcript.{ended}
 use Rattle.depot_replay.specs.Disks.{armed_of}
 use Rattle.depot_replay.specs.Seats.{IsBegunOn, IsKeptOn}
 use Rattle.depot_replay.proofs.SeatEvents.{begun_there}
-use Rattle.depot_replay.proofs.SeatFeeds.{if_both}
+use Rattle.depot_deeds.proofs.FedStreams.{if_both}
 use Rattle.depot_replay.proofs.SeatReads.{restart_came, restart_stopped}
 use Rattle.depot_replay.proofs.SeatStarts.{start_stopped, started_on, stopped_begun, three_calls}
 use Rattle.depot_replay.proofs.seat.SeatActor.restart.Goals as goal

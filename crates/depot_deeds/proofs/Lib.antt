@@ -1,0 +1,4 @@
+pub mod Answered
+pub mod FedStreams
+pub mod PutTexts
+pub mod ShownWrites

@@ -1,0 +1,62 @@
+-- What a read prints: the latest writes of its key, each with the value that is held.
+use Rattle.std.proofs.Common.{◌≡◌, ℕ, ◌+◌, ◌<◌, List, [], ◌∷◌, ◌++◌, length, map, take, drop, get_or, Option, Some, refl, sym, ap, subst, ◌∙◌}
+use Rattle.std.specs.Option.{option_to_list}
+use Rattle.std.specs.Prelude.{slice_get}
+use Rattle.std.proofs.lemmas.Grind.{flat_map-append}
+use Rattle.std.proofs.lemmas.List.{append-nil, map-append, take-append-drop, take_more}
+use Rattle.std.proofs.lemmas.Slice.Eq.{bytes_eq-Decides}
+use Rattle.depot_answers.specs.Answers.{spaced, text_of_write}
+use Rattle.depot_base.specs.declared.record.Record.{Record}
+use Rattle.depot_base.specs.declared.update.Update.{Update}
+use Rattle.depot_laws.proofs.Causes.{lawful_is_causal}
+use Rattle.depot_model.specs.Checks.{Setting}
+use Rattle.depot_model.specs.Contents.{Writes}
+use Rattle.depot_model.specs.Items.{updates_at}
+use Rattle.depot_model.specs.Journal.{accepted, value_of}
+use Rattle.depot_model.specs.Lawful.{IsLawful}
+use Rattle.depot_model.specs.Lists.{IsIn}
+use Rattle.depot_model.specs.Order.{AreLatestIn, Precedes}
+use Rattle.depot_model.specs.World.{Shown, value_under}
+use Rattle.depot_model.proofs.LatestLaws.{one_latest_list}
+use Rattle.depot_model.proofs.Members.{in_last, in_left}
+use Rattle.depot_world.specs.Deeds.{shown_of}
+use Rattle.depot_world.specs.Latest.{latest_in}
+use Rattle.depot_deeds.specs.Printing.{shown_text}
+use Rattle.depot_world.proofs.LatestWrites.{latest_are_listed}
+
+-- the writes that these updates are shown as
+abbrev pub shown_as : List Record → List ℕ → List Update → List Shown
+shown_as J key us = map (λ u. record { update = u; value = value_under J key u }) us
+
+-- the latest writes are those of a read
+pub shown_are : (here : Setting) (J : List Record) (key items : List ℕ) → IsLawful here J → AreLatestIn key (accepted J) (updates_at (accepted J) items) → shown_as J key (updates_at (accepted J) items) ≡ shown_of J key
+shown_are here J key items l latest =
+    let us = accepted J in
+    ap (shown_as J key) (one_latest_list key (λ u. IsIn u us) (Precedes us) (updates_at us items) (latest_in key us) latest (latest_are_listed key us (lawful_is_causal here J l)))
+
+-- the value that is held for the write of the key is the update's
+pub value_here : (J : List Record) (key : List ℕ) (u : Update) → Writes key u → value_under J key u ≡ value_of J u
+unfolding value_under value_of
+value_here J key u writes = rw ((bytes_eq-Decides u.key key).1 writes) refl
+
+one_more : (us : List Update) (items : List ℕ) (i item : ℕ) (u : Update) → i < length items → item ≡ get_or items i 0 → slice_get us item ≡ Some u → updates_at us (take (i + 1) items) ≡ updates_at us (take i items) ++ u ∷ []
+one_more us items i item u within is at =
+    let step : updates_at us (item ∷ []) ≡ u ∷ [] = rw at refl in
+    ap (updates_at us) (take_more items i 0 within ∙ ap (λ (n : ℕ). take i items ++ n ∷ []) (sym is))
+    ∙ flat_map-append (λ (place : ℕ). option_to_list (slice_get us place)) (take i items) (item ∷ []) ∙ ap (λ (x : List Update). updates_at us (take i items) ++ x) step
+
+-- one more of them was printed
+pub printed_more : (J : List Record) (us : List Update) (key items : List ℕ) (i item : ℕ) (u : Update) (old new : List ℕ) (value : Option (List ℕ)) → i < length items → item ≡ get_or items i 0 → slice_get us item ≡ Some u → value ≡ value_under J key u
+    → old ≡ shown_text (shown_as J key (updates_at us (take i items))) → new ≡ old ++ spaced (text_of_write (record { update = u; value = value })) → new ≡ shown_text (shown_as J key (updates_at us (take (i + 1) items)))
+printed_more J us key items i item u old new value within is at held before added =
+    let front = updates_at us (take i items) in
+    let all : shown_as J key (updates_at us (take (i + 1) items)) ≡ shown_as J key front ++ record { update = u; value = value_under J key u } ∷ [] = ap (shown_as J key) (one_more us items i item u within is at) ∙ map-append _ front (u ∷ []) in
+    let one : spaced (text_of_write (record { update = u; value = value })) ≡ shown_text (record { update = u; value = value_under J key u } ∷ []) = ap (λ (o : Option (List ℕ)). spaced (text_of_write (record { update = u; value = o }))) held ∙ sym (append-nil (spaced (text_of_write (record { update = u; value = value_under J key u })))) in
+    added ∙ ap (λ (x : List ℕ). x ++ spaced (text_of_write (record { update = u; value = value }))) before ∙ ap (λ (x : List ℕ). shown_text (shown_as J key front) ++ x) one
+    ∙ sym (ap shown_text all ∙ flat_map-append (λ (w : Shown). spaced (text_of_write w)) (shown_as J key front) (record { update = u; value = value_under J key u } ∷ []))
+
+-- an update at one of these places is one of them
+pub is_one_of_them : (us : List Update) (items : List ℕ) (i item : ℕ) (u : Update) → i < length items → item ≡ get_or items i 0 → slice_get us item ≡ Some u → IsIn u (updates_at us items)
+is_one_of_them us items i item u within is at =
+    let all : updates_at us (take (i + 1) items) ++ updates_at us (drop (i + 1) items) ≡ updates_at us items = sym (flat_map-append (λ (place : ℕ). option_to_list (slice_get us place)) (take (i + 1) items) (drop (i + 1) items)) ∙ ap (updates_at us) (take-append-drop (i + 1) items) in
+    subst (IsIn u) all (in_left u _ (updates_at us (drop (i + 1) items)) (subst (IsIn u) (sym (one_more us items i item u within is at)) (in_last (updates_at us (take i items)) u)))

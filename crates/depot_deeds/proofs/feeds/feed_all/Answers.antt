@@ -1,0 +1,66 @@
+use Rattle.std.proofs.Common.{◌≡◌, [], length, refl, sym, ap, ◌∙◌, arith}
+use Rattle.std.proofs.lemmas.List.{nil_from_length}
+use Rattle.std.proofs.lemmas.Bool.Decides.{nat_tests}
+use Rattle.depot_gossip.specs.Pieces.{Stream}
+use Rattle.depot_gossip.proofs.PieceLaws.{under_way_fails, under_way_first}
+use Rattle.depot_gossip.proofs.StreamCalls.{nothing_called_for}
+use Rattle.depot_model.specs.Feeding.{feeding_from}
+use Rattle.depot_model.proofs.FeedGrowth.{grown_none, grown_on}
+use Rattle.depot_model.proofs.CallsOnDisk.{nothing_called}
+use Rattle.depot_deeds.proofs.FedStreams.{fed_alike, goes_on, if_ok, not_stopped, piece_called, pieces_called, runs_on, same_failure, told_all, under_way_on}
+use Rattle.depot_deeds.proofs.feeds.feed_all.Goals as goal
+
+pub returns-in_default-clause-calls : goal.returns-in_default-clause-calls
+returns-in_default-clause-calls g c = nothing_called_for (g.met.R.Replica.after_none) _ _ _ c.args.node.now refl (λ e. cc)
+
+pub loop-rest-init : goal.loop-rest-init
+loop-rest-init g c =
+    let first = under_way_first (g.R.Replica.stands c.args.node.now) (feeding_from (g.R.Replica.records c.args.node.now)) c.args.stream.now in
+    record {
+      under_way = rw c.in-Ok.ensures first;
+      going = ap (λ (s : Stream). s.closed) c.in-Ok.ensures;
+      runs = c.requires.runs;
+      stays = record { stands = refl; key = refl; signs = refl };
+      grown = grown_none (g.R.Replica.records c.args.node.now);
+      calls = nothing_called (g.met.R.Replica.after_none) c.args.node.now [] (λ e. e);
+    }
+
+pub loop-rest-preserved : goal.loop-rest-preserved
+loop-rest-preserved g c =
+    let i = c.loop-rest.invariant in
+    let e = c.in_default-piece.ensures in
+    record {
+      under_way = under_way_on (g.R.Replica.stands c.args.node.now) (g.R.Replica.stands c.loop-rest.node) _ c.args.stream.now c.loop-rest.rest.now c.split_at.result.0.now c.split_at.result.1.now _ c.piece.new.self (g.R.Replica.records c.piece.new.node) i.stays.stands i.under_way c.split_at.ensures.by_index.0 e.feeds;
+      going = goes_on (g.R.Replica.stands c.loop-rest.node) _ c.split_at.result.0.now c.piece.new.self (g.R.Replica.records c.piece.new.node) e.feeds;
+      runs = runs_on _ _ _ _ e.stops i.runs (λ failed. cc);
+      stays = record { stands = e.stays.stands ∙ i.stays.stands; key = e.stays.key ∙ i.stays.key; signs = e.stays.signs ∙ i.stays.signs };
+      grown = grown_on _ _ _ _ i.grown (e.lasts.is.all refl);
+      calls = pieces_called (g.met.R.Replica.after_more) (g.R.Replica.stands c.loop-rest.node) _ c.split_at.result.0.now c.args.node.now c.loop-rest.node c.piece.new.node c.requires.runs (λ failed. cc) i.grown e.lasts i.calls e.calls;
+    }
+
+pub returns-in-Err-clause-told : goal.returns-in-Err-clause-told
+returns-in-Err-clause-told g c =
+    let i = c.loop-rest.invariant in
+    if_ok _ _ c.closed.result (λ told all. (all (g.R.Replica.stands c.args.node.now) (feeding_from (g.R.Replica.records c.args.node.now)) c.args.stream.now (g.R.Replica.records c.piece.new.node)
+    (under_way_fails (g.R.Replica.stands c.args.node.now) (g.R.Replica.stands c.loop-rest.node) _ c.args.stream.now c.loop-rest.rest.now c.split_at.result.0.now c.split_at.result.1.now _ c.in-Err.error c.piece.new.self (g.R.Replica.records c.piece.new.node) i.stays.stands i.under_way c.split_at.ensures.by_index.0
+    (not_stopped c.in-Err.error (λ was. let never = sym i.runs ∙ c.in-Err.ensures.stops.answered.0 was in cc)) c.in-Err.ensures.feeds)).0) c.closed.ensures.told
+
+pub returns-in-Err-clause-grown : goal.returns-in-Err-clause-grown
+returns-in-Err-clause-grown g c =
+    let i = c.loop-rest.invariant in
+    if_ok _ _ c.closed.result (λ told all. (all (g.R.Replica.stands c.args.node.now) (feeding_from (g.R.Replica.records c.args.node.now)) c.args.stream.now (g.R.Replica.records c.piece.new.node)
+    (under_way_fails (g.R.Replica.stands c.args.node.now) (g.R.Replica.stands c.loop-rest.node) _ c.args.stream.now c.loop-rest.rest.now c.split_at.result.0.now c.split_at.result.1.now _ c.in-Err.error c.piece.new.self (g.R.Replica.records c.piece.new.node) i.stays.stands i.under_way c.split_at.ensures.by_index.0
+    (not_stopped c.in-Err.error (λ was. let never = sym i.runs ∙ c.in-Err.ensures.stops.answered.0 was in cc)) c.in-Err.ensures.feeds)).1) c.closed.ensures.told
+
+pub returns-in-Err-clause-calls : goal.returns-in-Err-clause-calls
+returns-in-Err-clause-calls g c =
+    let i = c.loop-rest.invariant in
+    let e = c.in-Err.ensures in
+    let f = same_failure c.in-Err.error c.closed.result c.closed.ensures.ran c.closed.ensures.same in
+    fed_alike (g.R.Replica.stands c.args.node.now) _ c.args.stream.now c.args.node.now c.piece.new.node f.0 f.1
+    (piece_called (g.met.R.Replica.after_more) (g.R.Replica.stands c.args.node.now) (g.R.Replica.stands c.loop-rest.node) _ _ _ c.args.stream.now c.loop-rest.rest.now c.split_at.result.0.now c.split_at.result.1.now c.args.node.now c.loop-rest.node c.piece.new.node i.stays.stands c.requires.runs i.under_way c.split_at.ensures.by_index.0 i.grown e.lasts i.calls e.calls)
+
+pub returns-clause-told : goal.returns-clause-told
+returns-clause-told g c =
+    let none : length c.loop-rest.rest.now ≡ 0 = grind (arith, nat_tests, c.is_empty.ensures, c.loop-rest-test) in
+    told_all (g.R.Replica.stands c.args.node.now) _ c.args.stream.now c.loop-rest.rest.now c.loop-rest.feed (g.R.Replica.records c.loop-rest.node) c.end.result (nil_from_length c.loop-rest.rest.now none) c.loop-rest.invariant.under_way c.loop-rest.invariant.going c.end.ensures

@@ -1,0 +1,23 @@
+use Rattle.std.proofs.Common.{ℕ, List, [], ◌∷◌, ◌++◌, refl, sym, ap, ◌∙◌, arith}
+use Rattle.std.proofs.lemmas.List.{take_all}
+use Rattle.depot_model.specs.Items.{updates_at}
+use Rattle.depot_model.specs.Journal.{accepted}
+use Rattle.depot_deeds.specs.Printing.{shown_text}
+use Rattle.depot_deeds.proofs.ShownWrites.{is_one_of_them, printed_more, shown_are, shown_as, value_here}
+use Rattle.depot_deeds.proofs.reads.shown_line.Goals as goal
+
+pub loop-item-preserved : goal.loop-item-preserved
+loop-item-preserved g c =
+    let J = c.args.node.now.store.records in
+    let items = c.latest-item-items.result.now in
+    let u = c.update.result.now in
+    let on = is_one_of_them (accepted J) items c.loop-item.item-index _ u c.loop-item-test.true refl c.update.ensures in
+    let held = c.value_of.ensures u c.update.ensures ∙ sym (value_here J c.args.key.now u (c.latest-item-items.ensures.latest.only u on).writes) in
+    printed_more J (accepted J) c.args.key.now items c.loop-item.item-index _ u c.loop-item.line c.add_write.new.line _ c.loop-item-test.true refl c.update.ensures held c.loop-item.invariant c.in_ok-add_write.ensures
+
+pub returns : goal.returns
+returns g c =
+    let J = c.args.node.now.store.records in
+    let items = c.latest-item-items.result.now in
+    let all = take_all c.loop-item.item-index items (omega (arith, c.loop-item-test.false)) in
+    c.in_ok-push_all.ensures.ok ∙ ap (λ (x : List ℕ). x ++ 10 ∷ []) (c.loop-item.invariant ∙ ap (λ (x : List ℕ). shown_text (shown_as J c.args.key.now (updates_at (accepted J) x))) all ∙ ap shown_text (shown_are _ J c.args.key.now items c.args.node.now.lawful c.latest-item-items.ensures.latest))

@@ -1,0 +1,20 @@
+//! What a correct node does, and what is printed of it.
+//!
+//! What a put, a read, a hello, a bundle and a stream come to at a correct node is defined in `depot_world` (`put_by` and its like): its journal
+//! afterwards, the lines that tell of it, and the bytes that are handed out. A node answers a call (`depot_node`, `depot_gossip`); here
+//! that answer is printed, and the lines are the defined ones. Where the node's disk failed nothing is printed, and Memory is answered for want of memory alone.
+//!
+//! `puts`, `reads`, `exchanges` and `feeds` have the deeds by kind. Who plays schedules and who runs scripts print the same lines by these.
+#![tactic(auto)]
+
+mod exchanges;
+mod feeds;
+mod printed;
+mod puts;
+mod reads;
+
+pub use exchanges::{bundle_printed, hello_line};
+pub use feeds::{Fed, fed_printed, feed_all, feed_whole};
+pub use printed::{Printed, counted_line};
+pub use puts::{have_sizes, put_printed};
+pub use reads::shown_line;

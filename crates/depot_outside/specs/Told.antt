@@ -1,0 +1,91 @@
+-- What a shelf, a disk and a sink tell before and after a run.
+use Rattle.std.specs.Prelude.{◌≡◌, ◌<◌, ◌⊎◌, ℕ, List, ◌++◌, take, Bool, IsTrue, Option, Some, None}
+use Rattle.depot_outside.specs.declared.disk.Disk as disk_of
+use Rattle.depot_outside.specs.declared.shelf.Shelf as shelf_of
+use Rattle.depot_outside.specs.declared.sink.Sink as sink_of
+
+-- ---- the shelf
+
+-- its files, as it tells them, and its count of faults
+pub record Shelves : Type 0 where
+  pub tells : Bool
+  pub file : List ℕ → Option (List ℕ)
+  pub file_after : List ℕ → Option (List ℕ)
+  pub faults_before : ℕ
+  pub faults_after : ℕ
+
+abbrev pub shelves : {F : Type 0} → shelf_of.Ghosts F → F → F → Shelves
+shelves g old new = record { tells = g.tells old; file = g.file old; file_after = g.file new; faults_before = g.faults old; faults_after = g.faults new }
+
+-- the names that it was asked to load
+pub record Loads : Type 0 where
+  pub before : List (List ℕ)
+  pub after : List (List ℕ)
+
+abbrev pub loads : {F : Type 0} → shelf_of.Ghosts F → F → F → Loads
+loads g old new = record { before = g.loads old; after = g.loads new }
+
+-- the run loaded the files of these names, in this order, and no other
+abbrev pub HasLoaded : Loads → List (List ℕ) → Type 0
+HasLoaded loads names = loads.after ≡ loads.before ++ names
+
+-- the file of the name was there, and of its bytes this holds
+pub record HasFile (shelf : Shelves) (name : List ℕ) (P : List ℕ → Type 0) : Type 0 where
+  pub bytes : List ℕ
+  pub there : shelf.file name ≡ Some bytes
+  pub holds : P bytes
+
+-- where the shelf tells its files
+abbrev pub WhereTold : Shelves → Type 0 → Type 0
+WhereTold shelf P = IsTrue shelf.tells → P
+
+-- The shelf failed in this run; else the file of the name wasn't there.
+abbrev pub LacksFile : Shelves → List ℕ → Type 0
+LacksFile shelf name = (shelf.faults_before < shelf.faults_after) ⊎ WhereTold shelf (shelf.file name ≡ None)
+
+-- ---- the disk
+
+-- its file, as it reads where the disk tells its bytes, what a stop may leave of it, and its count of faults
+pub record Disks : Type 1 where
+  pub tells : Bool
+  pub file : List ℕ
+  pub file_after : List ℕ
+  pub may_leave : List ℕ → Type 0
+  pub may_leave_after : List ℕ → Type 0
+  -- what a stop might have left at some moment of the run, or leaves after it
+  pub left_in_run : List ℕ → Type 0
+  pub faults_before : ℕ
+  pub faults_after : ℕ
+
+abbrev pub disks : {D : Type 0} → disk_of.Ghosts D → D → D → Disks
+disks g old new = record {
+  tells = g.tells old;
+  file = g.seen old;
+  file_after = g.seen new;
+  may_leave = g.may_leave old;
+  may_leave_after = g.may_leave new;
+  left_in_run = g.left_since new (g.moment old);
+  faults_before = g.faults old;
+  faults_after = g.faults new;
+}
+
+-- ---- the sink
+
+-- what was written, as it tells it, and its count of faults
+pub record Sinks : Type 0 where
+  pub tells : Bool
+  pub before : List ℕ
+  pub after : List ℕ
+  pub faults_before : ℕ
+  pub faults_after : ℕ
+
+abbrev pub sinks : {S : Type 0} → sink_of.Ghosts S → S → S → Sinks
+sinks g old new = record { tells = g.tells old; before = g.written old; after = g.written new; faults_before = g.faults old; faults_after = g.faults new }
+
+-- this text was added, where the sink tells it
+abbrev pub Wrote : Sinks → List ℕ → Type 0
+Wrote sink text = IsTrue sink.tells → sink.after ≡ sink.before ++ text
+
+-- a front of this text was added, where the sink tells it
+abbrev pub WroteFront : Sinks → List ℕ → Type 0
+WroteFront sink text = IsTrue sink.tells → (n : ℕ) × (sink.after ≡ sink.before ++ take n text)

@@ -1,5 +1,0 @@
-use Rattle.depot_replay.proofs.SeatPrinting.{on_ok}
-use Rattle.depot_replay.proofs.seat_writes.limit.Goals as goal
-
-pub returns-in-Collides : goal.returns-in-Collides
-returns-in-Collides c = rw c.in-Collides.is (on_ok c.collides.result (λ told. told c.in-Collides.field-0) c.collides.ensures)

@@ -1,0 +1,175 @@
+-- How the command of a bundle turns out.
+use Rattle.std.proofs.Common.{◌≡◌, ◌<◌, ◌≤◌, ℕ, false, IsTrue, List, [], ◌++◌, Option, Some, None, Result, Ok, Err, refl, sym, ap, subst, ◌∙◌, codes, take, inr}
+use Rattle.std.specs.Prelude.{IsErrOf}
+use Rattle.std.proofs.lemmas.List.{append-nil}
+use Rattle.depot_base.specs.declared.record.Record.{Record}
+use Rattle.depot_model.specs.Bundle.{Signs, BundleAnswer, bundled, bad_hello, other_roster, limited, bundle_answer}
+use Rattle.depot_model.specs.Checks.{Setting}
+use Rattle.depot_model.specs.Stops.{HasFront, Lasts}
+use Rattle.depot_model.specs.World.{Correct}
+use Rattle.depot_model.specs.declared.replica.Replica.{Ghosts}
+use Rattle.depot_gossip.specs.Bundling.{Bundles, finds_disk, journaled_for}
+use Rattle.depot_gossip.specs.declared.error.BundleError.{BundleError}
+use Rattle.depot_gossip.specs.declared.error.BundleError.TheVariants as error
+use Rattle.depot_gossip.specs.declared.own_bundle.Bundled.{Bundled}
+use Rattle.depot_outside.specs.Told.{Shelves, Sinks, Wrote}
+use Rattle.depot_schedule.specs.Language.{join}
+use Rattle.depot_script.specs.Scripts.{command_words}
+use Rattle.depot_script.specs.declared.command.Command.TheVariants as command
+use Rattle.depot_world.specs.Deeds.{bundle_by, bundle_with}
+use Rattle.depot_world.specs.Stops.{Deed}
+use Rattle.depot_deeds.specs.Printing.{SettlesBundle, lines_of_deed}
+use Rattle.depot_session.specs.declared.ending.Ending.{Ending}
+use Rattle.depot_session.specs.declared.ending.Ending.TheVariants as ending
+use Rattle.depot_session.specs.Runs.{disk_line}
+use Rattle.depot_session.specs.Sessions.{Session, Step, absent, bundle_step, bundle_to, ending_of_bundle, lines_of_command, printed_count, step_of, stored}
+use Rattle.depot_session.specs.Telling.{IsFaultTold, Stores, Tells}
+use Rattle.depot_session.specs.Turns.{IsAt, IsUnchanged, Turns}
+use Rattle.depot_session.proofs.Keeping.{NeedsNone}
+use Rattle.depot_session.proofs.Leaving.{leaves_front}
+use Rattle.depot_session.proofs.Stepping.{stored_alike, stored_told}
+use Rattle.depot_session.proofs.Turning.{disk_told, told, without_memory}
+
+-- ---- the answer
+
+-- an answer that is printed journaled all its vouchers
+pub bundled_whole : (here : Setting) (sign : Signs) (J : List Record) (text : List ℕ) (made : Result Bundled BundleError) (then : List Record) → SettlesBundle made → (IsErrOf made error.Disk → ⊥) → Bundles here sign J false text made then → then ≡ J ++ journaled_for (bundle_answer here sign J text)
+bundled_whole here sign J text (Ok b) then settled not is = is.grown ∙ ap (λ (a : BundleAnswer). J ++ journaled_for a) (sym is.is)
+bundled_whole here sign J text (Err error.Memory) then settled not is = absurd settled
+bundled_whole here sign J text (Err error.Disk) then settled not is = absurd (not refl)
+bundled_whole here sign J text (Err error.Stopped) then settled not is = absurd settled
+bundled_whole here sign J text (Err (error.IllFormed at)) then settled not is = is.1 ∙ sym (append-nil J) ∙ ap (λ (a : BundleAnswer). J ++ journaled_for a) (sym is.0)
+bundled_whole here sign J text (Err (error.OtherRoster given mine)) then settled not is = is.1.1 ∙ sym (append-nil J) ∙ ap (λ (a : BundleAnswer). J ++ journaled_for a) (sym is.0)
+bundled_whole here sign J text (Err (error.Spent n)) then settled not is = is.1 ∙ sym (append-nil J) ∙ ap (λ (a : BundleAnswer). J ++ journaled_for a) (sym is.0)
+bundled_whole here sign J text (Err (error.Full what)) then settled not is = is.1 ∙ sym (append-nil J) ∙ ap (λ (a : BundleAnswer). J ++ journaled_for a) (sym is.0)
+
+-- it ends the run by no fault of the disk or the sink
+pub bundle_needs_none : (a : BundleAnswer) → NeedsNone (ending_of_bundle a)
+bundle_needs_none (bundled b) = tt
+bundle_needs_none (bad_hello at) = tt
+bundle_needs_none (other_roster given) = tt
+bundle_needs_none (limited limit) = tt
+
+-- it is an answer for which the disk didn't fail
+pub finds_none : (made : Result Bundled BundleError) → (IsErrOf made error.Disk → ⊥) → finds_disk made ≡ false
+finds_none (Ok b) not = refl
+finds_none (Err error.Memory) not = refl
+finds_none (Err error.Disk) not = absurd (not refl)
+finds_none (Err error.Stopped) not = refl
+finds_none (Err (error.IllFormed at)) not = refl
+finds_none (Err (error.OtherRoster given mine)) not = refl
+finds_none (Err (error.Spent n)) not = refl
+finds_none (Err (error.Full what)) not = refl
+
+-- ---- the step
+
+-- the step of a hello that isn't there
+pub bundles_absent : (here : Setting) (sign : Signs) (s : Session) (hello file : List ℕ) → s.files hello ≡ None → step_of here sign s (command.Bundle hello file) ≡ absent s hello
+unfolding step_of
+bundles_absent here sign s hello file none = ap (bundle_to here sign s hello file) none
+
+bundles_text : (here : Setting) (sign : Signs) (s : Session) (hello file text : List ℕ) → s.files hello ≡ Some text → step_of here sign s (command.Bundle hello file) ≡ bundle_to here sign s hello file (Some text)
+unfolding step_of
+bundles_text here sign s hello file text some = ap (bundle_to here sign s hello file) some
+
+-- its parts, whatever the answer is
+step_journal : (s : Session) (hello file : List ℕ) (d : Deed) (a : BundleAnswer) → (bundle_step s hello file d a).session.correct.journal ≡ d.journal
+step_journal s hello file d (bundled b) = refl
+step_journal s hello file d (bad_hello at) = refl
+step_journal s hello file d (other_roster given) = refl
+step_journal s hello file d (limited limit) = refl
+
+step_text : (s : Session) (hello file : List ℕ) (d : Deed) (a : BundleAnswer) → (bundle_step s hello file d a).text ≡ lines_of_command (command.Bundle hello file) d
+step_text s hello file d (bundled b) = refl
+step_text s hello file d (bad_hello at) = refl
+step_text s hello file d (other_roster given) = refl
+step_text s hello file d (limited limit) = refl
+
+step_ending : (s : Session) (hello file : List ℕ) (d : Deed) (a : BundleAnswer) → (bundle_step s hello file d a).ending ≡ ending_of_bundle a
+step_ending s hello file d (bundled b) = refl
+step_ending s hello file d (bad_hello at) = refl
+step_ending s hello file d (other_roster given) = refl
+step_ending s hello file d (limited limit) = refl
+
+-- where it goes on the bundle is stored
+step_stores : (s : Session) (hello file : List ℕ) (d : Deed) (a : BundleAnswer) (other : List ℕ) → ending_of_bundle a ≡ None → (bundle_step s hello file d a).session.files other ≡ stored s.files file d.bytes other
+step_stores s hello file d (bundled b) other goes = refl
+step_stores s hello file d (bad_hello at) other goes = cc
+step_stores s hello file d (other_roster given) other goes = cc
+step_stores s hello file d (limited limit) other goes = cc
+
+-- else nothing is
+step_stores_none : (s : Session) (hello file : List ℕ) (d : Deed) (a : BundleAnswer) (other : List ℕ) → (ending_of_bundle a ≡ None → ⊥) → (bundle_step s hello file d a).session.files other ≡ s.files other
+step_stores_none s hello file d (bundled b) other ends = absurd (ends refl)
+step_stores_none s hello file d (bad_hello at) other ends = refl
+step_stores_none s hello file d (other_roster given) other ends = refl
+step_stores_none s hello file d (limited limit) other ends = refl
+
+answer_journal : (c : Correct) (a : BundleAnswer) → (bundle_with c a).journal ≡ c.journal ++ journaled_for a
+answer_journal c (bundled b) = refl
+answer_journal c (bad_hello at) = sym (append-nil c.journal)
+answer_journal c (other_roster given) = sym (append-nil c.journal)
+answer_journal c (limited limit) = sym (append-nil c.journal)
+
+deed_journal : (here : Setting) (sign : Signs) (c : Correct) (text : List ℕ) → (bundle_by here sign c text).journal ≡ c.journal ++ journaled_for (bundle_answer here sign c.journal text)
+unfolding bundle_by
+deed_journal here sign c text = answer_journal c (bundle_answer here sign c.journal text)
+
+module _ {N O : Type 0} (g : Ghosts N O) (counts_now : (v : N) (t : ℕ) (image : List ℕ) → t ≤ g.moment v → g.may_leave v image → g.left_since v t image) (old new : N) (s : Session) (hello file text : List ℕ) (shelf : Shelves) (at : IsAt (g.stands old) (g.records old) shelf.file s)
+    (there : shelf.file hello ≡ Some text) (runs : g.stopped old ≡ false) (lasts : Lasts g.tells g.stopped g.records g.moment g.left_since g.may_leave old new (journaled_for (bundle_answer (g.stands old) (g.signature_of old) (g.records old) text))) where
+  -- the step of the command
+  abbrev pub made_step : Step
+  made_step = step_of (g.stands old) (g.signature_of old) s (command.Bundle hello file)
+
+  -- what the definition answers, and what it does
+  abbrev pub answer : BundleAnswer
+  answer = bundle_answer (g.stands old) (g.signature_of old) (g.records old) text
+
+  abbrev pub deed : Deed
+  deed = bundle_by (g.stands old) (g.signature_of old) s.correct text
+
+  -- it answers this hello
+  is : made_step ≡ bundle_step s hello file deed answer
+  is =
+      bundles_text (g.stands old) (g.signature_of old) s hello file text (sym (at.same_files hello) ∙ there)
+      ∙ ap (λ (K : List Record). bundle_step s hello file deed (bundle_answer (g.stands old) (g.signature_of old) K text)) at.journal
+
+  -- its journal
+  journal : made_step.session.correct.journal ≡ g.records old ++ journaled_for answer
+  journal =
+      ap (λ (x : Step). x.session.correct.journal) is ∙ step_journal s hello file deed answer ∙ deed_journal (g.stands old) (g.signature_of old) s.correct text
+      ∙ ap (λ (K : List Record). K ++ journaled_for (bundle_answer (g.stands old) (g.signature_of old) K text)) at.journal
+
+  -- its text
+  text_is : made_step.text ≡ lines_of_command (command.Bundle hello file) deed
+  text_is = ap (λ (x : Step). x.text) is ∙ step_text s hello file deed answer
+
+  -- what a stop leaves
+  leaves : IsTrue (g.tells old) → (image : List ℕ) → g.may_leave new image → HasFront (g.records old) (journaled_for answer) image
+  leaves = leaves_front counts_now old new (journaled_for answer) runs lasts
+
+  -- no memory was found behind the call
+  pub made_without_memory : (sink : Sinks) → IsUnchanged shelf → Wrote sink [] → Turns g old new (command.Bundle hello file) made_step shelf sink (Err ending.Memory)
+  made_without_memory sink unchanged wrote = inr (without_memory g old new (command.Bundle hello file) made_step shelf sink (journaled_for answer) journal leaves (λ name _. unchanged name) wrote)
+
+  -- the disk failed in the call
+  pub made_to_disk : (sink : Sinks) (e : Ending) → IsUnchanged shelf → g.faults old < g.faults new → IsFaultTold sink disk_line ending.Disk e → Turns g old new (command.Bundle hello file) made_step shelf sink (Err e)
+  made_to_disk sink e unchanged rose t = inr (disk_told g old new (command.Bundle hello file) made_step shelf sink (journaled_for answer) journal leaves (λ name _. unchanged name) e rose t)
+
+  -- no bundle was made, and it was told or not
+  pub refused_told : (sink : Sinks) (ends : Option Ending) (lines : List ℕ) (r : Result (Unit {0}) Ending) → IsUnchanged shelf → g.stopped new ≡ false → g.records new ≡ g.records old ++ journaled_for answer → ends ≡ ending_of_bundle answer → (ends ≡ None → ⊥) → lines ≡ lines_of_deed deed
+      → Tells sink (join 32 (take (printed_count (command.Bundle hello file)) (command_words (command.Bundle hello file))) ++ codes " ->" ++ lines) ends r → Turns g old new (command.Bundle hello file) made_step shelf sink r
+  refused_told sink ends lines r unchanged goes grown ends_is not lines_is t =
+      told g old new (command.Bundle hello file) made_step shelf sink (journaled_for answer) journal leaves (λ name _. unchanged name) ends r
+      (ap (λ (x : Step). x.ending) is ∙ step_ending s hello file deed answer ∙ sym ends_is)
+      (λ wrote. record { runs = goes; journal = grown ∙ sym journal; files = λ other. unchanged other ∙ at.same_files other ∙ sym (step_stores_none s hello file deed answer other (λ none. not (ends_is ∙ none))) ∙ ap (λ (x : Step). x.session.files other) (sym is); wrote = wrote })
+      (subst (λ (x : List ℕ). Tells sink x ends r) (ap (λ (x : List ℕ). join 32 (take (printed_count (command.Bundle hello file)) (command_words (command.Bundle hello file))) ++ codes " ->" ++ x) lines_is ∙ sym text_is) t)
+
+  -- a bundle was made and stored, and it was told or not
+  pub bundle_told : (sink : Sinks) (lines bytes : List ℕ) (r : Result (Unit {0}) Ending) → g.stopped new ≡ false → g.records new ≡ g.records old ++ journaled_for answer → ending_of_bundle answer ≡ None → lines ≡ lines_of_deed deed → bytes ≡ deed.bytes → IsTrue shelf.tells
+      → Stores shelf sink (join 32 (take (printed_count (command.Bundle hello file)) (command_words (command.Bundle hello file))) ++ codes " ->" ++ lines) file bytes r → Turns g old new (command.Bundle hello file) made_step shelf sink r
+  bundle_told sink lines bytes r goes grown goes_on lines_is bytes_is tells st =
+      stored_told g old new (command.Bundle hello file) made_step shelf sink (journaled_for answer) journal leaves file bytes (λ other same. same) r
+      (ap (λ (x : Step). x.ending) is ∙ step_ending s hello file deed answer ∙ goes_on) goes (grown ∙ sym journal)
+      (λ other. ap (λ (x : Step). x.session.files other) is ∙ step_stores s hello file deed answer other goes_on ∙ stored_alike s.files shelf.file file deed.bytes bytes (λ name. sym (at.same_files name)) (sym bytes_is) other) tells
+      (subst (λ (x : List ℕ). Stores shelf sink x file bytes r) (ap (λ (x : List ℕ). join 32 (take (printed_count (command.Bundle hello file)) (command_words (command.Bundle hello file))) ++ codes " ->" ++ x) lines_is ∙ sym text_is) st)

@@ -1,0 +1,125 @@
+-- A command leaves a correct node a correct one.
+use Rattle.std.proofs.Common.{◌≡◌, ℕ, List, [], ◌∷◌, ◌++◌, Option, Some, None, refl, sym, ap, subst, ◌∙◌, inl, inr}
+use Rattle.depot_base.specs.declared.record.Record.TheVariants.{OwnPut}
+use Rattle.depot_model.specs.Bundle.{Signs, BundleAnswer, bundled, bad_hello, other_roster, limited, bundle_answer}
+use Rattle.depot_model.specs.Checks.{Setting}
+use Rattle.depot_model.specs.Lawful.{IsLawful}
+use Rattle.depot_model.specs.Limits.{Limit, limit_of_put}
+use Rattle.depot_model.specs.Lists.{IsIn}
+use Rattle.depot_model.specs.Own.{next_own}
+use Rattle.depot_model.specs.Roster.{has_node}
+use Rattle.depot_model.specs.World.{Correct, Read, IsCorrect, IsRead, NeverFall}
+use Rattle.depot_model.proofs.FeedGrowth.{IsGrown}
+use Rattle.depot_model.proofs.Members.{in_pushed}
+use Rattle.depot_answers.specs.Answers.{text_of_limit, text_of_put}
+use Rattle.depot_script.specs.declared.command.Command.{Command}
+use Rattle.depot_script.specs.declared.command.Command.TheVariants as command
+use Rattle.depot_world.specs.Deeds.{idle, grown, put_by, read_of, get_by, hello_by, bundle_with, bundle_by, give_by}
+use Rattle.depot_world.specs.Stops.{Deed}
+use Rattle.depot_world.proofs.GoodDeeds.{read_is, never_falls}
+use Rattle.depot_world.proofs.GoodNodes.{begun_grows, read_grows}
+use Rattle.depot_session.specs.Runs.{world_at}
+use Rattle.depot_session.specs.Sessions.{Session, bundle_step, bundle_to, step_of, take_from}
+use Rattle.depot_session.proofs.StepGrowth.{step_grows, step_stays}
+
+-- ---- what is read
+
+put_reads : (here : Setting) (c : Correct) (key value : List ℕ) → (put_by here c key value).reads ≡ c.reads
+unfolding put_by
+put_reads here c key value = by_limit (limit_of_put here c.journal key value) where
+  by_limit : (o : Option Limit) → (elim o as (λ x. Deed) [
+    | Some limit ↦ idle c (text_of_limit limit)
+    | None ↦ grown c (c.journal ++ OwnPut (next_own c.node c.journal key value) value ∷ []) (text_of_put (next_own c.node c.journal key value)) []
+  ]).reads ≡ c.reads
+  by_limit (Some limit) = refl
+  by_limit None = refl
+
+hello_reads : (here : Setting) (c : Correct) → (hello_by here c).reads ≡ c.reads
+unfolding hello_by
+hello_reads here c = refl
+
+answer_reads : (c : Correct) (a : BundleAnswer) → (bundle_with c a).reads ≡ c.reads
+answer_reads c (bundled b) = refl
+answer_reads c (bad_hello at) = refl
+answer_reads c (other_roster given) = refl
+answer_reads c (limited limit) = refl
+
+bundle_reads : (here : Setting) (sign : Signs) (c : Correct) (hello : List ℕ) → (bundle_by here sign c hello).reads ≡ c.reads
+unfolding bundle_by
+bundle_reads here sign c hello = answer_reads c (bundle_answer here sign c.journal hello)
+
+give_reads : (here : Setting) (c : Correct) (stream : List ℕ) → (give_by here c stream).reads ≡ c.reads
+unfolding give_by
+give_reads here c stream = refl
+
+bundle_step_reads : (s : Session) (hello file : List ℕ) (d : Deed) (a : BundleAnswer) → d.reads ≡ s.correct.reads → (bundle_step s hello file d a).session.correct.reads ≡ s.correct.reads
+bundle_step_reads s hello file d (bundled b) e = e
+bundle_step_reads s hello file d (bad_hello at) e = e
+bundle_step_reads s hello file d (other_roster given) e = e
+bundle_step_reads s hello file d (limited limit) e = e
+
+-- ---- correct nodes
+
+-- a node with a longer journal and the same reads
+more_is_correct : (here : Setting) (c d : Correct) → IsCorrect (world_at here) c → d.node ≡ c.node → d.node ≡ here.me → IsGrown c.journal d.journal → d.reads ≡ c.reads → IsLawful here d.journal → IsCorrect (world_at here) d
+more_is_correct here c d is same at grown reads lawful = record {
+  member = ap (has_node here.listed) same ∙ is.member;
+  lawful = subst (λ (n : ℕ). IsLawful (record { verifies = here.verifies; me = n; listed = here.listed }) d.journal) (sym at) lawful;
+  begun = begun_grows c.journal d.journal grown is.begun;
+  reads = λ r on. read_grows c.journal d.journal r grown (is.reads r (subst (λ (rs : List Read). IsIn r rs) reads on));
+  in_order = subst NeverFall (sym reads) is.in_order;
+}
+
+-- a node that has read a key
+read_is_correct : (here : Setting) (c : Correct) (key : List ℕ) → IsCorrect (world_at here) c → IsCorrect (world_at here) (record { node = c.node; journal = c.journal; reads = c.reads ++ read_of c.journal key ∷ [] })
+read_is_correct here c key is = record {
+  member = is.member;
+  lawful = is.lawful;
+  begun = is.begun;
+  reads = λ r on. elim (in_pushed r c.reads (read_of c.journal key) on) [
+    | inl old ↦ is.reads r old
+    | inr now ↦ subst (λ (x : Read). IsRead c.journal x) now (read_is (record { verifies = here.verifies; me = c.node; listed = here.listed }) c.journal key is.lawful is.begun)
+  ];
+  in_order = never_falls c.reads (read_of c.journal key) is.in_order (λ s on. (is.reads s on).within);
+}
+
+-- ---- a step
+
+module _ (here : Setting) (sign : Signs) (s : Session) (correct : IsCorrect (world_at here) s.correct) (at : s.correct.node ≡ here.me) where
+  -- a command that leaves the reads
+  by_reads : (c : Command) → (step_of here sign s c).session.correct.reads ≡ s.correct.reads → IsLawful here (step_of here sign s c).session.correct.journal → IsCorrect (world_at here) (step_of here sign s c).session.correct
+  by_reads c reads lawful = more_is_correct here s.correct (step_of here sign s c).session.correct correct (step_stays here sign s c) (step_stays here sign s c ∙ at) (step_grows here sign s c) reads lawful
+
+  put_step : (key value : List ℕ) → (step_of here sign s (command.Put key value)).session.correct.reads ≡ s.correct.reads
+  unfolding step_of
+  put_step key value = put_reads here s.correct key value
+
+  hello_step : (file : List ℕ) → (step_of here sign s (command.Hello file)).session.correct.reads ≡ s.correct.reads
+  unfolding step_of
+  hello_step file = hello_reads here s.correct
+
+  bundle_made : (hello file : List ℕ) → (step_of here sign s (command.Bundle hello file)).session.correct.reads ≡ s.correct.reads
+  unfolding step_of
+  bundle_made hello file = by_file (s.files hello) where
+    by_file : (o : Option (List ℕ)) → (bundle_to here sign s hello file o).session.correct.reads ≡ s.correct.reads
+    by_file None = refl
+    by_file (Some bytes) = bundle_step_reads s hello file (bundle_by here sign s.correct bytes) (bundle_answer here sign s.correct.journal bytes) (bundle_reads here sign s.correct bytes)
+
+  take_step : (file : List ℕ) → (step_of here sign s (command.Take file)).session.correct.reads ≡ s.correct.reads
+  unfolding step_of
+  take_step file = by_file (s.files file) where
+    by_file : (o : Option (List ℕ)) → (take_from here s file o).session.correct.reads ≡ s.correct.reads
+    by_file None = refl
+    by_file (Some bytes) = give_reads here s.correct bytes
+
+  get_step : (key : List ℕ) → IsCorrect (world_at here) (step_of here sign s (command.Get key)).session.correct
+  unfolding step_of get_by
+  get_step key = read_is_correct here s.correct key correct
+
+  -- a correct node is one after any command, if its journal is lawful
+  pub step_is_correct : (c : Command) → IsLawful here (step_of here sign s c).session.correct.journal → IsCorrect (world_at here) (step_of here sign s c).session.correct
+  step_is_correct (command.Put key value) lawful = by_reads (command.Put key value) (put_step key value) lawful
+  step_is_correct (command.Get key) lawful = get_step key
+  step_is_correct (command.Hello file) lawful = by_reads (command.Hello file) (hello_step file) lawful
+  step_is_correct (command.Bundle hello file) lawful = by_reads (command.Bundle hello file) (bundle_made hello file) lawful
+  step_is_correct (command.Take file) lawful = by_reads (command.Take file) (take_step file) lawful

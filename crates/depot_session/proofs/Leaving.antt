@@ -1,0 +1,34 @@
+-- What a stop leaves after a call on a node.
+use Rattle.std.proofs.Common.{◌≡◌, ◌≤◌, ℕ, Bool, true, false, IsTrue, List, [], ◌++◌, length, map, take, refl, sym, ap, subst, ◌∙◌}
+use Rattle.std.proofs.lemmas.List.{append-nil}
+use Rattle.depot_base.specs.File.{IsFileOf}
+use Rattle.depot_base.specs.declared.record.Record.{Record}
+use Rattle.depot_model.specs.Checks.{Setting}
+use Rattle.depot_model.specs.Lawful.{IsLawful}
+use Rattle.depot_model.specs.Records.{text_of_record}
+use Rattle.depot_model.specs.Stops.{HasAll, HasFront, HasRecords, Lasts, LeavesAll}
+use Rattle.depot_gossip.specs.Lasting.{IsToAppend, LastsIn}
+
+-- all records of a node that runs
+pub all_there : (J : List Record) (file : List ℕ) → HasAll J false file → HasRecords J file
+all_there J file all = subst (λ (x : List (List ℕ)). IsFileOf file x) (ap (λ (x : List (List ℕ)). map text_of_record J ++ x) (all.none refl) ∙ append-nil (map text_of_record J)) all.has
+
+-- they are a front of these and more
+pub front_of_none : (J more : List Record) (file : List ℕ) → HasRecords J file → HasFront J more file
+front_of_none J more file has = record { count = 0; has = subst (λ (K : List Record). HasRecords K file) (sym (append-nil J)) has }
+
+module _ {N : Type 0} {tells stopped : N → Bool} {records : N → List Record} {moment : N → ℕ} {left_since : N → ℕ → List ℕ → Type 0} {may_leave : N → List ℕ → Type 0}
+    (counts_now : (v : N) (t : ℕ) (file : List ℕ) → t ≤ moment v → may_leave v file → left_since v t file) where
+  -- after a call on a running node a stop leaves a front of what the call appends
+  pub leaves_front : (old new : N) (appends : List Record) → stopped old ≡ false → Lasts tells stopped records moment left_since may_leave old new appends → IsTrue (tells old) → (file : List ℕ) → may_leave new file → HasFront (records old) appends file
+  leaves_front old new appends runs lasts t file left =
+      let only = lasts.any_moment t runs in
+      only.each file (counts_now new (moment old) file only.later left)
+
+-- what a call was to append it was to append, failed or not
+pub appended_so : (here : Setting) (J new then : List Record) (failed : Bool) → IsToAppend here J new then false → IsToAppend here J new then failed
+appended_so here J new then failed a = record { lawful = a.lawful; count = a.count; front = a.front; all = λ _. a.all refl }
+
+pub lasts_so : {N : Type 0} {tells stopped : N → Bool} {records : N → List Record} {moment : N → ℕ} {left_since : N → ℕ → List ℕ → Type 0} {may_leave : N → List ℕ → Type 0}
+    → (here : Setting) (failed : Bool) (old new : N) → LastsIn tells stopped records moment left_since may_leave here false old new → LastsIn tells stopped records moment left_since may_leave here failed old new
+lasts_so {records = records} here failed old new l = record { appends = l.appends; is = appended_so here (records old) l.appends (records new) failed l.is; lasts = l.lasts }

@@ -1,0 +1,16 @@
+pub mod Leaving
+pub mod Turning
+pub mod StepGrowth
+pub mod Told
+pub mod Still
+pub mod PutTurns
+pub mod Keeping
+pub mod Stepping
+pub mod HelloTurns
+pub mod TakeTurns
+pub mod BundleTurns
+pub mod GoingOn
+pub mod CorrectSteps
+pub mod PlayedScripts
+pub mod RunImages
+pub mod RunEnds

@@ -1,0 +1,276 @@
+-- A script that is played, command by command.
+use Rattle.std.proofs.Common.{◌≡◌, ◌≤◌, ◌<◌, ◌⊎◌, ℕ, suc, ◌+◌, Bool, false, IsTrue, List, [], ◌∷◌, ◌++◌, append_assoc, length, get_or, take, drop, take-append-drop, drop-cons, Some, None, Result, Ok, Err, refl, sym, ap, subst, ◌∙◌, arith, inl, inr}
+use Rattle.std.specs.Prelude.{is_err}
+use Rattle.std.proofs.lemmas.List.{append-nil, take_all, take_more, take-append-le}
+use Rattle.std.proofs.Math.Seq.{take-append_seam}
+use Rattle.depot_base.specs.declared.record.Record.{Record}
+use Rattle.depot_gossip.specs.Lasting.{LastsIn}
+use Rattle.depot_gossip.proofs.LastingLaws.{joined_in, nothing_in}
+use Rattle.depot_model.specs.Bundle.{Signs}
+use Rattle.depot_model.specs.Checks.{Setting}
+use Rattle.depot_model.specs.Lawful.{IsLawful}
+use Rattle.depot_model.specs.Replicas.{IsSameNode}
+use Rattle.depot_model.specs.Stops.{HasFront, HasRecords, LeavesAll}
+use Rattle.depot_model.specs.World.{IsCorrect}
+use Rattle.depot_model.specs.declared.replica.Replica.{Ghosts}
+use Rattle.depot_outside.specs.Told.{Shelves, Sinks, Wrote, shelves, sinks}
+use Rattle.depot_outside.specs.declared.shelf.Shelf as shelf_of
+use Rattle.depot_outside.specs.declared.sink.Sink as sink_of
+use Rattle.depot_script.specs.declared.command.Command.{Command}
+use Rattle.depot_session.specs.declared.ending.Ending.{Ending}
+use Rattle.depot_session.specs.declared.ending.Ending.TheVariants as ending
+use Rattle.depot_session.specs.Sessions.{Answers, Session, answers_of, step_of}
+use Rattle.depot_session.specs.Runs.{IsCutBy, world_at}
+use Rattle.depot_session.specs.Telling.{TellsShelf}
+use Rattle.depot_session.specs.Turns.{IsAt, IsBroken, IsPlayed, IsPlayedInPart, IsRunning, Keeps, Plays, Steps, Turns}
+use Rattle.depot_session.proofs.CorrectSteps.{step_is_correct}
+use Rattle.depot_session.proofs.StepGrowth.{step_stays}
+use Rattle.depot_session.proofs.GoingOn.{GoOn, all_done, ended_answers, go_on_more, more_answers, script_grows}
+
+-- ---- what holds between two commands
+
+-- The node is who it was and runs, a stop leaves what it was to leave, no fault of the shelf came, and what the shelf and the sink tell they tell.
+pub record IsKeptOn {N O F K : Type 0} (g : Ghosts N O) (f : shelf_of.Ghosts F) (k : sink_of.Ghosts K) (first now : N) (shelf_first shelf_now : F) (out_first out_now : K) : Type 0 where
+  pub same : IsSameNode (g.stands first) (g.stands now) (g.key first) (g.key now) (g.signature_of first) (g.signature_of now)
+  pub handle : g.handle now ≡ g.handle first
+  pub running : IsRunning g now
+  pub lasts : LastsIn g.tells g.stopped g.records g.moment g.left_since g.may_leave (g.stands first) false first now
+  pub disk_later : g.faults first ≤ g.faults now
+  pub sink_later : k.faults out_first ≤ k.faults out_now
+  pub same_sink : k.tells out_now ≡ k.tells out_first
+  pub same_shelf : f.tells shelf_now ≡ f.tells shelf_first
+  pub quiet : f.faults shelf_now ≡ f.faults shelf_first
+
+-- These commands were carried out and went on, and the session after them is where the node and the shelf stand.
+pub record AreDone {N O : Type 0} (g : Ghosts N O) (now : N) (here : Setting) (sign : Signs) (s : Session) (done : List Command) (shelf : Shelves) (sink : Sinks) : Type 0 where
+  pub go_on : GoOn here sign s done
+  pub at : IsAt here (g.records now) shelf.file_after (answers_of here sign s done).session
+  pub wrote : Wrote sink (answers_of here sign s done).text
+  pub correct : IsCorrect (world_at here) s.correct → IsCorrect (world_at here) (answers_of here sign s done).session.correct
+
+-- ---- places
+
+-- so many commands and one more
+next_command : (cs : List Command) (i : ℕ) (c : Command) → i < length cs → c ≡ get_or cs i c → take (i + 1) cs ≡ take i cs ++ c ∷ []
+next_command cs i c within is = take_more cs i c within ∙ ap (λ (x : Command). take i cs ++ x ∷ []) (sym is)
+
+-- so many commands, the next one, and the rest
+command_between : (cs : List Command) (i : ℕ) (c : Command) → i < length cs → c ≡ get_or cs i c → cs ≡ take i cs ++ c ∷ drop (suc i) cs
+command_between cs i c within is = sym (take-append-drop i cs) ∙ ap (λ (x : List Command). take i cs ++ x) (drop-cons cs i c within ∙ ap (λ (x : Command). x ∷ drop (suc i) cs) (sym is))
+
+-- ---- fronts and faults
+
+-- a front of some records is a front of these and more
+pub front_longer : (J a b : List Record) (file : List ℕ) → HasFront J a file → HasFront J (a ++ b) file
+front_longer J a b file front = by_count (less_or_more front.count (length a)) where
+  less_or_more : (m n : ℕ) → (m ≤ n) ⊎ (n ≤ m)
+  less_or_more m n = grind arith
+
+  by_count : (front.count ≤ length a) ⊎ (length a ≤ front.count) → HasFront J (a ++ b) file
+  by_count (inl le) = record { count = front.count; has = subst (λ (x : List Record). HasRecords (J ++ x) file) (sym (take-append-le front.count a b le)) front.has }
+  by_count (inr ge) = record { count = length a; has = subst (λ (x : List Record). HasRecords (J ++ x) file) (take_all front.count a ge ∙ sym (take-append_seam a b)) front.has }
+
+-- a cause that came after a later moment came after an earlier one
+cut_from : (late early : Type 0) (shelf_late shelf_early : Shelves) (sink_late sink_early : Sinks) (e : Ending) → (late → early) → (shelf_late.faults_before < shelf_late.faults_after → shelf_early.faults_before < shelf_early.faults_after)
+    → (sink_late.faults_before < sink_late.faults_after → sink_early.faults_before < sink_early.faults_after) → IsCutBy late shelf_late sink_late e → IsCutBy early shelf_early sink_early e
+cut_from late early shelf_late shelf_early sink_late sink_early ending.Memory disk shelf sink cut = tt
+cut_from late early shelf_late shelf_early sink_late sink_early ending.Disk disk shelf sink cut = disk cut
+cut_from late early shelf_late shelf_early sink_late sink_early ending.Shelf disk shelf sink cut = shelf cut
+cut_from late early shelf_late shelf_early sink_late sink_early ending.Sink disk shelf sink cut = sink cut
+cut_from late early shelf_late shelf_early sink_late sink_early ending.Done disk shelf sink cut = absurd cut
+cut_from late early shelf_late shelf_early sink_late sink_early ending.Input disk shelf sink cut = absurd cut
+cut_from late early shelf_late shelf_early sink_late sink_early ending.Limit disk shelf sink cut = absurd cut
+cut_from late early shelf_late shelf_early sink_late sink_early ending.NotLawful disk shelf sink cut = absurd cut
+cut_from late early shelf_late shelf_early sink_late sink_early ending.Identity disk shelf sink cut = absurd cut
+
+-- a text behind another one
+text_behind : (told told_now : Bool) (old mid new a b : List ℕ) → told_now ≡ told → (IsTrue told → mid ≡ old ++ a) → (IsTrue told_now → new ≡ mid ++ b) → IsTrue told → new ≡ old ++ (a ++ b)
+text_behind told told_now old mid new a b same one two t = two (subst (λ (x : Bool). IsTrue x) (sym same) t) ∙ ap (λ (x : List ℕ). x ++ b) (one t) ∙ append_assoc old a b
+
+-- ---- one more command
+
+module _ {N O F K : Type 0} (g : Ghosts N O) (f : shelf_of.Ghosts F) (k : sink_of.Ghosts K) (lawful : (v : N) → IsLawful (g.stands v) (g.records v)) (first mid new : N) (shelf_first shelf_mid shelf_new : F) (out_first out_mid out_new : K) where
+  -- what a command keeps is kept of all of them
+  pub keeps_all : (r : Result (Unit {0}) Ending) → IsRunning g first → IsKeptOn g f k first mid shelf_first shelf_mid out_first out_mid → Keeps g mid new (sinks k out_mid out_new) r → Keeps g first new (sinks k out_first out_new) r
+  keeps_all r ran kept keeps = record {
+    same = record { stands = keeps.same.stands ∙ kept.same.stands; key = keeps.same.key ∙ kept.same.key; signs = keeps.same.signs ∙ kept.same.signs };
+    handle = keeps.handle ∙ kept.handle;
+    lasts = joined_in (g.stands first) (g.stands mid) (is_err r) first mid new kept.same.stands ran.runs kept.running.runs kept.lasts keeps.lasts;
+    runs_on = keeps.runs_on;
+    disk_later = omega (arith, kept.disk_later, keeps.disk_later);
+    disk_failed = λ failed. let rose = keeps.disk_failed failed in omega (arith, kept.disk_later, rose);
+    sink_later = omega (arith, kept.sink_later, keeps.sink_later);
+    sink_failed = λ failed. let rose = keeps.sink_failed failed in omega (arith, kept.sink_later, rose);
+    no_refusal = keeps.no_refusal;
+  }
+
+  -- between this command and the next
+  pub kept_on_more : IsRunning g first → IsKeptOn g f k first mid shelf_first shelf_mid out_first out_mid → Keeps g mid new (sinks k out_mid out_new) (Ok tt) → k.tells out_new ≡ k.tells out_mid → f.tells shelf_new ≡ f.tells shelf_mid → f.faults shelf_new ≡ f.faults shelf_mid
+      → IsKeptOn g f k first new shelf_first shelf_new out_first out_new
+  kept_on_more ran kept keeps same_sink same_shelf quiet =
+      let all = keeps_all (Ok tt) ran kept keeps in
+      record {
+        same = all.same;
+        handle = all.handle;
+        running = record { runs = all.runs_on tt; stable = λ t. subst (λ (x : Bool). LeavesAll (g.records new) x (g.may_leave new)) (all.runs_on tt) (all.lasts.lasts.stable (subst (λ (x : Bool). IsTrue x) all.lasts.lasts.told t)) };
+        lasts = all.lasts;
+        disk_later = all.disk_later;
+        sink_later = all.sink_later;
+        same_sink = same_sink ∙ kept.same_sink;
+        same_shelf = same_shelf ∙ kept.same_shelf;
+        quiet = quiet ∙ kept.quiet;
+      }
+
+  -- a command as it goes where the node stood at first
+  abbrev pub TurnsAt : Command → Result (Unit {0}) Ending → Setting → Signs → Type 0
+  TurnsAt c r here sign = (s : Session) → IsTrue (f.tells shelf_mid) → IsAt here (g.records mid) (f.file shelf_mid) s → Turns g mid new c (step_of here sign s c) (shelves f shelf_mid shelf_new) (sinks k out_mid out_new) r
+
+  from_first : (c : Command) (r : Result (Unit {0}) Ending) → IsKeptOn g f k first mid shelf_first shelf_mid out_first out_mid → TurnsAt c r (g.stands mid) (g.signature_of mid) → TurnsAt c r (g.stands first) (g.signature_of first)
+  from_first c r kept turns = subst (λ (x : Signs). TurnsAt c r (g.stands first) x) kept.same.signs (subst (λ (x : Setting). TurnsAt c r x (g.signature_of mid)) kept.same.stands turns)
+
+  module _ (s : Session) (done : List Command) (c : Command) (kept : IsKeptOn g f k first mid shelf_first shelf_mid out_first out_mid) (are : AreDone g mid (g.stands first) (g.signature_of first) s done (shelves f shelf_first shelf_mid) (sinks k out_first out_mid)) where
+    -- a command that went as its step says leaves a correct node
+    correct_on : g.stands new ≡ g.stands mid → g.records new ≡ (step_of (g.stands first) (g.signature_of first) (answers_of (g.stands first) (g.signature_of first) s done).session c).session.correct.journal
+        → IsCorrect (world_at (g.stands first)) s.correct → IsCorrect (world_at (g.stands first)) (step_of (g.stands first) (g.signature_of first) (answers_of (g.stands first) (g.signature_of first) s done).session c).session.correct
+    correct_on stays journal is =
+        let here = g.stands first in
+        step_is_correct here (g.signature_of first) (answers_of here (g.signature_of first) s done).session (are.correct is) are.at.node c
+        (subst (λ (J : List Record). IsLawful here J) journal (subst (λ (h : Setting). IsLawful h (g.records new)) (stays ∙ kept.same.stands) (lawful new)))
+
+    -- the run goes on
+    pub done_more : g.stands new ≡ g.stands mid → (step_of (g.stands first) (g.signature_of first) (answers_of (g.stands first) (g.signature_of first) s done).session c).ending ≡ None
+        → Steps g new (step_of (g.stands first) (g.signature_of first) (answers_of (g.stands first) (g.signature_of first) s done).session c) (shelves f shelf_mid shelf_new) (sinks k out_mid out_new)
+        → AreDone g new (g.stands first) (g.signature_of first) s (done ++ c ∷ []) (shelves f shelf_first shelf_new) (sinks k out_first out_new)
+    done_more stays on steps =
+        let here = g.stands first in
+        let sign = g.signature_of first in
+        let was = answers_of here sign s done in
+        let step = step_of here sign was.session c in
+        let is = more_answers here sign s done c are.go_on on in
+        record {
+          go_on = go_on_more here sign s done c are.go_on on;
+          at = subst (λ (a : Answers). IsAt here (g.records new) (f.file shelf_new) a.session) (sym is) (record { node = step_stays here sign was.session c ∙ are.at.node; journal = sym steps.journal; same_files = steps.files });
+          wrote = subst (λ (a : Answers). Wrote (sinks k out_first out_new) a.text) (sym is) (text_behind (k.tells out_first) (k.tells out_mid) (k.written out_first) (k.written out_mid) (k.written out_new) was.text step.text kept.same_sink are.wrote steps.wrote);
+          correct = λ correct. subst (λ (a : Answers). IsCorrect (world_at here) a.session.correct) (sym is) (correct_on stays steps.journal correct);
+        }
+
+    -- the command ends the run
+    ended : (rest : List Command) (e : Ending) → g.stands new ≡ g.stands mid → (step_of (g.stands first) (g.signature_of first) (answers_of (g.stands first) (g.signature_of first) s done).session c).ending ≡ Some e
+        → Steps g new (step_of (g.stands first) (g.signature_of first) (answers_of (g.stands first) (g.signature_of first) s done).session c) (shelves f shelf_mid shelf_new) (sinks k out_mid out_new)
+        → IsPlayed g new (g.stands first) s (answers_of (g.stands first) (g.signature_of first) s (done ++ c ∷ rest)) (shelves f shelf_first shelf_new) (sinks k out_first out_new) e
+    ended rest e stays ends steps =
+        let here = g.stands first in
+        let sign = g.signature_of first in
+        let was = answers_of here sign s done in
+        let step = step_of here sign was.session c in
+        subst (λ (a : Answers). IsPlayed g new here s a (shelves f shelf_first shelf_new) (sinks k out_first out_new) e) (sym (ended_answers here sign s done c rest e are.go_on ends)) (record {
+          ending_is = refl;
+          runs = steps.runs;
+          journal = steps.journal;
+          files = steps.files;
+          wrote = text_behind (k.tells out_first) (k.tells out_mid) (k.written out_first) (k.written out_mid) (k.written out_new) was.text step.text kept.same_sink are.wrote steps.wrote;
+          correct = correct_on stays steps.journal;
+        })
+
+    -- the command was cut short
+    broken : (rest : List Command) (e : Ending) → IsBroken g mid new c (step_of (g.stands first) (g.signature_of first) (answers_of (g.stands first) (g.signature_of first) s done).session c) (shelves f shelf_mid shelf_new) (sinks k out_mid out_new) e
+        → IsPlayedInPart g first new (g.stands first) (g.signature_of first) s (done ++ c ∷ rest) (shelves f shelf_first shelf_new) (sinks k out_first out_new) e
+    broken rest e b =
+        let here = g.stands first in
+        let sign = g.signature_of first in
+        let was = answers_of here sign s done in
+        let step = step_of here sign was.session c in
+        let grown = script_grows here sign s done c rest are.go_on in
+        record {
+          cut = cut_from (g.faults mid < g.faults new) (g.faults first < g.faults new) (shelves f shelf_mid shelf_new) (shelves f shelf_first shelf_new) (sinks k out_mid out_new) (sinks k out_first out_new) e
+              (λ rose. omega (arith, kept.disk_later, rose)) (λ rose. omega (arith, kept.quiet, rose)) (λ rose. omega (arith, kept.sink_later, rose)) b.cut;
+          done = done;
+          rest = c ∷ rest;
+          parts = refl;
+          went_on = all_done here sign s done are.go_on;
+          last = b.last;
+          last_is = b.last_is;
+          wrote = text_behind (k.tells out_first) (k.tells out_mid) (k.written out_first) (k.written out_mid) (k.written out_new) was.text b.last kept.same_sink are.wrote b.wrote;
+          more = b.more ++ grown.more;
+          brings = grown.is ∙ ap (λ (x : List Record). x ++ grown.more) (b.brings ∙ ap (λ (x : List Record). x ++ b.more) (sym are.at.journal)) ∙ append_assoc was.session.correct.journal b.more grown.more;
+          leaves = λ t image left. front_longer was.session.correct.journal b.more grown.more image (subst (λ (J : List Record). HasFront J b.more image) (sym are.at.journal) (b.leaves (subst (λ (x : Bool). IsTrue x) (sym kept.lasts.lasts.told) t) image left));
+          files = λ name other. b.files name other ∙ are.at.same_files name;
+        }
+
+    stopped_at : (rest : List Command) (e : Ending) → g.stands new ≡ g.stands mid → Turns g mid new c (step_of (g.stands first) (g.signature_of first) (answers_of (g.stands first) (g.signature_of first) s done).session c) (shelves f shelf_mid shelf_new) (sinks k out_mid out_new) (Err e)
+        → Plays g first new (g.stands first) (g.signature_of first) s (done ++ c ∷ rest) (shelves f shelf_first shelf_new) (sinks k out_first out_new) (Err e)
+    stopped_at rest e stays (inl t) = inl (ended rest e stays t.0 t.1)
+    stopped_at rest e stays (inr b) = inr (broken rest e b)
+
+  module _ (s : Session) (cs : List Command) (i : ℕ) (c : Command) (within : i < length cs) (is : c ≡ get_or cs i c) (kept : IsKeptOn g f k first mid shelf_first shelf_mid out_first out_mid) (told : IsTrue (f.tells shelf_first))
+      (are : AreDone g mid (g.stands first) (g.signature_of first) s (take i cs) (shelves f shelf_first shelf_mid) (sinks k out_first out_mid)) (stays : g.stands new ≡ g.stands mid) where
+    -- what the next command comes to
+    next_turns : (r : Result (Unit {0}) Ending) → TurnsAt c r (g.stands mid) (g.signature_of mid)
+        → Turns g mid new c (step_of (g.stands first) (g.signature_of first) (answers_of (g.stands first) (g.signature_of first) s (take i cs)).session c) (shelves f shelf_mid shelf_new) (sinks k out_mid out_new) r
+    next_turns r turns = from_first c r kept turns (answers_of (g.stands first) (g.signature_of first) s (take i cs)).session (subst (λ (x : Bool). IsTrue x) (sym kept.same_shelf) told) are.at
+
+    -- the next command is done
+    pub are_done_more : TurnsAt c (Ok tt) (g.stands mid) (g.signature_of mid) → AreDone g new (g.stands first) (g.signature_of first) s (take (i + 1) cs) (shelves f shelf_first shelf_new) (sinks k out_first out_new)
+    are_done_more turns =
+        let t = next_turns (Ok tt) turns in
+        subst (λ (done : List Command). AreDone g new (g.stands first) (g.signature_of first) s done (shelves f shelf_first shelf_new) (sinks k out_first out_new)) (sym (next_command cs i c within is)) (done_more s (take i cs) c kept are stays t.0 t.1)
+
+    -- the next command ends the run or is cut short
+    pub plays_to : (e : Ending) → TurnsAt c (Err e) (g.stands mid) (g.signature_of mid) → Plays g first new (g.stands first) (g.signature_of first) s cs (shelves f shelf_first shelf_new) (sinks k out_first out_new) (Err e)
+    plays_to e turns =
+        subst (λ (all : List Command). Plays g first new (g.stands first) (g.signature_of first) s all (shelves f shelf_first shelf_new) (sinks k out_first out_new) (Err e)) (sym (command_between cs i c within is))
+        (stopped_at s (take i cs) c kept are (drop (suc i) cs) e stays (next_turns (Err e) turns))
+
+-- ---- before the first command, and behind the last
+
+module _ {N O F K : Type 0} (g : Ghosts N O) (f : shelf_of.Ghosts F) (k : sink_of.Ghosts K) where
+  -- before the first command
+  pub kept_on_first : ((v : N) (file : List ℕ) → g.left_since v (g.moment v) file → g.may_leave v file) → (v : N) (shelf : F) (out : K) → IsLawful (g.stands v) (g.records v) → IsRunning g v → IsKeptOn g f k v v shelf shelf out out
+  kept_on_first only_now v shelf out lawful running = record {
+    same = record { stands = refl; key = refl; signs = refl };
+    handle = refl;
+    running = running;
+    lasts = nothing_in only_now (g.stands v) false v lawful (λ t. subst (λ (x : Bool). LeavesAll (g.records v) x (g.may_leave v)) (sym running.runs) (running.stable t));
+    disk_later = omega arith;
+    sink_later = omega arith;
+    same_sink = refl;
+    same_shelf = refl;
+    quiet = refl;
+  }
+
+  pub are_done_first : (v : N) (shelf : F) (out : K) (s : Session) → IsAt (g.stands v) (g.records v) (f.file shelf) s → AreDone g v (g.stands v) (g.signature_of v) s [] (shelves f shelf shelf) (sinks k out out)
+  unfolding answers_of
+  are_done_first v shelf out s at = record { go_on = tt; at = at; wrote = λ t. sym (append-nil (k.written out)); correct = λ is. is }
+
+  -- behind the last command
+  pub keeps_to_end : (first now : N) (shelf_first shelf_now : F) (out_first out_now : K) → IsKeptOn g f k first now shelf_first shelf_now out_first out_now → Keeps g first now (sinks k out_first out_now) (Ok tt)
+  keeps_to_end first now shelf_first shelf_now out_first out_now kept = record {
+    same = kept.same;
+    handle = kept.handle;
+    lasts = kept.lasts;
+    runs_on = λ _. kept.running.runs;
+    disk_later = kept.disk_later;
+    disk_failed = λ e. cc;
+    sink_later = kept.sink_later;
+    sink_failed = λ e. cc;
+    no_refusal = λ e. cc;
+  }
+
+  pub plays_to_end : (first now : N) (shelf_first shelf_now : F) (out_first out_now : K) (s : Session) (cs : List Command) (i : ℕ) → length cs ≤ i → IsKeptOn g f k first now shelf_first shelf_now out_first out_now
+      → AreDone g now (g.stands first) (g.signature_of first) s (take i cs) (shelves f shelf_first shelf_now) (sinks k out_first out_now)
+      → Plays g first now (g.stands first) (g.signature_of first) s cs (shelves f shelf_first shelf_now) (sinks k out_first out_now) (Ok tt)
+  plays_to_end first now shelf_first shelf_now out_first out_now s cs i long kept are =
+      let here = g.stands first in
+      let sign = g.signature_of first in
+      let a = subst (λ (done : List Command). AreDone g now here sign s done (shelves f shelf_first shelf_now) (sinks k out_first out_now)) (take_all i cs long) are in
+      inl (record { ending_is = sym (all_done here sign s cs a.go_on); runs = kept.running.runs; journal = sym a.at.journal; files = a.at.same_files; wrote = a.wrote; correct = a.correct })
+
+-- ---- the shelf
+
+-- it was quiet before a command
+pub tells_of_stop : (first mid new : ℕ) (r : Result (Unit {0}) Ending) → mid ≡ first → TellsShelf mid new r → TellsShelf first new r
+tells_of_stop first mid new r quiet t = subst (λ (n : ℕ). TellsShelf n new r) quiet t
+
+-- it was quiet all the time
+pub tells_of_end : (first now : ℕ) → now ≡ first → TellsShelf first now (Ok tt)
+tells_of_end first now quiet = record { never_falls = omega (arith, quiet); quiet = λ _. quiet }

@@ -1,0 +1,274 @@
+-- What a put makes of a node, of the shelf and of the sink.
+use Rattle.std.proofs.Common.{◌≡◌, ◌<◌, ◌≤◌, ℕ, Bool, true, false, IsTrue, List, [], ◌∷◌, ◌++◌, take, Option, Some, None, Result, Ok, Err, refl, sym, ap, subst, ◌∙◌, ◌↔◌, ⊎_elim, codes}
+use Rattle.std.specs.Prelude.{IfErr, IsErrOf, is_err}
+use Rattle.std.proofs.lemmas.List.{append-nil}
+use Rattle.depot_base.specs.Sized.{IsKey, IsValue}
+use Rattle.depot_base.specs.declared.record.Record.{Record}
+use Rattle.depot_base.specs.declared.record.Record.TheVariants.{OwnPut}
+use Rattle.depot_deeds.specs.declared.printed.Printed.{Printed}
+use Rattle.depot_deeds.specs.Printing.{IsPrintOf, lines_of_deed}
+use Rattle.depot_deeds.specs.PutPrinting.{SettlesPut}
+use Rattle.depot_deeds.proofs.PutTexts.{deed_within, put_lawful}
+use Rattle.depot_gossip.specs.Lasting.{LastsIn}
+use Rattle.depot_gossip.proofs.LastingLaws.{all_of, cut_of, lasts_alike, lasts_longer, none_in, to_append, IsPart}
+use Rattle.depot_model.specs.Bundle.{Signs}
+use Rattle.depot_model.specs.Checks.{Setting}
+use Rattle.depot_model.specs.Lawful.{IsLawful, is_empty}
+use Rattle.depot_model.specs.Limits.{Limit, limit_of_put}
+use Rattle.depot_model.specs.Own.{next_own}
+use Rattle.depot_model.specs.Replicas.{IsSameNode, KeepsDisk, StopsBy}
+use Rattle.depot_model.specs.Stops.{HasFront, Lasts}
+use Rattle.depot_model.specs.World.{Correct}
+use Rattle.depot_model.specs.declared.replica.Replica.{Ghosts}
+use Rattle.depot_node.specs.Putting.{Puts, put_records}
+use Rattle.depot_node.specs.declared.answer.PutDone.{PutDone}
+use Rattle.depot_node.specs.declared.answer.PutError.{PutError}
+use Rattle.depot_node.specs.declared.answer.PutError.TheVariants as refused
+use Rattle.depot_outside.specs.Told.{Shelves, Sinks, Wrote}
+use Rattle.depot_schedule.specs.Language.{join}
+use Rattle.depot_script.specs.Scripts.{command_words}
+use Rattle.depot_script.specs.declared.command.Command.{Command}
+use Rattle.depot_script.specs.declared.command.Command.TheVariants as command
+use Rattle.depot_session.specs.declared.ending.Ending.{Ending}
+use Rattle.depot_session.specs.declared.ending.Ending.TheVariants as ending
+use Rattle.depot_session.specs.Runs.{disk_line}
+use Rattle.depot_session.specs.Sessions.{Session, Step, StoresAs, ending_of_put, printed_count, step_of}
+use Rattle.depot_session.specs.Telling.{IsFaultTold, Tells}
+use Rattle.depot_session.specs.Turns.{HasNoFault, IsAt, IsBroken, IsRunning, IsUnchanged, Keeps, Turns}
+use Rattle.depot_session.proofs.Leaving.{leaves_front}
+use Rattle.depot_session.proofs.Told.{EndsCalmly, NamesFaults}
+use Rattle.depot_session.proofs.Turning.{disk_told, told, without_memory}
+use Rattle.depot_world.specs.Deeds.{idle, put_by}
+use Rattle.depot_world.specs.Stops.{Deed}
+
+-- ---- the records
+
+-- the records that a put brings that meets this limit, or none
+abbrev pub put_more : Setting → List Record → List ℕ → List ℕ → Option Limit → List Record
+put_more here J key value None = put_records here J key value
+put_more here J key value (Some limit) = []
+
+-- how a put that the node answered so ends the run
+abbrev pub ends_of_put : Result PutDone PutError → Option Ending
+ends_of_put (Ok done) = None
+ends_of_put (Err e) = Some ending.Limit
+
+-- it isn't a fault
+pub put_ends_calmly : (done : Result PutDone PutError) → EndsCalmly (ends_of_put done)
+put_ends_calmly (Ok d) = tt
+put_ends_calmly (Err e) = tt
+
+-- A node runs on where it ran and its disk didn't fail.
+pub runs_by : (before now : Bool) (stopped failed : Type 0) → before ≡ false → (failed → ⊥) → StopsBy before now stopped failed → now ≡ false
+runs_by before false stopped failed ran well stops = refl
+runs_by before true stopped failed ran well stops = absurd (⊎_elim (λ was. untrue (sym was ∙ ran)) well (stops.left.0 refl)) where
+  untrue : true ≡ false → ⊥
+  untrue e = cc
+
+-- where a run without fault means that the disk didn't fail, one after which it failed ended
+pub ends_failed : (r : Result (Unit {0}) Ending) (failed : Type 0) → (HasNoFault r → failed → ⊥) → failed → is_err r ≡ true
+ends_failed (Ok done) failed settles f = absurd (settles tt f)
+ends_failed (Err e) failed settles f = refl
+
+-- ---- its step
+
+-- a put of equal texts is the same command
+pub same_put : (c : Command) (k v key value : List ℕ) → c ≡ command.Put k v → key ≡ k → value ≡ v → c ≡ command.Put key value
+same_put c k v key value is same_key same_value = is ∙ ap (λ (x : List ℕ). command.Put x v) (sym same_key) ∙ ap (λ (x : List ℕ). command.Put key x) (sym same_value)
+
+-- the journal after a put that meets this limit, or none
+put_journal : (here : Setting) (sign : Signs) (s : Session) (key value : List ℕ) (o : Option Limit) → here.me ≡ s.correct.node → limit_of_put here s.correct.journal key value ≡ o
+    → (step_of here sign s (command.Put key value)).session.correct.journal ≡ s.correct.journal ++ put_more here s.correct.journal key value o
+unfolding step_of
+put_journal here sign s key value None same is =
+    let d = deed_within here s.correct key value None is in
+    let new : OwnPut (next_own s.correct.node s.correct.journal key value) value ∷ [] ≡ put_records here s.correct.journal key value = ap (λ (n : ℕ). OwnPut (next_own n s.correct.journal key value) value ∷ []) (sym same) in
+    ap (λ (x : Deed). x.journal) d ∙ ap (λ (rs : List Record). s.correct.journal ++ rs) new
+put_journal here sign s key value (Some limit) same is = ap (λ (x : Deed). x.journal) (deed_within here s.correct key value (Some limit) is) ∙ sym (append-nil s.correct.journal)
+
+-- what is printed of it
+put_text : (here : Setting) (sign : Signs) (s : Session) (key value line : List ℕ) → line ≡ lines_of_deed (put_by here s.correct key value)
+    → join 32 (take (printed_count (command.Put key value)) (command_words (command.Put key value))) ++ codes " ->" ++ line ≡ (step_of here sign s (command.Put key value)).text
+unfolding step_of
+put_text here sign s key value line is = ap (λ (x : List ℕ). join 32 (take (printed_count (command.Put key value)) (command_words (command.Put key value))) ++ codes " ->" ++ x) is
+
+-- how it ends the run
+put_ends : (here : Setting) (sign : Signs) (s : Session) (key value : List ℕ) → (step_of here sign s (command.Put key value)).ending ≡ ending_of_put (limit_of_put here s.correct.journal key value)
+unfolding step_of
+put_ends here sign s key value = refl
+
+-- it leaves the files
+put_files : (here : Setting) (sign : Signs) (s : Session) (key value name : List ℕ) → (step_of here sign s (command.Put key value)).session.files name ≡ s.files name
+unfolding step_of
+put_files here sign s key value name = refl
+
+-- ---- the call on the node
+
+-- something isn't nothing
+pub some_there : {A : Type 0} (o : Option A) (x : A) → o ≡ Some x → o ≡ None → ⊥
+some_there o x some none = cc
+
+module _ {N O : Type 0} (g : Ghosts N O) (old new : N) (key value : List ℕ) (done : Result PutDone PutError) (running : IsRunning g old) (puts : Puts (g.stands old) (g.records old) key value done (g.records new))
+    (lasts : Lasts g.tells g.stopped g.records g.moment g.left_since g.may_leave old new (put_records (g.stands old) (g.records old) key value))
+    (without : IfErr done (λ e. (e ≡ refused.Disk → ⊥) → Lasts g.tells g.stopped g.records g.moment g.left_since g.may_leave old new [])) where
+  -- where the node stands
+  abbrev here : Setting
+  here = g.stands old
+
+  -- its records before the put
+  abbrev J : List Record
+  J = g.records old
+
+  -- ---- the node, whatever came of it
+
+  module _ (lawful : IsLawful (g.stands old) (g.records old)) (some : is_empty (g.records old) ≡ false) (is_key : IsKey key) (is_value : IsValue value) where
+    -- the put was to append its records, and did, or a front of them
+    put_appends : (failed : Bool) → limit_of_put here J key value ≡ None → IsPart J (put_records here J key value) (g.records new) failed → LastsIn g.tells g.stopped g.records g.moment g.left_since g.may_leave here failed old new
+    put_appends failed none part = record {
+      appends = put_records here J key value;
+      is = to_append here J (put_records here J key value) (g.records new) failed (put_lawful here J key value lawful some is_key is_value none) part;
+      lasts = lasts;
+    }
+
+    -- what a stop leaves, whatever the node answered
+    put_lasts : (failed : Bool) → (IsErrOf done refused.Disk → failed ≡ true) → LastsIn g.tells g.stopped g.records g.moment g.left_since g.may_leave here failed old new
+    put_lasts failed fails = by_answer done refl puts without where
+      by_answer : (r : Result PutDone PutError) → done ≡ r → Puts here J key value r (g.records new) → IfErr r (λ e. (e ≡ refused.Disk → ⊥) → Lasts g.tells g.stopped g.records g.moment g.left_since g.may_leave old new [])
+          → LastsIn g.tells g.stopped g.records g.moment g.left_since g.may_leave here failed old new
+      by_answer (Ok d) is p idle = put_appends failed p.0 (all_of J (put_records here J key value) (g.records new) failed p.1.1)
+      by_answer (Err refused.Disk) is p idle = put_appends failed p.0 (subst (λ (b : Bool). IsPart J (put_records here J key value) (g.records new) b) (sym (fails is)) (cut_of J (put_records here J key value) (g.records new) p.1))
+      by_answer (Err refused.Memory) is p idle = none_in here failed old new lawful p (idle (λ e. cc))
+      by_answer (Err refused.Stopped) is p idle = none_in here failed old new lawful p (idle (λ e. cc))
+      by_answer (Err (refused.Spent n)) is p idle = none_in here failed old new lawful p.1 (idle (λ e. cc))
+      by_answer (Err (refused.Tips n)) is p idle = none_in here failed old new lawful p.1 (idle (λ e. cc))
+      by_answer (Err (refused.Collides h)) is p idle = none_in here failed old new lawful p.1 (idle (λ e. cc))
+      by_answer (Err (refused.Full what)) is p idle = none_in here failed old new lawful p.1 (idle (λ e. cc))
+
+    -- what the put leaves of the node
+    pub put_keeps : (sink : Sinks) (r : Result (Unit {0}) Ending) → IsSameNode (g.stands old) (g.stands new) (g.key old) (g.key new) (g.signature_of old) (g.signature_of new) → StopsBy (g.stopped old) (g.stopped new) (IsErrOf done refused.Stopped) (IsErrOf done refused.Disk)
+        → KeepsDisk (g.handle old) (g.handle new) (g.faults old) (g.faults new) (g.is_faultless old) (g.is_faultless new) (IsErrOf done refused.Disk) → (HasNoFault r → IsErrOf done refused.Disk → ⊥) → sink.faults_before ≤ sink.faults_after → NamesFaults (g.faults old < g.faults new) sink r → Keeps g old new sink r
+    put_keeps sink r stays stops disk settles later names = record {
+      same = stays;
+      handle = disk.same;
+      lasts = put_lasts (is_err r) (ends_failed r (IsErrOf done refused.Disk) settles);
+      runs_on = λ calm. runs_by _ _ _ _ running.runs (settles calm) stops;
+      disk_later = disk.cause.never_falls;
+      disk_failed = names.of_disk;
+      sink_later = later;
+      sink_failed = names.of_sink;
+      no_refusal = names.no_refusal;
+    }
+
+  -- ---- what it came to
+
+  -- the records that the put brings
+  abbrev more : List Record
+  more = put_more here J key value (limit_of_put here J key value)
+
+  -- all of its own where it meets no limit
+  whole : limit_of_put here J key value ≡ None → more ≡ put_records here J key value
+  whole none = ap (λ (o : Option Limit). put_more here J key value o) none
+
+  -- and else none
+  limited : (limit : Limit) → limit_of_put here J key value ≡ Some limit → more ≡ []
+  limited limit is = ap (λ (o : Option Limit). put_more here J key value o) is
+
+  -- a stop leaves a front of them
+  lasts_more : Lasts g.tells g.stopped g.records g.moment g.left_since g.may_leave old new more
+  lasts_more = by_answer done puts without where
+    none : Lasts g.tells g.stopped g.records g.moment g.left_since g.may_leave old new [] → Lasts g.tells g.stopped g.records g.moment g.left_since g.may_leave old new more
+    none idle = lasts_longer old new [] more idle
+
+    by_answer : (r : Result PutDone PutError) → Puts here J key value r (g.records new) → IfErr r (λ e. (e ≡ refused.Disk → ⊥) → Lasts g.tells g.stopped g.records g.moment g.left_since g.may_leave old new []) → Lasts g.tells g.stopped g.records g.moment g.left_since g.may_leave old new more
+    by_answer (Ok d) p idle = lasts_alike old new (put_records here J key value) more (sym (whole p.0)) lasts
+    by_answer (Err refused.Disk) p idle = lasts_alike old new (put_records here J key value) more (sym (whole p.0)) lasts
+    by_answer (Err refused.Memory) p idle = none (idle (λ e. cc))
+    by_answer (Err refused.Stopped) p idle = none (idle (λ e. cc))
+    by_answer (Err (refused.Spent n)) p idle = none (idle (λ e. cc))
+    by_answer (Err (refused.Tips n)) p idle = none (idle (λ e. cc))
+    by_answer (Err (refused.Collides h)) p idle = none (idle (λ e. cc))
+    by_answer (Err (refused.Full what)) p idle = none (idle (λ e. cc))
+
+  -- where neither the disk failed nor memory was wanting, the journal has grown by what the put brings
+  grown_by : SettlesPut done → (IsErrOf done refused.Disk → ⊥) → g.records new ≡ J ++ more
+  grown_by = by_answer done puts where
+    none : (limit : Limit) → limit_of_put here J key value ≡ Some limit → g.records new ≡ J → g.records new ≡ J ++ more
+    none limit is same = same ∙ sym (append-nil J) ∙ ap (λ (x : List Record). J ++ x) (sym (limited limit is))
+
+    by_answer : (r : Result PutDone PutError) → Puts here J key value r (g.records new) → SettlesPut r → (IsErrOf r refused.Disk → ⊥) → g.records new ≡ J ++ more
+    by_answer (Ok d) p settled well = p.1.1 ∙ ap (λ (x : List Record). J ++ x) (sym (whole p.0))
+    by_answer (Err refused.Disk) p settled well = absurd (well refl)
+    by_answer (Err refused.Memory) p settled well = absurd settled
+    by_answer (Err refused.Stopped) p settled well = absurd settled
+    by_answer (Err (refused.Spent n)) p settled well = none _ p.0 p.1
+    by_answer (Err (refused.Tips n)) p settled well = none _ p.0 p.1
+    by_answer (Err (refused.Collides h)) p settled well = none _ p.0 p.1
+    by_answer (Err (refused.Full what)) p settled well = none _ p.0 p.1
+
+  -- then the run ends where the put met a limit
+  ends_by : SettlesPut done → (IsErrOf done refused.Disk → ⊥) → ending_of_put (limit_of_put here J key value) ≡ ends_of_put done
+  ends_by = by_answer done puts where
+    by_answer : (r : Result PutDone PutError) → Puts here J key value r (g.records new) → SettlesPut r → (IsErrOf r refused.Disk → ⊥) → ending_of_put (limit_of_put here J key value) ≡ ends_of_put r
+    by_answer (Ok d) p settled well = ap ending_of_put p.0
+    by_answer (Err refused.Disk) p settled well = absurd (well refl)
+    by_answer (Err refused.Memory) p settled well = absurd settled
+    by_answer (Err refused.Stopped) p settled well = absurd settled
+    by_answer (Err (refused.Spent n)) p settled well = ap ending_of_put p.0
+    by_answer (Err (refused.Tips n)) p settled well = ap ending_of_put p.0
+    by_answer (Err (refused.Collides h)) p settled well = ap ending_of_put p.0
+    by_answer (Err (refused.Full what)) p settled well = ap ending_of_put p.0
+
+  module _ (counts_now : (v : N) (t : ℕ) (file : List ℕ) → t ≤ g.moment v → g.may_leave v file → g.left_since v t file) (sign : Signs) (c : Command) (is_put : c ≡ command.Put key value) (shelf : Shelves) (sink : Sinks) (s : Session) (unchanged : IsUnchanged shelf)
+      (at : IsAt (g.stands old) (g.records old) shelf.file s) where
+    -- what it is to come to
+    abbrev step : Step
+    step = step_of here sign s (command.Put key value)
+
+    -- the session and the node have one journal
+    same_limit : limit_of_put here s.correct.journal key value ≡ limit_of_put here J key value
+    same_limit = ap (λ (K : List Record). limit_of_put here K key value) at.journal
+
+    -- its step brings those records
+    brings : step.session.correct.journal ≡ J ++ more
+    brings = put_journal here sign s key value (limit_of_put here J key value) (sym at.node) same_limit ∙ ap (λ (K : List Record). K ++ put_more here K key value (limit_of_put here J key value)) at.journal
+
+    -- after it a stop leaves a front of them
+    leaves : IsTrue (g.tells old) → (image : List ℕ) → g.may_leave new image → HasFront J more image
+    leaves = leaves_front counts_now old new more running.runs lasts_more
+
+    -- no file has changed
+    others : (name : List ℕ) → (StoresAs (command.Put key value) name → ⊥) → shelf.file_after name ≡ shelf.file name
+    others name _ = unchanged name
+
+    -- no memory was found for what is printed of it
+    pub put_unprinted : Wrote sink [] → IsBroken g old new c (step_of here sign s c) shelf sink ending.Memory
+    put_unprinted wrote = subst (λ (x : Command). IsBroken g old new x (step_of here sign s x) shelf sink ending.Memory) (sym is_put) (without_memory g old new (command.Put key value) step shelf sink more brings leaves others wrote)
+
+    -- the disk failed, and it was told, or not
+    pub put_failed : (e : Ending) → g.faults old < g.faults new → IsFaultTold sink disk_line ending.Disk e → IsBroken g old new c (step_of here sign s c) shelf sink e
+    put_failed e rose fault = subst (λ (x : Command). IsBroken g old new x (step_of here sign s x) shelf sink e) (sym is_put) (disk_told g old new (command.Put key value) step shelf sink more brings leaves others e rose fault)
+
+    -- its lines were written, or not
+    pub put_told : (ends : Option Ending) (r : Result (Unit {0}) Ending) (o : Option Printed) (p : Printed) → o ≡ Some p → (o ≡ None) ↔ IsErrOf done refused.Disk → SettlesPut done
+        → ((there : Setting) (k : Correct) (x y : List ℕ) (then : List Record) → there.me ≡ k.node → Puts there k.journal x y done then → IsPrintOf o (put_by there k x y)) → ends ≡ ends_of_put done → StopsBy (g.stopped old) (g.stopped new) (IsErrOf done refused.Stopped) (IsErrOf done refused.Disk)
+        → Tells sink (join 32 (take (printed_count c) (command_words c)) ++ codes " ->" ++ p.lines) ends r → Turns g old new c (step_of here sign s c) shelf sink r
+    put_told ends r o p is stopped settled printed ends_so stops tells = subst (λ (x : Command). Turns g old new x (step_of here sign s x) shelf sink r) (sym is_put) so where
+      well : IsErrOf done refused.Disk → ⊥
+      well failed = some_there o p is (stopped.1 failed)
+
+      lines : p.lines ≡ lines_of_deed (put_by here s.correct key value)
+      lines = (subst (λ (x : Option Printed). IsPrintOf x (put_by here s.correct key value)) is (printed here s.correct key value (g.records new) (sym at.node) (subst (λ (K : List Record). Puts here K key value done (g.records new)) (sym at.journal) puts))).0
+
+      tells_so : Tells sink step.text ends r
+      tells_so = subst (λ (text : List ℕ). Tells sink text ends r) (put_text here sign s key value p.lines lines) (subst (λ (x : Command). Tells sink (join 32 (take (printed_count x) (command_words x)) ++ codes " ->" ++ p.lines) ends r) is_put tells)
+
+      ends_as : step.ending ≡ ends
+      ends_as = put_ends here sign s key value ∙ ap ending_of_put same_limit ∙ ends_by settled well ∙ sym ends_so
+
+      so : Turns g old new (command.Put key value) step shelf sink r
+      so = told g old new (command.Put key value) step shelf sink more brings leaves others ends r ends_as (λ wrote. record {
+        runs = runs_by _ _ _ _ running.runs well stops;
+        journal = grown_by settled well ∙ sym brings;
+        files = λ name. unchanged name ∙ at.same_files name ∙ sym (put_files here sign s key value name);
+        wrote = wrote;
+      }) tells_so

@@ -1,0 +1,247 @@
+-- How a run ends, by its start and its script.
+use Rattle.std.proofs.Common.{◌≡◌, ◌≢◌, ◌<◌, ◌⊎◌, ℕ, zero, suc, Bool, true, false, IsTrue, List, [], ◌∷◌, ◌++◌, append_assoc, take, Result, Ok, Err, refl, sym, ap, subst, ◌∙◌, inl, inr}
+use Rattle.std.specs.Prelude.{IsErrOf}
+use Rattle.depot_base.specs.File.{IsFileOf}
+use Rattle.depot_base.specs.declared.key.PublicKey.{PublicKey}
+use Rattle.depot_base.specs.declared.record.Record.{Record}
+use Rattle.depot_model.specs.Bundle.{Signs}
+use Rattle.depot_model.specs.Checks.{Setting}
+use Rattle.depot_model.specs.Lawful.{IsLawful}
+use Rattle.depot_model.specs.Roster.{has_node}
+use Rattle.depot_model.specs.Stops.{HasAll, HasFront, HasRecords, LeavesAll}
+use Rattle.depot_model.specs.Texts.{IsRoster}
+use Rattle.depot_model.specs.World.{IsCorrect, Read}
+use Rattle.depot_model.specs.declared.replica.Replica.{Ghosts}
+use Rattle.depot_node.specs.Starting.{IsNotStarted, LeavesFile, birth_after, started}
+use Rattle.depot_node.specs.declared.answer.StartError.{StartError}
+use Rattle.depot_node.specs.declared.answer.StartError.TheVariants as refused
+use Rattle.depot_node.proofs.Started.{started_has_one, started_is_lawful}
+use Rattle.depot_outside.specs.Told.{Disks, Shelves, Sinks, Wrote, WroteFront}
+use Rattle.depot_script.specs.declared.command.Command.{Command}
+use Rattle.depot_world.proofs.GoodNodes.{read_grows}
+use Rattle.depot_session.specs.declared.ending.Ending.{Ending}
+use Rattle.depot_session.specs.declared.ending.Ending.TheVariants as ending
+use Rattle.depot_session.specs.Runs.{Answered, AreReadsOf, Begins, GoesShort, GoesWhole, HasFailed, IsCutBy, IsLast, IsRefused, LeavesFront, disk_line, ending_of_refusal, line_of_refusal, next_text, world_at}
+use Rattle.depot_session.specs.Sessions.{Files, Session, answers_of, session_from}
+use Rattle.depot_session.specs.Telling.{IsFaultTold, IsUnwritten}
+use Rattle.depot_session.specs.Turns.{HasNoFault, IsPlayed, IsPlayedInPart, Plays, ending_by}
+use Rattle.depot_session.proofs.Leaving.{all_there}
+use Rattle.depot_session.proofs.RunImages.{birth_front}
+use Rattle.depot_session.proofs.StepGrowth.{answers_grow}
+
+-- ---- a refusal
+
+unwritten_cuts : (failed : Type 0) (shelf : Shelves) (sink : Sinks) (line : List ℕ) (e : Ending) → IsUnwritten sink line e → IsCutBy failed shelf sink e
+unwritten_cuts failed shelf sink line ending.Memory u = tt
+unwritten_cuts failed shelf sink line ending.Sink u = u.0
+unwritten_cuts failed shelf sink line ending.Done u = absurd u
+unwritten_cuts failed shelf sink line ending.Input u = absurd u
+unwritten_cuts failed shelf sink line ending.Shelf u = absurd u
+unwritten_cuts failed shelf sink line ending.Disk u = absurd u
+unwritten_cuts failed shelf sink line ending.Limit u = absurd u
+unwritten_cuts failed shelf sink line ending.NotLawful u = absurd u
+unwritten_cuts failed shelf sink line ending.Identity u = absurd u
+
+module _ (here : Setting) (key : PublicKey) (disk : Disks) (shelf : Shelves) (sink : Sinks) where
+  told_refusal : (error : StartError) (e : Ending) → LeavesFile error → IsNotStarted here key (IsTrue disk.tells) disk.file error → (LeavesFile error → disk.file_after ≡ disk.file) → e ≡ ending_of_refusal error → Wrote sink (line_of_refusal error) → IsRefused here key disk sink e
+  told_refusal error e no_fault is same ends wrote = record { error = error; is = is; no_fault = no_fault; ending_is = ends; wrote = wrote; unchanged = same no_fault }
+
+  by_error : (error : StartError) (e : Ending) → IsNotStarted here key (IsTrue disk.tells) disk.file error → (LeavesFile error → disk.file_after ≡ disk.file) → (error ≡ refused.Disk → HasFailed disk) → e ≡ ending_of_refusal error → Wrote sink (line_of_refusal error) → Begins here key disk shelf sink e
+  by_error refused.Memory e is same failed ends wrote = inr (inr (subst (IsCutBy (HasFailed disk) shelf sink) (sym ends) tt))
+  by_error refused.Disk e is same failed ends wrote = inr (inr (subst (IsCutBy (HasFailed disk) shelf sink) (sym ends) (failed refl)))
+  by_error (refused.Damaged at) e is same failed ends wrote = inl (told_refusal (refused.Damaged at) e tt is same ends wrote)
+  by_error (refused.NotLawful place fault) e is same failed ends wrote = inl (told_refusal (refused.NotLawful place fault) e tt is same ends wrote)
+  by_error refused.UnknownMe e is same failed ends wrote = inl (told_refusal refused.UnknownMe e tt is same ends wrote)
+  by_error (refused.OtherKey roster signer) e is same failed ends wrote = inl (told_refusal (refused.OtherKey roster signer) e tt is same ends wrote)
+  by_error (refused.OtherNode node) e is same failed ends wrote = inl (told_refusal (refused.OtherNode node) e tt is same ends wrote)
+  by_error (refused.OtherRoster kept given) e is same failed ends wrote = inl (told_refusal (refused.OtherRoster kept given) e tt is same ends wrote)
+
+  pub begins_refused : (error : StartError) (e : Ending) → IsNotStarted here key (IsTrue disk.tells) disk.file error → (LeavesFile error → disk.file_after ≡ disk.file) → (error ≡ refused.Disk → HasFailed disk) → IsFaultTold sink (line_of_refusal error) (ending_of_refusal error) e → Begins here key disk shelf sink e
+  begins_refused error e is same failed (inl t) = by_error error e is same failed t.0 t.1
+  begins_refused error e is same failed (inr u) = inr (inr (unwritten_cuts (HasFailed disk) shelf sink (line_of_refusal error) e u))
+
+-- a front of a line was written, where the sink tells it
+front_written : (sink : Sinks) (line : List ℕ) → WroteFront sink line → (n : ℕ) × Wrote sink (take n line)
+front_written sink line front = by_tells sink.tells front where
+  by_tells : (b : Bool) → (IsTrue b → (n : ℕ) × (sink.after ≡ sink.before ++ take n line)) → (n : ℕ) × (IsTrue b → sink.after ≡ sink.before ++ take n line)
+  by_tells true f = ((f refl).0, λ _. (f refl).1)
+  by_tells false f = (0, λ told. absurd (untold told)) where
+    untold : IsTrue false → ⊥
+    untold e = cc
+
+-- ---- a run that doesn't start, over a lawful journal
+
+module _ (here : Setting) (sign : Signs) (J : List Record) (reads : List Read) (commands : List Command) (disk : Disks) (shelf : Shelves) (sink : Sinks) (has : HasRecords J disk.file)
+    (images : (image : List ℕ) → disk.may_leave_after image → disk.may_leave image ⊎ (IsFileOf disk.file [] × HasFront [] (birth_after here []) image)) (reads_as : disk.may_leave_after disk.file_after)
+    (longer : (a b : List Record) (image : List ℕ) → HasFront [] a image → HasFront [] (a ++ b) image) (same_files : (name : List ℕ) → shelf.file_after name ≡ shelf.file name) where
+  abbrev s : Session
+  s = session_from here J reads shelf.file
+
+  cut_at_start : (e : Ending) (last : List ℕ) → IsCutBy (HasFailed disk) shelf sink e → IsLast (next_text here sign s commands) e last → Wrote sink last → GoesShort here sign J (session_from here J reads shelf.file) commands disk shelf sink e
+  unfolding answers_of
+  cut_at_start e last cut last_is wrote =
+      let g = answers_grow here sign s commands in
+      let birth = birth_after here J in
+      let left : (image : List ℕ) → disk.may_leave image ⊎ (IsFileOf disk.file [] × HasFront [] (birth_after here []) image) → LeavesFront [] disk.may_leave J (birth ++ g.more) image = by_image in
+      record {
+        cut = cut;
+        done = [];
+        rest = commands;
+        parts = refl;
+        went_on = refl;
+        last = last;
+        last_is = last_is;
+        wrote = wrote;
+        kept = J;
+        kept_is = inr (refl, refl);
+        more = birth ++ g.more;
+        brings = g.is ∙ append_assoc J birth g.more;
+        leaves = λ image left_there. left image (images image left_there);
+        reads = left disk.file_after (images disk.file_after reads_as);
+        files = λ name other. same_files name;
+      }
+    where
+      by_image : (image : List ℕ) → disk.may_leave image ⊎ (IsFileOf disk.file [] × HasFront [] (birth_after here []) image) → LeavesFront [] disk.may_leave J (birth_after here J ++ (answers_grow here sign s commands).more) image
+      by_image image (inl was) = inl was
+      by_image image (inr p) = inr (birth_front here J (answers_grow here sign s commands).more disk.file image has p.0 p.1 (λ a b. longer a b image))
+
+  unwritten_at_start : (line : List ℕ) (e : Ending) → (line ≡ disk_line) → IsUnwritten sink line e → GoesShort here sign J (session_from here J reads shelf.file) commands disk shelf sink e
+  unwritten_at_start line ending.Memory is u = cut_at_start ending.Memory [] tt refl u
+  unwritten_at_start line ending.Sink is u = let f = front_written sink line u.1 in cut_at_start ending.Sink (take f.0 line) u.0 (line, (inr (inl is), (f.0, refl))) f.1
+  unwritten_at_start line ending.Done is u = absurd u
+  unwritten_at_start line ending.Input is u = absurd u
+  unwritten_at_start line ending.Shelf is u = absurd u
+  unwritten_at_start line ending.Disk is u = absurd u
+  unwritten_at_start line ending.Limit is u = absurd u
+  unwritten_at_start line ending.NotLawful is u = absurd u
+  unwritten_at_start line ending.Identity is u = absurd u
+
+  nothing_at_start : (e : Ending) → IsUnwritten sink [] e → GoesShort here sign J (session_from here J reads shelf.file) commands disk shelf sink e
+  nothing_at_start ending.Memory u = cut_at_start ending.Memory [] tt refl u
+  nothing_at_start ending.Sink u =
+      let f = front_written sink [] u.1 in
+      cut_at_start ending.Sink [] u.0 (disk_line, (inr (inl refl), (0, refl))) (subst (λ (x : List ℕ). Wrote sink x) (none_of f.0) f.1)
+    where
+      none_of : (n : ℕ) → take {A = ℕ} n [] ≡ []
+      none_of zero = refl
+      none_of (suc n) = refl
+  nothing_at_start ending.Done u = absurd u
+  nothing_at_start ending.Input u = absurd u
+  nothing_at_start ending.Shelf u = absurd u
+  nothing_at_start ending.Disk u = absurd u
+  nothing_at_start ending.Limit u = absurd u
+  nothing_at_start ending.NotLawful u = absurd u
+  nothing_at_start ending.Identity u = absurd u
+
+  pub not_started : (error : StartError) (e : Ending) → (LeavesFile error → ⊥) → (error ≡ refused.Disk → HasFailed disk) → IsFaultTold sink (line_of_refusal error) (ending_of_refusal error) e → GoesShort here sign J (session_from here J reads shelf.file) commands disk shelf sink e
+  not_started refused.Memory e fault failed (inl t) = subst (GoesShort here sign J (session_from here J reads shelf.file) commands disk shelf sink) (sym t.0) (cut_at_start ending.Memory [] tt refl t.1)
+  not_started refused.Memory e fault failed (inr u) = nothing_at_start e u
+  not_started refused.Disk e fault failed (inl t) = subst (GoesShort here sign J (session_from here J reads shelf.file) commands disk shelf sink) (sym t.0) (cut_at_start ending.Disk disk_line (failed refl) refl t.1)
+  not_started refused.Disk e fault failed (inr u) = unwritten_at_start disk_line e refl u
+  not_started (refused.Damaged at) e fault failed t = absurd (fault tt)
+  not_started (refused.NotLawful place f) e fault failed t = absurd (fault tt)
+  not_started refused.UnknownMe e fault failed t = absurd (fault tt)
+  not_started (refused.OtherKey roster signer) e fault failed t = absurd (fault tt)
+  not_started (refused.OtherNode node) e fault failed t = absurd (fault tt)
+  not_started (refused.OtherRoster kept given) e fault failed t = absurd (fault tt)
+
+-- ---- a run of a node that started
+
+-- the node is a correct one with its reads
+pub start_is_correct : (here : Setting) (J : List Record) (reads : List Read) (files : Files) → IsRoster here.listed → has_node here.listed here.me ≡ true → IsLawful here J → AreReadsOf J reads → IsCorrect (world_at here) (session_from here J reads files).correct
+start_is_correct here J reads files formed member lawful are = record {
+  member = member;
+  lawful = started_is_lawful here J formed member lawful;
+  begun = started_has_one here J;
+  reads = λ r on. read_grows J (started here J) r (record { more = birth_after here J; is = refl }) (are.each r on);
+  in_order = are.in_order;
+}
+
+cut_so : (failed failed' : Type 0) (shelf : Shelves) (sink : Sinks) (e : Ending) → (failed → failed') → IsCutBy failed shelf sink e → IsCutBy failed' shelf sink e
+cut_so failed failed' shelf sink ending.Disk so c = so c
+cut_so failed failed' shelf sink ending.Memory so c = tt
+cut_so failed failed' shelf sink ending.Shelf so c = c
+cut_so failed failed' shelf sink ending.Sink so c = c
+cut_so failed failed' shelf sink ending.Done so c = absurd c
+cut_so failed failed' shelf sink ending.Input so c = absurd c
+cut_so failed failed' shelf sink ending.Limit so c = absurd c
+cut_so failed failed' shelf sink ending.NotLawful so c = absurd c
+cut_so failed failed' shelf sink ending.Identity so c = absurd c
+
+front_left : (done : List Command) (before : List ℕ → Type 0) (kept more : List Record) (image : List ℕ) → HasFront kept more image → LeavesFront done before kept more image
+front_left [] before kept more image front = inr front
+front_left (c ∷ cs) before kept more image front = front
+
+module _ {N O : Type 0} (g : Ghosts N O) (old new : N) (here : Setting) (sign : Signs) (J : List Record) (s : Session) (commands : List Command) (disk : Disks) (shelf : Shelves) (sink : Sinks) (told : IsTrue (g.tells old))
+    (leaves : (image : List ℕ) → disk.may_leave_after image → g.may_leave new image) (reads_as : disk.may_leave_after disk.file_after) (e : Ending) where
+  pub played_whole : IsCorrect (world_at here) s.correct → LeavesAll (g.records new) (g.stopped new) (g.may_leave new) → IsPlayed g new here s (answers_of here sign s commands) shelf sink e → GoesWhole here (answers_of here sign s commands) disk shelf sink e
+  played_whole correct all p =
+      let journal = (answers_of here sign s commands).session.correct.journal in
+      let there : (image : List ℕ) → disk.may_leave_after image → HasRecords journal image =
+      λ image left. subst (λ (K : List Record). HasRecords K image) p.journal (all_there (g.records new) image (subst (λ (b : Bool). HasAll (g.records new) b image) p.runs (all image (leaves image left)))) in
+      record {
+        ending_is = p.ending_is;
+        wrote = p.wrote;
+        files = p.files;
+        reads = there disk.file_after reads_as;
+        leaves = there;
+        correct = p.correct correct;
+      }
+
+  pub played_in_part : (g.faults old < g.faults new → HasFailed disk) → IsPlayedInPart g old new here sign s commands shelf sink e → GoesShort here sign J s commands disk shelf sink e
+  played_in_part rose p =
+      let kept = (answers_of here sign s p.done).session.correct.journal in
+      let there : (image : List ℕ) → disk.may_leave_after image → LeavesFront p.done disk.may_leave kept p.more image = λ image left. front_left p.done disk.may_leave kept p.more image (p.leaves told image (leaves image left)) in
+      record {
+        cut = cut_so (g.faults old < g.faults new) (HasFailed disk) shelf sink e rose p.cut;
+        done = p.done;
+        rest = p.rest;
+        parts = p.parts;
+        went_on = p.went_on;
+        last = p.last;
+        last_is = p.last_is;
+        wrote = p.wrote;
+        kept = kept;
+        kept_is = inl refl;
+        more = p.more;
+        brings = p.brings;
+        leaves = there;
+        reads = there disk.file_after reads_as;
+        files = p.files;
+      }
+
+-- what a script came to is what the run answers
+pub answered : {N O : Type 0} (g : Ghosts N O) (old new : N) (there here : Setting) (by sign : Signs) (J : List Record) (s : Session) (commands : List Command) (disk : Disks) (shelf : Shelves) (sink : Sinks) (r : Result (Unit {0}) Ending) (e : Ending)
+    → there ≡ here → by ≡ sign → e ≡ ending_by r → IsTrue (g.tells old) → ((image : List ℕ) → disk.may_leave_after image → g.may_leave new image) → disk.may_leave_after disk.file_after → IsCorrect (world_at here) s.correct → LeavesAll (g.records new) (g.stopped new) (g.may_leave new)
+    → (g.faults old < g.faults new → HasFailed disk) → Plays g old new there by s commands shelf sink r → Answered here sign J s commands disk shelf sink e
+answered g old new there here by sign J s commands disk shelf sink r e stands signs ends told leaves reads_as correct all rose plays =
+    let here_plays = subst (λ (h : Setting). Plays g old new h by s commands shelf sink r) stands plays in
+    let both = subst (λ (x : Signs). Plays g old new here x s commands shelf sink r) signs here_plays in
+    let x : Answered here sign J s commands disk shelf sink (ending_by r) = elim both [
+      | inl p ↦ inl (played_whole g old new here sign J s commands disk shelf sink told leaves reads_as (ending_by r) correct all p)
+      | inr p ↦ inr (played_in_part g old new here sign J s commands disk shelf sink told leaves reads_as (ending_by r) rose p)
+    ] in
+    subst (Answered here sign J s commands disk shelf sink) (sym ends) x
+
+-- ---- the ending
+
+-- an ending by the script's end or by a limit is that of a node that runs
+pub calm_end : (r : Result (Unit {0}) Ending) → (ending_by r ≡ ending.Done) ⊎ (ending_by r ≡ ending.Limit) → HasNoFault r
+calm_end (Ok done) is = tt
+calm_end (Err ending.Done) is = tt
+calm_end (Err ending.Input) is = tt
+calm_end (Err ending.Shelf) is = tt
+calm_end (Err ending.Limit) is = tt
+calm_end (Err ending.NotLawful) is = tt
+calm_end (Err ending.Identity) is = tt
+calm_end (Err ending.Disk) (inl is) = absurd cc
+calm_end (Err ending.Disk) (inr is) = absurd cc
+calm_end (Err ending.Sink) (inl is) = absurd cc
+calm_end (Err ending.Sink) (inr is) = absurd cc
+calm_end (Err ending.Memory) (inl is) = absurd cc
+calm_end (Err ending.Memory) (inr is) = absurd cc
+
+-- what is answered at the end was answered by the script
+pub ended_by : (r : Result (Unit {0}) Ending) (e : Ending) → e ≢ ending.Done → ending_by r ≡ e → IsErrOf r e
+ended_by (Ok done) e other is = absurd (other (sym is))
+ended_by (Err x) e other is = ap Err is

@@ -1,0 +1,95 @@
+-- What a stop in a run, or after it, leaves on the disk: what it left before, or a journal that goes on from the file.
+use Rattle.std.proofs.Common.{◌≡◌, ◌⊎◌, ℕ, Bool, true, false, IsTrue, is_some, List, [], ◌∷◌, ◌++◌, append_assoc, take, drop, map, Some, refl, sym, ap, subst, ◌∙◌, inl, inr}
+use Rattle.std.proofs.lemmas.List.{take-append-drop}
+use Rattle.depot_base.specs.File.{IsFileOf}
+use Rattle.depot_base.specs.declared.key.PublicKey.{PublicKey}
+use Rattle.depot_base.specs.declared.record.Record.{Record}
+use Rattle.depot_journal.proofs.OneList.{one_list}
+use Rattle.depot_laws.proofs.Births.{born}
+use Rattle.depot_laws.proofs.Splits.{lawful_front}
+use Rattle.depot_model.specs.Checks.{Setting}
+use Rattle.depot_model.specs.Lawful.{IsLawful}
+use Rattle.depot_model.specs.Records.{text_of_record}
+use Rattle.depot_model.specs.Roster.{has_node, key_of}
+use Rattle.depot_model.specs.Stops.{HasFront, HasRecords}
+use Rattle.depot_model.specs.Texts.{IsRoster}
+use Rattle.depot_node.specs.Starting.{IsKeyFault, IsNotStarted, IsStartedFrom, LeavesBetween, StartLeaves, birth_after, started}
+use Rattle.depot_node.specs.declared.answer.StartError.{StartError}
+use Rattle.depot_node.specs.declared.answer.StartError.TheVariants as refused
+use Rattle.depot_session.specs.Runs.{GoesOn}
+
+-- ---- a start
+
+-- the roster has a node whose key it has
+pub has_from_key : (here : Setting) (key : PublicKey) → key_of here.listed here.me ≡ Some key → has_node here.listed here.me ≡ true
+has_from_key here key keyed = ap is_some keyed
+
+-- a start is refused for the key, or the roster has it
+pub key_or_disk : (here : Setting) (key : PublicKey) (told : Type 0) (file : List ℕ) (e : StartError) → IsNotStarted here key told file e → IsKeyFault here.listed here.me key e ⊎ (key_of here.listed here.me ≡ Some key)
+key_or_disk here key told file refused.UnknownMe n = inl n
+key_or_disk here key told file (refused.OtherKey other own) n = inl n
+key_or_disk here key told file refused.Memory n = inr n.0
+key_or_disk here key told file refused.Disk n = inr n.0
+key_or_disk here key told file (refused.Damaged at) n = inr n.0
+key_or_disk here key told file (refused.OtherNode node) n = inr n.0
+key_or_disk here key told file (refused.OtherRoster kept given) n = inr n.0
+key_or_disk here key told file (refused.NotLawful place fault) n = inr n.0
+
+-- a front of a birth goes on from a file without records
+birth_goes_on : (here : Setting) (file image : List ℕ) → IsRoster here.listed → has_node here.listed here.me ≡ true → IsFileOf file [] → HasFront [] (birth_after here []) image → GoesOn here file image
+birth_goes_on here file image formed member none front =
+    let birth = birth_after here [] in
+    let lawful : IsLawful here (take front.count birth ++ drop front.count birth) = subst (IsLawful here) (sym (take-append-drop front.count birth)) (born here formed member) in
+    record { journal = []; read = none; more = take front.count birth; lawful = lawful_front here (take front.count birth) (drop front.count birth) lawful; has = front.has }
+
+-- what a start leaves
+pub start_goes_on : (here : Setting) (file : List ℕ) (before : List ℕ → Type 0) (image : List ℕ) → IsRoster here.listed → has_node here.listed here.me ≡ true → StartLeaves here (IsFileOf file []) before image → before image ⊎ GoesOn here file image
+start_goes_on here file before image formed member (inl was) = inl was
+start_goes_on here file before image formed member (inr p) = inr (birth_goes_on here file image formed member p.0 p.1)
+
+-- a file without records that has the records of a journal: a front of its birth is one of the journal, its birth, and more
+pub birth_front : (here : Setting) (J more : List Record) (file image : List ℕ) → HasRecords J file → IsFileOf file [] → HasFront [] (birth_after here []) image → ((a b : List Record) → HasFront [] a image → HasFront [] (a ++ b) image) → HasFront J (birth_after here J ++ more) image
+birth_front here [] more file image has none front longer = longer (birth_after here []) more front
+birth_front here (r ∷ J) more file image has none front longer = absurd (some_texts (one_list file (text_of_record r ∷ map text_of_record J) [] has none)) where
+  some_texts : text_of_record r ∷ map text_of_record J ≡ [] → ⊥
+  some_texts e = cc
+
+-- ---- a run of a node that started
+
+-- a front of what is appended behind the journal of a started node goes on from its file
+pub front_goes_on : (here : Setting) (file image : List ℕ) (records appends : List Record) → IsStartedFrom here file records → IsLawful here (records ++ appends) → HasFront records appends image → GoesOn here file image
+front_goes_on here file image records appends s lawful front =
+    let birth = birth_after here s.journal in
+    let some = take front.count appends in
+    let behind : records ++ some ≡ s.journal ++ (birth ++ some) = ap (λ (x : List Record). x ++ some) s.is ∙ append_assoc s.journal birth some in
+    let parts : records ++ appends ≡ (records ++ some) ++ drop front.count appends = ap (λ (x : List Record). records ++ x) (sym (take-append-drop front.count appends)) ∙ sym (append_assoc records some (drop front.count appends)) in
+    record {
+      journal = s.journal;
+      read = s.read;
+      more = birth ++ some;
+      lawful = subst (IsLawful here) behind (lawful_front here (records ++ some) (drop front.count appends) (subst (IsLawful here) parts lawful));
+      has = subst (λ (K : List Record). HasRecords K image) behind front.has;
+    }
+
+-- what a run leaves from its start on
+pub run_goes_on : (here : Setting) (file image : List ℕ) (records appends : List Record) (before : List ℕ → Type 0) → IsRoster here.listed → has_node here.listed here.me ≡ true → IsStartedFrom here file records → IsLawful here (records ++ appends)
+    → StartLeaves here (IsFileOf file []) before image ⊎ HasFront records appends image → before image ⊎ GoesOn here file image
+run_goes_on here file image records appends before formed member s lawful (inl start) = start_goes_on here file before image formed member start
+run_goes_on here file image records appends before formed member s lawful (inr front) = inr (front_goes_on here file image records appends s lawful front)
+
+-- what a start that is refused leaves
+pub refused_goes_on : (here : Setting) (key : PublicKey) (told : Type 0) (file : List ℕ) (e : StartError) (before : List ℕ → Type 0) (image : List ℕ) → IsRoster here.listed → IsNotStarted here key told file e → (IsKeyFault here.listed here.me key e → before image)
+    → StartLeaves here (IsFileOf file []) before image → before image ⊎ GoesOn here file image
+refused_goes_on here key told file e before image formed is untouched start = elim (key_or_disk here key told file e is) [
+  | inl fault ↦ inl (untouched fault)
+  | inr keyed ↦ start_goes_on here file before image formed (has_from_key here key keyed) start
+]
+
+-- all records of a running node go on from the file that it was started from
+pub all_go_on : (here : Setting) (file image : List ℕ) (records appends all : List Record) (count : ℕ) → IsStartedFrom here file records → IsLawful here (records ++ appends) → all ≡ records ++ take count appends → HasRecords all image → GoesOn here file image
+all_go_on here file image records appends all count s lawful is has = front_goes_on here file image records appends s lawful (record { count = count; has = subst (λ (K : List Record). HasRecords K image) is has })
+
+-- one of the two, of which the first implies more
+pub either : {A B C : Type 0} → (A → B) → A ⊎ C → B ⊎ C
+either so (inl a) = inl (so a)
+either so (inr c) = inr c

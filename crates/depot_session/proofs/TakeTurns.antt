@@ -1,0 +1,114 @@
+-- How the command of a stream turns out.
+use Rattle.std.proofs.Common.{◌≡◌, ◌<◌, ◌≤◌, ℕ, false, IsTrue, List, [], ◌++◌, Option, Some, None, Result, Ok, Err, refl, sym, ap, subst, ◌∙◌, codes, take, inr}
+use Rattle.std.specs.Prelude.{IfOk, IsErrOf}
+use Rattle.depot_base.specs.declared.record.Record.{Record}
+use Rattle.depot_model.specs.Bundle.{Signs}
+use Rattle.depot_model.specs.Checks.{Setting}
+use Rattle.depot_model.specs.Feeding.{Closing, Feeding, feed_of, feeding_from, ill_formed, out_of_room}
+use Rattle.depot_model.specs.Stops.{HasFront}
+use Rattle.depot_model.specs.declared.replica.Replica.{Ghosts}
+use Rattle.depot_gossip.specs.Lasting.{LastsFed}
+use Rattle.depot_gossip.specs.declared.error.FeedError.{FeedError}
+use Rattle.depot_gossip.specs.declared.error.FeedError.TheVariants as error
+use Rattle.depot_outside.specs.Told.{Shelves, Sinks, Wrote}
+use Rattle.depot_schedule.specs.Language.{join}
+use Rattle.depot_script.specs.Scripts.{command_words}
+use Rattle.depot_script.specs.declared.command.Command.TheVariants as command
+use Rattle.depot_world.specs.Deeds.{fed_by, give_by}
+use Rattle.depot_deeds.specs.Printing.{IsToldOf, SettlesFeed, lines_of_deed}
+use Rattle.depot_deeds.specs.declared.feeds.Fed.{Fed}
+use Rattle.depot_session.specs.declared.ending.Ending.{Ending}
+use Rattle.depot_session.specs.declared.ending.Ending.TheVariants as ending
+use Rattle.depot_session.specs.Runs.{disk_line}
+use Rattle.depot_session.specs.Sessions.{Session, Step, absent, ending_of_take, lines_of_command, printed_count, step_of, take_from}
+use Rattle.depot_session.specs.Telling.{IsFaultTold, Tells}
+use Rattle.depot_session.specs.Turns.{IsAt, IsUnchanged, Turns}
+use Rattle.depot_session.proofs.Keeping.{NeedsNone}
+use Rattle.depot_session.proofs.Leaving.{leaves_front}
+use Rattle.depot_session.proofs.Turning.{disk_told, told, without_memory}
+
+-- ---- the answer
+
+-- a stream that is printed was taken whole
+pub is_fed : (fed : Result Fed FeedError) → SettlesFeed fed → (IsErrOf fed error.Disk → ⊥) → (f : Fed) × (fed ≡ Ok f)
+is_fed (Ok f) settled not = (f, refl)
+is_fed (Err error.Disk) settled not = absurd (not refl)
+is_fed (Err error.Memory) settled not = absurd settled
+is_fed (Err error.Stopped) settled not = absurd settled
+is_fed (Err (error.Full what)) settled not = absurd settled
+is_fed (Err (error.IllFormed at)) settled not = absurd settled
+
+-- what holds of a stream that was taken whole
+pub of_fed : (fed : Result Fed FeedError) (P : Type 0) → SettlesFeed fed → (IsErrOf fed error.Disk → ⊥) → IfOk fed (λ _. P) → P
+of_fed fed P settled not p = let whole = is_fed fed settled not in subst (λ (r : Result Fed FeedError). IfOk r (λ _. P)) whole.1 p
+
+-- how it ends the run
+pub ends_fed : (fed : Result Fed FeedError) (x : Feeding) (ends : Option Ending) → SettlesFeed fed → (IsErrOf fed error.Disk → ⊥) → IfOk fed (λ f. IsToldOf x f) → IfOk fed (λ f. (y : Feeding) → IsToldOf y f → ends ≡ ending_of_take y.closed) → ends ≡ ending_of_take x.closed
+ends_fed (Ok f) x ends settled not t e = e x t
+ends_fed (Err e) x ends settled not t h = let whole = is_fed (Err e) settled not in absurd (no_error e whole.0 whole.1) where
+  no_error : (e : FeedError) (f : Fed) → Err e ≡ Ok f → ⊥
+  no_error e f is = cc
+
+-- it ends by no fault of the disk or the sink
+pub take_needs_none : (o : Option Closing) → NeedsNone (ending_of_take o)
+take_needs_none None = tt
+take_needs_none (Some (ill_formed at)) = tt
+take_needs_none (Some (out_of_room what)) = tt
+
+-- ---- the step
+
+-- the step of a file that isn't there
+pub takes_absent : (here : Setting) (sign : Signs) (s : Session) (file : List ℕ) → s.files file ≡ None → step_of here sign s (command.Take file) ≡ absent s file
+unfolding step_of
+takes_absent here sign s file none = ap (take_from here s file) none
+
+takes_stream : (here : Setting) (sign : Signs) (s : Session) (file stream : List ℕ) → s.files file ≡ Some stream → step_of here sign s (command.Take file) ≡ take_from here s file (Some stream)
+unfolding step_of
+takes_stream here sign s file stream some = ap (take_from here s file) some
+
+-- the journal after it
+take_journal : (here : Setting) (s : Session) (J : List Record) (file stream : List ℕ) → s.correct.journal ≡ J → (take_from here s file (Some stream)).session.correct.journal ≡ (feed_of here J stream).journal
+unfolding give_by
+take_journal here s J file stream same = ap (λ (K : List Record). (feed_of here K stream).journal) same
+
+-- its text
+take_text : (here : Setting) (s : Session) (J : List Record) (file stream : List ℕ) → s.correct.journal ≡ J → (take_from here s file (Some stream)).text ≡ lines_of_command (command.Take file) (fed_by s.correct (feed_of here J stream))
+unfolding give_by
+take_text here s J file stream same = ap (λ (K : List Record). lines_of_command (command.Take file) (fed_by s.correct (feed_of here K stream))) same
+
+module _ {N O : Type 0} (g : Ghosts N O) (counts_now : (v : N) (t : ℕ) (image : List ℕ) → t ≤ g.moment v → g.may_leave v image → g.left_since v t image) (old new : N) (s : Session) (file stream : List ℕ) (shelf : Shelves) (at : IsAt (g.stands old) (g.records old) shelf.file s)
+    (unchanged : IsUnchanged shelf) (there : shelf.file file ≡ Some stream) (runs : g.stopped old ≡ false) (fed : LastsFed g.tells g.stopped g.records g.moment g.left_since g.may_leave (g.stands old) (feeding_from (g.records old)) stream old new) where
+  -- the step of the command
+  abbrev pub taken_step : Step
+  taken_step = step_of (g.stands old) (g.signature_of old) s (command.Take file)
+
+  -- it takes this stream
+  is : taken_step ≡ take_from (g.stands old) s file (Some stream)
+  is = takes_stream (g.stands old) (g.signature_of old) s file stream (sym (at.same_files file) ∙ there)
+
+  -- its journal
+  journal : taken_step.session.correct.journal ≡ (feed_of (g.stands old) (g.records old) stream).journal
+  journal = ap (λ (x : Step). x.session.correct.journal) is ∙ take_journal (g.stands old) s (g.records old) file stream at.journal
+
+  -- what a stop leaves
+  leaves : IsTrue (g.tells old) → (image : List ℕ) → g.may_leave new image → HasFront (g.records old) fed.appends image
+  leaves = leaves_front counts_now old new fed.appends runs fed.lasts
+
+  -- no memory was found behind the call
+  pub taken_without_memory : (sink : Sinks) → Wrote sink [] → Turns g old new (command.Take file) taken_step shelf sink (Err ending.Memory)
+  taken_without_memory sink wrote = inr (without_memory g old new (command.Take file) taken_step shelf sink fed.appends (journal ∙ fed.brings) leaves (λ name _. unchanged name) wrote)
+
+  -- the disk failed in the call
+  pub taken_to_disk : (sink : Sinks) (e : Ending) → g.faults old < g.faults new → IsFaultTold sink disk_line ending.Disk e → Turns g old new (command.Take file) taken_step shelf sink (Err e)
+  taken_to_disk sink e rose t = inr (disk_told g old new (command.Take file) taken_step shelf sink fed.appends (journal ∙ fed.brings) leaves (λ name _. unchanged name) e rose t)
+
+  -- the stream was taken, and its lines told or not
+  pub taken_told : (sink : Sinks) (ends : Option Ending) (lines : List ℕ) (r : Result (Unit {0}) Ending) → g.stopped new ≡ false → g.records new ≡ (feed_of (g.stands old) (g.records old) stream).journal → ends ≡ ending_of_take (feed_of (g.stands old) (g.records old) stream).closed
+      → lines ≡ lines_of_deed (fed_by s.correct (feed_of (g.stands old) (g.records old) stream)) → Tells sink (join 32 (take (printed_count (command.Take file)) (command_words (command.Take file))) ++ codes " ->" ++ lines) ends r → Turns g old new (command.Take file) taken_step shelf sink r
+  taken_told sink ends lines r goes grown ends_is lines_is t =
+      let here = g.stands old in
+      let text_is : taken_step.text ≡ lines_of_command (command.Take file) (fed_by s.correct (feed_of here (g.records old) stream)) = ap (λ (x : Step). x.text) is ∙ take_text here s (g.records old) file stream at.journal in
+      told g old new (command.Take file) taken_step shelf sink fed.appends (journal ∙ fed.brings) leaves (λ name _. unchanged name) ends r
+      (ap (λ (x : Step). x.ending) is ∙ ap (λ (K : List Record). ending_of_take (feed_of here K stream).closed) at.journal ∙ sym ends_is)
+      (λ wrote. record { runs = goes; journal = grown ∙ sym journal; files = λ other. unchanged other ∙ at.same_files other ∙ ap (λ (x : Step). x.session.files other) (sym is); wrote = wrote })
+      (subst (λ (x : List ℕ). Tells sink x ends r) (ap (λ (x : List ℕ). join 32 (take (printed_count (command.Take file)) (command_words (command.Take file))) ++ codes " ->" ++ x) lines_is ∙ sym text_is) t)

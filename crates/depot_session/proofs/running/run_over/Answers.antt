@@ -1,0 +1,92 @@
+use Rattle.std.proofs.Common.{◌≡◌, ◌<◌, ◌⊎◌, Bool, IsTrue, [], ◌++◌, ℕ, refl, sym, ap, subst, ◌∙◌, arith, inl, inr}
+use Rattle.depot_model.specs.Checks.{Setting}
+use Rattle.depot_model.specs.Lawful.{IsLawful}
+use Rattle.depot_node.proofs.StartLaws.{lawful_file_is_read, lawful_file_starts}
+use Rattle.depot_outside.specs.Told.{disks, shelves, sinks}
+use Rattle.depot_model.specs.Stops.{HasAll}
+use Rattle.depot_session.specs.Sessions.{session_from}
+use Rattle.depot_session.specs.declared.ending.Ending.TheVariants as ending
+use Rattle.depot_session.proofs.Leaving.{all_there}
+use Rattle.depot_session.proofs.PlayedScripts.{front_longer}
+use Rattle.depot_session.proofs.RunImages.{all_go_on, either, has_from_key, refused_goes_on, run_goes_on}
+use Rattle.depot_session.proofs.RunEnds.{answered, calm_end, ended_by, not_started, start_is_correct}
+use Rattle.depot_session.proofs.running.run_over.Goals as goal
+
+pub returns-in-Err-clause-file : goal.returns-in-Err-clause-file
+returns-in-Err-clause-file g c = λ told.
+    let here : Setting = record { verifies = g.S.Scheme.verifies; me = c.args.me; listed = c.args.roster } in
+    let e = c.in-Err.ensures in
+    let start = e.any_moment_back told in
+    record {
+      images = λ image left. refused_goes_on here (g.G.Signer.key_of c.args.signer) _ (g.D.Disk.seen c.args.disk) c.in-Err.field-0.error (g.D.Disk.may_leave c.args.disk) image c.is_formed.ensures e.refused
+          (λ fault. g.met.D.Disk.only_now c.args.disk image (subst (λ d. g.D.Disk.left_since d (g.D.Disk.moment c.args.disk) image) (e.untouched fault) left)) (start.each image left);
+      reads = g.met.D.Disk.counts_now c.in-Err.field-0.disk (g.D.Disk.moment c.args.disk) (g.D.Disk.seen c.in-Err.field-0.disk) start.later (g.met.D.Disk.reads_as_image c.in-Err.field-0.disk (subst (λ (b : Bool). IsTrue b) (sym e.tells_back) told));
+    }
+
+pub returns-in-Err-clause-answers : goal.returns-in-Err-clause-answers
+returns-in-Err-clause-answers g c = record {
+  over = λ told shelf_told keyed J reads lawful has are.
+      let here : Setting = record { verifies = g.S.Scheme.verifies; me = c.args.me; listed = c.args.roster } in
+      let e = c.in-Err.ensures in
+      let start = e.any_moment_back told in
+      let told_back = subst (λ (b : Bool). IsTrue b) (sym e.tells_back) told in
+      inr (not_started here (g.G.Signer.signature_of c.args.signer) J reads c.args.script.now (disks g.D.Disk c.args.disk c.in-Err.field-0.disk) (shelves g.F.Shelf c.args.shelf.now c.args.shelf.now) (sinks g.K.Sink c.args.out.now c.refused-ending.new.out) has
+      (λ image left. start.each image (g.met.D.Disk.counts_now c.in-Err.field-0.disk (g.D.Disk.moment c.args.disk) image start.later left)) (g.met.D.Disk.reads_as_image c.in-Err.field-0.disk told_back) (front_longer []) (λ name. refl)
+      c.in-Err.field-0.error c.refused-ending.result
+      (lawful_file_starts here (g.G.Signer.key_of c.args.signer) (g.D.Disk.tells c.args.disk) (g.D.Disk.seen c.args.disk) J c.in-Err.field-0.error told keyed has lawful e.refused) e.cause.rose c.refused-ending.ensures.told);
+}
+
+pub returns-clause-file : goal.returns-clause-file
+returns-clause-file g c = λ told.
+    let here : Setting = record { verifies = g.S.Scheme.verifies; me = c.args.me; listed = c.args.roster } in
+    let e = c.in-Ok.ensures in
+    let start = e.any_moment told in
+    let now = c.play-played.new.node.store.disk in
+    let lasts = c.play-played.ensures.keeps.lasts in
+    let told_then = subst (λ (b : Bool). IsTrue b) (sym e.tells) told in
+    let told_now = subst (λ (b : Bool). IsTrue b) (sym lasts.lasts.told) told_then in
+    let only = lasts.lasts.any_moment told_then e.runs in
+    let lawful = subst (λ (h : Setting). IsLawful h (c.in-Ok.node.store.records ++ lasts.appends)) e.stands lasts.is.lawful in
+    record {
+      images = λ image left. run_goes_on here (g.D.Disk.seen c.args.disk) image c.in-Ok.node.store.records lasts.appends (g.D.Disk.may_leave c.args.disk) c.is_formed.ensures (has_from_key here (g.G.Signer.key_of c.args.signer) e.key) (e.records told) lawful
+          (either (start.each image) (only.before (g.D.Disk.moment c.args.disk) image start.later (subst (λ d. g.D.Disk.left_since d (g.D.Disk.moment c.args.disk) image) c.into_disk.ensures left)));
+      reads = subst (λ d. g.D.Disk.left_since d (g.D.Disk.moment c.args.disk) (g.D.Disk.seen d)) (sym c.into_disk.ensures)
+          (g.met.D.Disk.counts_now now (g.D.Disk.moment c.args.disk) (g.D.Disk.seen now) (omega (arith, start.later, only.later)) (g.met.D.Disk.reads_as_image now told_now));
+    }
+
+pub returns-clause-stable : goal.returns-clause-stable
+returns-clause-stable g c = λ told calm image left.
+    let here : Setting = record { verifies = g.S.Scheme.verifies; me = c.args.me; listed = c.args.roster } in
+    let e = c.in-Ok.ensures in
+    let keeps = c.play-played.ensures.keeps in
+    let told_then = subst (λ (b : Bool). IsTrue b) (sym e.tells) told in
+    let lawful = subst (λ (h : Setting). IsLawful h (c.in-Ok.node.store.records ++ keeps.lasts.appends)) e.stands keeps.lasts.is.lawful in
+    let runs = keeps.runs_on (calm_end c.play-played.result (subst (λ x. (x ≡ ending.Done) ⊎ (x ≡ ending.Limit)) c.ended.ensures calm)) in
+    let all = keeps.lasts.lasts.stable told_then image (subst (λ d. g.D.Disk.may_leave d image) c.into_disk.ensures left) in
+    let records = c.play-played.new.node.store.records in
+    all_go_on here (g.D.Disk.seen c.args.disk) image c.in-Ok.node.store.records keeps.lasts.appends records keeps.lasts.is.count (e.records told) lawful keeps.lasts.is.front
+    (all_there records image (subst (λ (b : Bool). HasAll records b image) runs all))
+
+pub returns-clause-begins : goal.returns-clause-begins
+returns-clause-begins g c =
+    let e = c.in-Ok.ensures in
+    inr (inl (record { keyed = e.key; journal = λ told. (let s = e.records told in (s.journal, (s.lawful, s.read))); is_no_refusal = λ is. c.play-played.ensures.keeps.no_refusal (ended_by c.play-played.result ending.NotLawful (λ x. cc) (sym c.ended.ensures ∙ is)) }))
+
+pub returns-clause-answers : goal.returns-clause-answers
+returns-clause-answers g c = record {
+  over = λ told shelf_told keyed J reads lawful has are.
+      let here : Setting = record { verifies = g.S.Scheme.verifies; me = c.args.me; listed = c.args.roster } in
+      let e = c.in-Ok.ensures in
+      let keeps = c.play-played.ensures.keeps in
+      let now = c.play-played.new.node.store.disk in
+      let s = session_from here J reads (g.F.Shelf.file c.args.shelf.now) in
+      let told_then = subst (λ (b : Bool). IsTrue b) (sym e.tells) told in
+      let told_now = subst (λ (b : Bool). IsTrue b) (sym keeps.lasts.lasts.told) told_then in
+      let same = lawful_file_is_read here (g.D.Disk.seen c.args.disk) J c.in-Ok.node.store.records has lawful (e.records told) in
+      let plays = c.play-played.ensures.plays s shelf_told (record { node = sym (ap (λ (h : Setting). h.me) e.stands); journal = sym same; same_files = λ name. refl }) in
+      rw c.as_slice.ensures at (answered _ c.in-Ok.node c.play-played.new.node _ here _ (g.G.Signer.signature_of c.args.signer) J s c.as_slice.result.now (disks g.D.Disk c.args.disk c.into_disk.result) (shelves g.F.Shelf c.args.shelf.now c.play-played.new.shelf) (sinks g.K.Sink c.args.out.now c.play-played.new.out)
+      c.play-played.result c.ended.result e.stands e.signs c.ended.ensures told_then (λ image left. subst (λ d. g.D.Disk.may_leave d image) c.into_disk.ensures left)
+      (subst (λ d. g.D.Disk.may_leave d (g.D.Disk.seen d)) (sym c.into_disk.ensures) (g.met.D.Disk.reads_as_image now told_now))
+      (start_is_correct here J reads (g.F.Shelf.file c.args.shelf.now) c.is_formed.ensures (has_from_key here (g.G.Signer.key_of c.args.signer) e.key) lawful are) (keeps.lasts.lasts.stable told_then)
+      (λ rose. subst (λ d. g.D.Disk.faults c.args.disk < g.D.Disk.faults d) (sym c.into_disk.ensures) (subst (λ (n : ℕ). n < g.D.Disk.faults now) e.calm rose)) plays);
+}

@@ -1,0 +1,143 @@
+-- What a script makes a node do, command by command: the lines, the journal, the files, and how the run ends.
+use Rattle.std.specs.Prelude.{◌≡◌, ℕ, List, [], ◌∷◌, ◌++◌, take, Option, Some, None, codes, if◌then◌else◌}
+use Rattle.std.specs.Str.{bytes_eq}
+use Rattle.depot_base.specs.declared.record.Record.{Record}
+use Rattle.depot_model.specs.Bundle.{Signs, BundleAnswer, bundled, bad_hello, other_roster, limited, bundle_answer}
+use Rattle.depot_model.specs.Checks.{Setting}
+use Rattle.depot_model.specs.Feeding.{Closing, ill_formed, out_of_room, feed_of}
+use Rattle.depot_model.specs.Limits.{Limit, limit_of_put}
+use Rattle.depot_model.specs.World.{Correct, Read}
+use Rattle.depot_schedule.specs.Language.{join}
+use Rattle.depot_script.specs.Scripts.{command_words}
+use Rattle.depot_script.specs.declared.command.Command.{Command}
+use Rattle.depot_script.specs.declared.command.Command.TheVariants as command
+use Rattle.depot_world.specs.Deeds.{put_by, get_by, hello_by, bundle_by, give_by}
+use Rattle.depot_world.specs.Stops.{Deed}
+use Rattle.depot_deeds.specs.Printing.{lines_of_deed}
+use Rattle.depot_node.specs.Starting.{started}
+use Rattle.depot_session.specs.declared.ending.Ending.{Ending}
+use Rattle.depot_session.specs.declared.ending.Ending.TheVariants as ending
+
+-- ---- the session
+
+-- the files of a shelf by their names
+abbrev pub Files : Type 0
+Files = List ℕ → Option (List ℕ)
+
+-- the files with these bytes under a name, in place of those that were there
+abbrev pub stored : Files → List ℕ → List ℕ → Files
+stored files name bytes other = if bytes_eq other name then Some bytes else files other
+
+-- a node between two commands, and the files
+pub record Session : Type 0 where
+  pub correct : Correct
+  pub files : Files
+
+-- A node as it is started from a journal, which gets a birth where it has no records. Its reads of earlier sessions go on.
+abbrev pub session_from : Setting → List Record → List Read → Files → Session
+session_from here J reads files = record { correct = record { node = here.me; journal = started here J; reads = reads }; files = files }
+
+-- ---- one command
+
+-- A command as it goes: what it prints, the session after it, and how it ends the run, if it does.
+pub record Step : Type 0 where
+  pub text : List ℕ
+  pub session : Session
+  pub ending : Option Ending
+
+-- how many of a command's words are printed: all but a value
+abbrev pub printed_count : Command → ℕ
+printed_count (command.Bundle hello file) = 3
+printed_count other = 2
+
+-- the lines of a command that a node carries out
+abbrev pub lines_of_command : Command → Deed → List ℕ
+lines_of_command c d = join 32 (take (printed_count c) (command_words c)) ++ codes " ->" ++ lines_of_deed d
+
+-- a command that a node carries out
+abbrev pub carried_out : Session → Command → Deed → Option Ending → Step
+carried_out s c d ends = record {
+  text = lines_of_command c d;
+  session = record { correct = record { node = s.correct.node; journal = d.journal; reads = d.reads }; files = s.files };
+  ending = ends;
+}
+
+-- the same, and what it hands out becomes a file
+abbrev pub carried_out_storing : Session → Command → Deed → List ℕ → Step
+carried_out_storing s c d file = record {
+  text = lines_of_command c d;
+  session = record { correct = record { node = s.correct.node; journal = d.journal; reads = d.reads }; files = stored s.files file d.bytes };
+  ending = None;
+}
+
+-- the command stores under this name
+abbrev pub StoresAs : Command → List ℕ → Type 0
+StoresAs (command.Hello file) name = file ≡ name
+StoresAs (command.Bundle hello file) name = file ≡ name
+StoresAs other name = ⊥
+
+abbrev pub shelf_line : List ℕ → List ℕ
+shelf_line name = codes "shelf " ++ name ++ codes "\n"
+
+-- a file that a command loads isn't there
+abbrev pub absent : Session → List ℕ → Step
+absent s name = record { text = shelf_line name; session = s; ending = Some ending.Shelf }
+
+-- ---- how a command ends the run
+
+abbrev pub ending_of_put : Option Limit → Option Ending
+ending_of_put None = None
+ending_of_put (Some limit) = Some ending.Limit
+
+abbrev pub ending_of_bundle : BundleAnswer → Option Ending
+ending_of_bundle (bundled b) = None
+ending_of_bundle (bad_hello at) = Some ending.Input
+ending_of_bundle (other_roster given) = Some ending.Identity
+ending_of_bundle (limited limit) = Some ending.Limit
+
+abbrev pub ending_of_take : Option Closing → Option Ending
+ending_of_take None = None
+ending_of_take (Some (ill_formed at)) = Some ending.Input
+ending_of_take (Some (out_of_room what)) = Some ending.Limit
+
+-- ---- what each command does
+
+-- a bundle that is made becomes a file; where none is, nothing is stored
+abbrev pub bundle_step : Session → List ℕ → List ℕ → Deed → BundleAnswer → Step
+bundle_step s hello file d (bundled b) = carried_out_storing s (command.Bundle hello file) d file
+bundle_step s hello file d other = carried_out s (command.Bundle hello file) d (ending_of_bundle other)
+
+-- a bundle for the hello in a file, which may be absent
+abbrev pub bundle_to : Setting → Signs → Session → List ℕ → List ℕ → Option (List ℕ) → Step
+bundle_to here sign s hello file None = absent s hello
+bundle_to here sign s hello file (Some bytes) = bundle_step s hello file (bundle_by here sign s.correct bytes) (bundle_answer here sign s.correct.journal bytes)
+
+-- the stream in a file, which may be absent, is taken
+abbrev pub take_from : Setting → Session → List ℕ → Option (List ℕ) → Step
+take_from here s file None = absent s file
+take_from here s file (Some bytes) = carried_out s (command.Take file) (give_by here s.correct bytes) (ending_of_take (feed_of here s.correct.journal bytes).closed)
+
+unfoldable pub step_of : Setting → Signs → Session → Command → Step
+step_of here sign s (command.Put key value) = carried_out s (command.Put key value) (put_by here s.correct key value) (ending_of_put (limit_of_put here s.correct.journal key value))
+step_of here sign s (command.Get key) = carried_out s (command.Get key) (get_by s.correct key) None
+step_of here sign s (command.Hello file) = carried_out_storing s (command.Hello file) (hello_by here s.correct) file
+step_of here sign s (command.Bundle hello file) = bundle_to here sign s hello file (s.files hello)
+step_of here sign s (command.Take file) = take_from here s file (s.files file)
+
+-- ---- a script
+
+-- what a script comes to: the lines, the session after it, and how the run ends
+pub record Answers : Type 0 where
+  pub text : List ℕ
+  pub session : Session
+  pub ending : Ending
+
+-- a step that ends the run or not, and what comes behind it
+abbrev pub followed_by : Option Ending → Step → Answers → Answers
+followed_by (Some ends) step rest = record { text = step.text; session = step.session; ending = ends }
+followed_by None step rest = record { text = step.text ++ rest.text; session = rest.session; ending = rest.ending }
+
+-- The commands are carried out one by one, up to the first that ends the run.
+unfoldable pub answers_of : Setting → Signs → Session → List Command → Answers
+answers_of here sign s [] = record { text = []; session = s; ending = ending.Done }
+answers_of here sign s (c ∷ cs) = let step = step_of here sign s c in followed_by step.ending step (answers_of here sign step.session cs)

@@ -1,0 +1,60 @@
+-- What a session writes, loads and stores.
+use Rattle.std.specs.Prelude.{◌≡◌, ◌<◌, ◌≤◌, ◌⊎◌, ℕ, List, [], IsTrue, Option, Some, None, Result, Ok, Err}
+use Rattle.depot_outside.specs.Told.{LacksFile, Shelves, Sinks, WhereTold, Wrote, WroteFront}
+use Rattle.depot_session.specs.declared.ending.Ending.{Ending}
+use Rattle.depot_session.specs.declared.ending.Ending.TheVariants as ending
+use Rattle.depot_session.specs.Sessions.{shelf_line, stored}
+
+-- ---- writing
+
+-- A text wasn't written, or not whole: no memory was found, or the sink failed.
+abbrev pub IsUnwritten : Sinks → List ℕ → Ending → Type 0
+IsUnwritten sink text ending.Memory = Wrote sink []
+IsUnwritten sink text ending.Sink = (sink.faults_before < sink.faults_after) × WroteFront sink text
+IsUnwritten sink text other = ⊥
+
+-- A text was written, and then this is answered; or it wasn't.
+abbrev pub Tells : Sinks → List ℕ → Option Ending → Result (Unit {0}) Ending → Type 0
+Tells sink text ends (Ok done) = (ends ≡ None) × Wrote sink text
+Tells sink text ends (Err e) = ((ends ≡ Some e) × Wrote sink text) ⊎ IsUnwritten sink text e
+
+-- A fault has this line, and the run ends so by it; or its line wasn't written.
+abbrev pub IsFaultTold : Sinks → List ℕ → Ending → Ending → Type 0
+IsFaultTold sink line fault ends = ((ends ≡ fault) × Wrote sink line) ⊎ IsUnwritten sink line ends
+
+-- ---- the shelf
+
+-- what a load of the name gives: the bytes of the file, or nothing
+abbrev pub IsLoaded : Shelves → List ℕ → Option (List ℕ) → Type 0
+IsLoaded shelf name (Some bytes) = WhereTold shelf (shelf.file name ≡ Some bytes)
+IsLoaded shelf name None = LacksFile shelf name
+
+-- no other file has changed
+abbrev pub LeavesOthers : Shelves → List ℕ → Type 0
+LeavesOthers shelf name = (other : List ℕ) → (name ≡ other → ⊥) → shelf.file_after other ≡ shelf.file other
+
+-- These bytes were stored under a name, and no other file has changed.
+abbrev pub HasStored : Shelves → List ℕ → List ℕ → Type 0
+HasStored shelf name bytes = (other : List ℕ) → shelf.file_after other ≡ stored shelf.file name bytes other
+
+-- The shelf failed while they were stored, and it is told.
+pub record HasNotStored (shelf : Shelves) (sink : Sinks) (name : List ℕ) (ends : Ending) : Type 0 where
+  pub rose : shelf.faults_before < shelf.faults_after
+  pub told : IsFaultTold sink (shelf_line name) ending.Shelf ends
+
+-- Bytes were stored under a name, and then the text was written; or not.
+abbrev pub Stores : Shelves → Sinks → List ℕ → List ℕ → List ℕ → Result (Unit {0}) Ending → Type 0
+Stores shelf sink text name bytes (Ok done) = WhereTold shelf (HasStored shelf name bytes) × Wrote sink text
+Stores shelf sink text name bytes (Err e) = LeavesOthers shelf name × (IsUnwritten sink text e ⊎ HasNotStored shelf sink name e)
+
+-- neither the shelf nor the sink failed, and memory was found
+abbrev pub GoesByShelf : Result (Unit {0}) Ending → Type 0
+GoesByShelf (Err ending.Shelf) = ⊥
+GoesByShelf (Err ending.Sink) = ⊥
+GoesByShelf (Err ending.Memory) = ⊥
+GoesByShelf other = Unit {0}
+
+-- The count of faults of the shelf never falls. Where it rose nothing else is answered than Shelf, Sink or Memory.
+pub record TellsShelf (before after : ℕ) (result : Result (Unit {0}) Ending) : Type 0 where
+  pub never_falls : before ≤ after
+  pub quiet : GoesByShelf result → after ≡ before

@@ -1,0 +1,116 @@
+-- What a command makes of a node, of the shelf and of the sink.
+use Rattle.std.specs.Prelude.{◌≡◌, ◌<◌, ◌≤◌, ◌⊎◌, ℕ, List, [], ◌++◌, false, IsTrue, Some, None, Result, Ok, Err, is_err, IsErrOf}
+use Rattle.depot_base.specs.declared.record.Record.{Record}
+use Rattle.depot_gossip.specs.Lasting.{LastsIn}
+use Rattle.depot_model.specs.Checks.{Setting}
+use Rattle.depot_model.specs.Replicas.{IsSameNode}
+use Rattle.depot_model.specs.Stops.{HasFront, LeavesAll}
+use Rattle.depot_model.specs.Bundle.{Signs}
+use Rattle.depot_model.specs.World.{IsCorrect}
+use Rattle.depot_model.specs.declared.replica.Replica.{Ghosts}
+use Rattle.depot_outside.specs.Told.{Shelves, Sinks, Wrote}
+use Rattle.depot_session.specs.declared.ending.Ending.{Ending}
+use Rattle.depot_session.specs.declared.ending.Ending.TheVariants as ending
+use Rattle.depot_script.specs.declared.command.Command.{Command}
+use Rattle.depot_session.specs.Sessions.{Files, Session, Step, StoresAs, Answers, answers_of}
+use Rattle.depot_session.specs.Runs.{IsCutBy, IsLast, IsNextFile, next_text, world_at}
+
+-- ---- the node, whatever came of it
+
+-- A node runs, and a stop leaves its records.
+pub record IsRunning {N O : Type 0} (g : Ghosts N O) (node : N) : Type 0 where
+  pub runs : g.stopped node ≡ false
+  pub stable : IsTrue (g.tells node) → LeavesAll (g.records node) false (g.may_leave node)
+
+-- neither the disk nor the sink failed, and memory was found
+abbrev pub HasNoFault : Result (Unit {0}) Ending → Type 0
+HasNoFault (Err ending.Disk) = ⊥
+HasNoFault (Err ending.Sink) = ⊥
+HasNoFault (Err ending.Memory) = ⊥
+HasNoFault other = Unit {0}
+
+-- The node is who it was, on the disk that it had, and runs on where nothing fails. A stop at any moment leaves the records from before, and a
+-- front of others with which its journal is lawful. Faults of the disk and the sink are answered only where they came.
+pub record Keeps {N O : Type 0} (g : Ghosts N O) (old new : N) (sink : Sinks) (result : Result (Unit {0}) Ending) : Type 0 where
+  pub same : IsSameNode (g.stands old) (g.stands new) (g.key old) (g.key new) (g.signature_of old) (g.signature_of new)
+  pub handle : g.handle new ≡ g.handle old
+  pub lasts : LastsIn g.tells g.stopped g.records g.moment g.left_since g.may_leave (g.stands old) (is_err result) old new
+  pub runs_on : HasNoFault result → g.stopped new ≡ false
+  pub disk_later : g.faults old ≤ g.faults new
+  pub disk_failed : IsErrOf result ending.Disk → g.faults old < g.faults new
+  pub sink_later : sink.faults_before ≤ sink.faults_after
+  pub sink_failed : IsErrOf result ending.Sink → sink.faults_before < sink.faults_after
+  pub no_refusal : IsErrOf result ending.NotLawful → ⊥
+
+-- ---- a command
+
+-- The session is where a node with these records and a shelf with these files stand.
+pub record IsAt (here : Setting) (records : List Record) (files : Files) (s : Session) : Type 0 where
+  pub node : s.correct.node ≡ here.me
+  pub journal : s.correct.journal ≡ records
+  pub same_files : (name : List ℕ) → files name ≡ s.files name
+
+-- no file has changed
+abbrev pub IsUnchanged : Shelves → Type 0
+IsUnchanged shelf = (name : List ℕ) → shelf.file_after name ≡ shelf.file name
+
+-- The command went as its step says.
+pub record Steps {N O : Type 0} (g : Ghosts N O) (new : N) (step : Step) (shelf : Shelves) (sink : Sinks) : Type 0 where
+  pub runs : g.stopped new ≡ false
+  pub journal : g.records new ≡ step.session.correct.journal
+  pub files : (name : List ℕ) → shelf.file_after name ≡ step.session.files name
+  pub wrote : Wrote sink step.text
+
+-- The command was cut short. Behind the lines before it stands what stands at last. A stop leaves the records from before, and a front of those
+-- that its step brings; and no file but its own has changed.
+pub record IsBroken {N O : Type 0} (g : Ghosts N O) (old new : N) (c : Command) (step : Step) (shelf : Shelves) (sink : Sinks) (ends : Ending) : Type 0 where
+  pub cut : IsCutBy (g.faults old < g.faults new) shelf sink ends
+  pub last : List ℕ
+  pub last_is : IsLast step.text ends last
+  pub wrote : Wrote sink last
+  pub more : List Record
+  pub brings : step.session.correct.journal ≡ g.records old ++ more
+  pub leaves : IsTrue (g.tells old) → (image : List ℕ) → g.may_leave new image → HasFront (g.records old) more image
+  pub files : (name : List ℕ) → (StoresAs c name → ⊥) → shelf.file_after name ≡ shelf.file name
+
+-- What a command came to by its step: the run goes on, or it ends so.
+abbrev pub Turns : {N O : Type 0} → Ghosts N O → N → N → Command → Step → Shelves → Sinks → Result (Unit {0}) Ending → Type 0
+Turns g old new c step shelf sink (Ok done) = (step.ending ≡ None) × Steps g new step shelf sink
+Turns g old new c step shelf sink (Err e) = ((step.ending ≡ Some e) × Steps g new step shelf sink) ⊎ IsBroken g old new c step shelf sink e
+
+-- ---- a script
+
+-- A script went as its answers say. If the node was a correct one with its reads, it is one.
+pub record IsPlayed {N O : Type 0} (g : Ghosts N O) (new : N) (here : Setting) (s : Session) (a : Answers) (shelf : Shelves) (sink : Sinks) (ends : Ending) : Type 0 where
+  pub ending_is : ends ≡ a.ending
+  pub runs : g.stopped new ≡ false
+  pub journal : g.records new ≡ a.session.correct.journal
+  pub files : (name : List ℕ) → shelf.file_after name ≡ a.session.files name
+  pub wrote : Wrote sink a.text
+  pub correct : IsCorrect (world_at here) s.correct → IsCorrect (world_at here) a.session.correct
+
+-- A script was cut short. Some commands were carried out, and their lines stand whole; and behind them what stands at last. A stop leaves all
+-- records of these commands, and a front of those that the others bring.
+pub record IsPlayedInPart {N O : Type 0} (g : Ghosts N O) (old new : N) (here : Setting) (sign : Signs) (s : Session) (commands : List Command) (shelf : Shelves) (sink : Sinks) (ends : Ending) : Type 0 where
+  pub cut : IsCutBy (g.faults old < g.faults new) shelf sink ends
+  pub done : List Command
+  pub rest : List Command
+  pub parts : commands ≡ done ++ rest
+  pub went_on : (answers_of here sign s done).ending ≡ ending.Done
+  pub last : List ℕ
+  pub last_is : IsLast (next_text here sign (answers_of here sign s done).session rest) ends last
+  pub wrote : Wrote sink ((answers_of here sign s done).text ++ last)
+  pub more : List Record
+  pub brings : (answers_of here sign s commands).session.correct.journal ≡ (answers_of here sign s done).session.correct.journal ++ more
+  pub leaves : IsTrue (g.tells old) → (image : List ℕ) → g.may_leave new image → HasFront (answers_of here sign s done).session.correct.journal more image
+  pub files : (name : List ℕ) → (IsNextFile rest name → ⊥) → shelf.file_after name ≡ (answers_of here sign s done).session.files name
+
+-- how a script ended
+abbrev pub ending_by : Result (Unit {0}) Ending → Ending
+ending_by (Ok done) = ending.Done
+ending_by (Err e) = e
+
+-- What a script came to.
+abbrev pub Plays : {N O : Type 0} → Ghosts N O → N → N → Setting → Signs → Session → List Command → Shelves → Sinks → Result (Unit {0}) Ending → Type 0
+Plays g old new here sign s commands shelf sink result =
+    IsPlayed g new here s (answers_of here sign s commands) shelf sink (ending_by result) ⊎ IsPlayedInPart g old new here sign s commands shelf sink (ending_by result)

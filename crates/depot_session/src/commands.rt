@@ -1,0 +1,224 @@
+//! The commands of a script.
+ghost use Rattle.std.specs.Prelude.{◌≡◌, ◌↔◌, ℕ, List, false, None, IfOk, IfErr, IsErrOf, IsTrue, is_ok};
+ghost use Rattle.depot_base.specs.declared.record.Record.{Record};
+ghost use Rattle.depot_model.specs.Bundle.{Signs, bundle_answer};
+ghost use Rattle.depot_model.specs.Checks.{Setting};
+ghost use Rattle.depot_model.specs.Feeding.{Feeding};
+ghost use Rattle.depot_outside.specs.Told.{Shelves, shelves, sinks};
+ghost use Rattle.depot_gossip.specs.Bundling.{Bundles};
+ghost use Rattle.depot_deeds.specs.Printing.{IsToldOf, SettlesBundle};
+ghost use Rattle.depot_session.specs.Sessions.{Session, step_of};
+ghost use Rattle.depot_session.specs.Sessions as sessions;
+ghost use Rattle.depot_session.specs.Telling.{TellsShelf};
+ghost use Rattle.depot_session.specs.Turns.{IsAt, IsRunning, IsUnchanged, Keeps, Turns};
+
+use crate::ending::Ending;
+use crate::local::Local;
+use crate::telling::{disk_failed, load, no_file, store_and_tell, tell};
+use depot_answers::Closing;
+use depot_base::{Key, Value};
+use depot_deeds::{
+    Fed, bundle_printed, fed_printed, feed_whole, have_sizes, hello_line, put_printed,
+};
+use depot_gossip::{BundleError, Bundled, FeedError, bundle, hello};
+use depot_outside::{Shelf, Sink};
+use depot_script::{Command, FileName};
+use std::alloc::Global;
+
+/// Puts a value under a key, and tells of it.
+fn put<R: Local, K: Sink>(
+    alloc: Global,
+    node: &mut R,
+    command: &Command,
+    key: &Key,
+    value: &Value,
+    out: &mut K,
+) -> Result<(), Ending>
+    requires command { command.now ≡ Command.Put key.now value.now }
+    requires running { IsRunning R.Replica node.old }
+    ensures keeps { Keeps R.Replica node.old node.new (sinks K.Sink out.old out.new) result }
+    ensures turns { (shelf : Shelves) (s : Session) → IsUnchanged shelf → IsAt (R.stands node.old) (R.records node.old) shelf.file s → Turns R.Replica node.old node.new command.now (step_of (R.stands node.old) (R.signature_of node.old) s command.now) shelf (sinks K.Sink out.old out.new) result }
+    ensures same { K.tells out.new ≡ K.tells out.old }
+{
+    let key = key.copy()?;
+    let value = value.copy()?;
+    have_sizes(&key, &value);
+    let done = node.write(key, value);
+    let ends = match &done {
+        Ok(_) => None,
+        Err(_) => Some(Ending::Limit),
+    };
+    match put_printed(alloc, done)? {
+        Some(printed) => tell(alloc, command, &printed.lines, ends, out),
+        None => Err(disk_failed(out)),
+    }
+}
+
+/// Reads a key, and tells what it reads.
+fn get<R: Local, K: Sink>(
+    alloc: Global,
+    node: &R,
+    command: &Command,
+    key: &Key,
+    out: &mut K,
+) -> Result<(), Ending>
+    requires command { command.now ≡ Command.Get key.now }
+    requires running { IsRunning R.Replica node.now }
+    ensures keeps { Keeps R.Replica node.now node.now (sinks K.Sink out.old out.new) result }
+    ensures turns { (shelf : Shelves) (s : Session) → IsUnchanged shelf → IsAt (R.stands node.now) (R.records node.now) shelf.file s → Turns R.Replica node.now node.now command.now (step_of (R.stands node.now) (R.signature_of node.now) s command.now) shelf (sinks K.Sink out.old out.new) result }
+    ensures same { K.tells out.new ≡ K.tells out.old }
+{
+    let lines = node.read(alloc, key)?;
+    tell(alloc, command, &lines, None, out)
+}
+
+/// Stores the node's hello, and tells of it.
+fn say_hello<R: Local, F: Shelf, K: Sink>(
+    alloc: Global,
+    node: &R,
+    command: &Command,
+    file: &FileName,
+    shelf: &mut F,
+    out: &mut K,
+) -> Result<(), Ending>
+    requires command { command.now ≡ Command.Hello file.now }
+    requires running { IsRunning R.Replica node.now }
+    ensures keeps { Keeps R.Replica node.now node.now (sinks K.Sink out.old out.new) result }
+    ensures turns { (s : Session) → IsTrue (F.tells shelf.old) → IsAt (R.stands node.now) (R.records node.now) (F.file shelf.old) s → Turns R.Replica node.now node.now command.now (step_of (R.stands node.now) (R.signature_of node.now) s command.now) (shelves F.Shelf shelf.old shelf.new) (sinks K.Sink out.old out.new) result }
+    ensures same { K.tells out.new ≡ K.tells out.old }
+    ensures same_shelf { F.tells shelf.new ≡ F.tells shelf.old }
+    ensures shelf { TellsShelf (F.faults shelf.old) (F.faults shelf.new) result }
+{
+    let text = hello(alloc, node)?;
+    let lines = hello_line(alloc, text.as_slice())?;
+    store_and_tell(alloc, command, &lines, file, &text, shelf, out)
+}
+
+/// How a bundle ends the run, where the node answers neither for want of memory nor for its disk.
+fn ending_of_bundle(made: &Result<Bundled, BundleError>) -> Option<Ending>
+    ensures goes_on { (result ≡ None) ↔ IsTrue (is_ok made.now) }
+    ensures ends { (here : Setting) (sign : Signs) (J : List Record) (text : List ℕ) (then : List Record) → SettlesBundle made.now → (IsErrOf made.now BundleError.Disk → ⊥) → Bundles here sign J false text made.now then → result ≡ sessions.ending_of_bundle (bundle_answer here sign J text) }
+{
+    match made {
+        Ok(_) => None,
+        Err(BundleError::IllFormed(_)) => Some(Ending::Input),
+        Err(BundleError::OtherRoster { .. }) => Some(Ending::Identity),
+        Err(_) => Some(Ending::Limit),
+    }
+}
+
+/// Stores the node's bundle for the hello in a file, and tells of it. Where none is made nothing is stored.
+fn make_bundle<R: Local, F: Shelf, K: Sink>(
+    alloc: Global,
+    node: &mut R,
+    command: &Command,
+    hello: &FileName,
+    file: &FileName,
+    shelf: &mut F,
+    out: &mut K,
+) -> Result<(), Ending>
+    requires command { command.now ≡ Command.Bundle hello.now file.now }
+    requires running { IsRunning R.Replica node.old }
+    ensures keeps { Keeps R.Replica node.old node.new (sinks K.Sink out.old out.new) result }
+    ensures turns { (s : Session) → IsTrue (F.tells shelf.old) → IsAt (R.stands node.old) (R.records node.old) (F.file shelf.old) s → Turns R.Replica node.old node.new command.now (step_of (R.stands node.old) (R.signature_of node.old) s command.now) (shelves F.Shelf shelf.old shelf.new) (sinks K.Sink out.old out.new) result }
+    ensures same { K.tells out.new ≡ K.tells out.old }
+    ensures same_shelf { F.tells shelf.new ≡ F.tells shelf.old }
+    ensures shelf { TellsShelf (F.faults shelf.old) (F.faults shelf.new) result }
+{
+    let Some(text) = load(shelf, hello)? else {
+        return Err(no_file(alloc, hello, out));
+    };
+    let made = bundle(alloc, node, text.as_slice());
+    let ends = ending_of_bundle(&made);
+    match bundle_printed(alloc, made)? {
+        None => Err(disk_failed(out)),
+        Some(printed) if ends.is_none() => {
+            store_and_tell(
+                alloc,
+                command,
+                &printed.lines,
+                file,
+                &printed.bytes,
+                shelf,
+                out,
+            )
+        }
+        Some(printed) => tell(alloc, command, &printed.lines, ends, out),
+    }
+}
+
+/// How a stream ends the run, where the node answers neither for want of memory nor for its disk.
+fn ending_of_take(fed: &Result<Fed, FeedError>) -> Option<Ending>
+    ensures ends { IfOk fed.now (λ told. (s : Feeding) → IsToldOf s told → result ≡ sessions.ending_of_take s.closed) }
+    ensures failed { IfErr fed.now (λ _. result ≡ None) }
+{
+    match fed {
+        Ok(
+            Fed {
+                closing: Some(Closing::IllFormed(_)),
+                ..
+            },
+        ) => Some(Ending::Input),
+        Ok(
+            Fed {
+                closing: Some(Closing::Full(_)),
+                ..
+            },
+        ) => Some(Ending::Limit),
+        _ => None,
+    }
+}
+
+/// Takes the stream in a file, and tells of it.
+fn take<R: Local, F: Shelf, K: Sink>(
+    alloc: Global,
+    node: &mut R,
+    command: &Command,
+    file: &FileName,
+    shelf: &mut F,
+    out: &mut K,
+) -> Result<(), Ending>
+    requires command { command.now ≡ Command.Take file.now }
+    requires running { IsRunning R.Replica node.old }
+    ensures keeps { Keeps R.Replica node.old node.new (sinks K.Sink out.old out.new) result }
+    ensures turns { (s : Session) → IsTrue (F.tells shelf.old) → IsAt (R.stands node.old) (R.records node.old) (F.file shelf.old) s → Turns R.Replica node.old node.new command.now (step_of (R.stands node.old) (R.signature_of node.old) s command.now) (shelves F.Shelf shelf.old shelf.new) (sinks K.Sink out.old out.new) result }
+    ensures same { K.tells out.new ≡ K.tells out.old }
+    ensures same_shelf { F.tells shelf.new ≡ F.tells shelf.old }
+    ensures shelf { TellsShelf (F.faults shelf.old) (F.faults shelf.new) result }
+{
+    let Some(stream) = load(shelf, file)? else {
+        return Err(no_file(alloc, file, out));
+    };
+    let fed = feed_whole(alloc, node, stream.as_slice());
+    let ends = ending_of_take(&fed);
+    match fed_printed(alloc, fed)? {
+        Some(printed) => tell(alloc, command, &printed.lines, ends, out),
+        None => Err(disk_failed(out)),
+    }
+}
+
+/// Carries out a command. Ok where the run goes on, and else how it ends.
+pub fn carry_out<R: Local, F: Shelf, K: Sink>(
+    alloc: Global,
+    node: &mut R,
+    command: &Command,
+    shelf: &mut F,
+    out: &mut K,
+) -> Result<(), Ending>
+    requires running { IsRunning R.Replica node.old }
+    ensures keeps { Keeps R.Replica node.old node.new (sinks K.Sink out.old out.new) result }
+    ensures turns { (s : Session) → IsTrue (F.tells shelf.old) → IsAt (R.stands node.old) (R.records node.old) (F.file shelf.old) s → Turns R.Replica node.old node.new command.now (step_of (R.stands node.old) (R.signature_of node.old) s command.now) (shelves F.Shelf shelf.old shelf.new) (sinks K.Sink out.old out.new) result }
+    ensures same { K.tells out.new ≡ K.tells out.old }
+    ensures same_shelf { F.tells shelf.new ≡ F.tells shelf.old }
+    ensures shelf { TellsShelf (F.faults shelf.old) (F.faults shelf.new) result }
+{
+    match command {
+        Command::Put { key, value } => put(alloc, node, command, key, value, out),
+        Command::Get { key } => get(alloc, node, command, key, out),
+        Command::Hello { file } => say_hello(alloc, node, command, file, shelf, out),
+        Command::Bundle { hello, file } => {
+            make_bundle(alloc, node, command, hello, file, shelf, out)
+        }
+        Command::Take { file } => take(alloc, node, command, file, shelf, out),
+    }
+}

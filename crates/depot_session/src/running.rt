@@ -1,0 +1,195 @@
+//! The run of a script.
+ghost use Rattle.std.specs.Prelude.{◌≡◌, ◌≤◌, ◌<◌, ◌⊎◌, ◌++◌, List, ℕ, IsTrue, Some, Err, IfOk, codes};
+ghost use Rattle.depot_answers.specs.Answers.{numbered, spaced, text_of_record_fault};
+ghost use Rattle.depot_model.specs.Texts.{IsRoster};
+ghost use Rattle.depot_outside.specs.Told.{disks, shelves, sinks};
+ghost use Rattle.depot_session.specs.Runs.{AnswersScript, Begins, GoesOn, KeepsFile, ending_of_refusal, line_of_refusal};
+ghost use Rattle.depot_session.specs.Telling.{IsFaultTold, TellsShelf};
+ghost use Rattle.depot_session.specs.Turns.{ending_by};
+
+use crate::ending::Ending;
+use crate::script::play;
+use crate::telling::write;
+use depot_answers::{numbered, record_fault};
+use depot_base::{Bytes, Memory, NodeId};
+use depot_model::{RecordFault, Scheme, Signer};
+use depot_node::{Node, StartError};
+use depot_outside::{Back, Disk, Shelf, Sink};
+use depot_script::Script;
+use depot_sign::Roster;
+use std::alloc::Global;
+
+/// The line of an offset or a place.
+#[tactic(auto, using(depot_base::proofs::Writing::texts))]
+fn numbered_line(alloc: Global, name: &str, number: u64) -> Result<Bytes, Memory>
+    ensures { IfOk result (λ line. line ≡ numbered name.now number ++ codes "\n") }
+{
+    let mut line = Bytes::new(alloc);
+    numbered(alloc, &mut line, name, number)?;
+    line.push_all(b"\n")?;
+    Ok(line)
+}
+
+/// The line of a record that isn't lawful.
+#[tactic(auto, using(depot_base::proofs::Writing::texts))]
+fn unlawful_line(alloc: Global, place: u32, fault: &RecordFault) -> Result<Bytes, Memory>
+    ensures { IfOk result (λ line. line ≡ numbered (codes "not lawful") place ++ spaced (text_of_record_fault fault.now) ++ codes "\n") }
+{
+    let mut line = Bytes::new(alloc);
+    numbered(alloc, &mut line, "not lawful", place as u64)?;
+    line.push_all(b" ")?;
+    record_fault(alloc, &mut line, fault)?;
+    line.push_all(b"\n")?;
+    Ok(line)
+}
+
+/// The line of a refusal of a start, which is empty for want of memory.
+fn refusal_line(alloc: Global, error: &StartError) -> Result<Bytes, Memory>
+    ensures { IfOk result (λ line. line ≡ line_of_refusal error.now) }
+{
+    match error {
+        StartError::Memory => Ok(Bytes::new(alloc)),
+        StartError::Disk => Bytes::from_slice(alloc, b"disk\n"),
+        StartError::UnknownMe => Bytes::from_slice(alloc, b"identity UnknownMe\n"),
+        StartError::OtherKey { .. } => Bytes::from_slice(alloc, b"identity OtherKey\n"),
+        StartError::OtherNode(_) => Bytes::from_slice(alloc, b"identity OtherNode\n"),
+        StartError::OtherRoster { .. } => Bytes::from_slice(alloc, b"identity OtherRoster\n"),
+        StartError::Damaged(at) => numbered_line(alloc, "damaged", *at),
+        StartError::NotLawful { place, fault } => unlawful_line(alloc, *place, fault),
+    }
+}
+
+/// How the run ends that a start refuses.
+fn ending_of(error: &StartError) -> Ending
+    ensures { result ≡ ending_of_refusal error.now }
+{
+    match error {
+        StartError::Memory => Ending::Memory,
+        StartError::Disk => Ending::Disk,
+        StartError::Damaged(_) | StartError::NotLawful { .. } => Ending::NotLawful,
+        StartError::UnknownMe
+        | StartError::OtherKey { .. }
+        | StartError::OtherNode(_)
+        | StartError::OtherRoster { .. } => Ending::Identity,
+    }
+}
+
+/// Tells why a node isn't started.
+fn refused<K: Sink>(alloc: Global, error: &StartError, out: &mut K) -> Ending
+    ensures told { IsFaultTold (sinks K.Sink out.old out.new) (line_of_refusal error.now) (ending_of_refusal error.now) result }
+    ensures same { K.tells out.new ≡ K.tells out.old }
+    ensures later { K.faults out.old ≤ K.faults out.new }
+{
+    let Ok(line) = refusal_line(alloc, error) else {
+        return Ending::Memory;
+    };
+    match write(out, line.as_slice()) {
+        Ok(()) => ending_of(error),
+        Err(ending) => ending,
+    }
+}
+
+/// A roster has its form. It does nothing.
+fn is_formed(roster: &Roster)
+    ensures { IsRoster roster.now }
+{
+    roster.entries();
+}
+
+/// A run that is over: its disk, and how it ended.
+#[derive(Drop)]
+struct Ran<D> {
+    disk: D,
+    ending: Ending,
+}
+
+/// How a script ended.
+fn ended(played: Result<(), Ending>) -> Ending
+    ensures { result ≡ ending_by played }
+{
+    match played {
+        Ok(()) => Ending::Done,
+        Err(ending) => ending,
+    }
+}
+
+/// Runs a script over a disk, and gives the disk back.
+fn run_over<D: Disk, F: Shelf, K: Sink, S: Scheme, G: Signer<Of = S>>(
+    alloc: Global,
+    disk: D,
+    roster: Roster,
+    scheme: S,
+    signer: G,
+    me: NodeId,
+    script: &Script,
+    shelf: &mut F,
+    out: &mut K,
+) -> Ran<D>
+    ensures file { IsTrue (D.tells disk) → KeepsFile (record { verifies = S.verifies; me = me; listed = roster }) (disks D.Disk disk result.disk) }
+    ensures stable { IsTrue (D.tells disk) → (result.ending ≡ Ending.Done) ⊎ (result.ending ≡ Ending.Limit) → (image : List ℕ) → D.may_leave result.disk image → GoesOn (record { verifies = S.verifies; me = me; listed = roster }) (D.seen disk) image }
+    ensures begins { Begins (record { verifies = S.verifies; me = me; listed = roster }) (G.key_of signer) (disks D.Disk disk result.disk) (shelves F.Shelf shelf.old shelf.new) (sinks K.Sink out.old out.new) result.ending }
+    ensures answers { AnswersScript (record { verifies = S.verifies; me = me; listed = roster }) (G.key_of signer) (G.signature_of signer) script.now (disks D.Disk disk result.disk) (shelves F.Shelf shelf.old shelf.new) (sinks K.Sink out.old out.new) result.ending }
+    ensures disk_failed { result.ending ≡ Ending.Disk → D.faults disk < D.faults result.disk }
+    ensures disk_later { D.faults disk ≤ D.faults result.disk }
+    ensures same_disk { D.tells result.disk ≡ D.tells disk }
+    ensures handle { D.handle result.disk ≡ D.handle disk }
+    ensures sink_failed { result.ending ≡ Ending.Sink → K.faults out.old < K.faults out.new }
+    ensures sink_later { K.faults out.old ≤ K.faults out.new }
+    ensures same_sink { K.tells out.new ≡ K.tells out.old }
+    ensures shelf { TellsShelf (F.faults shelf.old) (F.faults shelf.new) (Err result.ending) }
+    ensures same_shelf { F.tells shelf.new ≡ F.tells shelf.old }
+{
+    is_formed(&roster);
+    let mut node = match Node::start(alloc, disk, roster, scheme, signer, me) {
+        Ok(node) => node,
+        Err(Back { error, disk }) => {
+            let ending = refused(alloc, &error, out);
+            return Ran { disk, ending };
+        }
+    };
+    let played = play(alloc, &mut node, script.as_slice(), shelf, out);
+    Ran {
+        disk: node.into_disk(),
+        ending: ended(played),
+    }
+}
+
+/// Runs a script: starts the node `me` of a roster from the journal on a disk, and carries out the commands, one after the other, up to the
+/// first that ends the run. Files are loaded from the shelf and stored on it, and each command is told on the sink once it is done.
+///
+/// Want of memory and faults of the disk, the shelf and the sink cut a run short; a start that is refused is told, and the disk's file then
+/// reads as before. The lines are those of docs/FORMATS.md ("Scripts").
+pub fn run<D: Disk, F: Shelf, K: Sink, S: Scheme, G: Signer<Of = S>>(
+    alloc: Global,
+    disk: &mut D,
+    roster: Roster,
+    scheme: S,
+    signer: G,
+    me: NodeId,
+    script: &Script,
+    shelf: &mut F,
+    out: &mut K,
+) -> Ending
+    // What a stop at any moment of the run leaves on the disk it left before, or it is a lawful journal that begins with the one that was
+    // there; and so is all that it leaves afterwards, where the script ended or met a limit.
+    ensures file { IsTrue (D.tells disk.old) → KeepsFile (record { verifies = S.verifies; me = me; listed = roster }) (disks D.Disk disk.old disk.new) }
+    ensures stable { IsTrue (D.tells disk.old) → (result ≡ Ending.Done) ⊎ (result ≡ Ending.Limit) → (image : List ℕ) → D.may_leave disk.new image → GoesOn (record { verifies = S.verifies; me = me; listed = roster }) (D.seen disk.old) image }
+
+    // The node is refused, for its key, its roster or its journal, or it starts.
+    ensures begins { Begins (record { verifies = S.verifies; me = me; listed = roster }) (G.key_of signer) (disks D.Disk disk.old disk.new) (shelves F.Shelf shelf.old shelf.new) (sinks K.Sink out.old out.new) result }
+
+    // Over a lawful journal of this node, or none, lines, files, journal and ending are those of the definition, or the run is cut short.
+    ensures answers { AnswersScript (record { verifies = S.verifies; me = me; listed = roster }) (G.key_of signer) (G.signature_of signer) script.now (disks D.Disk disk.old disk.new) (shelves F.Shelf shelf.old shelf.new) (sinks K.Sink out.old out.new) result }
+
+    // A fault of the disk or the sink is answered only where its count rose, which never falls.
+    ensures disk_failed { result ≡ Ending.Disk → D.faults disk.old < D.faults disk.new }
+    ensures sink_failed { result ≡ Ending.Sink → K.faults out.old < K.faults out.new }
+    ensures disk_later { D.faults disk.old ≤ D.faults disk.new }
+    ensures shelf { TellsShelf (F.faults shelf.old) (F.faults shelf.new) (Err result) }
+    ensures sink_later { K.faults out.old ≤ K.faults out.new }
+    ensures same_disk { D.tells disk.new ≡ D.tells disk.old }
+    ensures same_shelf { F.tells shelf.new ≡ F.tells shelf.old }
+    ensures same_sink { K.tells out.new ≡ K.tells out.old }
+{
+    run_over(alloc, disk, roster, scheme, signer, me, script, shelf, out).ending
+}

@@ -1,0 +1,117 @@
+//! What a session writes and stores.
+ghost use Rattle.std.specs.Prelude.{◌≡◌, ◌<◌, ◌≤◌, ◌⊎◌, ◌++◌, ℕ, List, Some, None, IfOk, IfSome, IfErr, IsTrue, codes, take};
+ghost use Rattle.depot_outside.specs.Told.{LacksFile, WhereTold, Wrote, shelves, sinks};
+ghost use Rattle.depot_schedule.specs.Language.{join};
+ghost use Rattle.depot_script.specs.Scripts.{command_words};
+ghost use Rattle.depot_session.specs.Sessions.{printed_count, shelf_line, stored};
+ghost use Rattle.depot_session.specs.Runs.{disk_line};
+ghost use Rattle.depot_session.specs.Telling.{IsFaultTold, IsLoaded, Stores, Tells, TellsShelf};
+
+use crate::ending::Ending;
+use crate::heads::head;
+use depot_base::{Bytes, Memory};
+use depot_outside::{OutError, Shelf, Sink};
+use depot_script::{Command, FileName};
+use std::alloc::Global;
+
+/// Writes a text.
+pub fn write<K: Sink>(out: &mut K, text: &[u8]) -> Result<(), Ending>
+    ensures tells { Tells (sinks K.Sink out.old out.new) text.now None result }
+    ensures same { K.tells out.new ≡ K.tells out.old }
+    ensures later { K.faults out.old ≤ K.faults out.new }
+{
+    match out.write(text) {
+        Ok(()) => Ok(()),
+        Err(OutError::Memory) => Err(Ending::Memory),
+        Err(OutError::Failed) => Err(Ending::Sink),
+    }
+}
+
+/// Writes the lines of a command that was carried out, `lines` those behind the arrow, and answers how it ends the run.
+#[tactic(auto, using(depot_base::proofs::Writing::texts))]
+pub fn tell<K: Sink>(
+    alloc: Global,
+    command: &Command,
+    lines: &Bytes,
+    ends: Option<Ending>,
+    out: &mut K,
+) -> Result<(), Ending>
+    ensures tells { Tells (sinks K.Sink out.old out.new) (join 32 (take (printed_count command.now) (command_words command.now)) ++ codes " ->" ++ lines.now) ends result }
+    ensures same { K.tells out.new ≡ K.tells out.old }
+    ensures later { K.faults out.old ≤ K.faults out.new }
+{
+    let mut text = Bytes::new(alloc);
+    head(alloc, &mut text, command)?;
+    text.push_all(lines.as_slice())?;
+    write(out, text.as_slice())?;
+    match ends {
+        None => Ok(()),
+        Some(ending) => Err(ending),
+    }
+}
+
+/// Tells that the disk failed.
+pub fn disk_failed<K: Sink>(out: &mut K) -> Ending
+    ensures told { IsFaultTold (sinks K.Sink out.old out.new) disk_line Ending.Disk result }
+    ensures same { K.tells out.new ≡ K.tells out.old }
+    ensures later { K.faults out.old ≤ K.faults out.new }
+{
+    match write(out, b"disk\n") {
+        Ok(()) => Ending::Disk,
+        Err(ending) => ending,
+    }
+}
+
+/// Tells that a file isn't on the shelf, or that the shelf failed.
+pub fn no_file<K: Sink>(alloc: Global, name: &FileName, out: &mut K) -> Ending
+    ensures told { IsFaultTold (sinks K.Sink out.old out.new) (shelf_line name.now) Ending.Shelf result }
+    ensures same { K.tells out.new ≡ K.tells out.old }
+    ensures later { K.faults out.old ≤ K.faults out.new }
+{
+    let name = name.text();
+    let Ok(line) = format!(in alloc; "shelf {name}\n") else {
+        return Ending::Memory;
+    };
+    match write(out, line.as_bytes()) {
+        Ok(()) => Ending::Shelf,
+        Err(ending) => ending,
+    }
+}
+
+/// The file of that name, or None where it can't be had: it isn't on the shelf, or the shelf failed.
+pub fn load<F: Shelf>(shelf: &mut F, name: &FileName) -> Result<Option<Bytes>, Memory>
+    ensures loaded { IfOk result (IsLoaded (shelves F.Shelf shelf.old shelf.new) name.now) }
+    ensures files { F.file shelf.new ≡ F.file shelf.old }
+    ensures tells { F.tells shelf.new ≡ F.tells shelf.old }
+    ensures later { F.faults shelf.old ≤ F.faults shelf.new }
+    ensures quiet { IfOk result (λ found. IfSome found (λ _. F.faults shelf.new ≡ F.faults shelf.old)) }
+{
+    match shelf.load(name.text()) {
+        Ok(found) => Ok(found),
+        Err(OutError::Failed) => Ok(None),
+        Err(OutError::Memory) => Err(Memory),
+    }
+}
+
+/// Stores bytes under a name and then writes the lines of the command that made them, `lines` those behind the arrow.
+pub fn store_and_tell<F: Shelf, K: Sink>(
+    alloc: Global,
+    command: &Command,
+    lines: &Bytes,
+    file: &FileName,
+    bytes: &Bytes,
+    shelf: &mut F,
+    out: &mut K,
+) -> Result<(), Ending>
+    ensures stores { Stores (shelves F.Shelf shelf.old shelf.new) (sinks K.Sink out.old out.new) (join 32 (take (printed_count command.now) (command_words command.now)) ++ codes " ->" ++ lines.now) file.now bytes.now result }
+    ensures same_shelf { F.tells shelf.new ≡ F.tells shelf.old }
+    ensures shelf { TellsShelf (F.faults shelf.old) (F.faults shelf.new) result }
+    ensures same { K.tells out.new ≡ K.tells out.old }
+    ensures later { K.faults out.old ≤ K.faults out.new }
+{
+    match shelf.store(file.text(), bytes.as_slice()) {
+        Ok(()) => tell(alloc, command, lines, None, out),
+        Err(OutError::Memory) => Err(Ending::Memory),
+        Err(OutError::Failed) => Err(no_file(alloc, file, out)),
+    }
+}

@@ -1,0 +1,51 @@
+-- Whatever a correct node does, its journal keeps its records.
+use Rattle.std.proofs.Common.{ℕ, List, [], ◌∷◌, ◌++◌, Option, Some, None, refl}
+use Rattle.depot_base.specs.declared.record.Record.{Record}
+use Rattle.depot_base.specs.declared.record.Record.TheVariants.{OwnPut}
+use Rattle.depot_model.specs.Bundle.{Signs, BundleAnswer, bundled, bad_hello, other_roster, limited, bundle_answer}
+use Rattle.depot_model.specs.Checks.{Setting}
+use Rattle.depot_model.specs.Feeding.{feeding_from}
+use Rattle.depot_model.specs.Limits.{Limit, limit_of_put}
+use Rattle.depot_model.specs.Own.{next_own}
+use Rattle.depot_model.specs.Vouching.{records_of}
+use Rattle.depot_model.specs.World.{Correct}
+use Rattle.depot_model.proofs.FeedGrowth.{IsGrown, grown_none, feed_grows}
+use Rattle.depot_answers.specs.Answers.{text_of_limit, text_of_put}
+use Rattle.depot_world.specs.Deeds.{idle, grown, put_by, get_by, hello_by, bundle_with, bundle_by, give_by, restart_by}
+use Rattle.depot_world.specs.Stops.{Deed}
+
+pub put_grows : (here : Setting) (c : Correct) (key value : List ℕ) → IsGrown c.journal (put_by here c key value).journal
+unfolding put_by
+put_grows here c key value = by_limit (limit_of_put here c.journal key value) where
+  by_limit : (o : Option Limit) → IsGrown c.journal (elim o as (λ x. Deed) [
+    | Some limit ↦ idle c (text_of_limit limit)
+    | None ↦ grown c (c.journal ++ OwnPut (next_own c.node c.journal key value) value ∷ []) (text_of_put (next_own c.node c.journal key value)) []
+  ]).journal
+  by_limit (Some limit) = grown_none c.journal
+  by_limit None = record { more = OwnPut (next_own c.node c.journal key value) value ∷ []; is = refl }
+
+pub get_grows : (c : Correct) (key : List ℕ) → IsGrown c.journal (get_by c key).journal
+unfolding get_by
+get_grows c key = grown_none c.journal
+
+pub hello_grows : (here : Setting) (c : Correct) → IsGrown c.journal (hello_by here c).journal
+unfolding hello_by
+hello_grows here c = grown_none c.journal
+
+answer_grows : (c : Correct) (a : BundleAnswer) → IsGrown c.journal (bundle_with c a).journal
+answer_grows c (bundled b) = record { more = records_of b.vouchers; is = refl }
+answer_grows c (bad_hello at) = grown_none c.journal
+answer_grows c (other_roster given) = grown_none c.journal
+answer_grows c (limited limit) = grown_none c.journal
+
+pub bundle_grows : (here : Setting) (sign : Signs) (c : Correct) (hello : List ℕ) → IsGrown c.journal (bundle_by here sign c hello).journal
+unfolding bundle_by
+bundle_grows here sign c hello = answer_grows c (bundle_answer here sign c.journal hello)
+
+pub give_grows : (here : Setting) (c : Correct) (stream : List ℕ) → IsGrown c.journal (give_by here c stream).journal
+unfolding give_by
+give_grows here c stream = feed_grows here (feeding_from c.journal) stream
+
+pub restart_grows : (c : Correct) → IsGrown c.journal (restart_by c).journal
+unfolding restart_by
+restart_grows c = grown_none c.journal
