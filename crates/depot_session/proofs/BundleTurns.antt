@@ -1,5 +1,5 @@
 -- How the command of a bundle turns out.
-use Rattle.std.proofs.Common.{◌≡◌, ◌<◌, ◌≤◌, ℕ, false, IsTrue, List, [], ◌++◌, Option, Some, None, Result, Ok, Err, refl, sym, ap, subst, ◌∙◌, codes, take, inr}
+use Rattle.std.proofs.Common.{◌≡◌, ◌<◌, ◌≤◌, ℕ, false, IsTrue, List, [], ◌++◌, Option, Some, None, Result, Ok, Err, refl, sym, ap, subst, ◌∙◌, codes, take, inl, inr}
 use Rattle.std.specs.Prelude.{IsErrOf}
 use Rattle.std.proofs.lemmas.List.{append-nil}
 use Rattle.depot_base.specs.declared.record.Record.{Record}
@@ -23,8 +23,8 @@ use Rattle.depot_session.specs.declared.ending.Ending.{Ending}
 use Rattle.depot_session.specs.declared.ending.Ending.TheVariants as ending
 use Rattle.depot_session.specs.Runs.{disk_line}
 use Rattle.depot_session.specs.Sessions.{Session, Step, absent, bundle_step, bundle_to, ending_of_bundle, lines_of_command, printed_count, step_of, stored}
-use Rattle.depot_session.specs.Telling.{IsFaultTold, Stores, Tells}
-use Rattle.depot_session.specs.Turns.{IsAt, IsUnchanged, Turns}
+use Rattle.depot_session.specs.Telling.{IsFaultTold, IsUnchanged, Stores, Tells}
+use Rattle.depot_session.specs.Turns.{IsAt, Turns}
 use Rattle.depot_session.proofs.Keeping.{NeedsNone}
 use Rattle.depot_session.proofs.Leaving.{leaves_front}
 use Rattle.depot_session.proofs.Stepping.{stored_alike, stored_told}
@@ -150,26 +150,26 @@ module _ {N O : Type 0} (g : Ghosts N O) (counts_now : (v : N) (t : ℕ) (image 
 
   -- no memory was found behind the call
   pub made_without_memory : (sink : Sinks) → IsUnchanged shelf → Wrote sink [] → Turns g old new (command.Bundle hello file) made_step shelf sink (Err ending.Memory)
-  made_without_memory sink unchanged wrote = inr (without_memory g old new (command.Bundle hello file) made_step shelf sink (journaled_for answer) journal leaves (λ name _. unchanged name) wrote)
+  made_without_memory sink unchanged wrote = inr (without_memory g old new (command.Bundle hello file) made_step shelf sink (journaled_for answer) journal leaves (λ name. inl (unchanged name)) wrote)
 
   -- the disk failed in the call
   pub made_to_disk : (sink : Sinks) (e : Ending) → IsUnchanged shelf → g.faults old < g.faults new → IsFaultTold sink disk_line ending.Disk e → Turns g old new (command.Bundle hello file) made_step shelf sink (Err e)
-  made_to_disk sink e unchanged rose t = inr (disk_told g old new (command.Bundle hello file) made_step shelf sink (journaled_for answer) journal leaves (λ name _. unchanged name) e rose t)
+  made_to_disk sink e unchanged rose t = inr (disk_told g old new (command.Bundle hello file) made_step shelf sink (journaled_for answer) journal leaves (λ name. inl (unchanged name)) e rose t)
 
   -- no bundle was made, and it was told or not
   pub refused_told : (sink : Sinks) (ends : Option Ending) (lines : List ℕ) (r : Result (Unit {0}) Ending) → IsUnchanged shelf → g.stopped new ≡ false → g.records new ≡ g.records old ++ journaled_for answer → ends ≡ ending_of_bundle answer → (ends ≡ None → ⊥) → lines ≡ lines_of_deed deed
       → Tells sink (join 32 (take (printed_count (command.Bundle hello file)) (command_words (command.Bundle hello file))) ++ codes " ->" ++ lines) ends r → Turns g old new (command.Bundle hello file) made_step shelf sink r
   refused_told sink ends lines r unchanged goes grown ends_is not lines_is t =
-      told g old new (command.Bundle hello file) made_step shelf sink (journaled_for answer) journal leaves (λ name _. unchanged name) ends r
+      told g old new (command.Bundle hello file) made_step shelf sink (journaled_for answer) journal leaves (λ name. inl (unchanged name)) goes (grown ∙ sym journal)
+      (λ other. unchanged other ∙ at.same_files other ∙ sym (step_stores_none s hello file deed answer other (λ none. not (ends_is ∙ none))) ∙ ap (λ (x : Step). x.session.files other) (sym is)) lasts.stable ends r
       (ap (λ (x : Step). x.ending) is ∙ step_ending s hello file deed answer ∙ sym ends_is)
-      (λ wrote. record { runs = goes; journal = grown ∙ sym journal; files = λ other. unchanged other ∙ at.same_files other ∙ sym (step_stores_none s hello file deed answer other (λ none. not (ends_is ∙ none))) ∙ ap (λ (x : Step). x.session.files other) (sym is); wrote = wrote })
       (subst (λ (x : List ℕ). Tells sink x ends r) (ap (λ (x : List ℕ). join 32 (take (printed_count (command.Bundle hello file)) (command_words (command.Bundle hello file))) ++ codes " ->" ++ x) lines_is ∙ sym text_is) t)
 
   -- a bundle was made and stored, and it was told or not
   pub bundle_told : (sink : Sinks) (lines bytes : List ℕ) (r : Result (Unit {0}) Ending) → g.stopped new ≡ false → g.records new ≡ g.records old ++ journaled_for answer → ending_of_bundle answer ≡ None → lines ≡ lines_of_deed deed → bytes ≡ deed.bytes → IsTrue shelf.tells
       → Stores shelf sink (join 32 (take (printed_count (command.Bundle hello file)) (command_words (command.Bundle hello file))) ++ codes " ->" ++ lines) file bytes r → Turns g old new (command.Bundle hello file) made_step shelf sink r
   bundle_told sink lines bytes r goes grown goes_on lines_is bytes_is tells st =
-      stored_told g old new (command.Bundle hello file) made_step shelf sink (journaled_for answer) journal leaves file bytes (λ other same. same) r
-      (ap (λ (x : Step). x.ending) is ∙ step_ending s hello file deed answer ∙ goes_on) goes (grown ∙ sym journal)
+      stored_told g old new (command.Bundle hello file) made_step shelf sink (journaled_for answer) journal leaves file bytes (λ other same. same)
+      (ap (λ (x : Step). x.ending) is ∙ step_ending s hello file deed answer ∙ goes_on) goes (grown ∙ sym journal) lasts.stable r
       (λ other. ap (λ (x : Step). x.session.files other) is ∙ step_stores s hello file deed answer other goes_on ∙ stored_alike s.files shelf.file file deed.bytes bytes (λ name. sym (at.same_files name)) (sym bytes_is) other) tells
       (subst (λ (x : List ℕ). Stores shelf sink x file bytes r) (ap (λ (x : List ℕ). join 32 (take (printed_count (command.Bundle hello file)) (command_words (command.Bundle hello file))) ++ codes " ->" ++ x) lines_is ∙ sym text_is) st)

@@ -18,7 +18,7 @@ use Rattle.depot_session.specs.Sessions.{Session, printed_count, step_of, stored
 use Rattle.depot_session.specs.Telling.{Stores}
 use Rattle.depot_session.specs.Turns.{IsAt, IsRunning, Turns}
 use Rattle.depot_session.proofs.StepGrowth.{step_grows}
-use Rattle.depot_session.proofs.Stepping.{brings_uncalled, leaves_uncalled, stored_alike, stored_told}
+use Rattle.depot_session.proofs.Stepping.{brings_uncalled, leaves_uncalled, stable, stored_alike, stored_told}
 
 -- the text of the step is that of the command and the line of the hello
 hello_text : (here : Setting) (sign : Signs) (s : Session) (J : List Record) (file line : List ℕ) → s.correct.journal ≡ J → line ≡ ended (spaced (text_of_named (hello_of here J)))
@@ -51,5 +51,5 @@ hello_turns g v s file text line shelf sink r running at text_is line_is tells s
     let c = command.Hello file in
     let step = step_of here sign s c in
     let grown = step_grows here sign s c in
-    stored_told g v v c step shelf sink grown.more (brings_uncalled g v s running at.journal c step grown) (leaves_uncalled g v s running at.journal c step grown) file text (λ other is. is) r (hello_goes_on here sign s file) running.runs (sym at.journal ∙ hello_keeps here sign s file)
-    (hello_files here sign s (g.records v) file text shelf.file at.journal text_is at.same_files) tells (subst (λ (x : List ℕ). Stores shelf sink x file text r) (hello_text here sign s (g.records v) file line at.journal line_is) st)
+    stored_told g v v c step shelf sink grown.more (brings_uncalled g v s running at.journal c step grown) (leaves_uncalled g v s running at.journal c step grown) file text (λ other is. is) (hello_goes_on here sign s file) running.runs (sym at.journal ∙ hello_keeps here sign s file)
+    (stable g v s running at.journal c step grown) r (hello_files here sign s (g.records v) file text shelf.file at.journal text_is at.same_files) tells (subst (λ (x : List ℕ). Stores shelf sink x file text r) (hello_text here sign s (g.records v) file line at.journal line_is) st)

@@ -81,8 +81,9 @@ module _ (sink : Sinks) (disk_rose : Type 0) (later : sink.faults_before ≤ sin
   -- bytes were stored, and then the lines were told
   pub by_stored : (shelf : Shelves) (text name bytes : List ℕ) (result : Result (Unit {0}) Ending) → Stores shelf sink text name bytes result → HasReason sink disk_rose result
   by_stored shelf text name bytes (Ok done) st = goes_on done
-  by_stored shelf text name bytes (Err e) (others, inl u) = by_unwritten text e u
-  by_stored shelf text name bytes (Err e) (others, inr h) = by_shelf_told (shelf_line name) e h.told
+  by_stored shelf text name bytes (Err e) (others, inl st) = by_unwritten text e st.1
+  by_stored shelf text name bytes (Err e) (others, inr (inl idle)) = subst (λ (x : Ending). HasReason sink disk_rose (Err x)) (sym idle.1.0) (by_none ending.Memory tt)
+  by_stored shelf text name bytes (Err e) (others, inr (inr h)) = by_shelf_told (shelf_line name) e h.told
 
 -- an error for want of memory
 pub memory_alone : (r : Result (Unit {0}) Ending) → IsErrAnd r (λ e. e ≡ ending.Memory) → r ≡ Err ending.Memory

@@ -1,12 +1,11 @@
 -- What a stop leaves after a call on a node.
-use Rattle.std.proofs.Common.{◌≡◌, ◌≤◌, ℕ, Bool, true, false, IsTrue, List, [], ◌++◌, length, map, take, refl, sym, ap, subst, ◌∙◌}
+use Rattle.std.proofs.Common.{◌≡◌, ◌≤◌, ℕ, Bool, false, IsTrue, List, ◌++◌, map, refl, sym, ap, subst, ◌∙◌}
 use Rattle.std.proofs.lemmas.List.{append-nil}
 use Rattle.depot_base.specs.File.{IsFileOf}
 use Rattle.depot_base.specs.declared.record.Record.{Record}
 use Rattle.depot_model.specs.Checks.{Setting}
-use Rattle.depot_model.specs.Lawful.{IsLawful}
 use Rattle.depot_model.specs.Records.{text_of_record}
-use Rattle.depot_model.specs.Stops.{HasAll, HasFront, HasRecords, Lasts, LeavesAll}
+use Rattle.depot_model.specs.Stops.{HasAll, HasFront, HasRecords, Lasts}
 use Rattle.depot_gossip.specs.Lasting.{IsToAppend, LastsIn}
 
 -- all records of a node that runs

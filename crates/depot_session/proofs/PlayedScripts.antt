@@ -3,6 +3,8 @@ use Rattle.std.proofs.Common.{◌≡◌, ◌≤◌, ◌<◌, ◌⊎◌, ℕ, suc
 use Rattle.std.specs.Prelude.{is_err}
 use Rattle.std.proofs.lemmas.List.{append-nil, take_all, take_more, take-append-le}
 use Rattle.std.proofs.Math.Seq.{take-append_seam}
+use Rattle.std.proofs.lemmas.List.Concat.{flat_map-append}
+use Rattle.std.specs.List.{flat_map}
 use Rattle.depot_base.specs.declared.record.Record.{Record}
 use Rattle.depot_gossip.specs.Lasting.{LastsIn}
 use Rattle.depot_gossip.proofs.LastingLaws.{joined_in, nothing_in}
@@ -19,10 +21,10 @@ use Rattle.depot_outside.specs.declared.sink.Sink as sink_of
 use Rattle.depot_script.specs.declared.command.Command.{Command}
 use Rattle.depot_session.specs.declared.ending.Ending.{Ending}
 use Rattle.depot_session.specs.declared.ending.Ending.TheVariants as ending
-use Rattle.depot_session.specs.Sessions.{Answers, Session, answers_of, step_of}
-use Rattle.depot_session.specs.Runs.{IsCutBy, world_at}
+use Rattle.depot_session.specs.Sessions.{Answers, Session, answers_of, loads_of, step_of}
+use Rattle.depot_session.specs.Runs.{IsCutBy, IsLast, IsToBeWritten, Pending, pending_for, world_at}
 use Rattle.depot_session.specs.Telling.{TellsShelf}
-use Rattle.depot_session.specs.Turns.{IsAt, IsBroken, IsPlayed, IsPlayedInPart, IsRunning, Keeps, Plays, Steps, Turns}
+use Rattle.depot_session.specs.Turns.{IsAt, IsBroken, IsPlayed, IsPlayedInPart, IsRunning, Keeps, LeftBy, Plays, Steps, Turns}
 use Rattle.depot_session.proofs.CorrectSteps.{step_is_correct}
 use Rattle.depot_session.proofs.StepGrowth.{step_stays}
 use Rattle.depot_session.proofs.GoingOn.{GoOn, all_done, ended_answers, go_on_more, more_answers, script_grows}
@@ -82,6 +84,25 @@ cut_from late early shelf_late shelf_early sink_late sink_early ending.Input dis
 cut_from late early shelf_late shelf_early sink_late sink_early ending.Limit disk shelf sink cut = absurd cut
 cut_from late early shelf_late shelf_early sink_late sink_early ending.NotLawful disk shelf sink cut = absurd cut
 cut_from late early shelf_late shelf_early sink_late sink_early ending.Identity disk shelf sink cut = absurd cut
+
+-- what was to be written where less had failed, and where less stood, was to be written
+to_be_written_so : (a b : Pending) → ((name : List ℕ) → a.names name → b.names name) → a.text ≡ b.text → (a.stands → b.stands) → (a.disk_failed → b.disk_failed) → (a.shelf_failed → b.shelf_failed) → (line : List ℕ) → IsToBeWritten a line → IsToBeWritten b line
+to_be_written_so a b names text stands disk shelf line (inl own) = inl (stands own.0, own.1 ∙ text)
+to_be_written_so a b names text stands disk shelf line (inr (inl failed)) = inr (inl (disk failed.0, failed.1))
+to_be_written_so a b names text stands disk shelf line (inr (inr failed)) = inr (inr (shelf failed.0, (failed.1.0, (names failed.1.0 failed.1.1.0, failed.1.1.1))))
+
+-- and what stands at last does then
+pub last_so : (a b : Pending) → ((name : List ℕ) → a.names name → b.names name) → a.text ≡ b.text → (a.stands → b.stands) → (a.disk_failed → b.disk_failed) → (a.shelf_failed → b.shelf_failed) → (e : Ending) (last : List ℕ) → IsLast a e last → IsLast b e last
+last_so a b names text stands disk shelf ending.Sink last (inl none) = inl none
+last_so a b names text stands disk shelf ending.Sink last (inr front) = inr (front.0, (to_be_written_so a b names text stands disk shelf front.0 front.1.0, front.1.1))
+last_so a b names text stands disk shelf ending.Shelf last is = (is.0, (names is.0 is.1.0, is.1.1))
+last_so a b names text stands disk shelf ending.Disk last is = is
+last_so a b names text stands disk shelf ending.Memory last is = is
+last_so a b names text stands disk shelf ending.Done last is = is
+last_so a b names text stands disk shelf ending.Input last is = is
+last_so a b names text stands disk shelf ending.Limit last is = is
+last_so a b names text stands disk shelf ending.NotLawful last is = is
+last_so a b names text stands disk shelf ending.Identity last is = is
 
 -- a text behind another one
 text_behind : (told told_now : Bool) (old mid new a b : List ℕ) → told_now ≡ told → (IsTrue told → mid ≡ old ++ a) → (IsTrue told_now → new ≡ mid ++ b) → IsTrue told → new ≡ old ++ (a ++ b)
@@ -189,13 +210,21 @@ module _ {N O F K : Type 0} (g : Ghosts N O) (f : shelf_of.Ghosts F) (k : sink_o
           parts = refl;
           went_on = all_done here sign s done are.go_on;
           last = b.last;
-          last_is = b.last_is;
+          correct = are.correct;
+          last_is = last_so (pending_for c step (LeftBy g mid new) (g.faults mid < g.faults new) (shelves f shelf_mid shelf_new)) (pending_for c step (LeftBy g first new) (g.faults first < g.faults new) (shelves f shelf_first shelf_new)) (λ name named. named) refl
+              (λ stands. record { journal = λ image left. stands.journal image (left_then image left); files = stands.files }) (λ rose. omega (arith, kept.disk_later, rose)) (λ rose. omega (arith, kept.quiet, rose)) e b.last b.last_is;
           wrote = text_behind (k.tells out_first) (k.tells out_mid) (k.written out_first) (k.written out_mid) (k.written out_new) was.text b.last kept.same_sink are.wrote b.wrote;
           more = b.more ++ grown.more;
           brings = grown.is ∙ ap (λ (x : List Record). x ++ grown.more) (b.brings ∙ ap (λ (x : List Record). x ++ b.more) (sym are.at.journal)) ∙ append_assoc was.session.correct.journal b.more grown.more;
           leaves = λ t image left. front_longer was.session.correct.journal b.more grown.more image (subst (λ (J : List Record). HasFront J b.more image) (sym are.at.journal) (b.leaves (subst (λ (x : Bool). IsTrue x) (sym kept.lasts.lasts.told) t) image left));
-          files = λ name other. b.files name other ∙ are.at.same_files name;
+          files = λ name. elim (b.files name) [
+            | inl same ↦ inl (same ∙ are.at.same_files name)
+            | inr handed ↦ inr (record { stores = handed.stores; goes_on = handed.goes_on; journal = λ image left. handed.journal image (left_then image left) })
+          ];
         }
+      where
+        left_then : (image : List ℕ) → LeftBy g first new image → LeftBy g mid new image
+        left_then image left = (subst (λ (x : Bool). IsTrue x) (sym kept.lasts.lasts.told) left.0, left.1)
 
     stopped_at : (rest : List Command) (e : Ending) → g.stands new ≡ g.stands mid → Turns g mid new c (step_of (g.stands first) (g.signature_of first) (answers_of (g.stands first) (g.signature_of first) s done).session c) (shelves f shelf_mid shelf_new) (sinks k out_mid out_new) (Err e)
         → Plays g first new (g.stands first) (g.signature_of first) s (done ++ c ∷ rest) (shelves f shelf_first shelf_new) (sinks k out_first out_new) (Err e)
@@ -274,3 +303,14 @@ tells_of_stop first mid new r quiet t = subst (λ (n : ℕ). TellsShelf n new r)
 -- it was quiet all the time
 pub tells_of_end : (first now : ℕ) → now ≡ first → TellsShelf first now (Ok tt)
 tells_of_end first now quiet = record { never_falls = omega (arith, quiet); quiet = λ _. quiet }
+
+-- ---- the files that are loaded
+
+-- what so many commands and one more load
+one_more_loads : (cs : List Command) (i : ℕ) (c : Command) → i < length cs → c ≡ get_or cs i c → flat_map loads_of (take (i + 1) cs) ≡ flat_map loads_of (take i cs) ++ loads_of c
+one_more_loads cs i c within is = ap (flat_map loads_of) (next_command cs i c within is) ∙ flat_map-append loads_of (take i cs) (c ∷ []) ∙ ap (λ (x : List (List ℕ)). flat_map loads_of (take i cs) ++ x) (append-nil (loads_of c))
+
+-- the next command loads its files
+pub loads_more : (cs : List Command) (i : ℕ) (c : Command) (first mid new : List (List ℕ)) → i < length cs → c ≡ get_or cs i c → mid ≡ first ++ flat_map loads_of (take i cs) → new ≡ mid ++ loads_of c → new ≡ first ++ flat_map loads_of (take (i + 1) cs)
+loads_more cs i c first mid new within is before more =
+    more ∙ ap (λ (x : List (List ℕ)). x ++ loads_of c) before ∙ append_assoc first (flat_map loads_of (take i cs)) (loads_of c) ∙ ap (λ (x : List (List ℕ)). first ++ x) (sym (one_more_loads cs i c within is))

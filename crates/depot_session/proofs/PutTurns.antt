@@ -1,5 +1,5 @@
 -- What a put makes of a node, of the shelf and of the sink.
-use Rattle.std.proofs.Common.{◌≡◌, ◌<◌, ◌≤◌, ℕ, Bool, true, false, IsTrue, List, [], ◌∷◌, ◌++◌, take, Option, Some, None, Result, Ok, Err, refl, sym, ap, subst, ◌∙◌, ◌↔◌, ⊎_elim, codes}
+use Rattle.std.proofs.Common.{◌≡◌, ◌<◌, ◌≤◌, ◌⊎◌, ℕ, Bool, true, false, IsTrue, List, [], ◌∷◌, ◌++◌, take, Option, Some, None, Result, Ok, Err, refl, sym, ap, subst, ◌∙◌, ◌↔◌, ⊎_elim, codes, inl}
 use Rattle.std.specs.Prelude.{IfErr, IsErrOf, is_err}
 use Rattle.std.proofs.lemmas.List.{append-nil}
 use Rattle.depot_base.specs.Sized.{IsKey, IsValue}
@@ -31,10 +31,10 @@ use Rattle.depot_script.specs.declared.command.Command.{Command}
 use Rattle.depot_script.specs.declared.command.Command.TheVariants as command
 use Rattle.depot_session.specs.declared.ending.Ending.{Ending}
 use Rattle.depot_session.specs.declared.ending.Ending.TheVariants as ending
-use Rattle.depot_session.specs.Runs.{disk_line}
-use Rattle.depot_session.specs.Sessions.{Session, Step, StoresAs, ending_of_put, printed_count, step_of}
-use Rattle.depot_session.specs.Telling.{IsFaultTold, Tells}
-use Rattle.depot_session.specs.Turns.{HasNoFault, IsAt, IsBroken, IsRunning, IsUnchanged, Keeps, Turns}
+use Rattle.depot_session.specs.Runs.{IsHandedOut, disk_line}
+use Rattle.depot_session.specs.Sessions.{Session, Step, ending_of_put, printed_count, step_of}
+use Rattle.depot_session.specs.Telling.{IsFaultTold, IsUnchanged, Tells}
+use Rattle.depot_session.specs.Turns.{HasNoFault, IsAt, IsBroken, IsRunning, Keeps, LeftBy, Turns}
 use Rattle.depot_session.proofs.Leaving.{leaves_front}
 use Rattle.depot_session.proofs.Told.{EndsCalmly, NamesFaults}
 use Rattle.depot_session.proofs.Turning.{disk_told, told, without_memory}
@@ -237,8 +237,8 @@ module _ {N O : Type 0} (g : Ghosts N O) (old new : N) (key value : List ℕ) (d
     leaves = leaves_front counts_now old new more running.runs lasts_more
 
     -- no file has changed
-    others : (name : List ℕ) → (StoresAs (command.Put key value) name → ⊥) → shelf.file_after name ≡ shelf.file name
-    others name _ = unchanged name
+    others : (name : List ℕ) → (shelf.file_after name ≡ shelf.file name) ⊎ IsHandedOut (LeftBy g old new) (command.Put key value) step name
+    others name = inl (unchanged name)
 
     -- no memory was found for what is printed of it
     pub put_unprinted : Wrote sink [] → IsBroken g old new c (step_of here sign s c) shelf sink ending.Memory
@@ -266,9 +266,5 @@ module _ {N O : Type 0} (g : Ghosts N O) (old new : N) (key value : List ℕ) (d
       ends_as = put_ends here sign s key value ∙ ap ending_of_put same_limit ∙ ends_by settled well ∙ sym ends_so
 
       so : Turns g old new (command.Put key value) step shelf sink r
-      so = told g old new (command.Put key value) step shelf sink more brings leaves others ends r ends_as (λ wrote. record {
-        runs = runs_by _ _ _ _ running.runs well stops;
-        journal = grown_by settled well ∙ sym brings;
-        files = λ name. unchanged name ∙ at.same_files name ∙ sym (put_files here sign s key value name);
-        wrote = wrote;
-      }) tells_so
+      so = told g old new (command.Put key value) step shelf sink more brings leaves others (runs_by _ _ _ _ running.runs well stops) (grown_by settled well ∙ sym brings)
+          (λ name. unchanged name ∙ at.same_files name ∙ sym (put_files here sign s key value name)) lasts.stable ends r ends_as tells_so

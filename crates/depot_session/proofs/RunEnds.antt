@@ -2,7 +2,6 @@
 use Rattle.std.proofs.Common.{◌≡◌, ◌≢◌, ◌<◌, ◌⊎◌, ℕ, zero, suc, Bool, true, false, IsTrue, List, [], ◌∷◌, ◌++◌, append_assoc, take, Result, Ok, Err, refl, sym, ap, subst, ◌∙◌, inl, inr}
 use Rattle.std.specs.Prelude.{IsErrOf}
 use Rattle.depot_base.specs.File.{IsFileOf}
-use Rattle.depot_base.specs.declared.key.PublicKey.{PublicKey}
 use Rattle.depot_base.specs.declared.record.Record.{Record}
 use Rattle.depot_model.specs.Bundle.{Signs}
 use Rattle.depot_model.specs.Checks.{Setting}
@@ -12,7 +11,7 @@ use Rattle.depot_model.specs.Stops.{HasAll, HasFront, HasRecords, LeavesAll}
 use Rattle.depot_model.specs.Texts.{IsRoster}
 use Rattle.depot_model.specs.World.{IsCorrect, Read}
 use Rattle.depot_model.specs.declared.replica.Replica.{Ghosts}
-use Rattle.depot_node.specs.Starting.{IsNotStarted, LeavesFile, birth_after, started}
+use Rattle.depot_node.specs.Starting.{LeavesFile, birth_after, started}
 use Rattle.depot_node.specs.declared.answer.StartError.{StartError}
 use Rattle.depot_node.specs.declared.answer.StartError.TheVariants as refused
 use Rattle.depot_node.proofs.Started.{started_has_one, started_is_lawful}
@@ -21,44 +20,14 @@ use Rattle.depot_script.specs.declared.command.Command.{Command}
 use Rattle.depot_world.proofs.GoodNodes.{read_grows}
 use Rattle.depot_session.specs.declared.ending.Ending.{Ending}
 use Rattle.depot_session.specs.declared.ending.Ending.TheVariants as ending
-use Rattle.depot_session.specs.Runs.{Answered, AreReadsOf, Begins, GoesShort, GoesWhole, HasFailed, IsCutBy, IsLast, IsRefused, LeavesFront, disk_line, ending_of_refusal, line_of_refusal, next_text, world_at}
+use Rattle.depot_session.specs.Runs.{Answered, AreReadsOf, GoesShort, GoesWhole, HasFailed, IsCutBy, IsLast, IsNextHandedOut, LeavesFront, Pending, disk_line, ending_of_refusal, line_of_refusal, pending_in, world_at}
 use Rattle.depot_session.specs.Sessions.{Files, Session, answers_of, session_from}
-use Rattle.depot_session.specs.Telling.{IsFaultTold, IsUnwritten}
-use Rattle.depot_session.specs.Turns.{HasNoFault, IsPlayed, IsPlayedInPart, Plays, ending_by}
+use Rattle.depot_session.specs.Telling.{IsFaultTold, IsUnchanged, IsUnwritten}
+use Rattle.depot_session.specs.Turns.{HasNoFault, IsPlayed, IsPlayedInPart, LeftBy, Plays, ending_by}
 use Rattle.depot_session.proofs.Leaving.{all_there}
+use Rattle.depot_session.proofs.PlayedScripts.{last_so}
 use Rattle.depot_session.proofs.RunImages.{birth_front}
 use Rattle.depot_session.proofs.StepGrowth.{answers_grow}
-
--- ---- a refusal
-
-unwritten_cuts : (failed : Type 0) (shelf : Shelves) (sink : Sinks) (line : List ℕ) (e : Ending) → IsUnwritten sink line e → IsCutBy failed shelf sink e
-unwritten_cuts failed shelf sink line ending.Memory u = tt
-unwritten_cuts failed shelf sink line ending.Sink u = u.0
-unwritten_cuts failed shelf sink line ending.Done u = absurd u
-unwritten_cuts failed shelf sink line ending.Input u = absurd u
-unwritten_cuts failed shelf sink line ending.Shelf u = absurd u
-unwritten_cuts failed shelf sink line ending.Disk u = absurd u
-unwritten_cuts failed shelf sink line ending.Limit u = absurd u
-unwritten_cuts failed shelf sink line ending.NotLawful u = absurd u
-unwritten_cuts failed shelf sink line ending.Identity u = absurd u
-
-module _ (here : Setting) (key : PublicKey) (disk : Disks) (shelf : Shelves) (sink : Sinks) where
-  told_refusal : (error : StartError) (e : Ending) → LeavesFile error → IsNotStarted here key (IsTrue disk.tells) disk.file error → (LeavesFile error → disk.file_after ≡ disk.file) → e ≡ ending_of_refusal error → Wrote sink (line_of_refusal error) → IsRefused here key disk sink e
-  told_refusal error e no_fault is same ends wrote = record { error = error; is = is; no_fault = no_fault; ending_is = ends; wrote = wrote; unchanged = same no_fault }
-
-  by_error : (error : StartError) (e : Ending) → IsNotStarted here key (IsTrue disk.tells) disk.file error → (LeavesFile error → disk.file_after ≡ disk.file) → (error ≡ refused.Disk → HasFailed disk) → e ≡ ending_of_refusal error → Wrote sink (line_of_refusal error) → Begins here key disk shelf sink e
-  by_error refused.Memory e is same failed ends wrote = inr (inr (subst (IsCutBy (HasFailed disk) shelf sink) (sym ends) tt))
-  by_error refused.Disk e is same failed ends wrote = inr (inr (subst (IsCutBy (HasFailed disk) shelf sink) (sym ends) (failed refl)))
-  by_error (refused.Damaged at) e is same failed ends wrote = inl (told_refusal (refused.Damaged at) e tt is same ends wrote)
-  by_error (refused.NotLawful place fault) e is same failed ends wrote = inl (told_refusal (refused.NotLawful place fault) e tt is same ends wrote)
-  by_error refused.UnknownMe e is same failed ends wrote = inl (told_refusal refused.UnknownMe e tt is same ends wrote)
-  by_error (refused.OtherKey roster signer) e is same failed ends wrote = inl (told_refusal (refused.OtherKey roster signer) e tt is same ends wrote)
-  by_error (refused.OtherNode node) e is same failed ends wrote = inl (told_refusal (refused.OtherNode node) e tt is same ends wrote)
-  by_error (refused.OtherRoster kept given) e is same failed ends wrote = inl (told_refusal (refused.OtherRoster kept given) e tt is same ends wrote)
-
-  pub begins_refused : (error : StartError) (e : Ending) → IsNotStarted here key (IsTrue disk.tells) disk.file error → (LeavesFile error → disk.file_after ≡ disk.file) → (error ≡ refused.Disk → HasFailed disk) → IsFaultTold sink (line_of_refusal error) (ending_of_refusal error) e → Begins here key disk shelf sink e
-  begins_refused error e is same failed (inl t) = by_error error e is same failed t.0 t.1
-  begins_refused error e is same failed (inr u) = inr (inr (unwritten_cuts (HasFailed disk) shelf sink (line_of_refusal error) e u))
 
 -- a front of a line was written, where the sink tells it
 front_written : (sink : Sinks) (line : List ℕ) → WroteFront sink line → (n : ℕ) × Wrote sink (take n line)
@@ -73,11 +42,20 @@ front_written sink line front = by_tells sink.tells front where
 
 module _ (here : Setting) (sign : Signs) (J : List Record) (reads : List Read) (commands : List Command) (disk : Disks) (shelf : Shelves) (sink : Sinks) (has : HasRecords J disk.file)
     (images : (image : List ℕ) → disk.may_leave_after image → disk.may_leave image ⊎ (IsFileOf disk.file [] × HasFront [] (birth_after here []) image)) (reads_as : disk.may_leave_after disk.file_after)
-    (longer : (a b : List Record) (image : List ℕ) → HasFront [] a image → HasFront [] (a ++ b) image) (same_files : (name : List ℕ) → shelf.file_after name ≡ shelf.file name) where
+    (longer : (a b : List Record) (image : List ℕ) → HasFront [] a image → HasFront [] (a ++ b) image) (same_files : IsUnchanged shelf) (correct : IsCorrect (world_at here) (session_from here J reads shelf.file).correct) where
   abbrev s : Session
   s = session_from here J reads shelf.file
 
-  cut_at_start : (e : Ending) (last : List ℕ) → IsCutBy (HasFailed disk) shelf sink e → IsLast (next_text here sign s commands) e last → Wrote sink last → GoesShort here sign J (session_from here J reads shelf.file) commands disk shelf sink e
+  -- what was pending
+  abbrev first : Pending
+  first = pending_in here sign s commands disk.may_leave_after (HasFailed disk) shelf
+
+  -- the faults that came
+  disk_pending : (cs : List Command) → HasFailed disk → (pending_in here sign s cs disk.may_leave_after (HasFailed disk) shelf).disk_failed
+  disk_pending [] failed = failed
+  disk_pending (c ∷ cs) failed = failed
+
+  cut_at_start : (e : Ending) (last : List ℕ) → IsCutBy (HasFailed disk) shelf sink e → IsLast first e last → Wrote sink last → GoesShort here sign J (session_from here J reads shelf.file) commands disk shelf sink e
   unfolding answers_of
   cut_at_start e last cut last_is wrote =
       let g = answers_grow here sign s commands in
@@ -89,6 +67,7 @@ module _ (here : Setting) (sign : Signs) (J : List Record) (reads : List Read) (
         rest = commands;
         parts = refl;
         went_on = refl;
+        correct = correct;
         last = last;
         last_is = last_is;
         wrote = wrote;
@@ -98,29 +77,29 @@ module _ (here : Setting) (sign : Signs) (J : List Record) (reads : List Read) (
         brings = g.is ∙ append_assoc J birth g.more;
         leaves = λ image left_there. left image (images image left_there);
         reads = left disk.file_after (images disk.file_after reads_as);
-        files = λ name other. same_files name;
+        files = λ name. inl (same_files name);
       }
     where
       by_image : (image : List ℕ) → disk.may_leave image ⊎ (IsFileOf disk.file [] × HasFront [] (birth_after here []) image) → LeavesFront [] disk.may_leave J (birth_after here J ++ (answers_grow here sign s commands).more) image
       by_image image (inl was) = inl was
       by_image image (inr p) = inr (birth_front here J (answers_grow here sign s commands).more disk.file image has p.0 p.1 (λ a b. longer a b image))
 
-  unwritten_at_start : (line : List ℕ) (e : Ending) → (line ≡ disk_line) → IsUnwritten sink line e → GoesShort here sign J (session_from here J reads shelf.file) commands disk shelf sink e
-  unwritten_at_start line ending.Memory is u = cut_at_start ending.Memory [] tt refl u
-  unwritten_at_start line ending.Sink is u = let f = front_written sink line u.1 in cut_at_start ending.Sink (take f.0 line) u.0 (line, (inr (inl is), (f.0, refl))) f.1
-  unwritten_at_start line ending.Done is u = absurd u
-  unwritten_at_start line ending.Input is u = absurd u
-  unwritten_at_start line ending.Shelf is u = absurd u
-  unwritten_at_start line ending.Disk is u = absurd u
-  unwritten_at_start line ending.Limit is u = absurd u
-  unwritten_at_start line ending.NotLawful is u = absurd u
-  unwritten_at_start line ending.Identity is u = absurd u
+  unwritten_at_start : (line : List ℕ) (e : Ending) → HasFailed disk → (line ≡ disk_line) → IsUnwritten sink line e → GoesShort here sign J (session_from here J reads shelf.file) commands disk shelf sink e
+  unwritten_at_start line ending.Memory failed is u = cut_at_start ending.Memory [] tt refl u
+  unwritten_at_start line ending.Sink failed is u = let f = front_written sink line u.1 in cut_at_start ending.Sink (take f.0 line) u.0 (inr (line, (inr (inl (disk_pending commands failed, is)), (f.0, refl)))) f.1
+  unwritten_at_start line ending.Done failed is u = absurd u
+  unwritten_at_start line ending.Input failed is u = absurd u
+  unwritten_at_start line ending.Shelf failed is u = absurd u
+  unwritten_at_start line ending.Disk failed is u = absurd u
+  unwritten_at_start line ending.Limit failed is u = absurd u
+  unwritten_at_start line ending.NotLawful failed is u = absurd u
+  unwritten_at_start line ending.Identity failed is u = absurd u
 
   nothing_at_start : (e : Ending) → IsUnwritten sink [] e → GoesShort here sign J (session_from here J reads shelf.file) commands disk shelf sink e
   nothing_at_start ending.Memory u = cut_at_start ending.Memory [] tt refl u
   nothing_at_start ending.Sink u =
       let f = front_written sink [] u.1 in
-      cut_at_start ending.Sink [] u.0 (disk_line, (inr (inl refl), (0, refl))) (subst (λ (x : List ℕ). Wrote sink x) (none_of f.0) f.1)
+      cut_at_start ending.Sink [] u.0 (inl refl) (subst (λ (x : List ℕ). Wrote sink x) (none_of f.0) f.1)
     where
       none_of : (n : ℕ) → take {A = ℕ} n [] ≡ []
       none_of zero = refl
@@ -137,7 +116,7 @@ module _ (here : Setting) (sign : Signs) (J : List Record) (reads : List Read) (
   not_started refused.Memory e fault failed (inl t) = subst (GoesShort here sign J (session_from here J reads shelf.file) commands disk shelf sink) (sym t.0) (cut_at_start ending.Memory [] tt refl t.1)
   not_started refused.Memory e fault failed (inr u) = nothing_at_start e u
   not_started refused.Disk e fault failed (inl t) = subst (GoesShort here sign J (session_from here J reads shelf.file) commands disk shelf sink) (sym t.0) (cut_at_start ending.Disk disk_line (failed refl) refl t.1)
-  not_started refused.Disk e fault failed (inr u) = unwritten_at_start disk_line e refl u
+  not_started refused.Disk e fault failed (inr u) = unwritten_at_start disk_line e (failed refl) refl u
   not_started (refused.Damaged at) e fault failed t = absurd (fault tt)
   not_started (refused.NotLawful place f) e fault failed t = absurd (fault tt)
   not_started refused.UnknownMe e fault failed t = absurd (fault tt)
@@ -188,8 +167,20 @@ module _ {N O : Type 0} (g : Ghosts N O) (old new : N) (here : Setting) (sign : 
         correct = p.correct correct;
       }
 
-  pub played_in_part : (g.faults old < g.faults new → HasFailed disk) → IsPlayedInPart g old new here sign s commands shelf sink e → GoesShort here sign J s commands disk shelf sink e
-  played_in_part rose p =
+  -- what was pending by the node was pending by the disk
+  pending_so : (cs : List Command) (t : Session) (last : List ℕ) → (g.faults old < g.faults new → HasFailed disk) → IsLast (pending_in here sign t cs (LeftBy g old new) (g.faults old < g.faults new) shelf) e last → IsLast (pending_in here sign t cs disk.may_leave_after (HasFailed disk) shelf) e last
+  pending_so [] t last rose is = last_so (pending_in here sign t [] (LeftBy g old new) (g.faults old < g.faults new) shelf) (pending_in here sign t [] disk.may_leave_after (HasFailed disk) shelf) (λ name named. named) refl (λ none. none) rose (λ failed. failed) e last is
+  pending_so (c ∷ cs) t last rose is =
+      last_so (pending_in here sign t (c ∷ cs) (LeftBy g old new) (g.faults old < g.faults new) shelf) (pending_in here sign t (c ∷ cs) disk.may_leave_after (HasFailed disk) shelf) (λ name named. named) refl
+      (λ stands. record { journal = λ image left. stands.journal image (told, leaves image left); files = stands.files }) rose (λ failed. failed) e last is
+
+  handed_so : (cs : List Command) (t : Session) (name : List ℕ) → IsNextHandedOut here sign t cs (LeftBy g old new) name → IsNextHandedOut here sign t cs disk.may_leave_after name
+  handed_so [] t name handed = handed
+  handed_so (c ∷ cs) t name handed = record { stores = handed.stores; goes_on = handed.goes_on; journal = λ image left. handed.journal image (told, leaves image left) }
+
+  pub played_in_part : (g.faults old < g.faults new → HasFailed disk) → IsCorrect (world_at here) s.correct → IsPlayedInPart g old new here sign s commands shelf sink e → GoesShort here sign J s commands disk shelf sink e
+  played_in_part rose correct p =
+      let after = (answers_of here sign s p.done).session in
       let kept = (answers_of here sign s p.done).session.correct.journal in
       let there : (image : List ℕ) → disk.may_leave_after image → LeavesFront p.done disk.may_leave kept p.more image = λ image left. front_left p.done disk.may_leave kept p.more image (p.leaves told image (leaves image left)) in
       record {
@@ -198,8 +189,9 @@ module _ {N O : Type 0} (g : Ghosts N O) (old new : N) (here : Setting) (sign : 
         rest = p.rest;
         parts = p.parts;
         went_on = p.went_on;
+        correct = p.correct correct;
         last = p.last;
-        last_is = p.last_is;
+        last_is = pending_so p.rest after p.last rose p.last_is;
         wrote = p.wrote;
         kept = kept;
         kept_is = inl refl;
@@ -207,7 +199,10 @@ module _ {N O : Type 0} (g : Ghosts N O) (old new : N) (here : Setting) (sign : 
         brings = p.brings;
         leaves = there;
         reads = there disk.file_after reads_as;
-        files = p.files;
+        files = λ name. elim (p.files name) [
+          | inl same ↦ inl same
+          | inr handed ↦ inr (handed_so p.rest after name handed)
+        ];
       }
 
 -- what a script came to is what the run answers
@@ -219,7 +214,7 @@ answered g old new there here by sign J s commands disk shelf sink r e stands si
     let both = subst (λ (x : Signs). Plays g old new here x s commands shelf sink r) signs here_plays in
     let x : Answered here sign J s commands disk shelf sink (ending_by r) = elim both [
       | inl p ↦ inl (played_whole g old new here sign J s commands disk shelf sink told leaves reads_as (ending_by r) correct all p)
-      | inr p ↦ inr (played_in_part g old new here sign J s commands disk shelf sink told leaves reads_as (ending_by r) rose p)
+      | inr p ↦ inr (played_in_part g old new here sign J s commands disk shelf sink told leaves reads_as (ending_by r) rose correct p)
     ] in
     subst (Answered here sign J s commands disk shelf sink) (sym ends) x
 

@@ -1,5 +1,5 @@
 -- What a stop in a run, or after it, leaves on the disk: what it left before, or a journal that goes on from the file.
-use Rattle.std.proofs.Common.{◌≡◌, ◌⊎◌, ℕ, Bool, true, false, IsTrue, is_some, List, [], ◌∷◌, ◌++◌, append_assoc, take, drop, map, Some, refl, sym, ap, subst, ◌∙◌, inl, inr}
+use Rattle.std.proofs.Common.{◌≡◌, ◌⊎◌, ℕ, true, is_some, List, [], ◌∷◌, ◌++◌, append_assoc, take, drop, map, Some, sym, ap, subst, ◌∙◌, inl, inr}
 use Rattle.std.proofs.lemmas.List.{take-append-drop}
 use Rattle.depot_base.specs.File.{IsFileOf}
 use Rattle.depot_base.specs.declared.key.PublicKey.{PublicKey}
@@ -13,10 +13,11 @@ use Rattle.depot_model.specs.Records.{text_of_record}
 use Rattle.depot_model.specs.Roster.{has_node, key_of}
 use Rattle.depot_model.specs.Stops.{HasFront, HasRecords}
 use Rattle.depot_model.specs.Texts.{IsRoster}
-use Rattle.depot_node.specs.Starting.{IsKeyFault, IsNotStarted, IsStartedFrom, LeavesBetween, StartLeaves, birth_after, started}
+use Rattle.depot_node.specs.Starting.{IsKeyFault, IsNotStarted, IsStartedFrom, StartLeaves, birth_after}
 use Rattle.depot_node.specs.declared.answer.StartError.{StartError}
 use Rattle.depot_node.specs.declared.answer.StartError.TheVariants as refused
-use Rattle.depot_session.specs.Runs.{GoesOn}
+use Rattle.depot_outside.specs.Told.{Disks}
+use Rattle.depot_session.specs.Runs.{GoesOn, Settles}
 
 -- ---- a start
 
@@ -56,18 +57,26 @@ birth_front here (r ∷ J) more file image has none front longer = absurd (some_
 
 -- ---- a run of a node that started
 
+-- what stands behind the journal of a started node stands behind its file's, and a birth
+started_behind : (here : Setting) (file : List ℕ) (records : List Record) (s : IsStartedFrom here file records) (some : List Record) → records ++ some ≡ s.journal ++ (birth_after here s.journal ++ some)
+started_behind here file records s some = ap (λ (x : List Record). x ++ some) s.is ∙ append_assoc s.journal (birth_after here s.journal) some
+
+-- a journal is lawful up to each of its records
+lawful_to : (here : Setting) (records appends : List Record) (count : ℕ) → IsLawful here (records ++ appends) → IsLawful here (records ++ take count appends)
+lawful_to here records appends count lawful =
+    let parts : records ++ appends ≡ (records ++ take count appends) ++ drop count appends = ap (λ (x : List Record). records ++ x) (sym (take-append-drop count appends)) ∙ sym (append_assoc records (take count appends) (drop count appends)) in
+    lawful_front here (records ++ take count appends) (drop count appends) (subst (IsLawful here) parts lawful)
+
 -- a front of what is appended behind the journal of a started node goes on from its file
 pub front_goes_on : (here : Setting) (file image : List ℕ) (records appends : List Record) → IsStartedFrom here file records → IsLawful here (records ++ appends) → HasFront records appends image → GoesOn here file image
 front_goes_on here file image records appends s lawful front =
-    let birth = birth_after here s.journal in
     let some = take front.count appends in
-    let behind : records ++ some ≡ s.journal ++ (birth ++ some) = ap (λ (x : List Record). x ++ some) s.is ∙ append_assoc s.journal birth some in
-    let parts : records ++ appends ≡ (records ++ some) ++ drop front.count appends = ap (λ (x : List Record). records ++ x) (sym (take-append-drop front.count appends)) ∙ sym (append_assoc records some (drop front.count appends)) in
+    let behind = started_behind here file records s some in
     record {
       journal = s.journal;
       read = s.read;
-      more = birth ++ some;
-      lawful = subst (IsLawful here) behind (lawful_front here (records ++ some) (drop front.count appends) (subst (IsLawful here) parts lawful));
+      more = birth_after here s.journal ++ some;
+      lawful = subst (IsLawful here) behind (lawful_to here records appends front.count lawful);
       has = subst (λ (K : List Record). HasRecords K image) behind front.has;
     }
 
@@ -85,9 +94,20 @@ refused_goes_on here key told file e before image formed is untouched start = el
   | inr keyed ↦ start_goes_on here file before image formed (has_from_key here key keyed) start
 ]
 
--- all records of a running node go on from the file that it was started from
-pub all_go_on : (here : Setting) (file image : List ℕ) (records appends all : List Record) (count : ℕ) → IsStartedFrom here file records → IsLawful here (records ++ appends) → all ≡ records ++ take count appends → HasRecords all image → GoesOn here file image
-all_go_on here file image records appends all count s lawful is has = front_goes_on here file image records appends s lawful (record { count = count; has = subst (λ (K : List Record). HasRecords K image) is has })
+-- all records of a running node are what its run left
+pub settled : (here : Setting) (disk : Disks) (records appends all : List Record) (count : ℕ) → IsStartedFrom here disk.file records → IsLawful here (records ++ appends) → all ≡ records ++ take count appends → HasRecords all disk.file_after → ((image : List ℕ) → disk.may_leave_after image → HasRecords all image) → Settles here disk
+settled here disk records appends all count s lawful is has leaves =
+    let birth = birth_after here s.journal in
+    let some = take count appends in
+    let same : all ≡ s.journal ++ (birth ++ some) = is ∙ started_behind here disk.file records s some in
+    record {
+      journal = s.journal;
+      read = s.read;
+      more = birth ++ some;
+      lawful = subst (IsLawful here) (started_behind here disk.file records s some) (lawful_to here records appends count lawful);
+      has = subst (λ (K : List Record). HasRecords K disk.file_after) same has;
+      leaves = λ image left. subst (λ (K : List Record). HasRecords K image) same (leaves image left);
+    }
 
 -- one of the two, of which the first implies more
 pub either : {A B C : Type 0} → (A → B) → A ⊎ C → B ⊎ C

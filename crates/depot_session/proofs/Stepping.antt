@@ -1,30 +1,57 @@
 -- How a command turns out that loads or stores a file.
-use Rattle.std.proofs.Common.{◌≡◌, ℕ, Bool, true, false, IsTrue, List, [], ◌++◌, is_some, Option, Some, None, Result, Ok, Err, refl, sym, ap, subst, ◌∙◌, inl, inr}
+use Rattle.std.proofs.Common.{◌≡◌, ◌⊎◌, ℕ, Bool, true, false, IsTrue, List, [], ◌++◌, is_some, Option, Some, None, Result, Ok, Err, refl, sym, ap, subst, ◌∙◌, inl, inr}
 use Rattle.std.specs.Prelude.{if◌then◌else◌}
 use Rattle.std.specs.Str.{bytes_eq}
 use Rattle.depot_base.specs.declared.record.Record.{Record}
-use Rattle.depot_model.specs.Stops.{HasFront}
+use Rattle.std.proofs.lemmas.Slice.Eq.{bytes_eq-Decides}
+use Rattle.depot_model.specs.Stops.{HasFront, LeavesAll}
 use Rattle.depot_model.specs.declared.replica.Replica.{Ghosts}
 use Rattle.depot_model.proofs.FeedGrowth.{IsGrown}
 use Rattle.depot_outside.specs.Told.{LacksFile, Shelves, Sinks, Wrote}
 use Rattle.depot_script.specs.declared.command.Command.{Command}
 use Rattle.depot_session.specs.declared.ending.Ending.{Ending}
 use Rattle.depot_session.specs.declared.ending.Ending.TheVariants as ending
-use Rattle.depot_session.specs.Sessions.{Files, Session, Step, StoresAs, absent, shelf_line, stored}
-use Rattle.depot_session.specs.Telling.{IsFaultTold, Stores}
-use Rattle.depot_session.specs.Turns.{IsRunning, IsUnchanged, Turns}
+use Rattle.depot_script.specs.declared.command.Command.TheVariants as command
+use Rattle.depot_session.specs.Runs.{IsHandedOut}
+use Rattle.depot_session.specs.Sessions.{Files, Names, Session, Step, StoresAs, absent, shelf_line, stored}
+use Rattle.depot_session.specs.Telling.{IsFaultTold, IsUnchanged, LeavesOthers, Stores}
+use Rattle.depot_session.specs.Turns.{IsRunning, LeftBy, Turns}
 use Rattle.depot_session.proofs.Leaving.{all_there, front_of_none}
-use Rattle.depot_session.proofs.Turning.{without_memory, unwritten, shelf_told, absent_told}
+use Rattle.depot_session.proofs.Turning.{absent_told, leaves_journal, shelf_told, untold, without_memory}
 
 -- ---- storing
 
+-- two names are one, or not
+one_name : (name other : List ℕ) → (name ≡ other) ⊎ (name ≡ other → ⊥)
+one_name name other = by_test (bytes_eq name other) refl where
+  by_test : (b : Bool) → bytes_eq name other ≡ b → (name ≡ other) ⊎ (name ≡ other → ⊥)
+  by_test true is = inl ((bytes_eq-Decides name other).0 is)
+  by_test false is = inr (λ same. let so : bytes_eq name other ≡ true = (bytes_eq-Decides name other).1 same in cc)
+
+-- a command names the file that it stores
+stored_is_named : (c : Command) (name : List ℕ) → StoresAs c name → Names c name
+stored_is_named (command.Hello file) name is = is
+stored_is_named (command.Bundle hello file) name is = inr is
+stored_is_named (command.Put key value) name is = absurd is
+stored_is_named (command.Get key) name is = absurd is
+stored_is_named (command.Take file) name is = absurd is
+
 module _ {N O : Type 0} (g : Ghosts N O) (old new : N) (c : Command) (step : Step) (shelf : Shelves) (sink : Sinks) (more : List Record) (brings : step.session.correct.journal ≡ g.records old ++ more)
-    (leaves : IsTrue (g.tells old) → (image : List ℕ) → g.may_leave new image → HasFront (g.records old) more image) (name bytes : List ℕ) (own : (other : List ℕ) → name ≡ other → StoresAs c other) where
+    (leaves : IsTrue (g.tells old) → (image : List ℕ) → g.may_leave new image → HasFront (g.records old) more image) (name bytes : List ℕ) (own : (other : List ℕ) → name ≡ other → StoresAs c other)
+    (goes : step.ending ≡ None) (runs : g.stopped new ≡ false) (journal : g.records new ≡ step.session.correct.journal) (stable : IsTrue (g.tells old) → LeavesAll (g.records new) (g.stopped new) (g.may_leave new)) where
+  -- no other file has changed
+  others_same : LeavesOthers shelf name → (other : List ℕ) → (shelf.file_after other ≡ shelf.file other) ⊎ IsHandedOut (LeftBy g old new) c step other
+  others_same others other = by_name (one_name name other) where
+    by_name : (name ≡ other) ⊎ (name ≡ other → ⊥) → (shelf.file_after other ≡ shelf.file other) ⊎ IsHandedOut (LeftBy g old new) c step other
+    by_name (inl is) = inr (record { stores = own other is; goes_on = goes; journal = leaves_journal g old new step.session.correct.journal runs journal stable })
+    by_name (inr not) = inl (others other not)
+
   -- bytes were stored and then the lines of the command written, or not
-  pub stored_told : (r : Result (Unit {0}) Ending) → step.ending ≡ None → g.stopped new ≡ false → g.records new ≡ step.session.correct.journal → ((other : List ℕ) → step.session.files other ≡ stored shelf.file name bytes other) → IsTrue shelf.tells → Stores shelf sink step.text name bytes r → Turns g old new c step shelf sink r
-  stored_told (Ok done) goes runs journal files tells st = (goes, record { runs = runs; journal = journal; files = λ other. st.0 tells other ∙ sym (files other); wrote = st.1 })
-  stored_told (Err e) goes runs journal files tells (others, inl u) = inr (unwritten g old new c step shelf sink more brings leaves (λ other not. others other (λ is. not (own other is))) step.text e (inl refl) u)
-  stored_told (Err e) goes runs journal files tells (others, inr h) = inr (shelf_told g old new c step shelf sink more brings leaves (λ other not. others other (λ is. not (own other is))) name e h.rose h.told)
+  pub stored_told : (r : Result (Unit {0}) Ending) → ((other : List ℕ) → step.session.files other ≡ stored shelf.file name bytes other) → IsTrue shelf.tells → Stores shelf sink step.text name bytes r → Turns g old new c step shelf sink r
+  stored_told (Ok done) files tells st = (goes, record { runs = runs; journal = journal; files = λ other. st.0 tells other ∙ sym (files other); wrote = st.1 })
+  stored_told (Err e) files tells (others, inl st) = inr (untold g old new c step shelf sink more brings leaves (others_same others) runs journal (λ other. st.0 tells other ∙ sym (files other)) stable e st.1)
+  stored_told (Err e) files tells (others, inr (inl idle)) = subst (λ (x : Ending). Turns g old new c step shelf sink (Err x)) (sym idle.1.0) (inr (without_memory g old new c step shelf sink more brings leaves (λ other. inl (idle.0 other)) idle.1.1))
+  stored_told (Err e) files tells (others, inr (inr h)) = inr (shelf_told g old new c step shelf sink more brings leaves (others_same others) name e (stored_is_named c name (own name refl)) h.rose h.told)
 
 -- files are alike where the files before are, and the bytes
 pub stored_alike : (files others : Files) (name bytes more : List ℕ) → ((other : List ℕ) → files other ≡ others other) → bytes ≡ more → (other : List ℕ) → stored files name bytes other ≡ stored others name more other
@@ -66,16 +93,20 @@ module _ {N O : Type 0} (g : Ghosts N O) (v : N) (s : Session) (running : IsRunn
   pub leaves_uncalled : IsTrue (g.tells v) → (image : List ℕ) → g.may_leave v image → HasFront (g.records v) grown.more image
   leaves_uncalled t image left = front_of_none (g.records v) grown.more image (all_there (g.records v) image (running.stable t image left))
 
+  -- a stop leaves all its records
+  pub stable : IsTrue (g.tells v) → LeavesAll (g.records v) (g.stopped v) (g.may_leave v)
+  stable t = subst (λ (b : Bool). LeavesAll (g.records v) b (g.may_leave v)) (sym running.runs) (running.stable t)
+
   -- no memory was found
   pub uncalled_without_memory : (shelf : Shelves) (sink : Sinks) → IsUnchanged shelf → Wrote sink [] → Turns g v v c step shelf sink (Err ending.Memory)
-  uncalled_without_memory shelf sink unchanged wrote = inr (without_memory g v v c step shelf sink grown.more brings_uncalled leaves_uncalled (λ name _. unchanged name) wrote)
+  uncalled_without_memory shelf sink unchanged wrote = inr (without_memory g v v c step shelf sink grown.more brings_uncalled leaves_uncalled (λ name. inl (unchanged name)) wrote)
 
   -- a file that is to be loaded can't be had
-  pub uncalled_without_file : (shelf : Shelves) (sink : Sinks) (name : List ℕ) (e : Ending) → (s.files name ≡ None → step ≡ absent s name) → ((other : List ℕ) → shelf.file other ≡ s.files other) → IsUnchanged shelf → IsTrue shelf.tells → LacksFile shelf name → IsFaultTold sink (shelf_line name) ending.Shelf e
+  pub uncalled_without_file : (shelf : Shelves) (sink : Sinks) (name : List ℕ) (e : Ending) → Names c name → (s.files name ≡ None → step ≡ absent s name) → ((other : List ℕ) → shelf.file other ≡ s.files other) → IsUnchanged shelf → IsTrue shelf.tells → LacksFile shelf name → IsFaultTold sink (shelf_line name) ending.Shelf e
       → Turns g v v c step shelf sink (Err e)
-  uncalled_without_file shelf sink name e is files unchanged tells (inl rose) told = inr (shelf_told g v v c step shelf sink grown.more brings_uncalled leaves_uncalled (λ other _. unchanged other) name e rose told)
-  uncalled_without_file shelf sink name e is files unchanged tells (inr none) told =
+  uncalled_without_file shelf sink name e named is files unchanged tells (inl rose) told = inr (shelf_told g v v c step shelf sink grown.more brings_uncalled leaves_uncalled (λ other. inl (unchanged other)) name e named rose told)
+  uncalled_without_file shelf sink name e named is files unchanged tells (inr none) told =
       let gone : step ≡ absent s name = is (sym (files name) ∙ none tells) in
-      absent_told g v v c step shelf sink grown.more brings_uncalled leaves_uncalled (λ other _. unchanged other) e (ap (λ (x : Step). x.ending) gone)
-      (λ wrote. record { runs = running.runs; journal = sym journal ∙ ap (λ (x : Step). x.session.correct.journal) (sym gone); files = λ other. unchanged other ∙ files other ∙ ap (λ (x : Step). x.session.files other) (sym gone); wrote = wrote })
+      absent_told g v v c step shelf sink grown.more brings_uncalled leaves_uncalled (λ other. inl (unchanged other)) running.runs (sym journal ∙ ap (λ (x : Step). x.session.correct.journal) (sym gone))
+      (λ other. unchanged other ∙ files other ∙ ap (λ (x : Step). x.session.files other) (sym gone)) stable e (ap (λ (x : Step). x.ending) gone)
       (subst (λ (x : List ℕ). IsFaultTold sink x ending.Shelf e) (ap (λ (x : Step). x.text) (sym gone)) told)

@@ -1,5 +1,5 @@
 -- A command by which the node stays as it is.
-use Rattle.std.proofs.Common.{◌≡◌, ◌<◌, ◌≤◌, ℕ, Bool, IsTrue, List, [], ◌++◌, take, Option, None, Result, refl, sym, ap, subst, ◌∙◌, arith, codes}
+use Rattle.std.proofs.Common.{◌≡◌, ◌<◌, ◌≤◌, ℕ, Bool, IsTrue, List, [], ◌++◌, take, Option, None, Result, refl, sym, ap, subst, ◌∙◌, arith, codes, inl}
 use Rattle.std.specs.Prelude.{is_err}
 use Rattle.std.proofs.lemmas.List.{append-nil}
 use Rattle.depot_base.specs.declared.record.Record.{Record}
@@ -18,9 +18,9 @@ use Rattle.depot_script.specs.declared.command.Command.{Command}
 use Rattle.depot_script.specs.declared.command.Command.TheVariants as command
 use Rattle.depot_session.specs.declared.ending.Ending.{Ending}
 use Rattle.depot_session.specs.declared.ending.Ending.TheVariants as ending
-use Rattle.depot_session.specs.Sessions.{Session, Step, StoresAs, printed_count, step_of}
-use Rattle.depot_session.specs.Telling.{Tells}
-use Rattle.depot_session.specs.Turns.{IsAt, IsBroken, IsRunning, IsUnchanged, Keeps, Turns}
+use Rattle.depot_session.specs.Sessions.{Session, Step, printed_count, step_of}
+use Rattle.depot_session.specs.Telling.{IsUnchanged, Tells}
+use Rattle.depot_session.specs.Turns.{IsAt, IsBroken, IsRunning, Keeps, Turns}
 use Rattle.depot_session.proofs.Leaving.{all_there, front_of_none}
 use Rattle.depot_session.proofs.StepGrowth.{step_grows}
 use Rattle.depot_session.proofs.Told.{NamesFaults}
@@ -56,19 +56,19 @@ pub leaves_still : {N O : Type 0} (g : Ghosts N O) (v : N) (more : List Record) 
 leaves_still g v more running t image left = front_of_none (g.records v) more image (all_there (g.records v) image (running.stable t image left))
 
 -- no memory was found before the command did anything
-pub stopped_at_once : {N O : Type 0} (g : Ghosts N O) (v : N) (sign : Signs) (c : Command) (files : List ℕ → Option (List ℕ)) (s : Session) (shelf : Shelves) (sink : Sinks) → IsRunning g v → IsAt (g.stands v) (g.records v) files s → ((name : List ℕ) → (StoresAs c name → ⊥) → shelf.file_after name ≡ shelf.file name) → Wrote sink []
+pub stopped_at_once : {N O : Type 0} (g : Ghosts N O) (v : N) (sign : Signs) (c : Command) (files : List ℕ → Option (List ℕ)) (s : Session) (shelf : Shelves) (sink : Sinks) → IsRunning g v → IsAt (g.stands v) (g.records v) files s → IsUnchanged shelf → Wrote sink []
     → IsBroken g v v c (step_of (g.stands v) sign s c) shelf sink ending.Memory
-stopped_at_once g v sign c files s shelf sink running at others wrote =
+stopped_at_once g v sign c files s shelf sink running at unchanged wrote =
     let step = step_of (g.stands v) sign s c in
     let grown : IsGrown s.correct.journal step.session.correct.journal = step_grows (g.stands v) sign s c in
     let brings : step.session.correct.journal ≡ g.records v ++ grown.more = grown.is ∙ ap (λ (J : List Record). J ++ grown.more) at.journal in
-    without_memory g v v c step shelf sink grown.more brings (leaves_still g v grown.more running) others wrote
+    without_memory g v v c step shelf sink grown.more brings (leaves_still g v grown.more running) (λ name. inl (unchanged name)) wrote
 
 -- the lines of the command were written, or not
 pub told_still : {N O : Type 0} (g : Ghosts N O) (v : N) (c : Command) (step : Step) (shelf : Shelves) (sink : Sinks) (ends : Option Ending) (r : Result (Unit {0}) Ending) → IsRunning g v → IsUnchanged shelf → step.session.correct.journal ≡ g.records v → ((name : List ℕ) → shelf.file_after name ≡ step.session.files name) → step.ending ≡ ends
     → Tells sink step.text ends r → Turns g v v c step shelf sink r
 told_still g v c step shelf sink ends r running unchanged journal files is tells =
-    told g v v c step shelf sink [] (journal ∙ sym (append-nil (g.records v))) (leaves_still g v [] running) (λ name _. unchanged name) ends r is (λ wrote. record { runs = running.runs; journal = sym journal; files = files; wrote = wrote }) tells
+    told g v v c step shelf sink [] (journal ∙ sym (append-nil (g.records v))) (leaves_still g v [] running) (λ name. inl (unchanged name)) running.runs (sym journal) files (stays_stable g v running) ends r is tells
 
 -- ---- a read
 

@@ -1,5 +1,5 @@
 -- How the command of a stream turns out.
-use Rattle.std.proofs.Common.{◌≡◌, ◌<◌, ◌≤◌, ℕ, false, IsTrue, List, [], ◌++◌, Option, Some, None, Result, Ok, Err, refl, sym, ap, subst, ◌∙◌, codes, take, inr}
+use Rattle.std.proofs.Common.{◌≡◌, ◌<◌, ◌≤◌, ℕ, false, IsTrue, List, [], ◌++◌, Option, Some, None, Result, Ok, Err, refl, sym, ap, subst, ◌∙◌, codes, take, inl, inr}
 use Rattle.std.specs.Prelude.{IfOk, IsErrOf}
 use Rattle.depot_base.specs.declared.record.Record.{Record}
 use Rattle.depot_model.specs.Bundle.{Signs}
@@ -21,8 +21,8 @@ use Rattle.depot_session.specs.declared.ending.Ending.{Ending}
 use Rattle.depot_session.specs.declared.ending.Ending.TheVariants as ending
 use Rattle.depot_session.specs.Runs.{disk_line}
 use Rattle.depot_session.specs.Sessions.{Session, Step, absent, ending_of_take, lines_of_command, printed_count, step_of, take_from}
-use Rattle.depot_session.specs.Telling.{IsFaultTold, Tells}
-use Rattle.depot_session.specs.Turns.{IsAt, IsUnchanged, Turns}
+use Rattle.depot_session.specs.Telling.{IsFaultTold, IsUnchanged, Tells}
+use Rattle.depot_session.specs.Turns.{IsAt, Turns}
 use Rattle.depot_session.proofs.Keeping.{NeedsNone}
 use Rattle.depot_session.proofs.Leaving.{leaves_front}
 use Rattle.depot_session.proofs.Turning.{disk_told, told, without_memory}
@@ -96,11 +96,11 @@ module _ {N O : Type 0} (g : Ghosts N O) (counts_now : (v : N) (t : ℕ) (image 
 
   -- no memory was found behind the call
   pub taken_without_memory : (sink : Sinks) → Wrote sink [] → Turns g old new (command.Take file) taken_step shelf sink (Err ending.Memory)
-  taken_without_memory sink wrote = inr (without_memory g old new (command.Take file) taken_step shelf sink fed.appends (journal ∙ fed.brings) leaves (λ name _. unchanged name) wrote)
+  taken_without_memory sink wrote = inr (without_memory g old new (command.Take file) taken_step shelf sink fed.appends (journal ∙ fed.brings) leaves (λ name. inl (unchanged name)) wrote)
 
   -- the disk failed in the call
   pub taken_to_disk : (sink : Sinks) (e : Ending) → g.faults old < g.faults new → IsFaultTold sink disk_line ending.Disk e → Turns g old new (command.Take file) taken_step shelf sink (Err e)
-  taken_to_disk sink e rose t = inr (disk_told g old new (command.Take file) taken_step shelf sink fed.appends (journal ∙ fed.brings) leaves (λ name _. unchanged name) e rose t)
+  taken_to_disk sink e rose t = inr (disk_told g old new (command.Take file) taken_step shelf sink fed.appends (journal ∙ fed.brings) leaves (λ name. inl (unchanged name)) e rose t)
 
   -- the stream was taken, and its lines told or not
   pub taken_told : (sink : Sinks) (ends : Option Ending) (lines : List ℕ) (r : Result (Unit {0}) Ending) → g.stopped new ≡ false → g.records new ≡ (feed_of (g.stands old) (g.records old) stream).journal → ends ≡ ending_of_take (feed_of (g.stands old) (g.records old) stream).closed
@@ -108,7 +108,6 @@ module _ {N O : Type 0} (g : Ghosts N O) (counts_now : (v : N) (t : ℕ) (image 
   taken_told sink ends lines r goes grown ends_is lines_is t =
       let here = g.stands old in
       let text_is : taken_step.text ≡ lines_of_command (command.Take file) (fed_by s.correct (feed_of here (g.records old) stream)) = ap (λ (x : Step). x.text) is ∙ take_text here s (g.records old) file stream at.journal in
-      told g old new (command.Take file) taken_step shelf sink fed.appends (journal ∙ fed.brings) leaves (λ name _. unchanged name) ends r
+      told g old new (command.Take file) taken_step shelf sink fed.appends (journal ∙ fed.brings) leaves (λ name. inl (unchanged name)) goes (grown ∙ sym journal) (λ other. unchanged other ∙ at.same_files other ∙ ap (λ (x : Step). x.session.files other) (sym is)) fed.lasts.stable ends r
       (ap (λ (x : Step). x.ending) is ∙ ap (λ (K : List Record). ending_of_take (feed_of here K stream).closed) at.journal ∙ sym ends_is)
-      (λ wrote. record { runs = goes; journal = grown ∙ sym journal; files = λ other. unchanged other ∙ at.same_files other ∙ ap (λ (x : Step). x.session.files other) (sym is); wrote = wrote })
       (subst (λ (x : List ℕ). Tells sink x ends r) (ap (λ (x : List ℕ). join 32 (take (printed_count (command.Take file)) (command_words (command.Take file))) ++ codes " ->" ++ x) lines_is ∙ sym text_is) t)

@@ -1,10 +1,10 @@
 -- Which faults a command names, by what was told of it.
 use Rattle.std.proofs.Common.{◌≡◌, ◌<◌, ℕ, List, Option, Some, Result, Ok, Err, sym, subst, inl, inr}
 use Rattle.std.specs.Prelude.{IsErrOf}
-use Rattle.depot_outside.specs.Told.{Shelves, Sinks}
+use Rattle.depot_outside.specs.Told.{Sinks}
 use Rattle.depot_session.specs.declared.ending.Ending.{Ending}
 use Rattle.depot_session.specs.declared.ending.Ending.TheVariants as ending
-use Rattle.depot_session.specs.Telling.{IsFaultTold, IsUnwritten, Stores, Tells}
+use Rattle.depot_session.specs.Telling.{IsFaultTold, IsUnwritten, Tells}
 use Rattle.depot_session.specs.Turns.{HasNoFault}
 
 -- A fault of the disk or the sink is answered only where it came, and no journal is refused.
@@ -70,17 +70,6 @@ names_told disk_failed sink text ends (Err e) calm (inr unwritten) = names_unwri
 pub names_disk : (disk_failed : Type 0) (sink : Sinks) (line : List ℕ) (e : Ending) → disk_failed → IsFaultTold sink line ending.Disk e → NamesFaults disk_failed sink (Err e)
 names_disk disk_failed sink line e failed (inl told) = subst (λ (x : Ending). NamesFaults disk_failed sink (Err x)) (sym told.0) (record { of_disk = λ is. failed; of_sink = λ is. cc; no_refusal = λ is. cc })
 names_disk disk_failed sink line e failed (inr unwritten) = names_unwritten disk_failed sink line e unwritten
-
--- a file wasn't there, or the shelf failed, and it was told, or not
-pub names_shelf : (disk_failed : Type 0) (sink : Sinks) (line : List ℕ) (e : Ending) → IsFaultTold sink line ending.Shelf e → NamesFaults disk_failed sink (Err e)
-names_shelf disk_failed sink line e (inl told) = names_calmly disk_failed sink e (subst (λ (x : Ending). EndsCalmly (Some x)) (sym told.0) tt)
-names_shelf disk_failed sink line e (inr unwritten) = names_unwritten disk_failed sink line e unwritten
-
--- bytes were stored and the lines written, or not
-pub names_stored : (disk_failed : Type 0) (shelf : Shelves) (sink : Sinks) (text name bytes : List ℕ) (r : Result (Unit {0}) Ending) → Stores shelf sink text name bytes r → NamesFaults disk_failed sink r
-names_stored disk_failed shelf sink text name bytes (Ok done) stored = names_none disk_failed sink done
-names_stored disk_failed shelf sink text name bytes (Err e) (_, inl unwritten) = names_unwritten disk_failed sink text e unwritten
-names_stored disk_failed shelf sink text name bytes (Err e) (_, inr not_stored) = names_shelf disk_failed sink _ e not_stored.told
 
 -- ---- a run that doesn't go on
 

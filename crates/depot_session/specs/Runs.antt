@@ -1,6 +1,6 @@
 -- How the run of a script over a disk, a shelf and a sink ends.
 use Rattle.std.specs.Prelude.{◌≡◌, ◌≢◌, ◌<◌, ◌⊎◌, ℕ, List, [], ◌∷◌, ◌++◌, take, IsTrue, Some, None, codes}
-use Rattle.std.specs.Fmt.{decimal}
+use Rattle.std.specs.List.{flat_map}
 use Rattle.depot_answers.specs.Answers.{numbered, spaced, text_of_record_fault}
 use Rattle.depot_base.specs.declared.key.PublicKey.{PublicKey}
 use Rattle.depot_base.specs.declared.record.Record.{Record}
@@ -14,11 +14,12 @@ use Rattle.depot_model.specs.World.{World, Read, IsRead, IsCorrect, NeverFall}
 use Rattle.depot_node.specs.Starting.{IsNotStarted, LeavesFile}
 use Rattle.depot_node.specs.declared.answer.StartError.{StartError}
 use Rattle.depot_node.specs.declared.answer.StartError.TheVariants as refused
-use Rattle.depot_outside.specs.Told.{Disks, Shelves, Sinks, Wrote}
+use Rattle.depot_outside.specs.Told.{Disks, HasLoaded, Loads, Shelves, Sinks, Wrote}
 use Rattle.depot_script.specs.declared.command.Command.{Command}
 use Rattle.depot_session.specs.declared.ending.Ending.{Ending}
 use Rattle.depot_session.specs.declared.ending.Ending.TheVariants as ending
-use Rattle.depot_session.specs.Sessions.{Session, Answers, StoresAs, answers_of, session_from, shelf_line, step_of}
+use Rattle.depot_session.specs.Sessions.{Answers, Names, Session, Step, StoresAs, answers_of, loads_of, session_from, shelf_line, step_of}
+use Rattle.depot_session.specs.Telling.{IsFaultTold, IsUnchanged}
 
 -- ---- what a stop leaves
 
@@ -54,16 +55,55 @@ HasFailed disk = disk.faults_before < disk.faults_after
 abbrev pub disk_line : List ℕ
 disk_line = codes "disk\n"
 
--- one of these lines was to be written: the next ones of the run, or that of a fault of the disk or the shelf
-abbrev pub IsToBeWritten : List ℕ → List ℕ → Type 0
-IsToBeWritten next line = (line ≡ next) ⊎ ((line ≡ disk_line) ⊎ ((name : List ℕ) × (line ≡ shelf_line name)))
+-- ---- a command that was cut short
 
--- What stands at last where a run is cut short before these lines: the line of a fault of the disk or the shelf, where the sink failed a
--- front of what was to be written, and without memory nothing.
-abbrev pub IsLast : List ℕ → Ending → List ℕ → Type 0
+-- What a command's step made stands: a stop leaves the journal after it, and the files are those after it.
+pub record Stands (left : List ℕ → Type 0) (shelf : Shelves) (step : Step) : Type 0 where
+  pub journal : (image : List ℕ) → left image → HasRecords step.session.correct.journal image
+  pub files : (name : List ℕ) → shelf.file_after name ≡ step.session.files name
+
+-- What the command hands out may stand under this name, or a part of it: it isn't refused, and a stop leaves the journal after it.
+pub record IsHandedOut (left : List ℕ → Type 0) (c : Command) (step : Step) (name : List ℕ) : Type 0 where
+  pub stores : StoresAs c name
+  pub goes_on : step.ending ≡ None
+  pub journal : (image : List ℕ) → left image → HasRecords step.session.correct.journal image
+
+-- What was pending where a run was cut short: the names and the lines of the next command, that what it made stands, and the faults that came.
+pub record Pending : Type 1 where
+  pub names : List ℕ → Type 0
+  pub text : List ℕ
+  pub stands : Type 0
+  pub disk_failed : Type 0
+  pub shelf_failed : Type 0
+
+-- this command was
+abbrev pub pending_for : Command → Step → (List ℕ → Type 0) → Type 0 → Shelves → Pending
+pending_for c step left disk_failed shelf = record { names = Names c; text = step.text; stands = Stands left shelf step; disk_failed = disk_failed; shelf_failed = shelf.faults_before < shelf.faults_after }
+
+-- the first of these commands was, if there is one
+abbrev pub pending_in : Setting → Signs → Session → List Command → (List ℕ → Type 0) → Type 0 → Shelves → Pending
+pending_in here sign s [] left disk_failed shelf = record { names = λ name. ⊥; text = []; stands = ⊥; disk_failed = disk_failed; shelf_failed = shelf.faults_before < shelf.faults_after }
+pending_in here sign s (c ∷ cs) left disk_failed shelf = pending_for c (step_of here sign s c) left disk_failed shelf
+
+-- what the first of these commands hands out may stand under this name
+abbrev pub IsNextHandedOut : Setting → Signs → Session → List Command → (List ℕ → Type 0) → List ℕ → Type 0
+IsNextHandedOut here sign s [] left name = ⊥
+IsNextHandedOut here sign s (c ∷ cs) left name = IsHandedOut left c (step_of here sign s c) name
+
+-- the line of a file that the next command names
+abbrev pub IsShelfLine : Pending → List ℕ → Type 0
+IsShelfLine next line = (name : List ℕ) × (next.names name × (line ≡ shelf_line name))
+
+-- This line was to be written: the lines of the next command, and what it made stands; or the line of a fault of the disk or the shelf that came.
+abbrev pub IsToBeWritten : Pending → List ℕ → Type 0
+IsToBeWritten next line = (next.stands × (line ≡ next.text)) ⊎ ((next.disk_failed × (line ≡ disk_line)) ⊎ (next.shelf_failed × IsShelfLine next line))
+
+-- What stands at last where a run is cut short: the line of a fault of the disk or the shelf, where the sink failed a front of what was to be
+-- written, and without memory nothing.
+abbrev pub IsLast : Pending → Ending → List ℕ → Type 0
 IsLast next ending.Disk last = last ≡ disk_line
-IsLast next ending.Shelf last = (name : List ℕ) × (last ≡ shelf_line name)
-IsLast next ending.Sink last = (line : List ℕ) × (IsToBeWritten next line × ((n : ℕ) × (last ≡ take n line)))
+IsLast next ending.Shelf last = IsShelfLine next last
+IsLast next ending.Sink last = (last ≡ []) ⊎ ((line : List ℕ) × (IsToBeWritten next line × ((n : ℕ) × (last ≡ take n line))))
 IsLast next other last = last ≡ []
 
 -- ---- a run of a node that starts
@@ -87,31 +127,23 @@ pub record GoesWhole (here : Setting) (a : Answers) (disk : Disks) (shelf : Shel
   pub leaves : (image : List ℕ) → disk.may_leave_after image → HasRecords a.session.correct.journal image
   pub correct : IsCorrect (world_at here) a.session.correct
 
--- the text of the next command
-abbrev pub next_text : Setting → Signs → Session → List Command → List ℕ
-next_text here sign s [] = []
-next_text here sign s (c ∷ cs) = (step_of here sign s c).text
-
--- the next command stores under this name
-abbrev pub IsNextFile : List Command → List ℕ → Type 0
-IsNextFile [] name = ⊥
-IsNextFile (c ∷ cs) name = StoresAs c name
-
 -- The records of the file are these and a front of those; where no command was carried out it may be a file of before, too.
 abbrev pub LeavesFront : List Command → (List ℕ → Type 0) → List Record → List Record → List ℕ → Type 0
 LeavesFront [] before kept more image = before image ⊎ HasFront kept more image
 LeavesFront (c ∷ cs) before kept more image = HasFront kept more image
 
 -- The run of a script from a journal and a session was cut short. Some commands were carried out, and their lines stand whole; and behind
--- them what stands at last. A stop leaves all records of these commands, and a front of those that the others bring.
+-- them what stands at last. A stop leaves all records of these commands, and a front of those that the others bring. The files are those after
+-- these commands, but that what the next one hands out may stand under its name. The node is a correct one with the reads that were told whole.
 pub record GoesShort (here : Setting) (sign : Signs) (J : List Record) (s : Session) (commands : List Command) (disk : Disks) (shelf : Shelves) (sink : Sinks) (ends : Ending) : Type 0 where
   pub cut : IsCutBy (HasFailed disk) shelf sink ends
   pub done : List Command
   pub rest : List Command
   pub parts : commands ≡ done ++ rest
   pub went_on : (answers_of here sign s done).ending ≡ ending.Done
+  pub correct : IsCorrect (world_at here) (answers_of here sign s done).session.correct
   pub last : List ℕ
-  pub last_is : IsLast (next_text here sign (answers_of here sign s done).session rest) ends last
+  pub last_is : IsLast (pending_in here sign (answers_of here sign s done).session rest disk.may_leave_after (HasFailed disk) shelf) ends last
   pub wrote : Wrote sink ((answers_of here sign s done).text ++ last)
   pub kept : List Record
   pub kept_is : (kept ≡ (answers_of here sign s done).session.correct.journal) ⊎ ((done ≡ []) × (kept ≡ J))
@@ -119,7 +151,7 @@ pub record GoesShort (here : Setting) (sign : Signs) (J : List Record) (s : Sess
   pub brings : (answers_of here sign s commands).session.correct.journal ≡ kept ++ more
   pub leaves : (image : List ℕ) → disk.may_leave_after image → LeavesFront done disk.may_leave kept more image
   pub reads : LeavesFront done disk.may_leave kept more disk.file_after
-  pub files : (name : List ℕ) → (IsNextFile rest name → ⊥) → shelf.file_after name ≡ (answers_of here sign s done).session.files name
+  pub files : (name : List ℕ) → (shelf.file_after name ≡ (answers_of here sign s done).session.files name) ⊎ IsNextHandedOut here sign (answers_of here sign s done).session rest disk.may_leave_after name
 
 -- the run went as the script's answers from this session say, or it was cut short
 abbrev pub Answered : Setting → Signs → List Record → Session → List Command → Disks → Shelves → Sinks → Ending → Type 0
@@ -152,14 +184,15 @@ line_of_refusal (refused.OtherRoster kept given) = codes "identity OtherRoster\n
 line_of_refusal (refused.Damaged at) = numbered (codes "damaged") at ++ codes "\n"
 line_of_refusal (refused.NotLawful place fault) = numbered (codes "not lawful") place ++ spaced (text_of_record_fault fault) ++ codes "\n"
 
--- A start was refused, for what the key, the roster or the journal is: the run tells it, and the file reads as before.
-pub record IsRefused (here : Setting) (key : PublicKey) (disk : Disks) (sink : Sinks) (ends : Ending) : Type 0 where
+-- A start was refused: the run tells why and ends by it, and no file has changed. Where it is for what the key, the roster or the journal is, the
+-- disk's file reads as before, too.
+pub record IsRefused (here : Setting) (key : PublicKey) (disk : Disks) (shelf : Shelves) (sink : Sinks) (ends : Ending) : Type 0 where
   pub error : StartError
   pub is : IsNotStarted here key (IsTrue disk.tells) disk.file error
-  pub no_fault : LeavesFile error
-  pub ending_is : ends ≡ ending_of_refusal error
-  pub wrote : Wrote sink (line_of_refusal error)
-  pub unchanged : disk.file_after ≡ disk.file
+  pub told : IsFaultTold sink (line_of_refusal error) (ending_of_refusal error) ends
+  pub disk_failed : error ≡ refused.Disk → HasFailed disk
+  pub unchanged : LeavesFile error → disk.file_after ≡ disk.file
+  pub files : IsUnchanged shelf
 
 -- The node started: the roster has its key for it, and the file has a lawful journal.
 pub record IsStarted (here : Setting) (key : PublicKey) (disk : Disks) (ends : Ending) : Type 0 where
@@ -167,6 +200,21 @@ pub record IsStarted (here : Setting) (key : PublicKey) (disk : Disks) (ends : E
   pub journal : IsTrue disk.tells → (J : List Record) × (IsLawful here J × HasRecords J disk.file)
   pub is_no_refusal : ends ≢ ending.NotLawful
 
--- A run begins: the node is refused, or it starts, or the run is cut short before either is told.
+-- a run begins: the node is refused, or it starts
 abbrev pub Begins : Setting → PublicKey → Disks → Shelves → Sinks → Ending → Type 0
-Begins here key disk shelf sink ends = IsRefused here key disk sink ends ⊎ (IsStarted here key disk ends ⊎ IsCutBy (HasFailed disk) shelf sink ends)
+Begins here key disk shelf sink ends = IsRefused here key disk shelf sink ends ⊎ IsStarted here key disk ends
+
+-- ---- what is left, and what is loaded
+
+-- The run left a lawful journal that begins with the records of the file: the file has it, and so has whatever a stop leaves of it.
+pub record Settles (here : Setting) (disk : Disks) : Type 0 where
+  pub journal : List Record
+  pub read : HasRecords journal disk.file
+  pub more : List Record
+  pub lawful : IsLawful here (journal ++ more)
+  pub has : HasRecords (journal ++ more) disk.file_after
+  pub leaves : (image : List ℕ) → disk.may_leave_after image → HasRecords (journal ++ more) image
+
+-- The files that were loaded are those that some first commands of the script load, in their order, and no others.
+abbrev pub LoadsFiles : List Command → Loads → Type 0
+LoadsFiles commands loads = (n : ℕ) × HasLoaded loads (flat_map loads_of (take n commands))

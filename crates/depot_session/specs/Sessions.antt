@@ -1,5 +1,5 @@
 -- What a script makes a node do, command by command: the lines, the journal, the files, and how the run ends.
-use Rattle.std.specs.Prelude.{◌≡◌, ℕ, List, [], ◌∷◌, ◌++◌, take, Option, Some, None, codes, if◌then◌else◌}
+use Rattle.std.specs.Prelude.{◌≡◌, ◌⊎◌, ℕ, List, [], ◌∷◌, ◌++◌, take, Option, Some, None, codes, if◌then◌else◌}
 use Rattle.std.specs.Str.{bytes_eq}
 use Rattle.depot_base.specs.declared.record.Record.{Record}
 use Rattle.depot_model.specs.Bundle.{Signs, BundleAnswer, bundled, bad_hello, other_roster, limited, bundle_answer}
@@ -75,6 +75,19 @@ abbrev pub StoresAs : Command → List ℕ → Type 0
 StoresAs (command.Hello file) name = file ≡ name
 StoresAs (command.Bundle hello file) name = file ≡ name
 StoresAs other name = ⊥
+
+-- the command loads or stores a file of this name
+abbrev pub Names : Command → List ℕ → Type 0
+Names (command.Hello file) name = file ≡ name
+Names (command.Bundle hello file) name = (hello ≡ name) ⊎ (file ≡ name)
+Names (command.Take file) name = file ≡ name
+Names other name = ⊥
+
+-- the names of the files that a command loads
+abbrev pub loads_of : Command → List (List ℕ)
+loads_of (command.Bundle hello file) = hello ∷ []
+loads_of (command.Take file) = file ∷ []
+loads_of other = []
 
 abbrev pub shelf_line : List ℕ → List ℕ
 shelf_line name = codes "shelf " ++ name ++ codes "\n"

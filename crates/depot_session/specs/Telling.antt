@@ -1,5 +1,5 @@
 -- What a session writes, loads and stores.
-use Rattle.std.specs.Prelude.{◌≡◌, ◌<◌, ◌≤◌, ◌⊎◌, ℕ, List, [], IsTrue, Option, Some, None, Result, Ok, Err}
+use Rattle.std.specs.Prelude.{◌≡◌, ◌<◌, ◌≤◌, ◌⊎◌, ℕ, List, [], Option, Some, None, Result, Ok, Err}
 use Rattle.depot_outside.specs.Told.{LacksFile, Shelves, Sinks, WhereTold, Wrote, WroteFront}
 use Rattle.depot_session.specs.declared.ending.Ending.{Ending}
 use Rattle.depot_session.specs.declared.ending.Ending.TheVariants as ending
@@ -29,6 +29,10 @@ abbrev pub IsLoaded : Shelves → List ℕ → Option (List ℕ) → Type 0
 IsLoaded shelf name (Some bytes) = WhereTold shelf (shelf.file name ≡ Some bytes)
 IsLoaded shelf name None = LacksFile shelf name
 
+-- no file has changed
+abbrev pub IsUnchanged : Shelves → Type 0
+IsUnchanged shelf = (name : List ℕ) → shelf.file_after name ≡ shelf.file name
+
 -- no other file has changed
 abbrev pub LeavesOthers : Shelves → List ℕ → Type 0
 LeavesOthers shelf name = (other : List ℕ) → (name ≡ other → ⊥) → shelf.file_after other ≡ shelf.file other
@@ -42,10 +46,18 @@ pub record HasNotStored (shelf : Shelves) (sink : Sinks) (name : List ℕ) (ends
   pub rose : shelf.faults_before < shelf.faults_after
   pub told : IsFaultTold sink (shelf_line name) ending.Shelf ends
 
+-- They were stored, and then the text wasn't written.
+abbrev pub IsStoredUntold : Shelves → Sinks → List ℕ → List ℕ → List ℕ → Ending → Type 0
+IsStoredUntold shelf sink text name bytes ends = WhereTold shelf (HasStored shelf name bytes) × IsUnwritten sink text ends
+
+-- No memory was found before anything was stored or written.
+abbrev pub IsIdle : Shelves → Sinks → Ending → Type 0
+IsIdle shelf sink ends = IsUnchanged shelf × ((ends ≡ ending.Memory) × Wrote sink [])
+
 -- Bytes were stored under a name, and then the text was written; or not.
 abbrev pub Stores : Shelves → Sinks → List ℕ → List ℕ → List ℕ → Result (Unit {0}) Ending → Type 0
 Stores shelf sink text name bytes (Ok done) = WhereTold shelf (HasStored shelf name bytes) × Wrote sink text
-Stores shelf sink text name bytes (Err e) = LeavesOthers shelf name × (IsUnwritten sink text e ⊎ HasNotStored shelf sink name e)
+Stores shelf sink text name bytes (Err e) = LeavesOthers shelf name × (IsStoredUntold shelf sink text name bytes e ⊎ (IsIdle shelf sink e ⊎ HasNotStored shelf sink name e))
 
 -- neither the shelf nor the sink failed, and memory was found
 abbrev pub GoesByShelf : Result (Unit {0}) Ending → Type 0

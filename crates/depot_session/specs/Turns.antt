@@ -1,5 +1,5 @@
 -- What a command makes of a node, of the shelf and of the sink.
-use Rattle.std.specs.Prelude.{◌≡◌, ◌<◌, ◌≤◌, ◌⊎◌, ℕ, List, [], ◌++◌, false, IsTrue, Some, None, Result, Ok, Err, is_err, IsErrOf}
+use Rattle.std.specs.Prelude.{◌≡◌, ◌<◌, ◌≤◌, ◌⊎◌, ℕ, List, ◌++◌, false, IsTrue, Some, None, Result, Ok, Err, is_err, IsErrOf}
 use Rattle.depot_base.specs.declared.record.Record.{Record}
 use Rattle.depot_gossip.specs.Lasting.{LastsIn}
 use Rattle.depot_model.specs.Checks.{Setting}
@@ -12,8 +12,8 @@ use Rattle.depot_outside.specs.Told.{Shelves, Sinks, Wrote}
 use Rattle.depot_session.specs.declared.ending.Ending.{Ending}
 use Rattle.depot_session.specs.declared.ending.Ending.TheVariants as ending
 use Rattle.depot_script.specs.declared.command.Command.{Command}
-use Rattle.depot_session.specs.Sessions.{Files, Session, Step, StoresAs, Answers, answers_of}
-use Rattle.depot_session.specs.Runs.{IsCutBy, IsLast, IsNextFile, next_text, world_at}
+use Rattle.depot_session.specs.Sessions.{Files, Session, Step, Answers, answers_of}
+use Rattle.depot_session.specs.Runs.{IsCutBy, IsHandedOut, IsLast, IsNextHandedOut, pending_for, pending_in, world_at}
 
 -- ---- the node, whatever came of it
 
@@ -50,9 +50,9 @@ pub record IsAt (here : Setting) (records : List Record) (files : Files) (s : Se
   pub journal : s.correct.journal ≡ records
   pub same_files : (name : List ℕ) → files name ≡ s.files name
 
--- no file has changed
-abbrev pub IsUnchanged : Shelves → Type 0
-IsUnchanged shelf = (name : List ℕ) → shelf.file_after name ≡ shelf.file name
+-- what a stop may leave after a call, where the disk tells its bytes
+abbrev pub LeftBy : {N O : Type 0} → Ghosts N O → N → N → List ℕ → Type 0
+LeftBy g old new image = IsTrue (g.tells old) × g.may_leave new image
 
 -- The command went as its step says.
 pub record Steps {N O : Type 0} (g : Ghosts N O) (new : N) (step : Step) (shelf : Shelves) (sink : Sinks) : Type 0 where
@@ -62,16 +62,16 @@ pub record Steps {N O : Type 0} (g : Ghosts N O) (new : N) (step : Step) (shelf 
   pub wrote : Wrote sink step.text
 
 -- The command was cut short. Behind the lines before it stands what stands at last. A stop leaves the records from before, and a front of those
--- that its step brings; and no file but its own has changed.
+-- that its step brings. No file has changed, but that what it hands out may stand under its name.
 pub record IsBroken {N O : Type 0} (g : Ghosts N O) (old new : N) (c : Command) (step : Step) (shelf : Shelves) (sink : Sinks) (ends : Ending) : Type 0 where
   pub cut : IsCutBy (g.faults old < g.faults new) shelf sink ends
   pub last : List ℕ
-  pub last_is : IsLast step.text ends last
+  pub last_is : IsLast (pending_for c step (LeftBy g old new) (g.faults old < g.faults new) shelf) ends last
   pub wrote : Wrote sink last
   pub more : List Record
   pub brings : step.session.correct.journal ≡ g.records old ++ more
   pub leaves : IsTrue (g.tells old) → (image : List ℕ) → g.may_leave new image → HasFront (g.records old) more image
-  pub files : (name : List ℕ) → (StoresAs c name → ⊥) → shelf.file_after name ≡ shelf.file name
+  pub files : (name : List ℕ) → (shelf.file_after name ≡ shelf.file name) ⊎ IsHandedOut (LeftBy g old new) c step name
 
 -- What a command came to by its step: the run goes on, or it ends so.
 abbrev pub Turns : {N O : Type 0} → Ghosts N O → N → N → Command → Step → Shelves → Sinks → Result (Unit {0}) Ending → Type 0
@@ -90,20 +90,22 @@ pub record IsPlayed {N O : Type 0} (g : Ghosts N O) (new : N) (here : Setting) (
   pub correct : IsCorrect (world_at here) s.correct → IsCorrect (world_at here) a.session.correct
 
 -- A script was cut short. Some commands were carried out, and their lines stand whole; and behind them what stands at last. A stop leaves all
--- records of these commands, and a front of those that the others bring.
+-- records of these commands, and a front of those that the others bring. The files are those after these commands, but that what the next one
+-- hands out may stand under its name.
 pub record IsPlayedInPart {N O : Type 0} (g : Ghosts N O) (old new : N) (here : Setting) (sign : Signs) (s : Session) (commands : List Command) (shelf : Shelves) (sink : Sinks) (ends : Ending) : Type 0 where
   pub cut : IsCutBy (g.faults old < g.faults new) shelf sink ends
   pub done : List Command
   pub rest : List Command
   pub parts : commands ≡ done ++ rest
   pub went_on : (answers_of here sign s done).ending ≡ ending.Done
+  pub correct : IsCorrect (world_at here) s.correct → IsCorrect (world_at here) (answers_of here sign s done).session.correct
   pub last : List ℕ
-  pub last_is : IsLast (next_text here sign (answers_of here sign s done).session rest) ends last
+  pub last_is : IsLast (pending_in here sign (answers_of here sign s done).session rest (LeftBy g old new) (g.faults old < g.faults new) shelf) ends last
   pub wrote : Wrote sink ((answers_of here sign s done).text ++ last)
   pub more : List Record
   pub brings : (answers_of here sign s commands).session.correct.journal ≡ (answers_of here sign s done).session.correct.journal ++ more
   pub leaves : IsTrue (g.tells old) → (image : List ℕ) → g.may_leave new image → HasFront (answers_of here sign s done).session.correct.journal more image
-  pub files : (name : List ℕ) → (IsNextFile rest name → ⊥) → shelf.file_after name ≡ (answers_of here sign s done).session.files name
+  pub files : (name : List ℕ) → (shelf.file_after name ≡ (answers_of here sign s done).session.files name) ⊎ IsNextHandedOut here sign (answers_of here sign s done).session rest (LeftBy g old new) name
 
 -- how a script ended
 abbrev pub ending_by : Result (Unit {0}) Ending → Ending

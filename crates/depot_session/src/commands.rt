@@ -1,5 +1,5 @@
 //! The commands of a script.
-ghost use Rattle.std.specs.Prelude.{◌≡◌, ◌↔◌, ℕ, List, false, None, IfOk, IfErr, IsErrOf, IsTrue, is_ok};
+ghost use Rattle.std.specs.Prelude.{◌≡◌, ◌↔◌, ◌++◌, ◌∷◌, [], ℕ, List, false, None, IfOk, IfErr, IsErrOf, IsTrue, is_ok};
 ghost use Rattle.depot_base.specs.declared.record.Record.{Record};
 ghost use Rattle.depot_model.specs.Bundle.{Signs, bundle_answer};
 ghost use Rattle.depot_model.specs.Checks.{Setting};
@@ -7,10 +7,10 @@ ghost use Rattle.depot_model.specs.Feeding.{Feeding};
 ghost use Rattle.depot_outside.specs.Told.{Shelves, shelves, sinks};
 ghost use Rattle.depot_gossip.specs.Bundling.{Bundles};
 ghost use Rattle.depot_deeds.specs.Printing.{IsToldOf, SettlesBundle};
-ghost use Rattle.depot_session.specs.Sessions.{Session, step_of};
+ghost use Rattle.depot_session.specs.Sessions.{Session, loads_of, step_of};
 ghost use Rattle.depot_session.specs.Sessions as sessions;
-ghost use Rattle.depot_session.specs.Telling.{TellsShelf};
-ghost use Rattle.depot_session.specs.Turns.{IsAt, IsRunning, IsUnchanged, Keeps, Turns};
+ghost use Rattle.depot_session.specs.Telling.{IsUnchanged, TellsShelf};
+ghost use Rattle.depot_session.specs.Turns.{IsAt, IsRunning, Keeps, Turns};
 
 use crate::ending::Ending;
 use crate::local::Local;
@@ -86,6 +86,7 @@ fn say_hello<R: Local, F: Shelf, K: Sink>(
     ensures keeps { Keeps R.Replica node.now node.now (sinks K.Sink out.old out.new) result }
     ensures turns { (s : Session) → IsTrue (F.tells shelf.old) → IsAt (R.stands node.now) (R.records node.now) (F.file shelf.old) s → Turns R.Replica node.now node.now command.now (step_of (R.stands node.now) (R.signature_of node.now) s command.now) (shelves F.Shelf shelf.old shelf.new) (sinks K.Sink out.old out.new) result }
     ensures same { K.tells out.new ≡ K.tells out.old }
+    ensures loads { F.loads shelf.new ≡ F.loads shelf.old }
     ensures same_shelf { F.tells shelf.new ≡ F.tells shelf.old }
     ensures shelf { TellsShelf (F.faults shelf.old) (F.faults shelf.new) result }
 {
@@ -122,6 +123,7 @@ fn make_bundle<R: Local, F: Shelf, K: Sink>(
     ensures keeps { Keeps R.Replica node.old node.new (sinks K.Sink out.old out.new) result }
     ensures turns { (s : Session) → IsTrue (F.tells shelf.old) → IsAt (R.stands node.old) (R.records node.old) (F.file shelf.old) s → Turns R.Replica node.old node.new command.now (step_of (R.stands node.old) (R.signature_of node.old) s command.now) (shelves F.Shelf shelf.old shelf.new) (sinks K.Sink out.old out.new) result }
     ensures same { K.tells out.new ≡ K.tells out.old }
+    ensures loads { F.loads shelf.new ≡ F.loads shelf.old ++ hello.now ∷ [] }
     ensures same_shelf { F.tells shelf.new ≡ F.tells shelf.old }
     ensures shelf { TellsShelf (F.faults shelf.old) (F.faults shelf.new) result }
 {
@@ -183,6 +185,7 @@ fn take<R: Local, F: Shelf, K: Sink>(
     ensures keeps { Keeps R.Replica node.old node.new (sinks K.Sink out.old out.new) result }
     ensures turns { (s : Session) → IsTrue (F.tells shelf.old) → IsAt (R.stands node.old) (R.records node.old) (F.file shelf.old) s → Turns R.Replica node.old node.new command.now (step_of (R.stands node.old) (R.signature_of node.old) s command.now) (shelves F.Shelf shelf.old shelf.new) (sinks K.Sink out.old out.new) result }
     ensures same { K.tells out.new ≡ K.tells out.old }
+    ensures loads { F.loads shelf.new ≡ F.loads shelf.old ++ file.now ∷ [] }
     ensures same_shelf { F.tells shelf.new ≡ F.tells shelf.old }
     ensures shelf { TellsShelf (F.faults shelf.old) (F.faults shelf.new) result }
 {
@@ -209,6 +212,7 @@ pub fn carry_out<R: Local, F: Shelf, K: Sink>(
     ensures keeps { Keeps R.Replica node.old node.new (sinks K.Sink out.old out.new) result }
     ensures turns { (s : Session) → IsTrue (F.tells shelf.old) → IsAt (R.stands node.old) (R.records node.old) (F.file shelf.old) s → Turns R.Replica node.old node.new command.now (step_of (R.stands node.old) (R.signature_of node.old) s command.now) (shelves F.Shelf shelf.old shelf.new) (sinks K.Sink out.old out.new) result }
     ensures same { K.tells out.new ≡ K.tells out.old }
+    ensures loads { F.loads shelf.new ≡ F.loads shelf.old ++ loads_of command.now }
     ensures same_shelf { F.tells shelf.new ≡ F.tells shelf.old }
     ensures shelf { TellsShelf (F.faults shelf.old) (F.faults shelf.new) result }
 {

@@ -1,9 +1,10 @@
 //! The run of a script.
-ghost use Rattle.std.specs.Prelude.{◌≡◌, ◌≤◌, ◌<◌, ◌⊎◌, ◌++◌, List, ℕ, IsTrue, Some, Err, IfOk, codes};
+ghost use Rattle.std.specs.Prelude.{◌≡◌, ◌≤◌, ◌<◌, ◌⊎◌, ◌++◌, IsTrue, Some, Err, IfOk, codes};
 ghost use Rattle.depot_answers.specs.Answers.{numbered, spaced, text_of_record_fault};
+ghost use Rattle.depot_model.specs.Roster.{key_of};
 ghost use Rattle.depot_model.specs.Texts.{IsRoster};
-ghost use Rattle.depot_outside.specs.Told.{disks, shelves, sinks};
-ghost use Rattle.depot_session.specs.Runs.{AnswersScript, Begins, GoesOn, KeepsFile, ending_of_refusal, line_of_refusal};
+ghost use Rattle.depot_outside.specs.Told.{disks, loads, shelves, sinks};
+ghost use Rattle.depot_session.specs.Runs.{AnswersScript, Begins, KeepsFile, LoadsFiles, Settles, ending_of_refusal, line_of_refusal};
 ghost use Rattle.depot_session.specs.Telling.{IsFaultTold, TellsShelf};
 ghost use Rattle.depot_session.specs.Turns.{ending_by};
 
@@ -126,7 +127,8 @@ fn run_over<D: Disk, F: Shelf, K: Sink, S: Scheme, G: Signer<Of = S>>(
     out: &mut K,
 ) -> Ran<D>
     ensures file { IsTrue (D.tells disk) → KeepsFile (record { verifies = S.verifies; me = me; listed = roster }) (disks D.Disk disk result.disk) }
-    ensures stable { IsTrue (D.tells disk) → (result.ending ≡ Ending.Done) ⊎ (result.ending ≡ Ending.Limit) → (image : List ℕ) → D.may_leave result.disk image → GoesOn (record { verifies = S.verifies; me = me; listed = roster }) (D.seen disk) image }
+    ensures stable { IsTrue (D.tells disk) → (result.ending ≡ Ending.Done) ⊎ (result.ending ≡ Ending.Limit) → Settles (record { verifies = S.verifies; me = me; listed = roster }) (disks D.Disk disk result.disk) }
+    ensures untouched { (key_of roster me ≡ Some (G.key_of signer) → ⊥) → result.disk ≡ disk }
     ensures begins { Begins (record { verifies = S.verifies; me = me; listed = roster }) (G.key_of signer) (disks D.Disk disk result.disk) (shelves F.Shelf shelf.old shelf.new) (sinks K.Sink out.old out.new) result.ending }
     ensures answers { AnswersScript (record { verifies = S.verifies; me = me; listed = roster }) (G.key_of signer) (G.signature_of signer) script.now (disks D.Disk disk result.disk) (shelves F.Shelf shelf.old shelf.new) (sinks K.Sink out.old out.new) result.ending }
     ensures disk_failed { result.ending ≡ Ending.Disk → D.faults disk < D.faults result.disk }
@@ -136,6 +138,7 @@ fn run_over<D: Disk, F: Shelf, K: Sink, S: Scheme, G: Signer<Of = S>>(
     ensures sink_failed { result.ending ≡ Ending.Sink → K.faults out.old < K.faults out.new }
     ensures sink_later { K.faults out.old ≤ K.faults out.new }
     ensures same_sink { K.tells out.new ≡ K.tells out.old }
+    ensures loads { LoadsFiles script.now (loads F.Shelf shelf.old shelf.new) }
     ensures shelf { TellsShelf (F.faults shelf.old) (F.faults shelf.new) (Err result.ending) }
     ensures same_shelf { F.tells shelf.new ≡ F.tells shelf.old }
 {
@@ -171,15 +174,19 @@ pub fn run<D: Disk, F: Shelf, K: Sink, S: Scheme, G: Signer<Of = S>>(
     out: &mut K,
 ) -> Ending
     // What a stop at any moment of the run leaves on the disk it left before, or it is a lawful journal that begins with the one that was
-    // there; and so is all that it leaves afterwards, where the script ended or met a limit.
+    // there; where the script ended or met a limit, all that it leaves afterwards is one such journal.
     ensures file { IsTrue (D.tells disk.old) → KeepsFile (record { verifies = S.verifies; me = me; listed = roster }) (disks D.Disk disk.old disk.new) }
-    ensures stable { IsTrue (D.tells disk.old) → (result ≡ Ending.Done) ⊎ (result ≡ Ending.Limit) → (image : List ℕ) → D.may_leave disk.new image → GoesOn (record { verifies = S.verifies; me = me; listed = roster }) (D.seen disk.old) image }
+    ensures stable { IsTrue (D.tells disk.old) → (result ≡ Ending.Done) ⊎ (result ≡ Ending.Limit) → Settles (record { verifies = S.verifies; me = me; listed = roster }) (disks D.Disk disk.old disk.new) }
 
-    // The node is refused, for its key, its roster or its journal, or it starts.
+    // The node is refused, for its key, its roster or its journal, or it starts. The disk isn't touched where the roster hasn't its key.
+    ensures untouched { (key_of roster me ≡ Some (G.key_of signer) → ⊥) → disk.new ≡ disk.old }
     ensures begins { Begins (record { verifies = S.verifies; me = me; listed = roster }) (G.key_of signer) (disks D.Disk disk.old disk.new) (shelves F.Shelf shelf.old shelf.new) (sinks K.Sink out.old out.new) result }
 
     // Over a lawful journal of this node, or none, lines, files, journal and ending are those of the definition, or the run is cut short.
     ensures answers { AnswersScript (record { verifies = S.verifies; me = me; listed = roster }) (G.key_of signer) (G.signature_of signer) script.now (disks D.Disk disk.old disk.new) (shelves F.Shelf shelf.old shelf.new) (sinks K.Sink out.old out.new) result }
+
+    // The files that are loaded are those that its commands name, in their order.
+    ensures loads { LoadsFiles script.now (loads F.Shelf shelf.old shelf.new) }
 
     // A fault of the disk or the sink is answered only where its count rose, which never falls.
     ensures disk_failed { result ≡ Ending.Disk → D.faults disk.old < D.faults disk.new }

@@ -1,5 +1,5 @@
 //! What a session writes and stores.
-ghost use Rattle.std.specs.Prelude.{◌≡◌, ◌<◌, ◌≤◌, ◌⊎◌, ◌++◌, ℕ, List, Some, None, IfOk, IfSome, IfErr, IsTrue, codes, take};
+ghost use Rattle.std.specs.Prelude.{◌≡◌, ◌<◌, ◌≤◌, ◌⊎◌, ◌++◌, ◌∷◌, [], ℕ, List, Some, None, IfOk, IfSome, IfErr, IsTrue, codes, take};
 ghost use Rattle.depot_outside.specs.Told.{LacksFile, WhereTold, Wrote, shelves, sinks};
 ghost use Rattle.depot_schedule.specs.Language.{join};
 ghost use Rattle.depot_script.specs.Scripts.{command_words};
@@ -82,6 +82,7 @@ pub fn no_file<K: Sink>(alloc: Global, name: &FileName, out: &mut K) -> Ending
 pub fn load<F: Shelf>(shelf: &mut F, name: &FileName) -> Result<Option<Bytes>, Memory>
     ensures loaded { IfOk result (IsLoaded (shelves F.Shelf shelf.old shelf.new) name.now) }
     ensures files { F.file shelf.new ≡ F.file shelf.old }
+    ensures loads { F.loads shelf.new ≡ F.loads shelf.old ++ name.now ∷ [] }
     ensures tells { F.tells shelf.new ≡ F.tells shelf.old }
     ensures later { F.faults shelf.old ≤ F.faults shelf.new }
     ensures quiet { IfOk result (λ found. IfSome found (λ _. F.faults shelf.new ≡ F.faults shelf.old)) }
@@ -104,6 +105,7 @@ pub fn store_and_tell<F: Shelf, K: Sink>(
     out: &mut K,
 ) -> Result<(), Ending>
     ensures stores { Stores (shelves F.Shelf shelf.old shelf.new) (sinks K.Sink out.old out.new) (join 32 (take (printed_count command.now) (command_words command.now)) ++ codes " ->" ++ lines.now) file.now bytes.now result }
+    ensures loads { F.loads shelf.new ≡ F.loads shelf.old }
     ensures same_shelf { F.tells shelf.new ≡ F.tells shelf.old }
     ensures shelf { TellsShelf (F.faults shelf.old) (F.faults shelf.new) result }
     ensures same { K.tells out.new ≡ K.tells out.old }

@@ -15,7 +15,7 @@ pub returns-in_err-lines-clause-turns : goal.returns-in_err-lines-clause-turns
 returns-in_err-lines-clause-turns g c = λ shelf s unchanged at.
     let p = err_from_is_err_and c.from_residual.result c.from_residual.ensures.1 in
     let sink = sinks g.K.Sink c.args.out.now c.args.out.now in
-    rw (p.1, p.2) (inr (stopped_at_once g.R.Replica c.args.node.now (g.R.Replica.signature_of c.args.node.now) c.args.command.now shelf.file s shelf sink c.requires.running at (λ name _. unchanged name) (nothing_written sink refl)))
+    rw (p.1, p.2) (inr (stopped_at_once g.R.Replica c.args.node.now (g.R.Replica.signature_of c.args.node.now) c.args.command.now shelf.file s shelf sink c.requires.running at unchanged (nothing_written sink refl)))
 
 pub returns-clause-keeps : goal.returns-clause-keeps
 returns-clause-keeps g c = keeps_still g.R.Replica c.args.node.now (sinks g.K.Sink c.args.out.now c.tell.new.out) c.tell.result (g.met.R.Replica.only_now) (g.met.R.Replica.lawful c.args.node.now) c.requires.running c.tell.ensures.later (names_told _ _ _ _ _ tt c.tell.ensures.tells)

@@ -1,4 +1,4 @@
-use Rattle.std.proofs.Common.{Some, refl, sym, ap, subst, ◌∙◌, arith}
+use Rattle.std.proofs.Common.{Some, refl, sym, ap, subst, ◌∙◌, arith, inl}
 use Rattle.depot_outside.specs.Told.{shelves, sinks}
 use Rattle.depot_model.specs.Bundle.{bundle_answer}
 use Rattle.depot_session.specs.declared.ending.Ending.TheVariants as ending
@@ -25,7 +25,7 @@ returns-in_default-clause-keeps g c =
 
 pub returns-in_default-clause-turns : goal.returns-in_default-clause-turns
 returns-in_default-clause-turns g c = λ s tells at.
-    rw c.requires.command (uncalled_without_file g.R.Replica c.args.node.now s c.requires.running at.journal _ _ (step_grows _ _ s _) (shelves g.F.Shelf c.args.shelf.now c.load.new.shelf) _ c.args.hello.now c.no_file.result (bundles_absent _ _ s c.args.hello.now c.args.file.now) at.same_files (λ name. ap (λ files. files name) c.load.ensures.files) tells
+    rw c.requires.command (uncalled_without_file g.R.Replica c.args.node.now s c.requires.running at.journal _ _ (step_grows _ _ s _) (shelves g.F.Shelf c.args.shelf.now c.load.new.shelf) _ c.args.hello.now c.no_file.result (inl refl) (bundles_absent _ _ s c.args.hello.now c.args.file.now) at.same_files (λ name. ap (λ files. files name) c.load.ensures.files) tells
     (rw c.in_default.is at c.in_ok-text.ensures.loaded) c.no_file.ensures.told)
 
 pub returns-in_err-bundle_printed-clause-keeps : goal.returns-in_err-bundle_printed-clause-keeps

@@ -18,7 +18,7 @@ pub returns-in_err-key-clause-turns : goal.returns-in_err-key-clause-turns
 returns-in_err-key-clause-turns g c = λ shelf s unchanged at.
     let p = err_from_is_err_and c.from_residual.result c.from_residual.ensures.1 in
     let sink = sinks g.K.Sink c.args.out.now c.args.out.now in
-    rw (p.1, p.2) (inr (stopped_at_once g.R.Replica c.args.node.now (g.R.Replica.signature_of c.args.node.now) c.args.command.now shelf.file s shelf sink c.requires.running at (λ name _. unchanged name) (nothing_written sink refl)))
+    rw (p.1, p.2) (inr (stopped_at_once g.R.Replica c.args.node.now (g.R.Replica.signature_of c.args.node.now) c.args.command.now shelf.file s shelf sink c.requires.running at unchanged (nothing_written sink refl)))
 
 pub returns-in_err-value-clause-keeps : goal.returns-in_err-value-clause-keeps
 returns-in_err-value-clause-keeps g c =
@@ -29,7 +29,7 @@ pub returns-in_err-value-clause-turns : goal.returns-in_err-value-clause-turns
 returns-in_err-value-clause-turns g c = λ shelf s unchanged at.
     let p = err_from_is_err_and c.from_residual-in_err-value.result c.from_residual-in_err-value.ensures.1 in
     let sink = sinks g.K.Sink c.args.out.now c.args.out.now in
-    rw (p.1, p.2) (inr (stopped_at_once g.R.Replica c.args.node.now (g.R.Replica.signature_of c.args.node.now) c.args.command.now shelf.file s shelf sink c.requires.running at (λ name _. unchanged name) (nothing_written sink refl)))
+    rw (p.1, p.2) (inr (stopped_at_once g.R.Replica c.args.node.now (g.R.Replica.signature_of c.args.node.now) c.args.command.now shelf.file s shelf sink c.requires.running at unchanged (nothing_written sink refl)))
 
 pub returns-in_err-printed-clause-keeps : goal.returns-in_err-printed-clause-keeps
 returns-in_err-printed-clause-keeps g c =

@@ -24,7 +24,7 @@ returns-in_default-clause-keeps g c =
 
 pub returns-in_default-clause-turns : goal.returns-in_default-clause-turns
 returns-in_default-clause-turns g c = λ s tells at.
-    rw c.requires.command (uncalled_without_file g.R.Replica c.args.node.now s c.requires.running at.journal _ _ (step_grows _ _ s _) (shelves g.F.Shelf c.args.shelf.now c.load.new.shelf) _ c.args.file.now c.no_file.result (takes_absent _ _ s c.args.file.now) at.same_files (λ name. ap (λ files. files name) c.load.ensures.files) tells
+    rw c.requires.command (uncalled_without_file g.R.Replica c.args.node.now s c.requires.running at.journal _ _ (step_grows _ _ s _) (shelves g.F.Shelf c.args.shelf.now c.load.new.shelf) _ c.args.file.now c.no_file.result refl (takes_absent _ _ s c.args.file.now) at.same_files (λ name. ap (λ files. files name) c.load.ensures.files) tells
     (rw c.in_default.is at c.in_ok-stream.ensures.loaded) c.no_file.ensures.told)
 
 pub returns-in_err-printed-clause-turns : goal.returns-in_err-printed-clause-turns

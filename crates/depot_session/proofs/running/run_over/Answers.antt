@@ -1,14 +1,15 @@
-use Rattle.std.proofs.Common.{◌≡◌, ◌<◌, ◌⊎◌, Bool, IsTrue, [], ◌++◌, ℕ, refl, sym, ap, subst, ◌∙◌, arith, inl, inr}
+use Rattle.std.proofs.Common.{◌≡◌, ◌<◌, ◌⊎◌, Bool, IsTrue, List, [], ◌++◌, ℕ, refl, sym, ap, subst, ◌∙◌, arith, inl, inr}
+use Rattle.std.proofs.lemmas.List.{append-nil}
 use Rattle.depot_model.specs.Checks.{Setting}
 use Rattle.depot_model.specs.Lawful.{IsLawful}
 use Rattle.depot_node.proofs.StartLaws.{lawful_file_is_read, lawful_file_starts}
 use Rattle.depot_outside.specs.Told.{disks, shelves, sinks}
-use Rattle.depot_model.specs.Stops.{HasAll}
+use Rattle.depot_model.specs.Stops.{HasAll, HasRecords}
 use Rattle.depot_session.specs.Sessions.{session_from}
 use Rattle.depot_session.specs.declared.ending.Ending.TheVariants as ending
 use Rattle.depot_session.proofs.Leaving.{all_there}
 use Rattle.depot_session.proofs.PlayedScripts.{front_longer}
-use Rattle.depot_session.proofs.RunImages.{all_go_on, either, has_from_key, refused_goes_on, run_goes_on}
+use Rattle.depot_session.proofs.RunImages.{either, has_from_key, key_or_disk, refused_goes_on, run_goes_on, settled}
 use Rattle.depot_session.proofs.RunEnds.{answered, calm_end, ended_by, not_started, start_is_correct}
 use Rattle.depot_session.proofs.running.run_over.Goals as goal
 
@@ -31,7 +32,7 @@ returns-in-Err-clause-answers g c = record {
       let start = e.any_moment_back told in
       let told_back = subst (λ (b : Bool). IsTrue b) (sym e.tells_back) told in
       inr (not_started here (g.G.Signer.signature_of c.args.signer) J reads c.args.script.now (disks g.D.Disk c.args.disk c.in-Err.field-0.disk) (shelves g.F.Shelf c.args.shelf.now c.args.shelf.now) (sinks g.K.Sink c.args.out.now c.refused-ending.new.out) has
-      (λ image left. start.each image (g.met.D.Disk.counts_now c.in-Err.field-0.disk (g.D.Disk.moment c.args.disk) image start.later left)) (g.met.D.Disk.reads_as_image c.in-Err.field-0.disk told_back) (front_longer []) (λ name. refl)
+      (λ image left. start.each image (g.met.D.Disk.counts_now c.in-Err.field-0.disk (g.D.Disk.moment c.args.disk) image start.later left)) (g.met.D.Disk.reads_as_image c.in-Err.field-0.disk told_back) (front_longer []) (λ name. refl) (start_is_correct here J reads (g.F.Shelf.file c.args.shelf.now) c.is_formed.ensures (has_from_key here (g.G.Signer.key_of c.args.signer) keyed) lawful are)
       c.in-Err.field-0.error c.refused-ending.result
       (lawful_file_starts here (g.G.Signer.key_of c.args.signer) (g.D.Disk.tells c.args.disk) (g.D.Disk.seen c.args.disk) J c.in-Err.field-0.error told keyed has lawful e.refused) e.cause.rose c.refused-ending.ensures.told);
 }
@@ -55,22 +56,42 @@ returns-clause-file g c = λ told.
     }
 
 pub returns-clause-stable : goal.returns-clause-stable
-returns-clause-stable g c = λ told calm image left.
+returns-clause-stable g c = λ told calm.
     let here : Setting = record { verifies = g.S.Scheme.verifies; me = c.args.me; listed = c.args.roster } in
     let e = c.in-Ok.ensures in
     let keeps = c.play-played.ensures.keeps in
+    let now = c.play-played.new.node.store.disk in
+    let records = c.play-played.new.node.store.records in
     let told_then = subst (λ (b : Bool). IsTrue b) (sym e.tells) told in
+    let told_now = subst (λ (b : Bool). IsTrue b) (sym keeps.lasts.lasts.told) told_then in
     let lawful = subst (λ (h : Setting). IsLawful h (c.in-Ok.node.store.records ++ keeps.lasts.appends)) e.stands keeps.lasts.is.lawful in
     let runs = keeps.runs_on (calm_end c.play-played.result (subst (λ x. (x ≡ ending.Done) ⊎ (x ≡ ending.Limit)) c.ended.ensures calm)) in
-    let all = keeps.lasts.lasts.stable told_then image (subst (λ d. g.D.Disk.may_leave d image) c.into_disk.ensures left) in
-    let records = c.play-played.new.node.store.records in
-    all_go_on here (g.D.Disk.seen c.args.disk) image c.in-Ok.node.store.records keeps.lasts.appends records keeps.lasts.is.count (e.records told) lawful keeps.lasts.is.front
-    (all_there records image (subst (λ (b : Bool). HasAll records b image) runs all))
+    let there : (image : List ℕ) → g.D.Disk.may_leave now image → HasRecords records image = λ image left. all_there records image (subst (λ (b : Bool). HasAll records b image) runs (keeps.lasts.lasts.stable told_then image left)) in
+    settled here (disks g.D.Disk c.args.disk c.into_disk.result) c.in-Ok.node.store.records keeps.lasts.appends records keeps.lasts.is.count (e.records told) lawful keeps.lasts.is.front
+    (subst (λ d. HasRecords records (g.D.Disk.seen d)) (sym c.into_disk.ensures) (there (g.D.Disk.seen now) (g.met.D.Disk.reads_as_image now told_now)))
+    (λ image left. there image (subst (λ d. g.D.Disk.may_leave d image) c.into_disk.ensures left))
+
+pub returns-in-Err-clause-untouched : goal.returns-in-Err-clause-untouched
+returns-in-Err-clause-untouched g c = λ unkeyed.
+    let here : Setting = record { verifies = g.S.Scheme.verifies; me = c.args.me; listed = c.args.roster } in
+    elim (key_or_disk here (g.G.Signer.key_of c.args.signer) _ (g.D.Disk.seen c.args.disk) c.in-Err.field-0.error c.in-Err.ensures.refused) [
+      | inl fault ↦ c.in-Err.ensures.untouched fault
+      | inr keyed ↦ absurd (unkeyed keyed)
+    ]
+
+pub returns-clause-untouched : goal.returns-clause-untouched
+returns-clause-untouched g c = λ unkeyed. absurd (unkeyed c.in-Ok.ensures.key)
+
+pub returns-in-Err-clause-loads : goal.returns-in-Err-clause-loads
+returns-in-Err-clause-loads g c = (0, sym (append-nil (g.F.Shelf.loads c.args.shelf.now)))
+
+pub returns-in-Err-clause-begins : goal.returns-in-Err-clause-begins
+returns-in-Err-clause-begins g c = inl (record { error = c.in-Err.field-0.error; is = c.in-Err.ensures.refused; told = c.refused-ending.ensures.told; disk_failed = c.in-Err.ensures.cause.rose; unchanged = c.in-Err.ensures.unchanged; files = λ name. refl })
 
 pub returns-clause-begins : goal.returns-clause-begins
 returns-clause-begins g c =
     let e = c.in-Ok.ensures in
-    inr (inl (record { keyed = e.key; journal = λ told. (let s = e.records told in (s.journal, (s.lawful, s.read))); is_no_refusal = λ is. c.play-played.ensures.keeps.no_refusal (ended_by c.play-played.result ending.NotLawful (λ x. cc) (sym c.ended.ensures ∙ is)) }))
+    inr (record { keyed = e.key; journal = λ told. (let s = e.records told in (s.journal, (s.lawful, s.read))); is_no_refusal = λ is. c.play-played.ensures.keeps.no_refusal (ended_by c.play-played.result ending.NotLawful (λ x. cc) (sym c.ended.ensures ∙ is)) })
 
 pub returns-clause-answers : goal.returns-clause-answers
 returns-clause-answers g c = record {
