@@ -1,0 +1,123 @@
+-- Entries of a row, one more at a time.
+use Rattle.std.proofs.Common.{◌≡◌, ◌≢◌, ℕ, ◌+◌, ◌-◌, ◌<◌, ◌≤◌, List, [], ◌∷◌, ◌++◌, length, take, drop, get_or, None, get_or-set_same, get_or-set_other, Some, refl, sym, ap, subst, ◌∙◌, arith, inl, inr, ◌⊎◌, slice_get}
+use Rattle.std.proofs.Math.ListN.{set}
+use Rattle.std.proofs.lemmas.Bool.{cases_lt, cases_order}
+use Rattle.std.proofs.lemmas.List.{length-drop, take_all, get_or-drop}
+use Rattle.std.proofs.lemmas.Option.{slice_get_within}
+use Rattle.depot_lanes.specs.Lanes.{first_above}
+use Rattle.depot_lanes.proofs.LaneLaws.{first_above-Some, first_above-None, first_above-within}
+use Rattle.depot_clocks.specs.declared.row.Entry.{Entry}
+use Rattle.depot_clocks.specs.KeptRows.{HasEntry, HasCount, ArePut, AreAbove, NoneAbove, IsFirstFrom}
+use Rattle.depot_clocks.proofs.ItemPaths.{from_pushed, to_pushed, at_pushed}
+
+-- ---- the first entries
+
+-- none of the first i entries is of the chain
+abbrev pub NoneUpTo : List Entry → ℕ → ℕ → Type 0
+NoneUpTo entries i chain = (k : ℕ) (e : Entry) → k < i → slice_get entries k ≡ Some e → e.chain ≡ chain → ⊥
+
+same_entry : (entries : List Entry) (i k : ℕ) (e f : Entry) → slice_get entries i ≡ Some e → slice_get entries k ≡ Some f → k ≡ i → e ≡ f
+same_entry entries i k e f at_e at_f same = let here : slice_get entries i ≡ Some f = subst (λ (j : ℕ). slice_get entries j ≡ Some f) same at_f in cc
+
+pub none_more : (entries : List Entry) (i chain : ℕ) (e : Entry) → NoneUpTo entries i chain → slice_get entries i ≡ Some e → (e.chain ≡ chain → ⊥) → NoneUpTo entries (i + 1) chain
+none_more entries i chain e none at other k f low at_f same = elim (cases_lt k i) [
+  | inl lt ↦ none k f lt at_f same
+  | inr ge ↦ other (ap (λ (g : Entry). g.chain) (same_entry entries i k e f at at_f (omega (arith, low, ge))) ∙ same)
+]
+
+pub none_of_all : (entries : List Entry) (i chain : ℕ) → NoneUpTo entries i chain → length entries ≤ i → HasEntry entries chain → ⊥
+none_of_all entries i chain none all has = none has.0 has.1.0 (omega (arith, all, slice_get_within entries has.0 has.1.0 has.1.1.0)) has.1.1.0 has.1.1.1
+
+-- the first i entries aren't above those of the row
+abbrev pub WithinUpTo : List Entry → ℕ → List ℕ → Type 0
+WithinUpTo entries i row = (k : ℕ) (e : Entry) → k < i → slice_get entries k ≡ Some e → e.count ≤ get_or row e.chain 0
+
+pub within_more : (entries : List Entry) (i : ℕ) (row : List ℕ) (e : Entry) → WithinUpTo entries i row → slice_get entries i ≡ Some e → e.count ≤ get_or row e.chain 0 → WithinUpTo entries (i + 1) row
+within_more entries i row e within at le k f low at_f = elim (cases_lt k i) [
+  | inl lt ↦ within k f lt at_f
+  | inr ge ↦ subst (λ (g : Entry). g.count ≤ get_or row g.chain 0) (same_entry entries i k e f at at_f (omega (arith, low, ge))) le
+]
+
+-- ---- entries put into a row
+
+-- the first i entries are put into a row
+abbrev pub PutUpTo : List Entry → ℕ → List ℕ → List ℕ → Type 0
+PutUpTo entries i old new = (chain : ℕ) → HasCount entries chain (get_or new chain 0) ⊎ (NoneUpTo entries i chain × (get_or new chain 0 ≡ get_or old chain 0))
+
+pub put_more : (entries : List Entry) (i : ℕ) (old new : List ℕ) (e : Entry) → PutUpTo entries i old new → slice_get entries i ≡ Some e → e.chain < length new → PutUpTo entries (i + 1) old (set new e.chain e.count)
+put_more entries i old new e put at inside chain = elim (cases_order e.chain chain) [
+  | inl same ↦
+      let read : get_or (set new e.chain e.count) chain 0 ≡ e.count = subst (λ (k : ℕ). get_or (set new e.chain e.count) k 0 ≡ e.count) same (rw get_or-set_same refl) in
+      inl (i, (e, (at, (same, sym read))))
+  | inr other ↦
+      let apart : chain ≢ e.chain = elim other [ inl lt ↦ omega arith | inr gt ↦ omega arith ] in
+      let read : get_or (set new e.chain e.count) chain 0 ≡ get_or new chain 0 = rw get_or-set_other refl in
+      elim (put chain) [
+        | inl has ↦ inl (subst (HasCount entries chain) (sym read) has)
+        | inr none ↦ inr (none_more entries i chain e none.0 at (λ same. apart (sym same)), read ∙ none.1)
+      ]
+]
+
+pub put_all : (entries : List Entry) (i : ℕ) (old new : List ℕ) → PutUpTo entries i old new → length entries ≤ i → ArePut entries old new
+put_all entries i old new put all chain = elim (put chain) [
+  | inl has ↦ inl has
+  | inr none ↦ inr (none_of_all entries i chain none.0 all, none.1)
+]
+
+-- ---- entries above those of another row
+
+same_length : (row before : List ℕ) (at : ℕ) → length row ≡ length before → length (drop at row) ≡ length (drop at before)
+same_length row before at len = omega (arith, length-drop at row, length-drop at before)
+
+whole : (row before : List ℕ) (at step : ℕ) → length row ≡ length before → first_above (take (length row - at) (drop at row)) (take (length before - at) (drop at before)) ≡ Some step → first_above (drop at row) (drop at before) ≡ Some step
+whole row before at step len e = rw (take_all (length row - at) (drop at row) (omega (arith, length-drop at row)), take_all (length before - at) (drop at before) (omega (arith, length-drop at before))) at e
+
+whole_none : (row before : List ℕ) (at : ℕ) → length row ≡ length before → first_above (take (length row - at) (drop at row)) (take (length before - at) (drop at before)) ≡ None → first_above (drop at row) (drop at before) ≡ None
+whole_none row before at len e = rw (take_all (length row - at) (drop at row) (omega (arith, length-drop at row)), take_all (length before - at) (drop at before) (omega (arith, length-drop at before))) at e
+
+-- the place that is found behind some
+pub first_from : (row before : List ℕ) (at step : ℕ) → length row ≡ length before → at ≤ length row → first_above (take (length row - at) (drop at row)) (take (length before - at) (drop at before)) ≡ Some step → IsFirstFrom row before at (at + step)
+first_from row before at step len inside e =
+    let found = first_above-Some (drop at row) (drop at before) step (same_length row before at len) (whole row before at step len e) in
+    let low = first_above-within (drop at row) (drop at before) step (whole row before at step len e) in
+    record {
+      inside = omega (arith, low, length-drop at row);
+      behind = omega arith;
+      first = λ k ge lt.
+          let here : at + (k - at) ≡ k = omega arith in
+          let le = found.1 (k - at) (omega arith) in
+          subst (λ (j : ℕ). get_or row j 0 ≤ get_or before j 0) here (rw (get_or-drop at row (k - at) 0, get_or-drop at before (k - at) 0) at le);
+    }
+
+-- none is found behind some
+pub none_from : (row before : List ℕ) (at : ℕ) → length row ≡ length before → at ≤ length row → first_above (take (length row - at) (drop at row)) (take (length before - at) (drop at before)) ≡ None → NoneAbove row before at (length row)
+none_from row before at len inside e k ge lt =
+    let here : at + (k - at) ≡ k = omega arith in
+    let le = first_above-None (drop at row) (drop at before) (same_length row before at len) (whole_none row before at len e) (k - at) in
+    subst (λ (j : ℕ). get_or row j 0 ≤ get_or before j 0) here (rw (get_or-drop at row (k - at) 0, get_or-drop at before (k - at) 0) at le)
+
+-- one entry more, and none above between
+pub above_more : (row before : List ℕ) (entries : List Entry) (at : ℕ) (e : Entry) → AreAbove row before at entries → IsFirstFrom row before at e.chain → e.count ≡ get_or row e.chain 0 → AreAbove row before (e.chain + 1) (entries ++ e ∷ [])
+above_more row before entries at e above place count = record {
+  told = λ k f at_f. elim (from_pushed entries e k f at_f) [
+    | inl h ↦ above.told k f h
+    | inr h ↦ subst (λ (g : Entry). (g.chain < length row) × (g.count ≡ get_or row g.chain 0)) h.1 (place.inside, count)
+  ];
+  all = λ chain low higher. elim (cases_lt chain at) [
+    | inl lt ↦ let r = above.all chain lt higher in (r.0, (r.1.0, (to_pushed entries e r.0 r.1.0 r.1.1.0, r.1.1.1)))
+    | inr ge ↦ elim (cases_lt chain e.chain) [
+      | inl lt ↦ absurd (omega (arith, higher, place.first chain ge lt))
+      | inr le ↦ (length entries, (e, (at_pushed entries e, omega (arith, low, le))))
+    ]
+  ];
+}
+
+-- none above behind
+pub above_all : (row before : List ℕ) (entries : List Entry) (at to : ℕ) → AreAbove row before at entries → NoneAbove row before at to → AreAbove row before to entries
+above_all row before entries at to above none = record {
+  told = above.told;
+  all = λ chain low higher. elim (cases_lt chain at) [
+    | inl lt ↦ above.all chain lt higher
+    | inr ge ↦ absurd (omega (arith, higher, none chain ge low))
+  ];
+}

@@ -1,0 +1,77 @@
+-- A count is how many items there are.
+use Rattle.std.proofs.Common.{◌≡◌, ℕ, zero, suc, ◌<◌, ◌≤◌, List, [], ◌∷◌, ◌++◌, length, get_or, Some, refl, sym, ap, subst, ◌∙◌, arith, inl, inr}
+use Rattle.std.proofs.Math.ListN.{get_or-append}
+use Rattle.std.proofs.Math.Seq.{get_or-append_seam}
+use Rattle.std.proofs.lemmas.Bool.{cases_lt}
+use Rattle.std.proofs.lemmas.List.{length-append, get_or_default}
+use Rattle.depot_clocks.specs.ChainItems.{ChainItem, IsAt, chain_length, IsCount, IsOfPast, IsTrueOf}
+use Rattle.depot_clocks.specs.KeptRows.{AreChained}
+use Rattle.depot_clocks.proofs.ItemPaths.{up_to_low}
+
+-- at each place of a chain stands one item
+one_at : (items : List ChainItem) (a b chain place : ℕ) → AreChained items → IsAt items a chain place → IsAt items b chain place → a ≡ b
+one_at items a b chain place c at_a at_b =
+    let same = at_a.1.1.0 ∙ sym at_b.1.1.0 in
+    let low = up_to_low items a b c (c.linked a b at_a.0 at_b.0 at_a.1.0 at_b.1.0 same (omega (arith, at_a.1.1.1, at_b.1.1.1))) in
+    let high = up_to_low items b a c (c.linked b a at_b.0 at_a.0 at_b.1.0 at_a.1.0 (sym same) (omega (arith, at_a.1.1.1, at_b.1.1.1))) in
+    omega (arith, low, high)
+
+-- an item stands at one place
+one_place : (items : List ChainItem) (a chain i j : ℕ) → IsAt items a chain i → IsAt items a chain j → i ≡ j
+one_place items a chain i j at_i at_j =
+    let same : at_i.0 ≡ at_j.0 = some_same at_i.0 at_j.0 (sym at_i.1.0 ∙ at_j.1.0) in
+    omega (arith, at_i.1.1.1, at_j.1.1.1, ap (λ (x : ChainItem). x.place) same)
+  where
+    some_same : (x y : ChainItem) → Some x ≡ Some y → x ≡ y
+    some_same x y e = cc
+
+-- the first n items of a chain
+record Firsts (items : List ChainItem) (chain n : ℕ) : Type 0 where
+  pub numbers : List ℕ
+  pub many : length numbers ≡ n
+  pub at : (k : ℕ) → k < n → IsAt items (get_or numbers k 0) chain k
+
+firsts : (items : List ChainItem) (chain n : ℕ) → AreChained items → n ≤ chain_length items chain → Firsts items chain n
+firsts items chain zero c low = record { numbers = []; many = refl; at = λ k less. absurd (omega (arith, less)) }
+firsts items chain (suc n) c low =
+    let rest = firsts items chain n c (omega (arith, low)) in
+    let next = c.gapless chain n (omega (arith, low)) in
+    let all = rest.numbers ++ next.0 ∷ [] in
+    record {
+      numbers = all;
+      many = omega (arith, rest.many, length-append rest.numbers (next.0 ∷ []));
+      at = λ k less. elim (cases_lt k n) [
+        | inl lt ↦ subst (λ (a : ℕ). IsAt items a chain k) (sym (get_or-append rest.numbers (next.0 ∷ []) 0 k (omega (arith, lt, rest.many)))) (rest.at k lt)
+        | inr ge ↦
+            let here : length rest.numbers ≡ k = omega (arith, ge, less, rest.many) in
+            let read : get_or all k 0 ≡ next.0 = subst (λ (j : ℕ). get_or all j 0 ≡ next.0) here (get_or-append_seam rest.numbers next.0 [] 0) in
+            let k_is : n ≡ k = omega (arith, here, rest.many) in
+            subst (λ (a : ℕ). IsAt items a chain k) (sym read) (subst (IsAt items next.0 chain) k_is next.1)
+      ];
+    }
+
+-- a count is how many items of the chain are the item or precede it
+pub count_is_how_many : (items : List ChainItem) (chain item n : ℕ) → AreChained items → IsCount items chain item n → IsTrueOf (IsOfPast items chain item) n
+count_is_how_many items chain item n c count =
+    let f = firsts items chain n c count.there in
+    record {
+      numbers = f.numbers;
+      all = λ a past.
+          let x = past.0 in
+          let low = count.counted a x past.1.0 past.1.1.0 past.1.1.1 in
+          let here : get_or f.numbers x.place 0 ≡ a = one_at items (get_or f.numbers x.place 0) a chain x.place c (f.at x.place low) (x, (past.1.0, (past.1.1.0, refl))) in
+          let inside : x.place < length f.numbers = omega (arith, low, f.many) in
+          (x.place, inside, get_or_default f.numbers x.place a 0 inside ∙ here);
+      only = λ a on.
+          let k = on.0 in
+          let here : get_or f.numbers k 0 ≡ a = get_or_default f.numbers k 0 a on.1 ∙ on.2 in
+          let at : IsAt items a chain k = subst (λ (b : ℕ). IsAt items b chain k) here (f.at k (omega (arith, on.1, f.many))) in
+          (at.0, (at.1.0, (at.1.1.0, count.only a at.0 at.1.0 at.1.1.0 (omega (arith, at.1.1.1, on.1, f.many)))));
+      apart = λ i j d less inside same.
+          let low : i < length f.numbers = omega (arith, less, inside) in
+          let same_0 : get_or f.numbers i 0 ≡ get_or f.numbers j 0 = get_or_default f.numbers i 0 d low ∙ (same ∙ get_or_default f.numbers j d 0 inside) in
+          let at_i = subst (λ (a : ℕ). IsAt items a chain i) same_0 (f.at i (omega (arith, low, f.many))) in
+          let at_j = f.at j (omega (arith, inside, f.many)) in
+          absurd (omega (arith, one_place items (get_or f.numbers j 0) chain i j at_i at_j, less));
+      many = f.many;
+    }

@@ -1,0 +1,73 @@
+-- Items in chains, each with the earlier items that are its parents.
+use Rattle.std.specs.Prelude.{◌≡◌, ◌≤◌, ◌<◌, ◌-◌, ◌==◌, ℕ, zero, suc, List, Some, slice_get, slice_index, count_by, length, ◌≢◌, AllPairs, Contains}
+
+-- an item: its chain, how many items of the chain stand before it, and the items that are its parents
+pub record ChainItem : Type 0 where
+  pub chain : ℕ
+  pub place : ℕ
+  pub parents : List ℕ
+
+-- ---- precedence
+
+-- p is a parent of the item
+abbrev pub IsParentOf : List ChainItem → ℕ → ℕ → Type 0
+IsParentOf items p item = (x : ChainItem) × ((slice_get items item ≡ Some x) × Contains x.parents p)
+
+-- So many steps to a parent lead from an item to another.
+abbrev pub LeadsTo : List ChainItem → ℕ → ℕ → ℕ → Type 0
+LeadsTo items zero from to = from ≡ to
+LeadsTo items (suc steps) from to = (p : ℕ) × (IsParentOf items p from × LeadsTo items steps p to)
+
+-- one step or more lead from b to a
+abbrev pub Precedes : List ChainItem → ℕ → ℕ → Type 0
+Precedes items a b = (steps : ℕ) × LeadsTo items (suc steps) b a
+
+-- a is b or precedes it
+abbrev pub IsUpTo : List ChainItem → ℕ → ℕ → Type 0
+IsUpTo items a b = (steps : ℕ) × LeadsTo items steps b a
+
+-- ---- chains
+
+-- the item stands at this place of this chain
+abbrev pub IsAt : List ChainItem → ℕ → ℕ → ℕ → Type 0
+IsAt items item chain place = (x : ChainItem) × ((slice_get items item ≡ Some x) × ((x.chain ≡ chain) × (x.place ≡ place)))
+
+-- how many items a chain has
+abbrev pub chain_length : List ChainItem → ℕ → ℕ
+chain_length items chain = count_by (λ x. x.chain == chain) items
+
+-- how many chains there are: each has one first place
+abbrev pub number_of_chains : List ChainItem → ℕ
+number_of_chains items = count_by (λ x. x.place == 0) items
+
+-- past its chain's first place, the item before it in the chain is a parent
+abbrev pub IsLinked : List ChainItem → ℕ → ℕ → List ℕ → Type 0
+IsLinked items chain place parents = 0 < place → (p : ℕ) × (IsAt items p chain (place - 1) × Contains parents p)
+
+-- ---- rows
+
+-- n is how many items of the chain are the item or precede it: these are its first n
+pub record IsCount (items : List ChainItem) (chain item n : ℕ) : Type 0 where
+  pub there : n ≤ chain_length items chain
+  pub counted : (a : ℕ) (x : ChainItem) → slice_get items a ≡ Some x → x.chain ≡ chain → IsUpTo items a item → x.place < n
+  pub only : (a : ℕ) (x : ChainItem) → slice_get items a ≡ Some x → x.chain ≡ chain → x.place < n → IsUpTo items a item
+
+-- the item a is of the chain, and is the other item or precedes it
+abbrev pub IsOfPast : List ChainItem → ℕ → ℕ → ℕ → Type 0
+IsOfPast items chain item a = (x : ChainItem) × ((slice_get items a ≡ Some x) × ((x.chain ≡ chain) × IsUpTo items a item))
+
+-- a fact holds of n numbers: of these, which are different, and of no others
+pub record IsTrueOf (P : ℕ → Type 0) (n : ℕ) : Type 0 where
+  pub numbers : List ℕ
+  pub all : (a : ℕ) → P a → Contains numbers a
+  pub only : (a : ℕ) → Contains numbers a → P a
+  pub apart : AllPairs (λ a b. a ≢ b) numbers
+  pub many : length numbers ≡ n
+
+-- each item that is this one or precedes it stands, in its chain, at a place below the row's entry
+abbrev pub CountsAll : List ChainItem → ℕ → List ℕ → Type 0
+CountsAll items item row = (a : ℕ) (x : ChainItem) → slice_get items a ≡ Some x → IsUpTo items a item → x.place < slice_index row x.chain
+
+-- no entry of the item's row is above that of another row
+abbrev pub IsWithin : List ChainItem → ℕ → List ℕ → Type 0
+IsWithin items item row = (chain n : ℕ) → IsCount items chain item n → n ≤ slice_index row chain

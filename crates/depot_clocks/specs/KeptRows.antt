@@ -1,0 +1,123 @@
+-- What is kept of items in chains.
+use Rattle.std.specs.Prelude.{◌≡◌, ◌<◌, ◌≤◌, ◌^◌, ℕ, List, length, [], ◌∷◌, ◌++◌, ◌+◌, ◌==◌, slice_set, if◌then◌else◌, Some, ◌⊎◌, slice_get, slice_index}
+use Rattle.depot_clocks.specs.ChainItems.{ChainItem, IsUpTo, IsAt, IsLinked, chain_length, number_of_chains, IsCount}
+use Rattle.depot_clocks.specs.declared.row.Entry.{Entry}
+use Rattle.depot_clocks.specs.declared.row.Row.{Row}
+use Rattle.depot_clocks.specs.declared.row.Row.TheVariants.{Whole, Changed}
+use Rattle.depot_clocks.specs.declared.row.Kept.{Kept}
+
+-- ---- items that fit
+
+-- What holds of items that were added one behind the other, each where it belongs.
+pub record AreChained (items : List ChainItem) : Type 0 where
+  pub parents : (item : ℕ) (x : ChainItem) (k : ℕ) → slice_get items item ≡ Some x → k < length x.parents → slice_index x.parents k < item
+  pub placed : (item : ℕ) (x : ChainItem) → slice_get items item ≡ Some x → x.place < chain_length items x.chain
+  pub gapless : (chain place : ℕ) → place < chain_length items chain → (item : ℕ) × IsAt items item chain place
+  pub started : (chain : ℕ) → chain < number_of_chains items → 0 < chain_length items chain
+  pub counted : (chain : ℕ) → number_of_chains items ≤ chain → chain_length items chain ≡ 0
+  pub linked : (a b : ℕ) (x y : ChainItem) → slice_get items a ≡ Some x → slice_get items b ≡ Some y → x.chain ≡ y.chain → x.place ≤ y.place → IsUpTo items a b
+
+-- x fits behind these items
+pub record IsNext (items : List ChainItem) (x : ChainItem) : Type 0 where
+  pub parents : (k : ℕ) → k < length x.parents → slice_index x.parents k < length items
+  pub chain : x.chain ≤ number_of_chains items
+  pub place : x.place ≡ chain_length items x.chain
+  pub linked : IsLinked items x.chain x.place x.parents
+
+-- ---- rows
+
+-- n is how many items of the chain are one of the first i of these, or precede one
+pub record JoinsUpTo (items : List ChainItem) (parents : List ℕ) (i chain n : ℕ) : Type 0 where
+  pub there : n ≤ chain_length items chain
+  pub counted : (a : ℕ) (x : ChainItem) (k : ℕ) → slice_get items a ≡ Some x → x.chain ≡ chain → k < i → IsUpTo items a (slice_index parents k) → x.place < n
+  pub only : (a : ℕ) (x : ChainItem) → slice_get items a ≡ Some x → x.chain ≡ chain → x.place < n → (k : ℕ) × ((k < i) × IsUpTo items a (slice_index parents k))
+
+-- what the rows of its parents tell of the next item's
+pub record IsJoined (items : List ChainItem) (parents row : List ℕ) : Type 0 where
+  pub long : length row ≡ number_of_chains items
+  pub joins : (chain : ℕ) → chain < length row → JoinsUpTo items parents (length parents) chain (slice_index row chain)
+
+-- the next item's row
+pub record IsNextRow (items : List ChainItem) (x : ChainItem) (row : List ℕ) : Type 0 where
+  pub long : length row ≡ number_of_chains (items ++ x ∷ [])
+  pub counts : (chain : ℕ) → IsCount (items ++ x ∷ []) chain (length items) (slice_index row chain)
+
+-- a row with the entry of an item in its own chain, which is the next chain where the item starts it
+abbrev pub own_entry : List ℕ → ℕ → ℕ → List ℕ
+own_entry row chain place = if place == 0 then row ++ 1 ∷ [] else slice_set row chain (place + 1)
+
+-- one of the entries is of the chain
+abbrev pub HasEntry : List Entry → ℕ → Type 0
+HasEntry entries chain = (k : ℕ) × ((e : Entry) × ((slice_get entries k ≡ Some e) × (e.chain ≡ chain)))
+
+-- an entry says of the chain that it counts n
+abbrev pub HasCount : List Entry → ℕ → ℕ → Type 0
+HasCount entries chain n = (k : ℕ) × ((e : Entry) × ((slice_get entries k ≡ Some e) × ((e.chain ≡ chain) × (e.count ≡ n))))
+
+-- each of the entries is of a chain below this number
+abbrev pub AreInside : List Entry → ℕ → Type 0
+AreInside entries chains = (k : ℕ) (e : Entry) → slice_get entries k ≡ Some e → e.chain < chains
+
+-- a row with these entries put into it
+abbrev pub ArePut : List Entry → List ℕ → List ℕ → Type 0
+ArePut entries old new = (chain : ℕ) → HasCount entries chain (slice_index new chain) ⊎ ((HasEntry entries chain → ⊥) × (slice_index new chain ≡ slice_index old chain))
+
+-- no entry is above that of the row
+abbrev pub AreWithin : List Entry → List ℕ → Type 0
+AreWithin entries row = (k : ℕ) (e : Entry) → slice_get entries k ≡ Some e → e.count ≤ slice_index row e.chain
+
+-- the entries of a row before this chain that are above those of another, and no others
+pub record AreAbove (row before : List ℕ) (to : ℕ) (entries : List Entry) : Type 0 where
+  pub told : (k : ℕ) (e : Entry) → slice_get entries k ≡ Some e → (e.chain < length row) × (e.count ≡ slice_index row e.chain)
+  pub all : (chain : ℕ) → chain < to → slice_index before chain < slice_index row chain → HasEntry entries chain
+
+-- a row isn't above another at any place from low to below high
+abbrev pub NoneAbove : List ℕ → List ℕ → ℕ → ℕ → Type 0
+NoneAbove row before low high = (k : ℕ) → low ≤ k → k < high → slice_index row k ≤ slice_index before k
+
+-- the first place from low on at which a row is above another
+pub record IsFirstFrom (row before : List ℕ) (low place : ℕ) : Type 0 where
+  pub inside : place < length row
+  pub behind : low ≤ place
+  pub first : NoneAbove row before low place
+
+-- the entries are those of an item's row, one for each chain
+pub record IsRowOf (items : List ChainItem) (item : ℕ) (row : List ℕ) : Type 0 where
+  pub long : length row ≡ number_of_chains items
+  pub counts : (chain : ℕ) → chain < length row → IsCount items chain item (slice_index row chain)
+
+-- the entries are those of a whole row of the item
+pub record IsWholeRow (items : List ChainItem) (item : ℕ) (row : List ℕ) : Type 0 where
+  pub few : length row ≤ number_of_chains items
+  pub counts : (chain : ℕ) → IsCount items chain item (slice_index row chain)
+
+-- the row of the item is that of another that it leads to, but for these entries
+pub record IsChangedRow (items : List ChainItem) (item behind : ℕ) (entries : List Entry) : Type 0 where
+  pub earlier : behind < item
+  pub leads : IsUpTo items behind item
+  pub inside : (k : ℕ) (e : Entry) → slice_get entries k ≡ Some e → e.chain < number_of_chains items
+  pub counts : (k : ℕ) (e : Entry) → slice_get entries k ≡ Some e → IsCount items e.chain item e.count
+  pub same : (chain : ℕ) → (HasEntry entries chain → ⊥) → (n : ℕ) × (IsCount items chain behind n × IsCount items chain item n)
+
+-- what is kept of the item's row
+abbrev pub KeepsRow : List ChainItem → ℕ → Row → Type 0
+KeepsRow items item (Whole row) = IsWholeRow items item row.items
+KeepsRow items item (Changed behind entries) = IsChangedRow items item behind entries.items
+
+-- what is kept of the item
+pub record KeepsItem (items : List ChainItem) (item : ℕ) (kept : Kept) : Type 0 where
+  pub spot : IsAt items item kept.chain kept.place
+  pub row : KeepsRow items item kept.row
+
+-- what is kept of all items
+pub record KeepsItems (items : List ChainItem) (kept : List Kept) (chains : ℕ) : Type 0 where
+  pub chained : AreChained items
+  pub as_many : length kept ≡ length items
+  pub each : (item : ℕ) (k : Kept) → slice_get kept item ≡ Some k → KeepsItem items item k
+  pub numbered : chains ≡ number_of_chains items
+  pub few : length items < 2 ^ 32
+
+-- a row, kept as that of another item but for the entries that are above it
+abbrev pub IsChangedFrom : List ChainItem → ℕ → List ℕ → Row → Type 0
+IsChangedFrom items behind row (Whole other) = ⊥
+IsChangedFrom items behind row (Changed from entries) = (from ≡ behind) × ((before : List ℕ) × (IsRowOf items behind before × AreAbove row before (length row) entries.items))

@@ -1,0 +1,2 @@
+pub mod ChainItems
+pub mod KeptRows

@@ -1,0 +1,137 @@
+//! What is kept of an item, and what is done with its row.
+ghost use Rattle.std.specs.Prelude.{◌≡◌, ◌≤◌, ◌<◌, ◌↔◌, ℕ, length, slice_index, IsTrue, IfOk, IfSome, IfNone, OnOk, vec_len};
+ghost use Rattle.depot_clocks.specs.KeptRows.{HasEntry, HasCount, AreInside, ArePut, AreWithin, AreAbove, own_entry, NoneAbove, IsFirstFrom};
+
+use depot_base::Memory;
+use depot_lanes::first_above;
+use std::alloc::Global;
+
+/// An entry of a row.
+#[derive(Clone, Copy, Debug)]
+pub struct Entry {
+    /// The chain.
+    pub chain: u32,
+    /// How many of its items are the row's item or precede it.
+    pub count: u32,
+}
+
+/// The row of an item: of each chain, how many of its items are the item or precede it. Entries past the end count as 0.
+#[derive(Debug, Drop)]
+pub enum Row {
+    /// Each entry, up to the chains that there were.
+    Whole(Vec<u32>),
+    /// The row of the item before it in its chain, but for some entries.
+    Changed {
+        /// The item before it in its chain.
+        behind: u32,
+        /// The entries that differ, in rising order of the chains.
+        entries: Vec<Entry>,
+    },
+}
+
+/// What is kept of an item.
+#[derive(Debug, Drop)]
+pub struct Kept {
+    /// Its chain.
+    pub chain: u32,
+    /// How many items of the chain stand before it.
+    pub place: u32,
+    /// Its row.
+    pub row: Row,
+}
+
+/// The count that the entries tell of a chain, if they do.
+pub fn count_among(entries: &[Entry], chain: u32) -> Option<u32>
+    ensures some { IfSome result (HasCount entries.now chain) }
+    ensures none { IfNone result (HasEntry entries.now chain → ⊥) }
+{
+    for entry in entries {
+        if entry.chain == chain {
+            return Some(entry.count);
+        }
+    }
+    None
+}
+
+/// Whether no entry is above that of a row that has their chains.
+pub fn are_within(entries: &[Entry], row: &[u32]) -> bool
+    requires { AreInside entries.now (length row.now) }
+    ensures { IsTrue result ↔ AreWithin entries.now row.now }
+{
+    for entry in entries {
+        if row[entry.chain as usize] < entry.count {
+            return false;
+        }
+    }
+    true
+}
+
+/// Puts the entries into a row that has their chains.
+pub fn put_entries(row: &mut [u32], entries: &[Entry])
+    requires { AreInside entries.now (length row.old) }
+    ensures { ArePut entries.now row.old row.new }
+{
+    for entry in entries {
+        row[entry.chain as usize] = entry.count;
+    }
+}
+
+/// Puts a row in place of another. Where it is shorter, the rest becomes 0; where it is longer, its rest is left out.
+pub fn put_row(row: &mut [u32], with: &[u32])
+    ensures { (k : ℕ) → k < length row.new → slice_index row.new k ≡ slice_index with.now k }
+{
+    for (i, entry) in row.iter_mut().enumerate() {
+        *entry = with.get(i).copied().unwrap_or(0);
+    }
+}
+
+/// The entry of a chain in a row, past whose end the entries count as 0.
+pub fn entry_at(row: &[u32], chain: u32) -> u32
+    ensures { result ≡ slice_index row.now chain }
+{
+    row.get(chain as usize).copied().unwrap_or(0)
+}
+
+/// Puts the entry of an item into a row, in its own chain: it counts all up to itself. An item that starts a chain starts
+/// the next one, so its entry goes behind the others.
+pub fn put_own(row: &mut Vec<u32>, chain: u32, place: u32) -> Result<(), Memory>
+    requires chain { (place ≡ 0 → ⊥) → chain < vec_len row.old }
+    requires few { place < 4294967295 }
+    ensures { OnOk result (row.new.items ≡ own_entry row.old.items chain place) }
+{
+    if place == 0 {
+        row.push(1)?;
+    } else {
+        row[chain as usize] = place + 1;
+    }
+    Ok(())
+}
+
+/// The entries of a row that are above those of another of its length, in rising order of the chains.
+pub fn entries_above(alloc: Global, row: &[u32], before: &[u32]) -> Result<Vec<Entry>, Memory>
+    requires len { length row.now ≡ length before.now }
+    requires few { length row.now < 4294967296 }
+    ensures { IfOk result (λ v. AreAbove row.now before.now (length row.now) v.items) }
+{
+    let mut entries = Vec::new(alloc);
+    let mut at = 0;
+    while let Some(chain) = above_from(row, before, at) {
+        entries.push(Entry {
+            chain: chain as u32,
+            count: row[chain],
+        })?;
+        at = chain + 1;
+    }
+    Ok(entries)
+}
+
+/// The first place from `at` on at which a row is above another of its length.
+fn above_from(row: &[u32], before: &[u32], at: usize) -> Option<usize>
+    requires len { length row.now ≡ length before.now }
+    requires inside { at ≤ length row.now }
+    ensures some { IfSome result (IsFirstFrom row.now before.now at) }
+    ensures none { IfNone result (NoneAbove row.now before.now at (length row.now)) }
+{
+    let step = first_above(&row[at..], &before[at..])?;
+    Some(at + step)
+}
