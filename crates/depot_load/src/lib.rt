@@ -1,0 +1,30 @@
+//! Loads: long schedules that numbers make, and what is summed up of their transcripts.
+//!
+//! What a number makes is defined in `specs/Loads.antt`, round by round; each load has a text (`IsSchedule`), so it can be printed and replayed. What is summed up of a
+//! transcript is defined in `specs/Summaries.antt` over its bytes, line by line, and of every other text too.
+//!
+//! A `Draft` is a load as it grows: `rounds` has its rounds and `closing` its end, `words` the words of its events, and `making` all of it. `telling` says what a line of a
+//! transcript tells, `totals` and `agreement` sum up what lines tell, `summing` writes it, and `running` does all of this over a replay.
+//!
+//! Nothing here says what an event does.
+#![tactic(auto)]
+
+mod agreement;
+mod closing;
+mod draft;
+mod laws;
+mod making;
+mod rounds;
+mod running;
+mod summing;
+mod telling;
+mod totals;
+mod words;
+
+pub use laws::loads_are_schedules;
+pub use making::make_load;
+pub use running::load;
+pub use summing::summary;
+
+#[cfg(test)]
+mod tests;

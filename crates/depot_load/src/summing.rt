@@ -1,0 +1,74 @@
+//! What is summed up of a transcript.
+ghost use Rattle.std.specs.Prelude.{◌≡◌, ◌++◌, IfOk, OnOk};
+ghost use Rattle.depot_answers.specs.Answers.{numbered, spaced};
+ghost use Rattle.depot_load.specs.Summaries.{agreement_text, name_of_agreement, reports_text, summary_line, summary_of};
+
+use crate::agreement::agree;
+use crate::telling::{Told, tolds_of};
+use crate::totals::{Count, convicted_last, puts, total};
+use depot_answers::numbered;
+use depot_base::{Bytes, Memory};
+use depot_schedule::lines::word;
+use std::alloc::Global;
+
+/// Whether reads agree, in a word.
+fn name_of_agreement(agree: bool) -> &'static str
+    ensures { result.now ≡ name_of_agreement agree }
+{
+    if agree { "yes" } else { "no" }
+}
+
+/// A space, a name, a space, and a number in decimal.
+fn spaced_number(alloc: Global, line: &mut Bytes, name: &str, n: u128) -> Result<(), Memory>
+    ensures { OnOk result (line.new ≡ line.old ++ spaced (numbered name.now n)) }
+{
+    let words = format!(in alloc; " {name} {n}")?;
+    line.push_all(words.as_bytes())
+}
+
+/// The sums of what reports tell.
+#[tactic(auto, using(depot_base::proofs::Writing::texts))]
+fn reports(alloc: Global, line: &mut Bytes, tolds: &[Told]) -> Result<(), Memory>
+    ensures { OnOk result (line.new ≡ line.old ++ reports_text tolds.now) }
+{
+    spaced_number(alloc, line, "accepted", total(tolds, Count::Accepted))?;
+    spaced_number(alloc, line, "known", total(tolds, Count::Known))?;
+    spaced_number(alloc, line, "refused", total(tolds, Count::Refused))
+}
+
+/// Whether reads agree.
+#[tactic(auto, using(depot_base::proofs::Writing::texts))]
+fn agreement(line: &mut Bytes, agree: bool) -> Result<(), Memory>
+    ensures { OnOk result (line.new ≡ line.old ++ agreement_text agree) }
+{
+    word(line, b"agree")?;
+    word(line, name_of_agreement(agree).as_bytes())
+}
+
+/// The line that sums up what lines tell.
+#[tactic(auto, using(depot_base::proofs::Writing::texts))]
+fn summary_line(alloc: Global, number: u32, tolds: &[Told]) -> Result<Bytes, Memory>
+    ensures { IfOk result (λ line. line ≡ summary_line number tolds.now) }
+{
+    let convicted = convicted_last(alloc, tolds)?;
+    let agree = agree(alloc, tolds)?;
+    let mut line = Bytes::new(alloc);
+    numbered(alloc, &mut line, "load", u64::from(number))?;
+    spaced_number(alloc, &mut line, "puts", puts(tolds) as u128)?;
+    reports(alloc, &mut line, tolds)?;
+    spaced_number(alloc, &mut line, "convicted", convicted)?;
+    agreement(&mut line, agree)?;
+    line.push_all(b"\n")?;
+    Ok(line)
+}
+
+/// The line that sums up a transcript of the load of this number (docs/FORMATS.md): how many puts were done, how many frames were new, known and refused in all
+/// reports, how many nodes the last five hellos name as convicted, and whether for each key its last five reads show the same. Lines of any other text that aren't
+/// a transcript's count nothing. The sums have room for whatever a text says.
+#[tactic(auto, unfolding(crate::specs::Summaries::summary_of))]
+pub fn summary(alloc: Global, number: u32, transcript: &[u8]) -> Result<Bytes, Memory>
+    ensures { IfOk result (λ line. line ≡ summary_of number transcript.now) }
+{
+    let tolds = tolds_of(alloc, transcript)?;
+    summary_line(alloc, number, tolds.as_slice())
+}
