@@ -59,6 +59,15 @@ def play(name, header, events):
     write("replay_" + name, ["replay", "schedule"], transcript(events), files={"schedule": schedule(header, events)})
 
 
+def example(name, file, header, events):
+    """A case whose schedule is one of the examples."""
+    with open(os.path.join(HERE, "..", "examples", file), "w") as out:
+        out.write(schedule(header, events))
+    write("example_" + name, ["replay", file], transcript(events))
+    with open(os.path.join(HERE, "example_" + name, "folder"), "w") as out:
+        out.write("examples\n")
+
+
 def refuse(name, lines, line, fault):
     text = "".join(line + "\n" for line in lines)
     write("replay_" + name, ["replay", "schedule"], f"input schedule line {line} {fault}\n", 2, {"schedule": text})
@@ -230,6 +239,38 @@ RESTARTED = [
 ]
 
 
+# A disk that stops in the third of a put's four calls, the write that opens the record's gate: what it holds then is as before, or has the record.
+STOP = [
+    ("put 1 6b 61", "0/1"),
+    ("stop 1 3 0", "armed"),
+    ("put 1 6b 62", "stopped records 2"),
+    ("get 1 6b", "1/0/1=61"),
+    ("put 1 6b 62", "1/2"),
+    ("stop 1 3 1", "armed"),
+    ("put 1 6b 63", "stopped records 4"),
+    ("get 1 6b", "1/2/3=63"),
+    ("put 1 6b 64", "3/4"),
+]
+
+# A stream that is cut, forged, followed by what is no frame, sent again, and contradicted by another.
+STREAMS = [
+    ("update x 9 0 1 - 6b 61 - right", "9/0/1"),
+    ("cut a x 0 100", "100 bytes"),
+    ("give 1 a", "accepted 0 known 0 refused 0 cut 100"),
+    ("flip b x 164", "171 bytes"),
+    ("give 1 b", REFUSED, "refused 0 4 BadSignature 9", UNWANTED),
+    ("raw c ffff", "2 bytes"),
+    ("join d x c", "173 bytes"),
+    ("give 1 d", "accepted 2 known 0 refused 0 ill-formed 171"),
+    ("give 1 x", "accepted 0 known 2 refused 0 bare"),
+    ("update y 9 1 2 - 6b 62 - right", "9/1/2"),
+    ("give 1 y", REFUSED, "refused 0 11 Forked SamePrev", UNWANTED),
+    ("hello 1 h", "convicted 1 leaves 1 wanted 0"),
+    ("put 1 6b 63", "0/2"),
+    ("get 1 6b", "1/0/2=63"),
+]
+
+
 def branches(count, answer, entries):
     """Writer 9 signs so many branches, which writer 8 vouches for; node 1 names them all, or meets the limit of entries."""
     events = []
@@ -280,6 +321,8 @@ def main():
         ("judge p", "9 SamePrev"),
     ])
     play("no_event", members("node 1"), [])
+    example("a_stop_inside_a_put", "stop.schedule", members("node 1"), STOP)
+    example("a_hostile_stream", "hostile.schedule", members("node 1", "faulty 9"), STREAMS)
     write("replay_an_absent_file", ["replay", "none"], "shelf none\n", 3)
     refuse("a_height_of_one", ["depot schedule 1", "scheme plain 1", "node 1"], 2, "Number")
     refuse("no_node", members(), 3, "Header")

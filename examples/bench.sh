@@ -25,3 +25,4 @@ echo "replay of a node that takes 1025 branches:"
 time "$here/../depot" replay branches >/dev/null
 echo "key of height 12:"
 time "$here/../depot" key "$(printf '0%.0s' {1..64})" 12
+"$here/bench_node.sh"

@@ -12,15 +12,16 @@ use Rattle.depot_tool.specs.declared.status.Status.{Status}
 use Rattle.depot_tool.specs.declared.status.Status.TheVariants.{Done, Input, Shelf, Memory, NoProof, NotLawful}
 use Rattle.depot_tool.specs.declared.command.Command.{Command}
 use Rattle.depot_tool.specs.declared.command.Command.TheVariants as asked
-use Rattle.depot_tool.specs.Runs.{Shelves, Loads, Sinks, HasFile, LacksFile, IsNoLog, IsOrphaned, Scans, PrintsKey, IsRosterText, IsNoRoster, HasRoster, JudgesProof, Judges, IsNoSchedule, Replays, Answers, Begins, Ends, IsWell, IsWholeLog, IsScheduleText, Completes}
+use Rattle.depot_outside.specs.Told.{Shelves, Loads, Sinks, HasFile, LacksFile}
+use Rattle.depot_tool.specs.Runs.{IsNoLog, IsOrphaned, Scans, PrintsKey, IsRosterText, IsNoRoster, HasRoster, JudgesProof, Judges, IsNoSchedule, Replays, Answers, Begins, Ends, IsWell, IsWholeLog, IsScheduleText, Completes}
 
 -- a file that is there isn't lacking where the shelf is well
-not_lacking : (shelf : Shelves) (sink : Sinks) (name bytes : List ℕ) → IsWell shelf sink → shelf.file name ≡ Some bytes → LacksFile shelf name → ⊥
+pub not_lacking : (shelf : Shelves) (sink : Sinks) (name bytes : List ℕ) → IsWell shelf sink → shelf.file name ≡ Some bytes → LacksFile shelf name → ⊥
 not_lacking shelf sink name bytes well there (inl rose) = omega (arith, rose, well.shelf_is_well)
 not_lacking shelf sink name bytes well there (inr absent) = let none = absent well.tells in cc
 
 -- the bytes of a file are one
-one_file : (shelf : Shelves) (name x y : List ℕ) → shelf.file name ≡ Some x → shelf.file name ≡ Some y → x ≡ y
+pub one_file : (shelf : Shelves) (name x y : List ℕ) → shelf.file name ≡ Some x → shelf.file name ≡ Some y → x ≡ y
 one_file shelf name x y e f = cc
 
 no_log : (shelf : Shelves) (name text : List ℕ) → HasFile shelf name IsWholeLog → HasFile shelf name (IsNoLog name text) → ⊥
@@ -50,7 +51,7 @@ key_completes seed height Done text answer = inl refl
 key_completes seed height status text answer = absurd answer
 
 -- a roster's text is not refused
-no_roster : (shelf : Shelves) (name text : List ℕ) → HasRoster shelf name → HasFile shelf name (IsNoRoster name text) → ⊥
+pub no_roster : (shelf : Shelves) (name text : List ℕ) → HasRoster shelf name → HasFile shelf name (IsNoRoster name text) → ⊥
 no_roster shelf name text good broken =
     let same = one_file shelf name good.bytes broken.bytes good.there broken.there in
     let is = subst (λ (x : List ℕ). (r : List RosterEntry) × IsRosterText x r) same good.holds in
@@ -88,6 +89,7 @@ completes shelf loads sink None status text (loaded, (is, line)) well = inl is
 completes shelf loads sink (Some (asked.Scan log key)) status text (loaded, answer) well = scan_completes shelf sink log key status text well answer
 completes shelf loads sink (Some (asked.Root seed height)) status text (loaded, answer) well = key_completes seed height status text answer
 completes shelf loads sink (Some (asked.Judge name proof)) status text answer well = judge_completes shelf loads sink name proof status text well answer
+completes shelf loads sink (Some (asked.Node n)) status text answer well = tt
 completes shelf loads sink (Some (asked.Replay name)) status text (loaded, answer) well = replay_completes shelf sink name status text well answer
 
 -- memory may run out in place of each
@@ -97,6 +99,7 @@ without_memory shelf (Some (asked.Scan log key)) status is = λ there. inr is
 without_memory shelf (Some (asked.Root seed height)) status is = inr is
 without_memory shelf (Some (asked.Judge name proof)) status is = λ good there. inr (inr is)
 without_memory shelf (Some (asked.Replay name)) status is = λ good. inr is
+without_memory shelf (Some (asked.Node n)) status is = tt
 
 -- a run that ends as its command answers completes it, where nothing failed
 pub ends_complete : (shelf : Shelves) (loads : Loads) (sink : Sinks) (command : Option Command) (status : Status) → Ends (Answers shelf loads command) (Begins shelf loads command) sink status → IsWell shelf sink → Completes shelf command status

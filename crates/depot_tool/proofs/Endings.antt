@@ -12,7 +12,8 @@ use Rattle.depot_tool.specs.declared.command.Command.TheVariants as asked
 use Rattle.depot_tool.specs.declared.outcome.Outcome.{Outcome}
 use Rattle.depot_tool.specs.declared.status.Status.{Status}
 use Rattle.depot_tool.specs.declared.status.Status.TheVariants.{Done, Input}
-use Rattle.depot_tool.specs.Runs.{Shelves, Loads, Sinks, WhereTold, HasLoaded, IsReplayed, ReplayOf, Replays, IsFrontOf, Answers, Begins, Ends, Finishes, Plays}
+use Rattle.depot_outside.specs.Told.{Shelves, Loads, Sinks, WhereTold, HasLoaded}
+use Rattle.depot_tool.specs.Runs.{IsReplayed, ReplayOf, Replays, IsFrontOf, Answers, Begins, Ends, Finishes, Plays}
 
 -- a run that ends by some answers ends by those that they are, too
 pub ends_so : (answers answers2 : Status → List ℕ → Type 0) (begins begins2 : List ℕ → Type 0) (sink : Sinks) (status : Status)

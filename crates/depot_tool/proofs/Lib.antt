@@ -7,3 +7,4 @@ pub mod ListedOrder
 pub mod Endings
 pub mod Completing
 pub mod Printing
+pub mod NodeRuns

@@ -7,3 +7,4 @@ pub mod Ordering
 pub mod Lines
 pub mod Runs
 pub mod Statuses
+pub mod Nodes

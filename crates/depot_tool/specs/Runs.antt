@@ -1,5 +1,5 @@
 -- What each command answers and prints, and how a run ends.
-use Rattle.std.specs.Prelude.{◌≡◌, ◌<◌, ◌⊎◌, ℕ, List, [], ◌∷◌, ◌++◌, codes, take, Bool, IsTrue, Option, Some, None, Result, Ok, Err}
+use Rattle.std.specs.Prelude.{◌≡◌, ◌<◌, ◌⊎◌, ℕ, List, [], ◌∷◌, ◌++◌, codes, take, IsTrue, Option, Some, None, Result, Ok, Err}
 use Rattle.std.specs.List.{flat_map}
 use Rattle.std.specs.Fmt.{decimal}
 use Rattle.hex.specs.Hex.{encode_lower}
@@ -20,57 +20,21 @@ use Rattle.depot_model.specs.Lines.{text_of_verdict, text_of_point, text_of_rost
 use Rattle.depot_model.specs.Causality.{IsForkJoinCausal, ConvictsNoCorrectNode}
 use Rattle.depot_model.specs.World.{IsAuthentic, IsCollisionFree}
 use Rattle.depot_answers.specs.Answers.{text_of_faulty_line}
+use Rattle.depot_script.specs.Scripts.{script_of}
 use Rattle.depot_schedule.specs.Readers.{IsTextOf}
 use Rattle.depot_schedule.specs.Schedules.{schedule_of}
 use Rattle.depot_schedule.specs.declared.fault.LineFault.{LineFault}
 use Rattle.depot_schedule.specs.declared.schedule.Schedule.{Schedule}
 use Rattle.depot_world.specs.Transcript.{transcript_of, world_of}
 use Rattle.depot_tool.specs.Lines.{line_of_write}
-use Rattle.depot_outside.specs.declared.shelf.Shelf.{Ghosts}
-use Rattle.depot_outside.specs.declared.sink.Sink as sink_of
+use Rattle.depot_outside.specs.Told.{Shelves, Loads, HasLoaded, HasFile, WhereTold, LacksFile, Sinks, Wrote, WroteFront}
 use Rattle.depot_tool.specs.declared.command.Command.{Command}
 use Rattle.depot_tool.specs.declared.command.Command.TheVariants as asked
 use Rattle.depot_tool.specs.declared.outcome.Outcome.{Outcome}
 use Rattle.depot_tool.specs.declared.status.Status.{Status}
 use Rattle.depot_tool.specs.declared.status.Status.TheVariants.{Done, Words, Input, Shelf, Sink, Memory, NoProof, NotLawful}
 
--- ---- the shelf as a run meets it
-
--- what a shelf tells of its files, and its count of faults before and after the run
-pub record Shelves : Type 0 where
-  pub tells : Bool
-  pub file : List ℕ → Option (List ℕ)
-  pub faults_before : ℕ
-  pub faults_after : ℕ
-
-abbrev pub shelves : {F : Type 0} → Ghosts F → F → F → Shelves
-shelves g old new = record { tells = g.tells old; file = g.file old; faults_before = g.faults old; faults_after = g.faults new }
-
--- the names that the shelf was asked to load, before and after the run
-pub record Loads : Type 0 where
-  pub before : List (List ℕ)
-  pub after : List (List ℕ)
-
-abbrev pub loads : {F : Type 0} → Ghosts F → F → F → Loads
-loads g old new = record { before = g.loads old; after = g.loads new }
-
--- the run loaded the files of these names, in this order, and no other
-abbrev pub HasLoaded : Loads → List (List ℕ) → Type 0
-HasLoaded loads names = loads.after ≡ loads.before ++ names
-
--- the file of the name is there, and of its bytes this holds
-pub record HasFile (shelf : Shelves) (name : List ℕ) (P : List ℕ → Type 0) : Type 0 where
-  pub bytes : List ℕ
-  pub there : shelf.file name ≡ Some bytes
-  pub holds : P bytes
-
--- where the shelf tells its files
-abbrev pub WhereTold : Shelves → Type 0 → Type 0
-WhereTold shelf P = IsTrue shelf.tells → P
-
--- The shelf failed in this run; else the file of the name isn't there.
-abbrev pub LacksFile : Shelves → List ℕ → Type 0
-LacksFile shelf name = (shelf.faults_before < shelf.faults_after) ⊎ WhereTold shelf (shelf.file name ≡ None)
+-- ---- the shelf
 
 -- what a load of the name gives: the bytes of the file, or nothing
 abbrev pub IsLoaded : Shelves → List ℕ → Option (List ℕ) → Type 0
@@ -205,6 +169,27 @@ Replays shelf name Input text = WhereTold shelf (HasFile shelf name (IsNoSchedul
 Replays shelf name Shelf text = LacksFile shelf name × (text ≡ shelf_line name)
 Replays shelf name status text = ⊥
 
+-- ---- node
+
+-- the bytes are no script's, and the text tells the first faulty line and its first fault
+pub record IsNoScript (name text bytes : List ℕ) : Type 0 where
+  pub number : ℕ
+  pub fault : LineFault
+  pub first : script_of bytes ≡ Err (number, fault)
+  pub is : text ≡ codes "input " ++ name ++ codes " " ++ text_of_faulty_line number fault ++ codes "\n"
+
+-- the bytes are the text of a roster
+abbrev pub IsSomeRoster : List ℕ → Type 0
+IsSomeRoster bytes = (r : List RosterEntry) × IsRosterText bytes r
+
+-- What `node` answers where its roster or its script can't be had or isn't one: the roster is loaded and parsed first, and then the script.
+abbrev pub NodeInputs : Shelves → Loads → List ℕ → List ℕ → Status → List ℕ → Type 0
+NodeInputs shelf loads roster script status text =
+    (HasLoaded loads (roster ∷ []) × ((status ≡ Shelf) × (LacksFile shelf roster × (text ≡ shelf_line roster)))) ⊎
+    ((HasLoaded loads (roster ∷ []) × ((status ≡ Input) × WhereTold shelf (HasFile shelf roster (IsNoRoster roster text)))) ⊎
+    ((HasLoaded loads (roster ∷ script ∷ []) × ((status ≡ Shelf) × (WhereTold shelf (HasFile shelf roster IsSomeRoster) × (LacksFile shelf script × (text ≡ shelf_line script))))) ⊎
+    (HasLoaded loads (roster ∷ script ∷ []) × ((status ≡ Input) × (WhereTold shelf (HasFile shelf roster IsSomeRoster) × WhereTold shelf (HasFile shelf script (IsNoScript script text)))))))
+
 -- ---- any command
 
 -- what the command answers and prints, and which files it loads, where memory is found and the sink doesn't fail
@@ -214,6 +199,7 @@ Answers shelf loads (Some (asked.Scan log key)) status text = HasLoaded loads (l
 Answers shelf loads (Some (asked.Root seed height)) status text = HasLoaded loads [] × PrintsKey seed height status text
 Answers shelf loads (Some (asked.Judge roster proof)) status text = Judges shelf loads roster proof status text
 Answers shelf loads (Some (asked.Replay schedule)) status text = HasLoaded loads (schedule ∷ []) × Replays shelf schedule status text
+Answers shelf loads (Some (asked.Node n)) status text = NodeInputs shelf loads n.roster n.script status text
 
 -- nothing, or a front of a text of which this holds
 abbrev pub IsFrontOf : (List ℕ → Type 0) → List ℕ → Type 0
@@ -224,26 +210,7 @@ abbrev pub Begins : Shelves → Loads → Option Command → List ℕ → Type 0
 Begins shelf loads (Some (asked.Replay schedule)) text = IsFrontOf (Answers shelf loads (Some (asked.Replay schedule)) Done) text
 Begins shelf loads command text = text ≡ []
 
--- ---- the sink as a run leaves it
-
--- what a sink tells of what was written, and its count of faults, before and after the run
-pub record Sinks : Type 0 where
-  pub tells : Bool
-  pub before : List ℕ
-  pub after : List ℕ
-  pub faults_before : ℕ
-  pub faults_after : ℕ
-
-abbrev pub sinks : {S : Type 0} → sink_of.Ghosts S → S → S → Sinks
-sinks g old new = record { tells = g.tells old; before = g.written old; after = g.written new; faults_before = g.faults old; faults_after = g.faults new }
-
--- this text was added, where the sink tells it
-abbrev pub Wrote : Sinks → List ℕ → Type 0
-Wrote sink text = IsTrue sink.tells → sink.after ≡ sink.before ++ text
-
--- a prefix of this text was added, where the sink tells it
-abbrev pub WrotePrefix : Sinks → List ℕ → Type 0
-WrotePrefix sink text = IsTrue sink.tells → (n : ℕ) × (sink.after ≡ sink.before ++ take n text)
+-- ---- how a run ends
 
 -- the run ended as the command answers, and its whole text was written
 pub record EndsWhole (answers : Status → List ℕ → Type 0) (sink : Sinks) (status : Status) : Type 0 where
@@ -265,7 +232,7 @@ pub record EndsCutShort (answers : Status → List ℕ → Type 0) (sink : Sinks
   pub answer : Status
   pub text : List ℕ
   pub answered : answers answer text
-  pub wrote : WrotePrefix sink text
+  pub wrote : WroteFront sink text
 
 -- How a run ends.
 abbrev pub Ends : (Status → List ℕ → Type 0) → (List ℕ → Type 0) → Sinks → Status → Type 0
@@ -298,10 +265,11 @@ pub record IsWholeLog (bytes : List ℕ) : Type 0 where
 abbrev pub IsScheduleText : List ℕ → Type 0
 IsScheduleText bytes = (s : Schedule) × IsTextOf bytes s
 
--- what such a run comes to, where its files are there and in their grammars; Memory may stand in place of each status
+-- what such a run comes to, where its files are there and in their grammars; Memory may stand in place of each status. Of `node` it is said beside its runs.
 abbrev pub Completes : Shelves → Option Command → Status → Type 0
 Completes shelf None status = (status ≡ Words) ⊎ (status ≡ Memory)
 Completes shelf (Some (asked.Scan log key)) status = HasFile shelf log IsWholeLog → (status ≡ Done) ⊎ (status ≡ Memory)
 Completes shelf (Some (asked.Root seed height)) status = (status ≡ Done) ⊎ (status ≡ Memory)
 Completes shelf (Some (asked.Judge roster proof)) status = HasRoster shelf roster → HasFile shelf proof (λ bytes. Unit {0}) → (status ≡ Done) ⊎ ((status ≡ NoProof) ⊎ (status ≡ Memory))
+Completes shelf (Some (asked.Node n)) status = Unit {0}
 Completes shelf (Some (asked.Replay schedule)) status = HasFile shelf schedule IsScheduleText → (status ≡ Done) ⊎ (status ≡ Memory)

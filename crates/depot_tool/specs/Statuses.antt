@@ -1,5 +1,7 @@
--- The exit status of each way in which a run ends.
+-- The exit status of each way in which a run ends, and how the run of a script ends as a status.
 use Rattle.std.specs.Prelude.{ℕ}
+use Rattle.depot_session.specs.declared.ending.Ending.{Ending}
+use Rattle.depot_session.specs.declared.ending.Ending.TheVariants as ending
 use Rattle.depot_tool.specs.declared.status.Status.{Status}
 use Rattle.depot_tool.specs.declared.status.Status.TheVariants.{Done, Words, Input, Shelf, Disk, Sink, Memory, NoProof, Limit, NotLawful, Identity}
 
@@ -15,3 +17,14 @@ number_of_status NoProof = 7
 number_of_status Limit = 8
 number_of_status NotLawful = 9
 number_of_status Identity = 10
+
+abbrev pub status_of : Ending → Status
+status_of ending.Done = Done
+status_of ending.Input = Input
+status_of ending.Shelf = Shelf
+status_of ending.Disk = Disk
+status_of ending.Sink = Sink
+status_of ending.Memory = Memory
+status_of ending.Limit = Limit
+status_of ending.NotLawful = NotLawful
+status_of ending.Identity = Identity

@@ -1,10 +1,10 @@
 -- Which words are a command.
-use Rattle.std.specs.Prelude.{ℕ, List, [], ◌∷◌, codes, Option, Some, None, option_map, if◌then◌else◌}
+use Rattle.std.specs.Prelude.{ℕ, List, [], ◌∷◌, codes, Option, Some, None, option_and_then, option_map, if◌then◌else◌}
 use Rattle.std.specs.Str.{bytes_eq}
 use Rattle.depot_model.specs.Lists.{when}
 use Rattle.depot_schedule.specs.Spelling.{is_within, hex_word, sized, number_word, is_name}
 use Rattle.depot_tool.specs.declared.command.Command.{Command}
-use Rattle.depot_tool.specs.declared.command.Command.TheVariants.{Scan, Root, Judge, Replay}
+use Rattle.depot_tool.specs.declared.command.Command.TheVariants.{Scan, Root, Judge, Replay, Node}
 
 -- ---- commands
 
@@ -33,6 +33,11 @@ judge_command roster proof = both (name_word roster) (name_word proof) (λ roste
 abbrev pub replay_command : List ℕ → Option Command
 replay_command schedule = option_map (λ name. Replay name) (name_word schedule)
 
+-- `node ROSTER SEED HEIGHT ID SCRIPT`
+abbrev pub node_command : List ℕ → List ℕ → List ℕ → List ℕ → List ℕ → Option Command
+node_command roster seed height id script =
+    option_and_then (λ r. option_and_then (λ s. option_and_then (λ h. option_and_then (λ i. option_map (λ c. Node (record { roster = r; seed = s; height = h; id = i; script = c })) (name_word script)) (number_word 1 65535 id)) (number_word 2 12 height)) (sized (is_within 32 32) (hex_word seed))) (name_word roster)
+
 -- a command of two words
 unfoldable pub command_with : List ℕ → List ℕ → Option Command
 command_with verb a = if bytes_eq verb (codes "replay") then replay_command a else None
@@ -44,8 +49,13 @@ command_by verb a b =
     if bytes_eq verb (codes "key") then key_command a b else
     if bytes_eq verb (codes "judge") then judge_command a b else None
 
+-- a command of six words
+unfoldable pub command_for : List ℕ → List ℕ → List ℕ → List ℕ → List ℕ → List ℕ → Option Command
+command_for verb a b c d e = if bytes_eq verb (codes "node") then node_command a b c d e else None
+
 -- the command that the words are, if they are one
 abbrev pub command_of : List (List ℕ) → Option Command
 command_of (verb ∷ a ∷ []) = command_with verb a
 command_of (verb ∷ a ∷ b ∷ []) = command_by verb a b
+command_of (verb ∷ a ∷ b ∷ c ∷ d ∷ e ∷ []) = command_for verb a b c d e
 command_of words = None

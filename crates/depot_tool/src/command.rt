@@ -1,11 +1,11 @@
 //! The commands, and which words ask for them.
 ghost use Rattle.std.specs.Prelude.{◌≡◌, ◌≤◌, IfOk, None, Some, option_map};
-ghost use Rattle.depot_tool.specs.Words.{command_of, command_by, command_with, scan_command, key_command, judge_command, replay_command};
+ghost use Rattle.depot_tool.specs.Words.{command_of, command_by, command_for, command_with, scan_command, key_command, judge_command, node_command, replay_command};
 
 use crate::height::Height;
 use crate::word::Word;
-use crate::words::{hash_word, height_word, key_word, name_word};
-use depot_base::{Hash32, Key, Memory};
+use crate::words::{hash_word, height_word, id_word, key_word, name_word};
+use depot_base::{Hash32, Key, Memory, NodeId};
 use std::alloc::Global;
 
 /// What the words ask for.
@@ -19,6 +19,18 @@ pub enum Command {
     Judge(Word, Word),
     /// `replay SCHEDULE`: the transcript of a schedule. The name of the schedule.
     Replay(Word),
+    /// `node ROSTER SEED HEIGHT ID SCRIPT`: what a script makes of a node over the disk.
+    Node(NodeWords),
+}
+
+/// What `node` is asked for: the names of the roster and of the script, and the node's seed, height and number.
+#[derive(Debug, Drop)]
+pub struct NodeWords {
+    pub roster: Word,
+    pub seed: Hash32,
+    pub height: Height,
+    pub id: NodeId,
+    pub script: Word,
 }
 
 /// The command of `scan`'s two words.
@@ -70,6 +82,41 @@ fn replay_command(schedule: &Word) -> Result<Option<Command>, Memory>
     }
 }
 
+/// The command of `node`'s five words.
+fn node_command(
+    alloc: Global,
+    roster: &Word,
+    seed: &Word,
+    height: &Word,
+    id: &Word,
+    script: &Word,
+) -> Result<Option<Command>, Memory>
+    ensures { IfOk result (λ c. c ≡ node_command roster.now seed.now height.now id.now script.now) }
+{
+    let Some(roster) = name_word(roster)? else {
+        return Ok(None);
+    };
+    let Some(seed) = hash_word(alloc, seed)? else {
+        return Ok(None);
+    };
+    let Some(height) = height_word(height) else {
+        return Ok(None);
+    };
+    let Some(id) = id_word(id) else {
+        return Ok(None);
+    };
+    let Some(script) = name_word(script)? else {
+        return Ok(None);
+    };
+    Ok(Some(Command::Node(NodeWords {
+        roster,
+        seed,
+        height,
+        id,
+        script,
+    })))
+}
+
 /// The command of two words.
 #[tactic(auto, unfolding(crate::specs::Words::command_with))]
 fn two_words(verb: &Word, word: &Word) -> Result<Option<Command>, Memory>
@@ -103,6 +150,25 @@ fn three_words(
     Ok(None)
 }
 
+/// The command of six words.
+#[tactic(auto, unfolding(crate::specs::Words::command_for))]
+fn six_words(
+    alloc: Global,
+    verb: &Word,
+    roster: &Word,
+    seed: &Word,
+    height: &Word,
+    id: &Word,
+    script: &Word,
+) -> Result<Option<Command>, Memory>
+    ensures { IfOk result (λ c. c ≡ command_for verb.now roster.now seed.now height.now id.now script.now) }
+{
+    if verb.is("node") {
+        return node_command(alloc, roster, seed, height, id, script);
+    }
+    Ok(None)
+}
+
 /// The command that the words are, or None where they are none.
 pub fn parse(alloc: Global, words: &[Word]) -> Result<Option<Command>, Memory>
     ensures { IfOk result (λ c. c ≡ command_of words.now) }
@@ -110,6 +176,9 @@ pub fn parse(alloc: Global, words: &[Word]) -> Result<Option<Command>, Memory>
     match words {
         [verb, word] => two_words(verb, word),
         [verb, first, second] => three_words(alloc, verb, first, second),
+        [verb, roster, seed, height, id, script] => {
+            six_words(alloc, verb, roster, seed, height, id, script)
+        }
         _ => Ok(None),
     }
 }

@@ -1,9 +1,10 @@
 //! `judge ROSTER PROOF`: whether a text proves a contradiction.
-ghost use Rattle.std.specs.Prelude.{◌≡◌, ◌++◌, ◌∷◌, [], IfOk, codes, Ok, Err};
+ghost use Rattle.std.specs.Prelude.{◌≡◌, ◌≢◌, ◌++◌, ◌∷◌, [], IfOk, codes, Ok, Err};
 ghost use Rattle.depot_model.specs.Lines.{text_of_verdict, text_of_point, text_of_roster_error};
 ghost use Rattle.depot_model.specs.Judgement.{IsJudgementOf};
 ghost use Rattle.depot_model.specs.Winternitz.{winternitz_verifies};
-ghost use Rattle.depot_tool.specs.Runs.{shelves, loads, HasLoaded, EndsAtFault, Judges, JudgesProof, IsPoint, JudgementOf};
+ghost use Rattle.depot_outside.specs.Told.{shelves, loads, HasLoaded};
+ghost use Rattle.depot_tool.specs.Runs.{EndsAtFault, Judges, JudgesProof, IsPoint, JudgementOf};
 
 use crate::load::load;
 use crate::outcome::Outcome;
@@ -50,6 +51,16 @@ fn no_roster(alloc: Global, name: &str, error: RosterError) -> Result<Outcome, M
     let mut text = Bytes::from_slice(alloc, front.as_bytes())?;
     depot_answers::roster_error(alloc, &mut text, &error)?;
     line(Status::Input, text)
+}
+
+/// The file of that name is no roster, printed, unless memory ran out.
+pub fn refused_roster(alloc: Global, name: &str, error: RosterError) -> Result<Outcome, Memory>
+    ensures { IfOk result (λ o. (error ≢ RosterError.Memory) × (o ≡ record { status = Status.Input; text = codes "input " ++ name.now ++ codes " " ++ text_of_roster_error error ++ codes "\n" })) }
+{
+    match error {
+        RosterError::Memory => Err(Memory),
+        error => no_roster(alloc, name, error),
+    }
 }
 
 /// The judgement of the bytes of a proof, printed.

@@ -1,6 +1,7 @@
 //! Loads the files that words name.
 ghost use Rattle.std.specs.Prelude.{◌≡◌, ◌++◌, ◌∷◌, [], IfOk};
-ghost use Rattle.depot_tool.specs.Runs.{shelves, IsLoaded};
+ghost use Rattle.depot_outside.specs.Told.{shelves};
+ghost use Rattle.depot_tool.specs.Runs.{IsLoaded};
 
 use depot_base::{Bytes, Memory};
 use depot_outside::{OutError, Shelf};

@@ -3,8 +3,8 @@
 //! It collects its words, makes the real shelf, disk and sink, calls `depot` and ends with its status. All that it does
 //! is said by the contract of `depot` in `top.rt`; what the real adapters do is trusted (`depot_outside`).
 //!
-//! `scan` stands in `body`, `ids`, `log`, `order`, `writes`, `lines` and `scan`; `key`, `judge` and `replay` in files of
-//! their names; how words are read in `words`.
+//! `scan` stands in `body`, `ids`, `log`, `order`, `writes`, `lines` and `scan`; `key`, `judge`, `replay` and `node` in
+//! files of their names; how words are read in `words`.
 #![tactic(auto)]
 
 mod body;
@@ -16,6 +16,7 @@ mod key;
 mod lines;
 mod load;
 mod log;
+mod node;
 mod order;
 mod outcome;
 mod replay;

@@ -1,7 +1,8 @@
 //! `scan LOG KEY`: the latest writes of a key in a log.
 ghost use Rattle.std.specs.Prelude.{◌≡◌, ◌++◌, ◌∷◌, [], IfOk, codes};
 ghost use Rattle.std.specs.Fmt.{decimal};
-ghost use Rattle.depot_tool.specs.Runs.{shelves, loads, HasLoaded, EndsAtFault, Scans, ScanOf};
+ghost use Rattle.depot_outside.specs.Told.{shelves, loads, HasLoaded};
+ghost use Rattle.depot_tool.specs.Runs.{EndsAtFault, Scans, ScanOf};
 
 use crate::ids::Ids;
 use crate::lines::lines_of;

@@ -1,6 +1,8 @@
 //! How a run ends.
 ghost use Rattle.std.specs.Prelude.{◌≡◌};
-ghost use Rattle.depot_tool.specs.Statuses.{number_of_status};
+ghost use Rattle.depot_tool.specs.Statuses.{number_of_status, status_of};
+
+use depot_session::Ending;
 
 /// How a run ends.
 #[derive(Clone, Copy, Debug, PartialEq, Eq)]
@@ -13,7 +15,7 @@ pub enum Status {
     Input,
     /// A file isn't on the shelf, or the shelf failed.
     Shelf,
-    /// The disk failed. No command that is built yet touches it.
+    /// The disk failed.
     Disk,
     /// The sink failed: a prefix of the text went out.
     Sink,
@@ -21,15 +23,32 @@ pub enum Status {
     Memory,
     /// The text proves no contradiction.
     NoProof,
-    /// A limit was met. No command that is built yet has one.
+    /// A node met a limit.
     Limit,
     /// A log or journal isn't lawful.
     NotLawful,
-    /// The node is another. No command that is built yet runs one.
+    /// The node, its key or a roster is another.
     Identity,
 }
 
 impl Status {
+    /// How the run of a script ends, as a status.
+    pub fn of(ending: Ending) -> Status
+        ensures { result ≡ status_of ending }
+    {
+        match ending {
+            Ending::Done => Status::Done,
+            Ending::Input => Status::Input,
+            Ending::Shelf => Status::Shelf,
+            Ending::Disk => Status::Disk,
+            Ending::Sink => Status::Sink,
+            Ending::Memory => Status::Memory,
+            Ending::Limit => Status::Limit,
+            Ending::NotLawful => Status::NotLawful,
+            Ending::Identity => Status::Identity,
+        }
+    }
+
     /// The exit status of the program.
     pub fn number(self) -> u8
         ensures { result ≡ number_of_status self }

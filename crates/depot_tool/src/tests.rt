@@ -29,6 +29,14 @@ const ROSTER: &str = "010400020008\
 025d92fbbc23d40d2955a3392b0890fd14637d7942735afaef041d679a74657029\
 000902c70aaf512f592cc5a9e6523dfb6a94c86629a8ac80f9dffe32e77976aa098491";
 
+/// Node 9 puts a value.
+const NODE_PUT: &str =
+    "node ROSTER 0909090909090909090909090909090909090909090909090909090909090909 2 9 PUT";
+
+/// Node 9 reads a key, and stores its hello.
+const NODE_HELLO: &str =
+    "node ROSTER 0909090909090909090909090909090909090909090909090909090909090909 2 9 HELLO";
+
 /// A schedule of one node, which puts and reads what it put.
 const SCHEDULE: &str = "depot schedule 1
 scheme plain 2
@@ -70,6 +78,8 @@ fn files(alloc: Global, failing: u32) -> Result<MemShelf, Fail> {
     let mut shelf = MemShelf::new(alloc, fails(alloc, failing)?);
     shelf.put("LOG", &hex::decode(alloc, LOG)?)?;
     shelf.put("SCHEDULE", SCHEDULE.as_bytes())?;
+    shelf.put("PUT", b"put 6b 61\n")?;
+    shelf.put("HELLO", b"get 6b\nhello a\n")?;
     shelf.put("ROSTER", &hex::decode(alloc, ROSTER)?)?;
     let mut proof = Bytes::from_slice(alloc, &[1, 2])?;
     push_half(alloc, &mut proof, 0, b'a')?;
@@ -84,12 +94,21 @@ fn files(alloc: Global, failing: u32) -> Result<MemShelf, Fail> {
     Ok(shelf)
 }
 
+/// The words of a line.
+fn words(alloc: Global, line: &str) -> Result<Vec<Word>, Fail> {
+    let mut words = Vec::new(alloc);
+    for word in line.split(' ') {
+        words.push(Word::new(String::from_str(alloc, word)?))?;
+    }
+    Ok(words)
+}
+
 #[test]
 fn runs_end_as_their_commands_say(rt: HostRuntime) -> Result<(), Fail> {
     use Status::{Done, Input, NoProof, Shelf, Sink};
     let alloc = rt.alloc();
     // The words, the calls of the shelf and the sink that fail, how the run ends, what it prints.
-    let cases: [(&str, u32, u32, Status, &str); 12] = [
+    let cases: [(&str, u32, u32, Status, &str); 20] = [
         ("scan LOG 6b", 0, 0, Done, LINE),
         ("scan LOG 6b", 1, 0, Shelf, "shelf LOG\n"),
         ("scan LOG 6b", 0, 1, Sink, ""),
@@ -114,18 +133,52 @@ fn runs_end_as_their_commands_say(rt: HostRuntime) -> Result<(), Fail> {
             Done,
             "put 1 6b -> 0/1\nget 1 6b -> 1/0/1=61\n",
         ),
+        ("replay SCHEDULE", 0, 1, Sink, ""),
+        ("replay SCHEDULE", 0, 2, Sink, "put 1 6b -> 0/1\n"),
+        (NODE_PUT, 1, 0, Shelf, "shelf ROSTER\n"),
+        (NODE_PUT, 2, 0, Shelf, "shelf PUT\n"),
+        (NODE_PUT, 0, 0, Done, "put 6b -> 0/1\n"),
+        (NODE_PUT, 0, 1, Sink, ""),
+        (NODE_HELLO, 3, 0, Shelf, "get 6b ->\nshelf a\n"),
+        (
+            NODE_HELLO,
+            0,
+            0,
+            Done,
+            "get 6b ->\nhello a -> convicted 0 leaves 0 wanted 0\n",
+        ),
     ];
     for (line, shelf_fails, sink_fails, status, text) in cases {
-        let mut words = Vec::new(alloc);
-        for word in line.split(' ') {
-            words.push(Word::new(String::from_str(alloc, word)?))?;
-        }
+        let words = words(alloc, line)?;
         let mut shelf = files(alloc, shelf_fails)?;
         let mut disk = MemDisk::new(Bytes::new(alloc), fails(alloc, 0)?);
         let mut sink = MemSink::new(alloc, fails(alloc, sink_fails)?);
         let ended = depot(alloc, &words, &mut shelf, &mut disk, &mut sink);
         assert_eq!(rt; ended, status, "{line}");
         assert_eq!(rt; sink.bytes(), text.as_bytes(), "{line}");
+    }
+    Ok(())
+}
+
+#[test]
+fn a_run_goes_on_over_a_disk_that_failed(rt: HostRuntime) -> Result<(), Fail> {
+    let alloc = rt.alloc();
+    let words = words(alloc, NODE_PUT)?;
+    // Four calls start a journal, four append the birth, and four the put.
+    for call in 1..=13 {
+        let mut shelf = files(alloc, 0)?;
+        let mut disk = MemDisk::new(Bytes::new(alloc), fails(alloc, call)?);
+        let mut sink = MemSink::new(alloc, fails(alloc, 0)?);
+        let (status, text) = if call <= 12 {
+            (Status::Disk, "disk\n")
+        } else {
+            (Status::Done, "put 6b -> 0/1\n")
+        };
+        let ended = depot(alloc, &words, &mut shelf, &mut disk, &mut sink);
+        assert_eq!(rt; ended, status, "{call}");
+        assert_eq!(rt; sink.bytes(), text.as_bytes(), "{call}");
+        let again = depot(alloc, &words, &mut shelf, &mut disk, &mut sink);
+        assert_eq!(rt; again, Status::Done, "{call}");
     }
     Ok(())
 }

@@ -1,11 +1,14 @@
 //! The top call.
 ghost use Rattle.std.specs.Prelude.{◌≡◌, ◌⊎◌, Some};
 ghost use Rattle.depot_tool.specs.Words.{command_of};
-ghost use Rattle.depot_tool.specs.Runs.{shelves, loads, sinks, EndsAtFault, Answers, Begins, Ends, IsWell, Completes};
+ghost use Rattle.depot_outside.specs.Told.{disks, shelves, loads, sinks};
+ghost use Rattle.depot_tool.specs.Nodes.{CompletesNode, IsWellDisk, Results};
+ghost use Rattle.depot_tool.specs.Runs.{EndsAtFault, IsWell, Completes};
 
 use crate::command::{Command, parse};
 use crate::judge::judge;
 use crate::key::key;
+use crate::node::node;
 use crate::outcome::{Outcome, finish};
 use crate::replay::replay;
 use crate::scan::scan;
@@ -16,10 +19,15 @@ use depot_outside::{Disk, Shelf, Sink};
 use std::alloc::Global;
 
 /// Does what a command asks for, and says how the run ended.
-fn run<F: Shelf, S: Sink>(alloc: Global, command: &Command, shelf: &mut F, out: &mut S) -> Status
-    ensures ends { Ends (Answers (shelves F.Shelf shelf.old shelf.new) (loads F.Shelf shelf.old shelf.new) (Some command.now)) (Begins (shelves F.Shelf shelf.old shelf.new) (loads F.Shelf shelf.old shelf.new) (Some command.now)) (sinks S.Sink out.old out.new) result }
+fn run<F: Shelf, D: Disk, S: Sink>(
+    alloc: Global,
+    command: &Command,
+    shelf: &mut F,
+    disk: &mut D,
+    out: &mut S,
+) -> Status
+    ensures results { Results (disks D.Disk disk.old disk.new) (shelves F.Shelf shelf.old shelf.new) (loads F.Shelf shelf.old shelf.new) (sinks S.Sink out.old out.new) (disk.new ≡ disk.old) (F.file shelf.new ≡ F.file shelf.old) (Some command.now) result }
     ensures first_fault { (result ≡ Status.Sink) ⊎ ((result ≡ Status.Memory) ⊎ EndsAtFault (shelves F.Shelf shelf.old shelf.new) result) }
-    ensures files { F.file shelf.new ≡ F.file shelf.old }
 {
     match command {
         Command::Scan(log, key) => finish(scan(alloc, shelf, log.text(), key), out),
@@ -29,15 +37,16 @@ fn run<F: Shelf, S: Sink>(alloc: Global, command: &Command, shelf: &mut F, out: 
             out,
         ),
         Command::Replay(schedule) => replay(alloc, shelf, schedule.text(), out),
+        Command::Node(words) => node(alloc, words, shelf, disk, out),
     }
 }
 
 /// Runs the program: does what the words ask for, writes its text to `out`, and says how the run ended. The first
 /// fault ends the run.
 ///
-/// The commands built so far are `scan LOG KEY`, `key SEED HEIGHT`, `judge ROSTER PROOF` and `replay SCHEDULE`; other
-/// words are refused as Words. `docs/FORMATS.md` has each text that is printed, and `docs/PROMISES.md` the clauses in
-/// plain words.
+/// The commands built so far are `scan LOG KEY`, `key SEED HEIGHT`, `judge ROSTER PROOF`, `replay SCHEDULE` and
+/// `node ROSTER SEED HEIGHT ID SCRIPT`; other words are refused as Words. `docs/FORMATS.md` has each text that is
+/// printed, and `docs/PROMISES.md` the clauses in plain words.
 pub fn depot<F: Shelf, D: Disk, S: Sink>(
     alloc: Global,
     words: &[Word],
@@ -47,21 +56,19 @@ pub fn depot<F: Shelf, D: Disk, S: Sink>(
 ) -> Status
     // The run ends as its command answers, with the whole text written; or for want of memory, with nothing written, or
     // with a front of the transcript that `replay` writes; or because the sink failed in this run, with a prefix of the
-    // text written.
-    ensures ends { Ends (Answers (shelves F.Shelf shelf.old shelf.new) (loads F.Shelf shelf.old shelf.new) (command_of words.now)) (Begins (shelves F.Shelf shelf.old shelf.new) (loads F.Shelf shelf.old shelf.new) (command_of words.now)) (sinks S.Sink out.old out.new) result }
+    // text written. `node` runs its script over the disk, as its record says: images, lines and journal, runs cut short.
+    // Every other command leaves the disk and the shelf's files as they were.
+    ensures results { Results (disks D.Disk disk.old disk.new) (shelves F.Shelf shelf.old shelf.new) (loads F.Shelf shelf.old shelf.new) (sinks S.Sink out.old out.new) (disk.new ≡ disk.old) (F.file shelf.new ≡ F.file shelf.old) (command_of words.now) result }
 
     // Where no count of faults rises, each file is there and each is in its grammar, the command does what it says.
     ensures complete { IsWell (shelves F.Shelf shelf.old shelf.new) (sinks S.Sink out.old out.new) → Completes (shelves F.Shelf shelf.old shelf.new) (command_of words.now) result }
+    ensures complete_node { IsWell (shelves F.Shelf shelf.old shelf.new) (sinks S.Sink out.old out.new) → IsWellDisk (disks D.Disk disk.old disk.new) → CompletesNode (disks D.Disk disk.old disk.new) (shelves F.Shelf shelf.old shelf.new) (command_of words.now) result }
 
     // Where the shelf failed, nothing else is answered.
     ensures first_fault { (result ≡ Status.Sink) ⊎ ((result ≡ Status.Memory) ⊎ EndsAtFault (shelves F.Shelf shelf.old shelf.new) result) }
-
-    // No command that is built yet touches the disk or stores on the shelf.
-    ensures disk { disk.new ≡ disk.old }
-    ensures files { F.file shelf.new ≡ F.file shelf.old }
 {
     match parse(alloc, words) {
-        Ok(Some(command)) => run(alloc, &command, shelf, out),
+        Ok(Some(command)) => run(alloc, &command, shelf, disk, out),
         Ok(None) => finish(Outcome::words(alloc), out),
         Err(Memory) => Status::Memory,
     }

@@ -6,7 +6,7 @@ ghost use Rattle.depot_tool.specs.Words.{name_word};
 use crate::height::Height;
 use crate::word::Word;
 use depot_base::limits::MOST_KEY;
-use depot_base::{Hash32, Key, Memory};
+use depot_base::{Hash32, Key, Memory, NodeId};
 use depot_schedule::spelling::{has_length, hex_word, number_word};
 use std::alloc::Global;
 
@@ -51,6 +51,16 @@ pub fn height_word(word: &Word) -> Option<Height>
 {
     match number_word(word.text().as_bytes(), 2, 12) {
         Some(number) => Some(Height::new(number as u8)),
+        None => None,
+    }
+}
+
+/// The number from 1 to 65535 of a node that a word gives in decimal.
+pub fn id_word(word: &Word) -> Option<NodeId>
+    ensures { result ≡ number_word 1 65535 word.now }
+{
+    match number_word(word.text().as_bytes(), 1, 65535) {
+        Some(number) => NodeId::new(number as u16),
         None => None,
     }
 }

@@ -1,6 +1,7 @@
 use Rattle.std.proofs.Common.{Some, inl, refl}
 use Rattle.depot_tool.specs.declared.command.Command.TheVariants.{Replay}
-use Rattle.depot_tool.specs.Runs.{shelves, loads, Answers}
+use Rattle.depot_outside.specs.Told.{shelves, loads}
+use Rattle.depot_tool.specs.Runs.{Answers}
 use Rattle.depot_tool.proofs.Endings.{finished_by, replay_ends}
 use Rattle.depot_tool.proofs.replay.replay.Goals as goal
 

@@ -12,5 +12,5 @@ returns-in-Ok g c =
 pub returns-in-Err-Line : goal.returns-in-Err-Line
 returns-in-Err-Line g c =
     let first = rw c.in-Err-Line.field-0-is at c.in-Err-Line.ensures.parses in
-    finished_by (ReplayOf c.args.name.now c.args.bytes.now) _ _ c.no_schedule.result _ c.finish.result c.no_schedule.ensures
+    finished_by (ReplayOf c.args.name.now c.args.bytes.now) _ _ c.faulty_line.result _ c.finish.result c.faulty_line.ensures
     (record { number = c.in-Err-Line.number; fault = c.in-Err-Line.fault; first = first; is = refl }) (inl refl) c.finish.ensures
