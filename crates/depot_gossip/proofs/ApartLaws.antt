@@ -20,10 +20,10 @@ use Rattle.depot_model.specs.Lawful.{IsLawful}
 use Rattle.depot_model.specs.Vouching.{is_mine_vouched}
 use Rattle.depot_model.specs.Bundle.{Signs, Parcel, has_candidate, candidates, sent_for, sent_foreign, unvouched}
 use Rattle.depot_model.proofs.Orders.{fresh, causal_behind}
-use Rattle.depot_model.proofs.Members.{in_left, in_right, in_parts, in_map, from_map, all_from, any_from}
+use Rattle.depot_model.proofs.Members.{in_left, in_right, in_parts, in_map, from_map, all_from, any_from, from_filter}
 use Rattle.depot_laws.specs.Rejoin.{updates_of}
 use Rattle.depot_laws.proofs.Splits.{given_by, flat_gives}
-use Rattle.depot_laws.proofs.Tests.{from_filter, fails_from_not}
+use Rattle.depot_laws.proofs.Tests.{fails_from_not}
 use Rattle.depot_laws.proofs.Causes.{lawful_is_causal}
 use Rattle.depot_laws.proofs.Worlds.{giver_in}
 use Rattle.depot_laws.proofs.Parcels.{candidates_for, sent_in_front, told_of_parcels}

@@ -23,7 +23,8 @@ use Rattle.depot_model.specs.Hello.{named_leaf, record_place, AreLeafPlaces, con
 use Rattle.depot_model.proofs.Orders.{one_of_id}
 use Rattle.depot_laws.proofs.Observed.{in_place}
 use Rattle.depot_laws.proofs.Splits.{flat_gives, flat_push}
-use Rattle.depot_laws.proofs.Tests.{from_by_id, has_id_to}
+use Rattle.depot_model.proofs.RisingUpdates.{from_by_id}
+use Rattle.depot_model.proofs.NamedIds.{has_id_to}
 use Rattle.depot_laws.proofs.Causes.{lawful_is_causal, leaf_is_on}
 use Rattle.sha2.specs.Sha256.{sha256}
 use Rattle.depot_model.proofs.BodyLaws.{body_is_text_of_update}

@@ -24,10 +24,9 @@ use Rattle.depot_model.specs.Hello.{hello}
 use Rattle.depot_model.specs.Frames.{Frame}
 use Rattle.depot_model.specs.Vouching.{own_voucher_by, records_of, limit_of_vouchers}
 use Rattle.depot_model.specs.Bundle.{Signs, signed_with, signed_by, has_candidate, candidates, Parcel, candidate_parcel, candidate_parcels, wanted_parcel, hashes_of, parcels, statement_frame, value_frame, proof_frame, end_frame, frames_of, sent_for, sent_foreign, unvouched, proofs_for, vouchers_for, Bundle, bundle_frames, bundle_of, with_vouchers, bundled, bad_hello, other_roster, bundled_within, answer_to_hello, bundle_answer}
-use Rattle.depot_model.proofs.Members.{in_left, in_parts, from_map}
+use Rattle.depot_model.proofs.Members.{in_left, in_parts, from_map, from_filter}
 use Rattle.depot_model.proofs.TextLaws.{signed_lawful}
 use Rattle.depot_laws.proofs.Splits.{given_by, flat_gives, flat_left}
-use Rattle.depot_laws.proofs.Tests.{from_filter}
 use Rattle.depot_laws.proofs.Worlds.{giver_in}
 use Rattle.depot_laws.proofs.OwnTexts.{own_statement_fits}
 use Rattle.depot_laws.proofs.Candidates.{signed_fits}

@@ -1,5 +1,5 @@
 -- What an update more changes.
-use Rattle.std.proofs.Common.{◌≡◌, ℕ, zero, suc, ◌<◌, ◌≤◌, ◌+◌, List, [], ◌∷◌, ◌++◌, length, map, get_or, set, filter, Option, Some, None, Bool, true, false, not, cond, ◌||◌, ◌&&◌, refl, sym, ap, subst, ◌∙◌, inl, inr, ◌⊎◌, arith, slice_get, append_assoc, append-nil, eq-eqb, eqb, nat_lt, IfSome}
+use Rattle.std.proofs.Common.{◌≡◌, ℕ, zero, suc, ◌<◌, ◌≤◌, ◌+◌, List, [], ◌∷◌, ◌++◌, length, map, get_or, set, filter, Option, Some, None, Bool, true, false, not, cond, ◌||◌, ◌&&◌, refl, sym, ap, subst, ◌∙◌, inl, inr, ◌⊎◌, arith, slice_get, append-nil, eq-eqb, eqb, nat_lt, Result, Ok, Err, IsOk, OnOk}
 use Rattle.std.specs.List.{list_any, position_or_len}
 use Rattle.std.specs.Map.{keys_of}
 use Rattle.std.specs.Str.{bytes_eq}
@@ -19,16 +19,15 @@ use Rattle.depot_model.specs.Texts.{id_of_update}
 use Rattle.depot_model.specs.Order.{parents, prevs, IsCausal}
 use Rattle.depot_model.specs.History.{is_prev_in}
 use Rattle.depot_model.specs.Items.{place_of_id, place_of_prev, places_where}
+use Rattle.depot_model.proofs.Elements.{get_last}
 use Rattle.depot_model.proofs.Members.{in_left, in_last, in_pushed, from_map, among_to, all_among_from}
 use Rattle.depot_model.proofs.Orders.{causal_front, parent_is_there, parents_of_last}
-use Rattle.depot_graph.specs.declared.item.Item.{Item}
 use Rattle.depot_graph.specs.Causal.{is_causal}
-use Rattle.depot_graph.specs.Kept.{updates_in, rows_in, past_row, rows_behind, child_lists, leaf_places, prev_places}
+use Rattle.depot_graph.specs.Kept.{updates_in, child_lists, leaf_places, prev_places}
 use Rattle.depot_graph.specs.Kin.{is_place, siblings_of, with_siblings}
-use Rattle.depot_graph.specs.Latest.{latest_places}
 use Rattle.depot_graph.proofs.Front.{apart}
-use Rattle.depot_graph.proofs.PastLaws.{one_place, none_has}
-use Rattle.depot_graph.proofs.PlaceLaws.{latest_of_any}
+use Rattle.depot_graph.specs.OrderLaws.{some_same, one_place}
+use Rattle.depot_graph.proofs.PastLaws.{none_has}
 
 -- ---- the map
 
@@ -51,24 +50,12 @@ unfolding IsCausal
 causal_to_test ids [] c = refl
 causal_to_test ids (u ∷ us) c = and_from _ _ (all_among_from (parents u) ids c.0) (and_from _ _ (not_from_false _ (false_from_ne_true _ (λ e. c.1.0 (among_to (id_of_update u) ids e)))) (causal_to_test (id_of_update u ∷ ids) us c.1.1))
 
--- ---- rows
-
-pub rows_behind-push : (front us : List Update) (u : Update) → rows_behind front (us ++ u ∷ []) ≡ rows_behind front us ++ (past_row (front ++ us) u ++ true ∷ []) ∷ []
-unfolding rows_behind
-rows_behind-push front [] u = ap (λ (ws : List Update). (past_row ws u ++ true ∷ []) ∷ []) (sym (append-nil front))
-rows_behind-push front (t ∷ us) u =
-    ap (λ (rows : List (List Bool)). (past_row front t ++ true ∷ []) ∷ rows)
-    (rows_behind-push (front ++ t ∷ []) us u ∙ ap (λ (ws : List Update). rows_behind (front ++ t ∷ []) us ++ (past_row ws u ++ true ∷ []) ∷ []) (append_assoc front (t ∷ []) us))
-
 -- ---- the prev
 
 in_place : (vs : List Update) (n : ℕ) (v : Update) → slice_get vs n ≡ Some v → IsIn v vs
 in_place [] n v e = absurd cc
 in_place (y ∷ ys) zero v e = let same : y ≡ v = cc in inl same
 in_place (y ∷ ys) (suc n) v e = inr (in_place ys n v e)
-
-some_same : (x y : Update) → Some x ≡ Some y → x ≡ y
-some_same x y e = cc
 
 apart_places : (us : List Update) (p k : ℕ) (w t : Update) → IsCausal [] us → slice_get us p ≡ Some w → slice_get us k ≡ Some t → id_of_update w ≡ id_of_update t → (p < k) ⊎ (k < p) → ⊥
 apart_places us p k w t c at_p at_k e (inl lt) = one_place us p k w t c at_p at_k e lt
@@ -263,14 +250,6 @@ prev_places-push us u c =
     ∙ (ap (λ (ps : List (Option ℕ)). ps ++ then u ∷ []) (same_images then before us (λ k t at_k. prev_stays us u t c (in_left t us (u ∷ []) (in_place us k t at_k))))
     ∙ ap (λ (p : Option ℕ). prev_places us ++ p ∷ []) (prev_stays us u u c (in_last us u)))
 
--- the place of the prev is that of an earlier item, and there is a number for one item more
-pub earlier_item : (us : List Update) (u : Update) (o : Option ℕ) (n : ℕ) → o ≡ place_of_prev u.prev us → n ≡ length us → IfSome o (λ item. item < n)
-earlier_item us u None n prev count = tt
-earlier_item us u (Some p) n prev count = let inside = prev_inside us u p (sym prev) in omega (arith, inside, count)
-
-pub as_many_prevs : (us : List Update) (prevs : List (Option ℕ)) → prevs ≡ prev_places us → length prevs ≡ length us
-as_many_prevs us prevs e = ap length e ∙ length-map us (λ (v : Update). place_of_prev v.prev us)
-
 -- ---- what is found before the first write
 
 pub leaves_from : (us : List Update) (u : Update) (o : Option ℕ) (n : ℕ) (old new : List ℕ) → IsCausal [] (us ++ u ∷ []) → o ≡ place_of_prev u.prev us → n ≡ length us → old ≡ leaf_places us
@@ -289,62 +268,61 @@ children_from us u o n old siblings none c prev count kept e empty =
 
 -- ---- what is kept then
 
-pub updates_then : (es : List (List ℕ × Item)) (k : List ℕ) (item : Item) → updates_in (es ++ (k, item) ∷ []) ≡ updates_in es ++ item.update ∷ []
-updates_then es k item = map-append (λ (e : List ℕ × Item). e.1.update) es ((k, item) ∷ [])
+-- what is said of an Ok, where it is one
+pub said_of_ok : {T E : Type 0} (r : Result T E) (P : Type 0) → IsOk r → OnOk r P → P
+said_of_ok (Ok x) P ok on = on
+said_of_ok (Err e) P ok on = absurd (no ok) where
+  no : false ≡ true → ⊥
+  no h = cc
 
-pub keys_then : (es : List (List ℕ × Item)) (k : List ℕ) (item : Item) → keys_of es ≡ map id_of_update (updates_in es) → k ≡ id_of_update item.update → keys_of (es ++ (k, item) ∷ []) ≡ map id_of_update (updates_in (es ++ (k, item) ∷ []))
-keys_then es k item ids e =
-    map-append (λ (e : List ℕ × Item). e.0) es ((k, item) ∷ [])
+pub updates_then : (es : List (List ℕ × Update)) (k : List ℕ) (u : Update) → updates_in (es ++ (k, u) ∷ []) ≡ updates_in es ++ u ∷ []
+updates_then es k u = map-append (λ (e : List ℕ × Update). e.1) es ((k, u) ∷ [])
+
+pub keys_then : (es : List (List ℕ × Update)) (k : List ℕ) (u : Update) → keys_of es ≡ map id_of_update (updates_in es) → k ≡ id_of_update u → keys_of (es ++ (k, u) ∷ []) ≡ map id_of_update (updates_in (es ++ (k, u) ∷ []))
+keys_then es k u ids e =
+    map-append (λ (e : List ℕ × Update). e.0) es ((k, u) ∷ [])
     ∙ (ap (λ (ks : List (List ℕ)). ks ++ k ∷ []) ids ∙ (ap (λ (h : List ℕ). map id_of_update (updates_in es) ++ h ∷ []) e
-    ∙ (sym (map-append id_of_update (updates_in es) (item.update ∷ [])) ∙ ap (map id_of_update) (sym (updates_then es k item)))))
-
-pub rows_then : (es : List (List ℕ × Item)) (k : List ℕ) (item : Item) → rows_in es ≡ rows_behind [] (updates_in es) → item.reached.items ≡ past_row (updates_in es) item.update ++ true ∷ []
-    → rows_in (es ++ (k, item) ∷ []) ≡ rows_behind [] (updates_in (es ++ (k, item) ∷ []))
-rows_then es k item rows e =
-    map-append (λ (e : List ℕ × Item). e.1.reached.items) es ((k, item) ∷ [])
-    ∙ (ap (λ (rs : List (List Bool)). rs ++ item.reached.items ∷ []) rows ∙ (ap (λ (r : List Bool). rows_behind [] (updates_in es) ++ r ∷ []) e
-    ∙ (sym (rows_behind-push [] (updates_in es) item.update) ∙ ap (rows_behind []) (sym (updates_then es k item)))))
+    ∙ (sym (map-append id_of_update (updates_in es) (u ∷ [])) ∙ ap (map id_of_update) (sym (updates_then es k u)))))
 
 -- what the map holds then
-pub entries_then : (es new : List (List ℕ × Item)) (k : List ℕ) (item : Item) → keys_of es ≡ map id_of_update (updates_in es) → k ≡ id_of_update item.update → IsCausal [] (updates_in es ++ item.update ∷ [])
-    → new ≡ insert_entry bytes_eq es k item → new ≡ es ++ (k, item) ∷ []
-entries_then es new k item ids key c e =
-    e ∙ inserted_last es k item (λ on. is_fresh (updates_in es) item.update c (subst (λ (h : List ℕ). IsIn h (map id_of_update (updates_in es))) key (subst (λ (ks : List (List ℕ)). IsIn k ks) ids on)))
+pub entries_then : (es new : List (List ℕ × Update)) (k : List ℕ) (u : Update) → keys_of es ≡ map id_of_update (updates_in es) → k ≡ id_of_update u → IsCausal [] (updates_in es ++ u ∷ [])
+    → new ≡ insert_entry bytes_eq es k u → new ≡ es ++ (k, u) ∷ []
+entries_then es new k u ids key c e =
+    e ∙ inserted_last es k u (λ on. is_fresh (updates_in es) u c (subst (λ (h : List ℕ). IsIn h (map id_of_update (updates_in es))) key (subst (λ (ks : List (List ℕ)). IsIn k ks) ids on)))
 
-module _ (es new : List (List ℕ × Item)) (k : List ℕ) (item : Item) (last : new ≡ es ++ (k, item) ∷ []) where
-  pub updates_kept : updates_in new ≡ updates_in es ++ item.update ∷ []
-  updates_kept = ap updates_in last ∙ updates_then es k item
+module _ (es new : List (List ℕ × Update)) (k : List ℕ) (u : Update) (last : new ≡ es ++ (k, u) ∷ []) where
+  pub updates_kept : updates_in new ≡ updates_in es ++ u ∷ []
+  updates_kept = ap updates_in last ∙ updates_then es k u
 
   pub count_kept : length (updates_in es) < 4294967295 → length new < 4294967296
-  count_kept lt = omega (arith, ap length last, length_push es (k, item), length-map es (λ (e : List ℕ × Item). e.1.update), lt)
+  count_kept lt = omega (arith, ap length last, length_push es (k, u), length-map es (λ (e : List ℕ × Update). e.1), lt)
 
-  pub ids_kept : keys_of es ≡ map id_of_update (updates_in es) → k ≡ id_of_update item.update → keys_of new ≡ map id_of_update (updates_in new)
-  ids_kept ids key = subst (λ (xs : List (List ℕ × Item)). keys_of xs ≡ map id_of_update (updates_in xs)) (sym last) (keys_then es k item ids key)
+  pub long_then : length new ≡ length (updates_in es) + 1
+  long_then = omega (arith, ap length last, length_push es (k, u), length-map es (λ (e : List ℕ × Update). e.1))
 
-  pub causal_kept : IsCausal [] (updates_in es ++ item.update ∷ []) → is_causal [] (updates_in new) ≡ true
-  causal_kept c = ap (is_causal []) updates_kept ∙ causal_to_test [] (updates_in es ++ item.update ∷ []) c
+  -- the last of them
+  pub last_is : (n : ℕ) (key : List ℕ) (v : Update) → n ≡ length (updates_in es) → slice_get new n ≡ Some (key, v) → v ≡ u
+  last_is n key v count at =
+      let here : n ≡ length es = count ∙ length-map es (λ (e : List ℕ × Update). e.1) in
+      let both : Some (key, v) ≡ Some (k, u) = sym at ∙ (ap (λ (xs : List (List ℕ × Update)). slice_get xs n) last ∙ (ap (slice_get (es ++ (k, u) ∷ [])) here ∙ get_last es (k, u))) in
+      ap (λ (e : List ℕ × Update). e.1) (some_same (key, v) (k, u) both)
 
-  pub rows_kept : rows_in es ≡ rows_behind [] (updates_in es) → item.reached.items ≡ past_row (updates_in es) item.update ++ true ∷ [] → rows_in new ≡ rows_behind [] (updates_in new)
-  rows_kept rows row = subst (λ (xs : List (List ℕ × Item)). rows_in xs ≡ rows_behind [] (updates_in xs)) (sym last) (rows_then es k item rows row)
+  pub ids_kept : keys_of es ≡ map id_of_update (updates_in es) → k ≡ id_of_update u → keys_of new ≡ map id_of_update (updates_in new)
+  ids_kept ids key = subst (λ (xs : List (List ℕ × Update)). keys_of xs ≡ map id_of_update (updates_in xs)) (sym last) (keys_then es k u ids key)
+
+  pub causal_kept : IsCausal [] (updates_in es ++ u ∷ []) → is_causal [] (updates_in new) ≡ true
+  causal_kept c = ap (is_causal []) updates_kept ∙ causal_to_test [] (updates_in es ++ u ∷ []) c
 
   pub kin_kept : (old lists : List (List ℕ)) (prev : Option ℕ) (siblings none : List ℕ) → old ≡ child_lists (updates_in es) → lists ≡ with_siblings prev siblings old ++ none ∷ []
-      → with_siblings prev siblings (child_lists (updates_in es)) ++ none ∷ [] ≡ child_lists (updates_in es ++ item.update ∷ []) → lists ≡ child_lists (updates_in new)
+      → with_siblings prev siblings (child_lists (updates_in es)) ++ none ∷ [] ≡ child_lists (updates_in es ++ u ∷ []) → lists ≡ child_lists (updates_in new)
   kin_kept old lists prev siblings none kin e children =
       e ∙ (ap (λ (ls : List (List ℕ)). with_siblings prev siblings ls ++ none ∷ []) kin ∙ (children ∙ ap child_lists (sym updates_kept)))
 
-  pub ends_kept : (leaves : List ℕ) → leaves ≡ leaf_places (updates_in es ++ item.update ∷ []) → leaves ≡ leaf_places (updates_in new)
+  pub ends_kept : (leaves : List ℕ) → leaves ≡ leaf_places (updates_in es ++ u ∷ []) → leaves ≡ leaf_places (updates_in new)
   ends_kept leaves e = e ∙ ap leaf_places (sym updates_kept)
 
-  pub reads_kept : (other key latest old list : List ℕ) → list ≡ cond (bytes_eq other key) latest old → key ≡ item.update.key → latest ≡ latest_places item.update.key (updates_in es ++ item.update ∷ []) → old ≡ latest_places other (updates_in es)
-      → list ≡ latest_places other (updates_in new)
-  reads_kept other key latest old list e same mended kept =
-      e ∙ (ap (λ (k : List ℕ). cond (bytes_eq other k) latest old) same
-      ∙ (ap (λ (ns : List ℕ). cond (bytes_eq other item.update.key) ns old) mended
-      ∙ (ap (λ (ns : List ℕ). cond (bytes_eq other item.update.key) (latest_places item.update.key (updates_in es ++ item.update ∷ [])) ns) kept
-      ∙ (latest_of_any other (updates_in es) item.update ∙ ap (latest_places other) (sym updates_kept)))))
-
-  pub chained_kept : (old prevs : List (Option ℕ)) (prev : Option ℕ) → IsCausal [] (updates_in es ++ item.update ∷ []) → old ≡ prev_places (updates_in es) → prev ≡ place_of_prev item.update.prev (updates_in es) → prevs ≡ old ++ prev ∷ []
+  pub chained_kept : (old prevs : List (Option ℕ)) (prev : Option ℕ) → IsCausal [] (updates_in es ++ u ∷ []) → old ≡ prev_places (updates_in es) → prev ≡ place_of_prev u.prev (updates_in es) → prevs ≡ old ++ prev ∷ []
       → prevs ≡ prev_places (updates_in new)
   chained_kept old prevs prev c kept place e =
       e ∙ (ap (λ (ps : List (Option ℕ)). ps ++ prev ∷ []) kept
-      ∙ (ap (λ (p : Option ℕ). prev_places (updates_in es) ++ p ∷ []) place ∙ (sym (prev_places-push (updates_in es) item.update c) ∙ ap prev_places (sym updates_kept))))
+      ∙ (ap (λ (p : Option ℕ). prev_places (updates_in es) ++ p ∷ []) place ∙ (sym (prev_places-push (updates_in es) u c) ∙ ap prev_places (sym updates_kept))))

@@ -1,16 +1,15 @@
 -- The front of a list in which each parent stands before its children.
-use Rattle.std.proofs.Common.{◌≡◌, ℕ, zero, suc, ◌<◌, ◌≤◌, List, [], ◌∷◌, ◌++◌, take, drop, Some, true, refl, sym, ap, subst, ◌∙◌, inl, inr, arith, slice_get, append_assoc}
+use Rattle.std.proofs.Common.{◌≡◌, ℕ, zero, suc, ◌<◌, List, [], ◌∷◌, ◌++◌, take, drop, Some, true, refl, ap, subst, ◌∙◌, inl, inr, arith, slice_get}
 use Rattle.std.specs.Str.{bytes_eq}
 use Rattle.std.proofs.lemmas.Slice.Eq.{bytes_eq-Decides}
-use Rattle.std.proofs.lemmas.List.{take-append-drop}
 use Rattle.depot_base.specs.declared.update.Update.{Update}
 use Rattle.depot_model.specs.Lists.{IsIn}
 use Rattle.depot_model.specs.Texts.{id_of_update}
 use Rattle.depot_model.specs.Order.{IsPath, IsParent, Precedes, past, IsCausal}
 use Rattle.depot_model.specs.Journal.{has_id}
-use Rattle.depot_model.proofs.Members.{in_left, in_right, in_parts, in_pushed, in_last, any_from, any_to}
-use Rattle.depot_model.proofs.Orders.{fresh, one_of_id, causal_front, parent_is_there, precedes_from, precedes_wider, precedes_irreflexive}
-use Rattle.depot_model.proofs.Pasts.{past_in, past_of_next}
+use Rattle.depot_model.proofs.Members.{in_right, in_parts, any_from, any_to}
+use Rattle.depot_model.proofs.Orders.{fresh, one_of_id, causal_front, parent_is_there, precedes_from}
+use Rattle.depot_model.proofs.Pasts.{past_in}
 
 -- ---- places
 
@@ -26,14 +25,6 @@ in_take [] n a x e lt = absurd cc
 in_take (y ∷ ys) zero a x e lt = absurd (omega arith)
 in_take (y ∷ ys) (suc n) zero x e lt = let same : y ≡ x = cc in inl same
 in_take (y ∷ ys) (suc n) (suc a) x e lt = inr (in_take ys n a x e (omega arith))
-
--- the element at a place from n on is one of those behind the first n
-pub in_drop : {X : Type 0} (xs : List X) (n a : ℕ) (x : X) → slice_get xs a ≡ Some x → n ≤ a → IsIn x (drop n xs)
-in_drop [] n a x e le = absurd cc
-in_drop (y ∷ ys) zero zero x e le = let same : y ≡ x = cc in inl same
-in_drop (y ∷ ys) zero (suc a) x e le = inr (in_drop ys zero a x e (omega arith))
-in_drop (y ∷ ys) (suc n) zero x e le = absurd (omega arith)
-in_drop (y ∷ ys) (suc n) (suc a) x e le = in_drop ys n a x e (omega arith)
 
 -- ---- what stands in front
 
@@ -79,41 +70,3 @@ has_past us t u c on e =
 pub is_past : (us : List Update) (t u : Update) → IsIn t (past u us) → has_id (past u us) (id_of_update t) ≡ true
 unfolding has_id
 is_past us t u on = any_from (λ (w : Update). bytes_eq (id_of_update w) (id_of_update t)) t (past u us) on ((bytes_eq-Decides (id_of_update t) (id_of_update t)).1 refl)
-
--- ---- precedence by places
-
-at_parts : (us : List Update) (b : ℕ) (u : Update) → slice_get us b ≡ Some u → (take b us ++ u ∷ []) ++ drop (suc b) us ≡ us
-at_parts us b u e = append_assoc (take b us) (u ∷ []) (drop (suc b) us) ∙ sym (parts_at us b u e)
-
-causal_at : (us : List Update) (b : ℕ) (u : Update) → IsCausal [] us → slice_get us b ≡ Some u → IsCausal [] ((take b us ++ u ∷ []) ++ drop (suc b) us)
-causal_at us b u c e = subst (IsCausal []) (sym (at_parts us b u e)) c
-
--- in the past of one at a place is what precedes it and stands before that place
-pub past_to_precedes : (us : List Update) (a b : ℕ) (t u : Update) → IsCausal [] us → slice_get us a ≡ Some t → slice_get us b ≡ Some u → a < b → has_id (past u (take b us)) (id_of_update t) ≡ true → Precedes us t u
-past_to_precedes us a b t u c at_a at_b lt e =
-    let whole = causal_at us b u c at_b in
-    let near = causal_front [] (take b us ++ u ∷ []) (drop (suc b) us) whole in
-    let front = causal_front [] (take b us) (u ∷ []) near in
-    let p = (past_of_next (take b us) u t front).0 (has_past (take b us) t u front (in_take us b a t at_a lt) e) in
-    subst (λ (ws : List Update). Precedes ws t u) (at_parts us b u at_b) (precedes_wider (take b us ++ u ∷ []) ((take b us ++ u ∷ []) ++ drop (suc b) us) (λ w on. in_left w (take b us ++ u ∷ []) (drop (suc b) us) on) t u p.1)
-
--- what precedes one at a place stands before that place
-near_precedes : (us : List Update) (b : ℕ) (t u : Update) → IsCausal [] us → slice_get us b ≡ Some u → Precedes us t u → Precedes (take b us ++ u ∷ []) t u
-near_precedes us b t u c at_b p =
-    precedes_in_front (take b us ++ u ∷ []) (drop (suc b) us) t u (causal_at us b u c at_b) (in_last (take b us) u)
-    (subst (λ (ws : List Update). Precedes ws t u) (sym (at_parts us b u at_b)) p)
-
-pub past_from_precedes : (us : List Update) (a b : ℕ) (t u : Update) → IsCausal [] us → slice_get us a ≡ Some t → slice_get us b ≡ Some u → a < b → Precedes us t u → has_id (past u (take b us)) (id_of_update t) ≡ true
-past_from_precedes us a b t u c at_a at_b lt p =
-    let front = causal_front [] (take b us) (u ∷ []) (causal_front [] (take b us ++ u ∷ []) (drop (suc b) us) (causal_at us b u c at_b)) in
-    is_past (take b us) t u ((past_of_next (take b us) u t front).1 (in_take us b a t at_a lt, near_precedes us b t u c at_b p))
-
-pub not_before : (us : List Update) (a b : ℕ) (t u : Update) → IsCausal [] us → slice_get us a ≡ Some t → slice_get us b ≡ Some u → b ≤ a → Precedes us t u → ⊥
-not_before us a b t u c at_a at_b le p =
-    let whole = causal_at us b u c at_b in
-    let near = near_precedes us b t u c at_b p in
-    let front = precedes_from (take b us ++ u ∷ []) t u near in
-    elim (in_pushed t (take b us) u front) [
-      | inl on ↦ apart [] (take b us) (drop b us) t t (subst (IsCausal []) (sym (take-append-drop b us)) c) on (in_drop us b a t at_a le) refl
-      | inr same ↦ precedes_irreflexive [] us u c (subst (λ (w : Update). Precedes us w u) (sym same) p)
-    ]

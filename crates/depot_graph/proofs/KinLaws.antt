@@ -12,7 +12,6 @@ use Rattle.depot_model.specs.Order.{prevs}
 use Rattle.depot_model.specs.History.{is_prev_in}
 use Rattle.depot_model.specs.Items.{at, place_of_id, places_where, AreDistinct, AreLeaves, children_of, children_by}
 use Rattle.depot_model.proofs.Members.{all_from, chosen_cases, bytes_eq_comm}
-use Rattle.depot_graph.specs.declared.item.Item.{Item}
 use Rattle.depot_graph.specs.Kept.{updates_in, child_lists, leaf_places}
 
 -- ---- ids
@@ -30,23 +29,23 @@ place_of_key h us =
     ∙ ap (λ (m : ℕ). cond (nat_lt (position_or_len (λ (u : Update). bytes_eq (id_of_update u) h) us) m) (Some (position_or_len (λ (u : Update). bytes_eq (id_of_update u) h) us)) None) (length-map us id_of_update)
 
 -- the first key that is an id stands where the first update with it does
-pub found_by_key : (h : List ℕ) (es : List (List ℕ × Item)) (place : Option ℕ) → keys_of es ≡ map id_of_update (updates_in es) → place ≡ position (bytes_eq h) (keys_of es) → place ≡ place_of_id h (updates_in es)
+pub found_by_key : (h : List ℕ) (es : List (List ℕ × Update)) (place : Option ℕ) → keys_of es ≡ map id_of_update (updates_in es) → place ≡ position (bytes_eq h) (keys_of es) → place ≡ place_of_id h (updates_in es)
 found_by_key h es place ids e = e ∙ (ap (position (bytes_eq h)) ids ∙ place_of_key h (updates_in es))
 
--- the update of an item
-update_at : (es : List (List ℕ × Item)) (n : ℕ) (key : List ℕ) (item : Item) → slice_get es n ≡ Some (key, item) → slice_get (updates_in es) n ≡ Some item.update
-update_at es n key item e = slice_get-map (λ (e : List ℕ × Item). e.1.update) es n ∙ ap (option_map (λ (e : List ℕ × Item). e.1.update)) e
+-- the update at a place
+pub update_at : (es : List (List ℕ × Update)) (n : ℕ) (key : List ℕ) (u : Update) → slice_get es n ≡ Some (key, u) → slice_get (updates_in es) n ≡ Some u
+update_at es n key u e = slice_get-map (λ (e : List ℕ × Update). e.1) es n ∙ ap (option_map (λ (e : List ℕ × Update). e.1)) e
 
--- the key of an item is the id of its update
-pub key_is_id : (es : List (List ℕ × Item)) (n : ℕ) (key : List ℕ) (item : Item) → keys_of es ≡ map id_of_update (updates_in es) → slice_get es n ≡ Some (key, item) → key ≡ id_of_update item.update
-key_is_id es n key item ids e =
-    let kept : slice_get (keys_of es) n ≡ Some key = slice_get-map (λ (e : List ℕ × Item). e.0) es n ∙ ap (option_map (λ (e : List ℕ × Item). e.0)) e in
-    let right : slice_get (map id_of_update (updates_in es)) n ≡ Some (id_of_update item.update) = slice_get-map id_of_update (updates_in es) n ∙ ap (option_map id_of_update) (update_at es n key item e) in
-    let both : Some key ≡ Some (id_of_update item.update) = sym kept ∙ (ap (λ (ks : List (List ℕ)). slice_get ks n) ids ∙ right) in
+-- its key is its id
+pub key_is_id : (es : List (List ℕ × Update)) (n : ℕ) (key : List ℕ) (u : Update) → keys_of es ≡ map id_of_update (updates_in es) → slice_get es n ≡ Some (key, u) → key ≡ id_of_update u
+key_is_id es n key u ids e =
+    let kept : slice_get (keys_of es) n ≡ Some key = slice_get-map (λ (e : List ℕ × Update). e.0) es n ∙ ap (option_map (λ (e : List ℕ × Update). e.0)) e in
+    let right : slice_get (map id_of_update (updates_in es)) n ≡ Some (id_of_update u) = slice_get-map id_of_update (updates_in es) n ∙ ap (option_map id_of_update) (update_at es n key u e) in
+    let both : Some key ≡ Some (id_of_update u) = sym kept ∙ (ap (λ (ks : List (List ℕ)). slice_get ks n) ids ∙ right) in
     cc
 
-pub id_at : (es : List (List ℕ × Item)) (n : ℕ) (key : List ℕ) (item : Item) → keys_of es ≡ map id_of_update (updates_in es) → slice_get es n ≡ Some (key, item) → at (updates_in es) n (λ u. id_of_update u ≡ key)
-id_at es n key item ids e = (item.update, (update_at es n key item e, sym (key_is_id es n key item ids e)))
+pub id_at : (es : List (List ℕ × Update)) (n : ℕ) (key : List ℕ) (u : Update) → keys_of es ≡ map id_of_update (updates_in es) → slice_get es n ≡ Some (key, u) → at (updates_in es) n (λ u. id_of_update u ≡ key)
+id_at es n key u ids e = (u, (update_at es n key u e, sym (key_is_id es n key u ids e)))
 
 -- ---- leaves
 

@@ -1,10 +1,13 @@
 pub mod Front
-pub mod RowLaws
 pub mod KinLaws
-pub mod MapLaws
 pub mod PastLaws
 pub mod RisingLaws
 pub mod LatestLaws
 pub mod PlaceLaws
 pub mod AddLaws
+pub mod ClockedItems
+pub mod ClockedUpdates
+pub mod RowsOfUpdates
+pub mod ListedUpdates
+pub mod LatestKept
 pub mod Known

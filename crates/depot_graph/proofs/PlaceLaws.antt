@@ -1,12 +1,12 @@
 -- The latest writes by their places.
-use Rattle.std.proofs.Common.{◌≡◌, ℕ, zero, suc, ◌<◌, ◌+◌, List, [], ◌∷◌, ◌++◌, length, take, drop, get_or, filter, Option, Some, option_map, Bool, true, false, not, cond, refl, sym, ap, subst, ◌∙◌, arith, slice_get, append_assoc, append-nil, add-one, drop-cons}
+use Rattle.std.proofs.Common.{◌≡◌, ℕ, zero, suc, ◌<◌, ◌+◌, List, [], ◌∷◌, ◌++◌, length, get_or, filter, Option, Some, option_map, Bool, true, false, not, cond, refl, sym, ap, subst, ◌∙◌, arith, slice_get, append_assoc, append-nil}
 use Rattle.std.specs.List.{AllByRecursion}
 use Rattle.std.specs.Option.{option_to_list, option_map_or}
 use Rattle.std.specs.Ordering.{is_lt}
 use Rattle.std.specs.Str.{bytes_eq}
 use Rattle.std.proofs.lemmas.Slice.Eq.{bytes_eq-Decides}
 use Rattle.std.proofs.lemmas.Option.{slice_get-map, slice_get-get_or, get_or_from_slice_get}
-use Rattle.std.proofs.lemmas.List.{length_push, take_more, drop_all}
+use Rattle.std.proofs.lemmas.List.{length_push}
 use Rattle.depot_base.specs.declared.update.Update.{Update}
 use Rattle.depot_model.specs.Texts.{id_of_update}
 use Rattle.depot_model.specs.Order.{listed, past, IsCausal, AreLatestIn}
@@ -153,42 +153,3 @@ behind-push key front ns (t ∷ us) u =
 
 pub latest_places-push : (key : List ℕ) (us : List Update) (u : Update) → latest_places key (us ++ u ∷ []) ≡ cond (bytes_eq key u.key) (mended u us (latest_places key us)) (latest_places key us)
 latest_places-push key us u = behind-push key [] [] us u
-
--- the latest writes of its own key, and of any
-pub latest_of_key : (us : List Update) (u : Update) (ns old : List ℕ) → old ≡ latest_places u.key us → ns ≡ mended u us old → ns ≡ latest_places u.key (us ++ u ∷ [])
-latest_of_key us u ns old kept e =
-    e ∙ (ap (mended u us) kept ∙ sym (latest_places-push u.key us u ∙ ap (λ (b : Bool). cond b (mended u us (latest_places u.key us)) (latest_places u.key us)) ((bytes_eq-Decides u.key u.key).1 refl)))
-
-pub latest_of_any : (key : List ℕ) (us : List Update) (u : Update) → cond (bytes_eq key u.key) (latest_places u.key (us ++ u ∷ [])) (latest_places key us) ≡ latest_places key (us ++ u ∷ [])
-latest_of_any key us u = go (bytes_eq key u.key) refl where
-  go : (b : Bool) → bytes_eq key u.key ≡ b → cond b (latest_places u.key (us ++ u ∷ [])) (latest_places key us) ≡ latest_places key (us ++ u ∷ [])
-  go true e = ap (λ (k : List ℕ). latest_places k (us ++ u ∷ [])) (sym ((bytes_eq-Decides key u.key).0 e))
-  go false e = sym (latest_places-push key us u ∙ ap (λ (b : Bool). cond b (mended u us (latest_places key us)) (latest_places key us)) e)
-
--- ---- finding the place
-
-pub stands_is : (u : Update) (us : List Update) (n : ℕ) (t : Update) → slice_get us n ≡ Some t → is_lt (listed u t) ≡ stands_before u us n
-stands_is u us n t e = sym (ap (λ (o : Option Update). option_map_or (λ t. is_lt (listed u t)) o false) e)
-
-pub place_found : (u : Update) (us : List Update) (ns : List ℕ) (i : ℕ) → i < length ns → stands_before u us (get_or ns i 0) ≡ true → put_place u us ns ≡ take i ns ++ put_place u us (drop i ns) → put_place u us ns ≡ take i ns ++ length us ∷ drop i ns
-unfolding put_place
-place_found u us ns i lt stands e =
-    let here : drop i ns ≡ get_or ns i 0 ∷ drop (suc i) ns = drop-cons ns i 0 lt in
-    e ∙ ap (λ (rest : List ℕ). take i ns ++ rest) (ap (put_place u us) here ∙ (ap (λ (b : Bool). cond b (length us ∷ get_or ns i 0 ∷ drop (suc i) ns) (get_or ns i 0 ∷ put_place u us (drop (suc i) ns))) stands ∙ ap (λ (rest : List ℕ). length us ∷ rest) (sym here)))
-
-pub place_later : (u : Update) (us : List Update) (ns : List ℕ) (i : ℕ) → i < length ns → stands_before u us (get_or ns i 0) ≡ false → put_place u us ns ≡ take i ns ++ put_place u us (drop i ns) → put_place u us ns ≡ take (i + 1) ns ++ put_place u us (drop (i + 1) ns)
-unfolding put_place
-place_later u us ns i lt stands e =
-    let here : drop i ns ≡ get_or ns i 0 ∷ drop (suc i) ns = drop-cons ns i 0 lt in
-    let step : put_place u us (drop i ns) ≡ get_or ns i 0 ∷ put_place u us (drop (suc i) ns) =
-    ap (put_place u us) here ∙ ap (λ (b : Bool). cond b (length us ∷ get_or ns i 0 ∷ drop (suc i) ns) (get_or ns i 0 ∷ put_place u us (drop (suc i) ns))) stands in
-    e ∙ (ap (λ (rest : List ℕ). take i ns ++ rest) step
-    ∙ (sym (append_assoc (take i ns) (get_or ns i 0 ∷ []) (put_place u us (drop (suc i) ns)))
-    ∙ (ap (λ (front : List ℕ). front ++ put_place u us (drop (suc i) ns)) (sym (take_more ns i 0 lt)) ∙ ap (λ (n : ℕ). take (i + 1) ns ++ put_place u us (drop n ns)) (sym (add-one i)))))
-
-pub place_last : (u : Update) (us : List Update) (ns : List ℕ) (i : ℕ) → i ≡ length ns → put_place u us ns ≡ take i ns ++ put_place u us (drop i ns) → put_place u us ns ≡ take (length ns) ns ++ length us ∷ drop (length ns) ns
-unfolding put_place
-place_last u us ns i last e =
-    let none : drop i ns ≡ [] = drop_all i ns (omega (arith, last)) in
-    subst (λ (n : ℕ). put_place u us ns ≡ take n ns ++ length us ∷ drop n ns) last
-    (e ∙ ap (λ (rest : List ℕ). take i ns ++ rest) (ap (put_place u us) none ∙ ap (λ (rest : List ℕ). length us ∷ rest) (sym none)))

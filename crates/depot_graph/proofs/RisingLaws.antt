@@ -1,47 +1,17 @@
 -- Lists that rise in the listed order.
-use Rattle.std.proofs.Common.{◌≡◌, ℕ, List, [], ◌∷◌, Bool, true, false, cond, filter, refl, sym, ap, ◌∙◌, inl, inr, ◌⊎◌}
+use Rattle.std.proofs.Common.{◌≡◌, List, [], ◌∷◌, Bool, true, false, cond, filter, refl, inl, inr, ◌⊎◌}
 use Rattle.std.specs.List.{AllByRecursion}
-use Rattle.std.specs.declared.cmp.Ordering.{Ordering}
-use Rattle.std.specs.declared.cmp.Ordering.TheVariants.{Less, Equal, Greater}
-use Rattle.std.specs.Ordering.{is_lt, is_eq, ordering_reverse}
-use Rattle.std.proofs.lemmas.Cmp.{nat_list_cmp_total}
-use Rattle.std.proofs.lemmas.Map.Text.{is_eq-slice_cmp}
-use Rattle.std.proofs.lemmas.Slice.Eq.{bytes_eq-Decides}
+use Rattle.std.specs.Ordering.{is_lt}
 use Rattle.depot_base.specs.declared.update.Update.{Update}
 use Rattle.depot_model.specs.Lists.{IsIn}
 use Rattle.depot_model.specs.Texts.{id_of_update}
 use Rattle.depot_model.specs.Order.{listed, RisesStrictly}
-use Rattle.depot_model.proofs.LatestLaws.{rank}
+use Rattle.depot_graph.specs.OrderLaws.{listed_trans, listed_back}
 
 -- u put in front of the first before which it stands
 unfoldable pub put_listed : Update → List Update → List Update
 put_listed u [] = u ∷ []
 put_listed u (t ∷ ts) = cond (is_lt (listed u t)) (u ∷ t ∷ ts) (t ∷ put_listed u ts)
-
--- ---- the listed order
-
-lt_is : (o : Ordering) → is_lt o ≡ true → o ≡ Less
-lt_is Less e = refl
-lt_is Equal e = absurd cc
-lt_is Greater e = absurd cc
-
-listed_trans : (t u v : Update) → is_lt (listed t u) ≡ true → is_lt (listed u v) ≡ true → is_lt (listed t v) ≡ true
-listed_trans t u v p q = ap is_lt (nat_list_cmp_total.trans (rank t) (rank u) (rank v) (lt_is _ p) (lt_is _ q))
-
-ends : (a b c : ℕ) (xs : List ℕ) (d e f : ℕ) (ys : List ℕ) → a ∷ b ∷ c ∷ xs ≡ d ∷ e ∷ f ∷ ys → xs ≡ ys
-ends a b c xs d e f ys h = cc
-
-tied_ids : (t u : Update) → listed t u ≡ Equal → id_of_update t ≡ id_of_update u
-tied_ids t u e = ends t.clock t.writer t.seq (id_of_update t) u.clock u.writer u.seq (id_of_update u) ((bytes_eq-Decides (rank t) (rank u)).0 (sym (is_eq-slice_cmp (rank t) (rank u)) ∙ ap is_eq e))
-
-turned : (o p : Ordering) → o ≡ ordering_reverse p → is_lt p ≡ false → (p ≡ Equal → ⊥) → is_lt o ≡ true
-turned o Less e n ne = absurd cc
-turned o Equal e n ne = absurd (ne refl)
-turned o Greater e n ne = ap is_lt e
-
--- of two with different ids one stands before the other
-listed_back : (u t : Update) → is_lt (listed u t) ≡ false → (id_of_update t ≡ id_of_update u → ⊥) → is_lt (listed t u) ≡ true
-listed_back u t n ne = turned (listed t u) (listed u t) (nat_list_cmp_total.antisymm (rank t) (rank u)) n (λ e. ne (sym (tied_ids u t e)))
 
 -- ---- putting one in
 

@@ -1,5 +1,5 @@
 -- What a graph keeps of each item.
-use Rattle.std.specs.Prelude.{ℕ, List, [], ◌∷◌, ◌++◌, map, Bool, true, not, Option}
+use Rattle.std.specs.Prelude.{ℕ, List, map, Bool, not, Option}
 use Rattle.depot_base.specs.declared.update.Update.{Update}
 use Rattle.depot_model.specs.Lists.{is_among}
 use Rattle.depot_model.specs.Texts.{id_of_update}
@@ -7,24 +7,14 @@ use Rattle.depot_model.specs.Order.{prevs, past}
 use Rattle.depot_model.specs.History.{is_prev_in}
 use Rattle.depot_model.specs.Journal.{has_id}
 use Rattle.depot_model.specs.Items.{place_of_prev, places_where}
-use Rattle.depot_graph.specs.declared.item.Item.{Item}
 
--- the updates of the items
-abbrev pub updates_in : List (List ℕ × Item) → List Update
-updates_in items = map (λ e. e.1.update) items
-
--- the rows of the items
-abbrev pub rows_in : List (List ℕ × Item) → List (List Bool)
-rows_in items = map (λ e. e.1.reached.items) items
+-- the updates under their ids
+abbrev pub updates_in : List (List ℕ × Update) → List Update
+updates_in items = map (λ e. e.1) items
 
 -- of each of some updates, whether it is in the past of u
 abbrev pub past_row : List Update → Update → List Bool
 past_row us u = map (λ t. has_id (past u us) (id_of_update t)) us
-
--- the row of each of some updates, which stand behind others: of each up to it, whether it is this one or in its past
-unfoldable pub rows_behind : List Update → List Update → List (List Bool)
-rows_behind front [] = []
-rows_behind front (u ∷ us) = (past_row front u ++ true ∷ []) ∷ rows_behind (front ++ u ∷ []) us
 
 -- the places of the children of each of the updates
 abbrev pub child_lists : List Update → List (List ℕ)

@@ -1,22 +1,12 @@
 -- The places of the latest writes of each key, mended update by update.
-use Rattle.std.specs.Prelude.{ℕ, List, [], ◌∷◌, ◌++◌, length, filter, Bool, false, not, slice_get, Vec, if◌then◌else◌}
-use Rattle.std.specs.List.{slice_index_or, list_any}
+use Rattle.std.specs.Prelude.{ℕ, List, [], ◌∷◌, ◌++◌, length, filter, Bool, false, not, slice_get, if◌then◌else◌}
+use Rattle.std.specs.List.{slice_index_or}
 use Rattle.std.specs.Option.{option_map_or}
 use Rattle.std.specs.Ordering.{is_lt}
 use Rattle.std.specs.Str.{bytes_eq}
-use Rattle.std.specs.declared.alloc.Global.{Global}
 use Rattle.depot_base.specs.declared.update.Update.{Update}
 use Rattle.depot_model.specs.Order.{listed}
 use Rattle.depot_graph.specs.Kept.{past_row}
-
--- the list that is kept for a key, empty where none is
-abbrev pub list_of : List ℕ → List (Vec ℕ Global × Vec ℕ Global) → List ℕ
-list_of key [] = []
-list_of key (e ∷ es) = if bytes_eq key e.0.items then e.1.items else list_of key es
-
--- whether a list is kept for a key, if only an empty one
-abbrev pub has_list : List ℕ → List (Vec ℕ Global × Vec ℕ Global) → Bool
-has_list key es = list_any (λ e. bytes_eq key e.0.items) es
 
 -- u stands before the update at a place, in the listed order
 abbrev pub stands_before : Update → List Update → ℕ → Bool

@@ -1,6 +1,9 @@
 pub mod Causal
 pub mod Change
-pub mod Fills
+pub mod Clocked
 pub mod Kept
 pub mod Kin
 pub mod Latest
+pub mod Listing
+pub mod OrderLaws
+pub mod UpdateRows

@@ -1,12 +1,16 @@
-//! What a graph keeps of an accepted update.
+//! The items of a graph by their numbers.
+ghost use Rattle.std.specs.Prelude.{◌≡◌, ◌<◌, length, Some, slice_get};
 
-use depot_base::Update;
+use depot_base::{Hash32, Update};
+use indexmap::IndexMap;
 
-/// An accepted update, and what precedes it.
-#[derive(Drop)]
-pub struct Item {
-    /// The update.
-    pub update: Update,
-    /// Of each item up to this one, whether it is this one or precedes it.
-    pub reached: Vec<bool>,
+/// An item: its id and its update. It takes no memory.
+pub fn item_at(items: &IndexMap<Hash32, Update>, number: u32) -> (&Hash32, &Update)
+    requires { number < length items.now.entries }
+    ensures { slice_get items.now.entries number ≡ Some (result.0.now, result.1.now) }
+{
+    match items.get_index(number as usize) {
+        Some(pair) => pair,
+        None => unreachable!(),
+    }
 }

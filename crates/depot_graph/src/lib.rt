@@ -6,12 +6,13 @@
 //! many virtual writers there are.
 //!
 //! What always holds: each parent of an item is an earlier item, and no two items have one id. Of each item a graph keeps
-//! the update, which of the earlier items precede it, its children and its spot in a chain; of each key it keeps the latest
-//! writes in the order in which a read lists them. All this is mended at each `add`, and an `add` that finds no memory
-//! changes nothing: what an update changes is found first (`Change`), and then written.
+//! the update, its children, its spot in the forest by prev (`Chains`) and a row over the chains of that forest, which tells
+//! what precedes it (`Clocks`); of each key it keeps the latest writes in the order in which a read lists them (`KeyIndex`).
+//! All this is mended at each `add`, and an `add` that finds no memory changes nothing: what an update changes is found first
+//! (`Change`), and then written; the clocks, which alone may still find no memory then, come first.
 //!
-//! The rows of what precedes what take a byte for each pair of items. So `before` takes one look, and an `add` takes time in
-//! proportion to the items times the update's parents. Nothing is ever taken out.
+//! `before` looks at no more than 32 items of one chain. An `add` takes time in proportion to the update's parents times the
+//! chains, and to the leaves; it makes a test of precedence for each latest write of its key. Nothing is ever taken out.
 //!
 //! It asks nothing of an update but that it fits behind the others: not its signature, its clock or its history hash.
 #![tactic(auto)]
@@ -19,9 +20,11 @@
 mod change;
 mod graph;
 mod item;
-mod latest;
+mod order;
 
 pub use graph::Graph;
 
+#[cfg(test)]
+mod long_chains;
 #[cfg(test)]
 mod tests;

@@ -8,6 +8,7 @@ use crate::Graph;
 use depot_base::entry::put_entries;
 use depot_base::{Bytes, Dep, Deps, Hash32, Key, NodeId, Steps, Update};
 use depot_model::Past;
+use depot_virtual::Spot;
 use sha2::{Digest, Sha256};
 use std::alloc::Global;
 use std::marker::Brand;
@@ -16,7 +17,7 @@ use std::sync::ledger::{Blank, Ledger};
 use std::test::Fail;
 
 /// An update of the key `k` with these fields.
-fn update(
+pub fn update(
     alloc: Global,
     writer: u16,
     clock: u64,
@@ -117,7 +118,7 @@ fn fits(graph: &Graph, update: &Update, id: &Hash32) -> bool
 }
 
 /// Adds an update that fits, and gives its id.
-fn add(alloc: Global, graph: &mut Graph, update: Update) -> Result<Hash32, Fail>
+pub fn add(alloc: Global, graph: &mut Graph, update: Update) -> Result<Hash32, Fail>
     ensures { OnOk result (length (⟦<Graph as Past>⟧.updates graph.new) ≡ length (⟦<Graph as Past>⟧.updates graph.old) + 1) }
 {
     let id = id_of(alloc, &update)?;
@@ -169,8 +170,15 @@ fn joined(alloc: Global) -> Result<Graph, Fail>
     Ok(graph)
 }
 
-/// Whether one item precedes another.
-fn precedes<L: Ledger>(graph: &Graph, a: u32, b: u32, steps: &mut Steps<L>) -> Result<bool, Fail> {
+/// Whether one item precedes another. It takes one step.
+pub fn precedes<L: Ledger>(
+    graph: &Graph,
+    a: u32,
+    b: u32,
+    steps: &mut Steps<L>,
+) -> Result<bool, Fail>
+    ensures { OnOk result (steps.new ≡ steps.old + 1) }
+{
     if a >= graph.count() || b >= graph.count() {
         return Err(Fail::from("no such item"));
     }
@@ -194,6 +202,44 @@ fn follows_its_past<L: Ledger>(
     ] {
         assert_eq!(rt; precedes(graph, a, b, steps)?, is_before, "{a} {b}");
     }
+    Ok(())
+}
+
+/// The row of an item of a graph that has three chains.
+fn row_of(graph: &Graph, item: u32) -> Result<[u32; 3], Fail> {
+    if graph.chain_count() != 3 || item >= graph.count() {
+        return Err(Fail::from("no such item"));
+    }
+    let mut row = [7u32; 3];
+    graph.row_into(item, row.as_mut_slice());
+    Ok(row)
+}
+
+/// Whether a row counts an item of a graph that has three chains, and all that precede it.
+fn is_within(graph: &Graph, item: u32, row: &[u32; 3]) -> Result<bool, Fail> {
+    if graph.chain_count() != 3 || item >= graph.count() {
+        return Err(Fail::from("no such item"));
+    }
+    Ok(graph.within(item, row.as_slice()))
+}
+
+fn has_rows(rt: &impl Abort, graph: &Graph) -> Result<(), Fail>
+    requires { length (⟦<Graph as Past>⟧.updates graph.now) ≡ 5 }
+{
+    for (item, chain, place, row) in [
+        (0, 0, 0, [1, 0, 0]),
+        (1, 0, 1, [2, 0, 0]),
+        (2, 1, 0, [1, 1, 0]),
+        (3, 2, 0, [2, 0, 1]),
+        (4, 2, 1, [2, 1, 2]),
+    ] {
+        assert!(rt; item < 5);
+        assert_eq!(rt; graph.spot(item), Spot { chain, place }, "{item}");
+        assert_eq!(rt; row_of(graph, item)?, row, "{item}");
+        assert!(rt; is_within(graph, item, &row)?, "{item}");
+    }
+    assert!(rt; is_within(graph, 3, &[2, 1, 1])?);
+    assert!(rt; !is_within(graph, 4, &[2, 0, 2])?);
     Ok(())
 }
 
@@ -233,6 +279,7 @@ fn forked_and_joined<L: Ledger>(rt: &impl Abort, alloc: Global, blank: Blank) ->
     reads(rt, alloc, &graph, [4].as_slice())?;
     has_three_chains(rt, &graph);
     finds_its_items(rt, &graph);
+    has_rows(rt, &graph)?;
     follows_its_past(rt, &graph, &mut steps)
 }
 

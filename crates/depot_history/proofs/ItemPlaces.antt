@@ -1,9 +1,9 @@
 -- Updates by their places in a list.
-use Rattle.std.proofs.Common.{◌≡◌, ℕ, zero, suc, ◌+◌, ◌<◌, Bool, true, false, cond, not, List, [], ◌∷◌, length, get_or, Some, None, refl, sym, ap, ◌∙◌, arith, inl, inr}
+use Rattle.std.proofs.Common.{◌≡◌, ℕ, zero, suc, ◌+◌, ◌<◌, nat_lt, subst, Bool, true, false, cond, not, List, [], ◌∷◌, length, get_or, Some, None, refl, sym, ap, ◌∙◌, arith, inl, inr}
 use Rattle.std.specs.Prelude.{slice_get, position}
 use Rattle.std.specs.List.{position_or_len}
 use Rattle.std.specs.Str.{bytes_eq}
-use Rattle.std.proofs.lemmas.Bool.{lt-ltb}
+use Rattle.std.proofs.lemmas.Bool.{lt-ltb, ltb-true, ltb-false}
 use Rattle.std.proofs.lemmas.Option.{slice_get-get_or}
 use Rattle.std.proofs.lemmas.List.Quantifiers.{position-Some}
 use Rattle.std.proofs.lemmas.Slice.Eq.{bytes_eq-Decides}
@@ -64,3 +64,24 @@ own_place us n t c at =
     let place = first_place (λ u. bytes_eq (id_of_update u) (id_of_update t)) us t (in_at us n t at) ((bytes_eq-Decides (id_of_update t) (id_of_update t)).1 refl) in
     let f = has_place (id_of_update t) us (position_or_len (λ u. bytes_eq (id_of_update u) (id_of_update t)) us) place in
     place ∙ ap (λ (k : ℕ). Some k) (one_place [] us (position_or_len (λ u. bytes_eq (id_of_update u) (id_of_update t)) us) n f.0 t c f.1.0 at f.1.1)
+
+-- one of the list stands somewhere
+pub its_place : (us : List Update) (t : Update) → IsIn t us → (n : ℕ) × (slice_get us n ≡ Some t)
+its_place [] t never = absurd never
+its_place (x ∷ xs) t (inl here) = (0, ap (λ (u : Update). Some u) here)
+its_place (x ∷ xs) t (inr there) = let p = its_place xs t there in (suc p.0, p.1)
+
+-- ---- lists by index
+
+-- one of a list is what some index gives
+pub index_of : {X : Type 0} (x d : X) (xs : List X) → IsIn x xs → (j : ℕ) × ((j < length xs) × (get_or xs j d ≡ x))
+index_of x d [] never = absurd never
+index_of x d (y ∷ ys) (inl here) = (0, (omega arith, here))
+index_of x d (y ∷ ys) (inr there) = let p = index_of x d ys there in (suc p.0, (omega (arith, p.1.0), p.1.1))
+
+-- what holds below an index and at it holds below the next
+pub below_more : (P : ℕ → Type 0) (i : ℕ) → ((j : ℕ) → j < i → P j) → P i → (j : ℕ) → j < i + 1 → P j
+below_more P i below here j lt = by_test (nat_lt j i) refl where
+  by_test : (b : Bool) → nat_lt j i ≡ b → P j
+  by_test true is = below j (ltb-true j i is)
+  by_test false is = let same : i ≡ j = omega (arith, lt, ltb-false j i is) in subst P same here

@@ -1,98 +1,36 @@
--- Leaves, and the entries that the next update names.
-use Rattle.std.proofs.Common.{◌≡◌, ℕ, suc, ◌<◌, Bool, true, false, cond, not, ◌&&◌, ◌||◌, eqb, List, [], ◌∷◌, ◌++◌, length, map, Option, Some, None, unwrap_or, refl, sym, ap, subst, ◌∙◌, inl, inr}
+-- What is hashed, and the entries that the next update names.
+use Rattle.std.proofs.Common.{◌≡◌, ℕ, ◌+◌, ◌<◌, add-one, take, get_or, ◌++◌, Bool, true, false, cond, not, ◌&&◌, eqb, List, [], ◌∷◌, length, map, Option, Some, None, unwrap_or, refl, sym, ap, subst, ◌∙◌, inl, inr}
 use Rattle.std.specs.Prelude.{slice_get, IfOk, Result, Ok, Err}
-use Rattle.std.specs.List.{filter, flat_map, list_any, AllByRecursion}
+use Rattle.std.specs.List.{filter, flat_map, AllByRecursion}
 use Rattle.std.specs.Option.{option_to_list, option_map_or}
 use Rattle.std.specs.Str.{bytes_eq}
-use Rattle.std.proofs.lemmas.List.{append-nil}
-use Rattle.std.proofs.lemmas.List.Folds.{list_any-append}
+use Rattle.std.proofs.lemmas.Bool.{not-true, false_from_ne_true, eqb-true, eq-eqb, both_ways, and_from, and_parts}
+use Rattle.std.proofs.Math.Seq.{take-suc}
 use Rattle.std.proofs.lemmas.Option.{slice_get_within}
-use Rattle.std.proofs.lemmas.Slice.Eq.{bytes_eq-Decides}
 use Rattle.sha2.specs.Sha256.{sha256}
-use Rattle.depot_base.specs.declared.update.Update.{Update}
-use Rattle.depot_model.specs.Lists.{IsIn, is_among}
-use Rattle.depot_model.specs.Texts.{id_of_update}
-use Rattle.depot_model.specs.Order.{prevs, parents, past, is_named, IsCausal}
-use Rattle.depot_model.specs.History.{is_prev_in, leaves_of, by_id, leaf_text, history_text, history_hash}
-use Rattle.depot_model.specs.Items.{place_of_id, place_of_prev, updates_at}
-use Rattle.depot_model.specs.Journal.{has_id, named}
-use Rattle.depot_model.specs.Own.{precedes_named, next_entries}
 use Rattle.depot_base.specs.Zeros.{zeros}
-use Rattle.depot_model.specs.Journal.{prev_of}
-use Rattle.depot_model.proofs.Members.{any_from, any_to, same_test, chosen_cases, chosen_front, chosen_behind}
-use Rattle.depot_model.proofs.Orders.{one_of_id, causal_behind}
-use Rattle.depot_history.specs.Closure.{reached}
-use Rattle.depot_history.specs.Leaves.{row_of, leaf_in}
-use Rattle.depot_history.specs.Marks.{marked, chosen, chosen_but, with_parents, parents_at}
-use Rattle.depot_history.specs.declared.leaf.Leaf.{Leaf}
+use Rattle.depot_base.specs.declared.update.Update.{Update}
+use Rattle.depot_model.specs.Lists.{IsIn}
+use Rattle.depot_model.specs.Texts.{id_of_update}
+use Rattle.depot_model.specs.Order.{past, IsCausal, Precedes}
+use Rattle.depot_model.specs.History.{leaves_of, by_id, leaf_text, history_text, history_hash}
+use Rattle.depot_model.specs.Items.{at, place_of_id, place_of_prev, PrecedesAt, AreLeaves, updates_at}
+use Rattle.depot_model.specs.Journal.{has_id, named, prev_of}
+use Rattle.depot_model.specs.Own.{precedes_named, next_entries}
 use Rattle.depot_model.proofs.Elements.{in_at}
-use Rattle.depot_history.proofs.ItemPlaces.{has_place, has_no_place, own_place}
-use Rattle.depot_history.proofs.Markings.{among_reached, walk_reaches, past_is_reached}
-use Rattle.depot_history.proofs.Sorting.{in_by_id, in_chosen_but}
-
--- ---- choosing
-
-map_same : (f g : Update → Bool) (us : List Update) → ((u : Update) → IsIn u us → f u ≡ g u) → map f us ≡ map g us
-map_same f g [] each = refl
-map_same f g (t ∷ ts) each = ap (λ (b : Bool). b ∷ map f ts) (each t (inl refl)) ∙ ap (λ (bs : List Bool). g t ∷ bs) (map_same f g ts (λ u on. each u (inr on)))
-
-filter_same : (f g : Update → Bool) (us : List Update) → ((u : Update) → IsIn u us → f u ≡ g u) → filter f us ≡ filter g us
-filter_same f g [] each = refl
-filter_same f g (t ∷ ts) each = ap (λ (b : Bool). cond b (t ∷ filter f ts) (filter f ts)) (each t (inl refl)) ∙ ap (λ (rest : List Update). cond (g t) (t ∷ rest) rest) (filter_same f g ts (λ u on. each u (inr on)))
-
-filter_step : (g : Update → Bool) (t : Update) (b : Bool) (rest all : List Update) → filter g rest ≡ all → filter g (cond b (t ∷ rest) rest) ≡ cond (b && g t) (t ∷ all) all
-filter_step g t true rest all later = ap (λ (xs : List Update). cond (g t) (t ∷ xs) xs) later
-filter_step g t false rest all later = later
-
--- two tests one after the other
-filter_both : (f g : Update → Bool) (us : List Update) → filter g (filter f us) ≡ filter (λ t. f t && g t) us
-filter_both f g [] = refl
-filter_both f g (t ∷ ts) = filter_step g t (f t) (filter f ts) (filter (λ u. f u && g u) ts) (filter_both f g ts)
-
--- what is chosen by marks that a test made
-pub chosen_by : (f : Update → Bool) (us : List Update) → chosen (map f us) us ≡ filter f us
-chosen_by f [] = refl
-chosen_by f (t ∷ ts) = ap (λ (rest : List Update). cond (f t) (t ∷ rest) rest) (chosen_by f ts)
-
--- what is chosen and passes not the test
-pub chosen_without : (ms : List Bool) (test : Update → Bool) (us : List Update) → chosen_but ms (map test us) us ≡ filter (λ t. not (test t)) (chosen ms us)
-chosen_without [] test us = refl
-chosen_without (m ∷ ms) test [] = refl
-chosen_without (m ∷ ms) test (t ∷ ts) = sym (filter_step (λ u. not (test u)) t m (chosen ms ts) (chosen_but ms (map test ts) ts) (sym (chosen_without ms test ts)))
-
--- all are chosen where each is marked
-pub chosen_all : (us : List Update) → chosen (map (λ t. true) us) us ≡ us
-chosen_all [] = refl
-chosen_all (t ∷ ts) = ap (λ (rest : List Update). t ∷ rest) (chosen_all ts)
-
-in_filter : (f : Update → Bool) (us : List Update) (u : Update) → IsIn u (filter f us) → IsIn u us × (f u ≡ true)
-in_filter f [] u never = absurd never
-in_filter f (t ∷ ts) u on = elim (chosen_cases (f t) u t (filter f ts) on) [
-  | inl here ↦ (inl here.1, subst (λ (x : Update). f x ≡ true) here.1 here.0)
-  | inr there ↦ let later = in_filter f ts u there in (inr later.0, later.1)
-]
-
-to_filter : (f : Update → Bool) (us : List Update) (u : Update) → IsIn u us → f u ≡ true → IsIn u (filter f us)
-to_filter f [] u never e = never
-to_filter f (t ∷ ts) u (inl here) e = chosen_front (f t) u t (filter f ts) (ap f here ∙ e) here
-to_filter f (t ∷ ts) u (inr there) e = chosen_behind (f t) u t (filter f ts) (to_filter f ts u there e)
-
--- ---- leaves
-
--- a test of some of the parts
-any_part : (test : List ℕ → Bool) (part : Update → List (List ℕ)) (us : List Update) → list_any test (flat_map part us) ≡ list_any (λ x. list_any test (part x)) us
-any_part test part [] = refl
-any_part test part (x ∷ xs) = list_any-append test (part x) (flat_map part xs) ∙ ap (λ (b : Bool). list_any test (part x) || b) (any_part test part xs)
-
--- the leaves of what is marked are those of it that none of it has as its prev
-pub leaves_chosen : (ms : List Bool) (us : List Update) → chosen_but ms (marked (flat_map prevs (chosen ms us) ++ []) us) us ≡ leaves_of (chosen ms us)
-unfolding leaves_of
-leaves_chosen ms us =
-    let s = chosen ms us in
-    let tests : marked (flat_map prevs (chosen ms us) ++ []) us ≡ map (λ t. is_prev_in (chosen ms us) (id_of_update t)) us =
-    map_same (λ t. is_among (id_of_update t) (flat_map prevs (chosen ms us) ++ [])) (λ t. is_prev_in (chosen ms us) (id_of_update t)) us
-    (λ u on. ap (λ (ids : List (List ℕ)). is_among (id_of_update u) ids) (append-nil (flat_map prevs (chosen ms us))) ∙ any_part (bytes_eq (id_of_update u)) prevs (chosen ms us)) in
-    ap (λ (ns : List Bool). chosen_but ms ns us) tests ∙ chosen_without ms (λ t. is_prev_in (chosen ms us) (id_of_update t)) us
+use Rattle.depot_model.proofs.Members.{in_left, in_right, in_pushed, all_push, from_filter, in_filter}
+use Rattle.depot_model.proofs.NamedIds.{named_is, named_some, has_id_from, has_id_to}
+use Rattle.depot_model.proofs.Orders.{one_of_id}
+use Rattle.depot_model.proofs.Pasts.{past_in, past_of_listed}
+use Rattle.depot_model.proofs.RisingLists.{HaveSame}
+use Rattle.depot_model.proofs.RisingUpdates.{AreApart, apart_from_causal, apart_filter, same_by_id}
+use Rattle.depot_history.specs.Closure.{closure_of}
+use Rattle.depot_history.specs.Leaves.{row_of, leaf_in, standing, IsUnseen}
+use Rattle.depot_history.specs.declared.leaf.Leaf.{Leaf}
+use Rattle.depot_history.proofs.ItemPlaces.{has_place, own_place, its_place}
+use Rattle.depot_history.proofs.Lines.{leaves_stand}
+use Rattle.depot_history.proofs.Reaching.{reached_apart}
+use Rattle.depot_history.proofs.Sorting.{of_place, at_its_place, standing_is, is_standing, standing_apart}
 
 -- ---- the history text
 
@@ -100,111 +38,147 @@ rows_of : (us ts : List Update) → flat_map row_of (map (leaf_in us) ts) ≡ fl
 rows_of us [] = refl
 rows_of us (t ∷ ts) = ap (λ (text : List ℕ). leaf_text t ++ text) (rows_of us ts)
 
--- the rows of the sorted leaves are the history text
-pub hash_is : (us s : List Update) (keys : List Leaf) (hash : List ℕ) → hash ≡ sha256 (flat_map row_of keys) → keys ≡ map (leaf_in us) (by_id (leaves_of s)) → hash ≡ history_hash s
+-- the rows of the leaves in their order are the history text
+hash_is : (us s ts : List Update) (keys : List Leaf) (hash : List ℕ) → hash ≡ sha256 (flat_map row_of keys) → keys ≡ map (leaf_in us) (by_id ts) → by_id ts ≡ by_id (leaves_of s) → hash ≡ history_hash s
 unfolding history_hash history_text
-hash_is us s keys hash is are = is ∙ ap (λ (ls : List Leaf). sha256 (flat_map row_of ls)) are ∙ ap sha256 (rows_of us (by_id (leaves_of s)))
+hash_is us s ts keys hash is are same = is ∙ ap (λ (ls : List Leaf). sha256 (flat_map row_of ls)) are ∙ ap sha256 (rows_of us (by_id ts)) ∙ ap (λ (xs : List Update). sha256 (flat_map leaf_text xs)) same
+
+leaves_apart : (s : List Update) → AreApart s → AreApart (leaves_of s)
+unfolding leaves_of
+leaves_apart s apart = apart_filter _ s apart
+
+-- that of all
+pub hash_of_all : (us : List Update) (leaves : List ℕ) (keys : List Leaf) (hash : List ℕ) → IsCausal [] us → AreLeaves us leaves → hash ≡ sha256 (flat_map row_of keys) → keys ≡ map (leaf_in us) (by_id (standing us leaves)) → hash ≡ history_hash us
+hash_of_all us leaves keys hash c are is sorted =
+    hash_is us us (standing us leaves) keys hash is sorted (same_by_id (standing us leaves) (leaves_of us) (standing_apart us leaves c) (leaves_apart us (apart_from_causal [] us c)) (leaves_stand us leaves c are))
+
+-- that of a past
+pub hash_of_past : (us : List Update) (items found : List ℕ) (keys : List Leaf) (hash : List ℕ) → IsCausal [] us → HaveSame (standing us found) (leaves_of (closure_of items us)) → hash ≡ sha256 (flat_map row_of keys) → keys ≡ map (leaf_in us) (by_id (standing us found)) → hash ≡ history_hash (closure_of items us)
+unfolding closure_of
+hash_of_past us items found keys hash c same is sorted =
+    hash_is us (closure_of items us) (standing us found) keys hash is sorted (same_by_id (standing us found) (leaves_of (closure_of items us)) (standing_apart us found c) (leaves_apart (closure_of items us) (reached_apart _ us (apart_from_causal [] us c))) same)
 
 -- ---- what precedes the last own update
 
-reached_by_none : (us : List Update) → reached [] us ≡ []
-unfolding reached
-reached_by_none [] = refl
-reached_by_none (t ∷ ts) = ap (λ (rest : List Update). cond (is_named t rest) (t ∷ rest) rest) (reached_by_none ts)
+-- the update that an id names is preceded where the test says so
+named_before : (us : List Update) (h : List ℕ) (t : Update) (n : ℕ) → IsCausal [] us → slice_get us n ≡ Some t → option_map_or (λ p. has_id (past p us) (id_of_update t)) (named us h) false ≡ true → (p : ℕ) × ((place_of_id h us ≡ Some p) × PrecedesAt us n p)
+named_before us h t n c at e = by_name (named us h) refl e where
+  by_name : (o : Option Update) → named us h ≡ o → option_map_or (λ p. has_id (past p us) (id_of_update t)) o false ≡ true → (p : ℕ) × ((place_of_id h us ≡ Some p) × PrecedesAt us n p)
+  by_name None is never = absurd cc
+  by_name (Some u) is told =
+      let found = named_is us h u is in
+      let p = its_place us u found.0 in
+      let w = has_id_to (past u us) (id_of_update t) told in
+      let same : w.0 ≡ t = one_of_id [] us w.0 t c (past_in u us w.0 w.1.0) (in_at us n t at) w.1.1 in
+      let before = (past_of_listed us u t c found.0).0 (subst (λ (x : Update). IsIn x (past u us)) same w.1.0) in
+      (p.0, (ap (λ (k : List ℕ). place_of_id k us) (sym found.1) ∙ own_place us p.0 u c p.1, (t, (at, (u, (p.1, before))))))
 
-named_is : (ids : List (List ℕ)) (us : List Update) (t : Update) (h : List ℕ) → IsCausal ids us → IsIn t us → id_of_update t ≡ h → named us h ≡ Some t
-unfolding named
-named_is ids [] t h c never same = absurd never
-named_is ids (x ∷ xs) t h c on same = by_test (bytes_eq (id_of_update x) h) refl (λ there. named_is (id_of_update x ∷ ids) xs t h (causal_behind ids x xs c) there same) where
-  by_test : (b : Bool) → bytes_eq (id_of_update x) h ≡ b → (IsIn t xs → named xs h ≡ Some t) → cond b (Some x) (named xs h) ≡ Some t
-  by_test true is later = ap (λ (u : Update). Some u) (one_of_id ids (x ∷ xs) x t c (inl refl) on ((bytes_eq-Decides (id_of_update x) h).0 is ∙ sym same))
-  by_test false is later = elim on [
-    | inl here ↦ let passes : bytes_eq (id_of_update x) h ≡ true = (bytes_eq-Decides (id_of_update x) h).1 (ap id_of_update here ∙ same) in absurd cc
-    | inr there ↦ later there
-  ]
+before_named : (us : List Update) (h : List ℕ) (t : Update) (n p : ℕ) → IsCausal [] us → slice_get us n ≡ Some t → place_of_id h us ≡ Some p → PrecedesAt us n p → option_map_or (λ p. has_id (past p us) (id_of_update t)) (named us h) false ≡ true
+before_named us h t n p c at place before =
+    let u = has_place h us p place in
+    let u_in = in_at us p u.0 u.1.0 in
+    let first : before.0 ≡ t = let both : Some before.0 ≡ Some t = sym before.1.0 ∙ at in cc in
+    let second : before.1.1.0 ≡ u.0 = let both : Some before.1.1.0 ≡ Some u.0 = sym before.1.1.1.0 ∙ u.1.0 in cc in
+    let path = subst (λ (x : Update). Precedes us x u.0) first (subst (Precedes us before.0) second before.1.1.1.1) in
+    let on = (past_of_listed us u.0 t c u_in).1 path in
+    ap (λ (o : Option Update). option_map_or (λ p. has_id (past p us) (id_of_update t)) o false) (named_some [] us h u.0 c u_in u.1.1) ∙ has_id_from (past u.0 us) (id_of_update t) t on refl
 
-named_none : (us : List Update) (h : List ℕ) → ((u : Update) → IsIn u us → id_of_update u ≡ h → ⊥) → named us h ≡ None
-unfolding named
-named_none [] h apart = refl
-named_none (x ∷ xs) h apart = by_test (bytes_eq (id_of_update x) h) refl (named_none xs h (λ u on. apart u (inr on))) where
-  by_test : (b : Bool) → bytes_eq (id_of_update x) h ≡ b → named xs h ≡ None → cond b (Some x) (named xs h) ≡ None
-  by_test true is later = absurd (apart x (inl refl) ((bytes_eq-Decides (id_of_update x) h).0 is))
-  by_test false is later = later
-
--- an id is one of those of what passes a test of ids, where its update passes
-id_passes : (test : List ℕ → Bool) (us : List Update) (t : Update) → IsIn t us → list_any (λ x. bytes_eq (id_of_update x) (id_of_update t)) (filter (λ x. test (id_of_update x)) us) ≡ test (id_of_update t)
-id_passes test us t on = same_test _ _
-    (λ e. let w = any_to (λ x. bytes_eq (id_of_update x) (id_of_update t)) (filter (λ x. test (id_of_update x)) us) e in
-    let same = (bytes_eq-Decides (id_of_update w.0) (id_of_update t)).0 w.1.1 in
-    sym (ap test same) ∙ (in_filter (λ x. test (id_of_update x)) us w.0 w.1.0).1)
-    (λ e. any_from (λ x. bytes_eq (id_of_update x) (id_of_update t)) t (filter (λ x. test (id_of_update x)) us) (to_filter (λ x. test (id_of_update x)) us t on e) ((bytes_eq-Decides (id_of_update t) (id_of_update t)).1 refl))
-
--- nothing is in the past of no update
-before_none : (us : List Update) (t : Update) → is_among (id_of_update t) (with_parents [] us) ≡ false
-before_none us t = among_reached [] us (id_of_update t) ∙ ap (λ (ts : List Update). list_any (λ u. is_among (id_of_update t) (parents u)) ts) (reached_by_none us)
-
--- t is in the past of the update with this id, or there is none with it
-before_is : (us : List Update) (h : List ℕ) (t : Update) → IsCausal [] us → IsIn t us → (prev : Option ℕ) → place_of_id h us ≡ prev → is_among (id_of_update t) (with_parents (parents_at us prev) us) ≡ option_map_or (λ p. has_id (past p us) (id_of_update t)) (named us h) false
-unfolding has_id
-before_is us h t c on None is =
-    before_none us t ∙ sym (ap (λ (o : Option Update). option_map_or (λ p. has_id (past p us) (id_of_update t)) o false) (named_none us h (λ u there same. has_no_place h us u is there same)))
-before_is us h t c on (Some n) is =
-    let p = has_place h us n is in
-    let ids : flat_map parents (updates_at us (n ∷ [])) ≡ parents p.0 = ap (λ (o : Option Update). flat_map parents (option_to_list o ++ [])) p.1.0 ∙ append-nil (parents p.0) in
-    let found : named us h ≡ Some p.0 = named_is [] us p.0 h c (in_at us n p.0 p.1.0) p.1.1 in
-    let whole : past p.0 us ≡ filter (λ x. is_among (id_of_update x) (with_parents (parents p.0) us)) us =
-    past_is_reached p.0 us ∙ sym (walk_reaches [] (parents p.0) us c) ∙ chosen_by (λ x. is_among (id_of_update x) (with_parents (parents p.0) us)) us in
-    ap (λ (hs : List (List ℕ)). is_among (id_of_update t) (with_parents hs us)) ids
-    ∙ sym (id_passes (λ k. is_among k (with_parents (parents p.0) us)) us t on)
-    ∙ sym (ap (λ (ts : List Update). list_any (λ x. bytes_eq (id_of_update x) (id_of_update t)) ts) whole)
-    ∙ sym (ap (λ (o : Option Update). option_map_or (λ q. has_id (past q us) (id_of_update t)) o false) found)
-
--- the same of what a prev names, where 32 zero bytes name nothing
-prev_is : (us : List Update) (h : List ℕ) (t : Update) → IsCausal [] us → IsIn t us → (prev : Option ℕ) → place_of_prev h us ≡ prev → is_among (id_of_update t) (with_parents (parents_at us prev) us) ≡ precedes_named us h t
+-- where a prev names the update at a place
+prev_before : (us : List Update) (h : List ℕ) (t : Update) (n : ℕ) → IsCausal [] us → slice_get us n ≡ Some t → precedes_named us h t ≡ true → (p : ℕ) × ((place_of_prev h us ≡ Some p) × PrecedesAt us n p)
 unfolding precedes_named prev_of
-prev_is us h t c on prev is = by_test (bytes_eq h zeros) is where
-  by_test : (b : Bool) → cond b None (place_of_id h us) ≡ prev → is_among (id_of_update t) (with_parents (parents_at us prev) us) ≡ option_map_or (λ p. has_id (past p us) (id_of_update t)) (cond b None (named us h)) false
-  by_test true none = subst (λ (o : Option ℕ). is_among (id_of_update t) (with_parents (parents_at us o) us) ≡ false) none (before_none us t)
-  by_test false place = before_is us h t c on prev place
+prev_before us h t n c at e = by_test (bytes_eq h zeros) e where
+  by_test : (b : Bool) → option_map_or (λ p. has_id (past p us) (id_of_update t)) (cond b None (named us h)) false ≡ true → (p : ℕ) × ((cond b None (place_of_id h us) ≡ Some p) × PrecedesAt us n p)
+  by_test true never = absurd cc
+  by_test false told = named_before us h t n c at told
 
-split : (f p b : Bool) → (f && not (p || b)) ≡ (not p && (f && not b))
-split true true b = refl
-split true false b = refl
-split false true b = refl
-split false false b = refl
+before_prev : (us : List Update) (h : List ℕ) (t : Update) (n p : ℕ) → IsCausal [] us → slice_get us n ≡ Some t → place_of_prev h us ≡ Some p → PrecedesAt us n p → precedes_named us h t ≡ true
+unfolding precedes_named prev_of
+before_prev us h t n p c at place before = by_test (bytes_eq h zeros) place where
+  by_test : (b : Bool) → cond b None (place_of_id h us) ≡ Some p → option_map_or (λ p. has_id (past p us) (id_of_update t)) (cond b None (named us h)) false ≡ true
+  by_test true never = absurd cc
+  by_test false told = before_named us h t n p c at told before
 
--- the entries of the next own update
-pub entries_are : (us : List Update) (me : ℕ) (h : List ℕ) (prev : Option ℕ) → IsCausal [] us → place_of_prev h us ≡ prev
-    → by_id (chosen_but (map (λ t. not (eqb t.writer me)) us) (marked (flat_map prevs (chosen (map (λ t. true) us) us) ++ with_parents (parents_at us prev) us) us) us) ≡ next_entries me us h
-unfolding next_entries leaves_of
-entries_are us me h prev c is =
-    let f : Update → Bool = λ t. not (eqb t.writer me) in
-    let g : Update → Bool = λ t. is_among (id_of_update t) (flat_map prevs (chosen (map (λ t. true) us) us) ++ with_parents (parents_at us prev) us) in
-    let p : Update → Bool = λ t. is_prev_in us (id_of_update t) in
-    let b : Update → Bool = λ t. precedes_named us h t in
-    let given : (u : Update) → IsIn u us → (f u && not (g u)) ≡ (not (p u) && (f u && not (b u))) = λ u on.
-    ap (λ (x : Bool). f u && not x) (
-    list_any-append (bytes_eq (id_of_update u)) (flat_map prevs (chosen (map (λ t. true) us) us)) (with_parents (parents_at us prev) us)
-    ∙ ap (λ (x : Bool). x || is_among (id_of_update u) (with_parents (parents_at us prev) us)) (ap (λ (ts : List Update). is_among (id_of_update u) (flat_map prevs ts)) (chosen_all us) ∙ any_part (bytes_eq (id_of_update u)) prevs us)
-    ∙ ap (λ (x : Bool). p u || x) (prev_is us h u c on prev is))
-    ∙ split (f u) (p u) (b u) in
-    ap by_id (
-    chosen_without (map f us) g us
-    ∙ ap (filter (λ t. not (g t))) (chosen_by f us)
-    ∙ filter_both f (λ t. not (g t)) us
-    ∙ filter_same (λ t. f t && not (g t)) (λ t. not (p t) && (f t && not (b t))) us given
-    ∙ sym (filter_both (λ t. not (p t)) (λ t. f t && not (b t)) us))
+-- ---- the entries of the next own update
+
+abbrev goes_in : List Update → ℕ → List ℕ → Update → Bool
+goes_in us me h t = not (eqb t.writer me) && not (precedes_named us h t)
+
+unseen_goes_in : (us : List Update) (me : ℕ) (h : List ℕ) (last : Option ℕ) (n : ℕ) (t : Update) → IsCausal [] us → place_of_prev h us ≡ last → slice_get us n ≡ Some t → IsUnseen us me last n → goes_in us me h t ≡ true
+unseen_goes_in us me h last n t c is at unseen =
+    let other : t.writer ≡ me → ⊥ = λ same. let there : unseen.other.0 ≡ t = let both : Some unseen.other.0 ≡ Some t = sym unseen.other.1.0 ∙ at in cc in unseen.other.1.1 (ap (λ (x : Update). x.writer) there ∙ same) in
+    and_from (not (eqb t.writer me)) (not (precedes_named us h t))
+    (ap not (false_from_ne_true _ (λ e. other (eqb-true _ _ e))))
+    (ap not (false_from_ne_true _ (λ e. let p = prev_before us h t n c at e in unseen.apart p.0 (sym is ∙ p.1.0) p.1.1)))
+
+goes_in_unseen : (us : List Update) (me : ℕ) (h : List ℕ) (last : Option ℕ) (n : ℕ) (t : Update) → IsCausal [] us → place_of_prev h us ≡ last → slice_get us n ≡ Some t → goes_in us me h t ≡ true → IsUnseen us me last n
+goes_in_unseen us me h last n t c is at e =
+    let parts = and_parts (not (eqb t.writer me)) (not (precedes_named us h t)) e in
+    record {
+      other = (t, (at, λ same. both_ways (eqb t.writer me) (not-true _ parts.0) (eq-eqb _ _ same)));
+      apart = λ p named before. both_ways (precedes_named us h t) (not-true _ parts.1) (before_prev us h t n p c at (is ∙ named) before);
+    }
+
+pub entries_are : (us : List Update) (me : ℕ) (h : List ℕ) (last : Option ℕ) (leaves unseen : List ℕ) → IsCausal [] us → AreLeaves us leaves → place_of_prev h us ≡ last
+    → ((n : ℕ) → (IsIn n unseen → IsIn n leaves × IsUnseen us me last n) × (IsIn n leaves × IsUnseen us me last n → IsIn n unseen)) → by_id (standing us unseen) ≡ next_entries me us h
+unfolding next_entries
+entries_are us me h last leaves unseen c are is each =
+    let all = leaves_stand us leaves c are in
+    same_by_id (standing us unseen) (filter (goes_in us me h) (leaves_of us)) (standing_apart us unseen c) (apart_filter (goes_in us me h) (leaves_of us) (leaves_apart us (apart_from_causal [] us c))) (record {
+      to = λ t on.
+          let p = of_place us unseen t (standing_is us unseen t c on) in
+          let known = (each p.0).0 p.1.0 in
+          in_filter (goes_in us me h) t (leaves_of us) (all.to t (is_standing us leaves t (at_its_place us leaves p.0 t known.0 p.1.1))) (unseen_goes_in us me h last p.0 t c is p.1.1 known.1);
+      back = λ t on.
+          let f = from_filter (goes_in us me h) t (leaves_of us) on in
+          let p = of_place us leaves t (standing_is us leaves t c (all.back t f.0)) in
+          is_standing us unseen t (at_its_place us unseen p.0 t ((each p.0).1 (p.1.0, goes_in_unseen us me h last p.0 t c is p.1.1 f.1)) p.1.1);
+    })
+
+-- ---- one item after the other
+
+-- what is unseen of the first so many items
+pub record AreUnseen (us : List Update) (items : List ℕ) (me : ℕ) (last : Option ℕ) (unseen : List ℕ) (i : ℕ) : Type 0 where
+  pub inside : AllByRecursion (λ n. n < length us) unseen
+  pub only : (n : ℕ) → IsIn n unseen → IsIn n (take i items) × IsUnseen us me last n
+  pub all : (n : ℕ) → IsIn n (take i items) → IsUnseen us me last n → IsIn n unseen
+
+one_longer : (items : List ℕ) (i : ℕ) → i < length items → take (i + 1) items ≡ take i items ++ get_or items i 0 ∷ []
+one_longer items i lt = rw add-one (take-suc items i 0 lt)
+
+pub unseen_one : (us : List Update) (items : List ℕ) (me : ℕ) (last : Option ℕ) (unseen : List ℕ) (i : ℕ) → i < length items → AreUnseen us items me last unseen i → get_or items i 0 < length us → IsUnseen us me last (get_or items i 0) → AreUnseen us items me last (unseen ++ get_or items i 0 ∷ []) (i + 1)
+unseen_one us items me last unseen i lt u inside here =
+    let m = get_or items i 0 in
+    let longer = one_longer items i lt in
+    record {
+      inside = all_push (λ n. n < length us) unseen m u.inside inside;
+      only = λ n on. elim (in_pushed n unseen m on) [
+        | inl old ↦ let known = u.only n old in (subst (λ (ns : List ℕ). IsIn n ns) (sym longer) (in_left n (take i items) (m ∷ []) known.0), known.1)
+        | inr new ↦ (subst (λ (ns : List ℕ). IsIn n ns) (sym longer) (in_right n (take i items) (m ∷ []) (inl new)), subst (IsUnseen us me last) new here)
+      ];
+      all = λ n on unseen_n. elim (in_pushed n (take i items) m (subst (λ (ns : List ℕ). IsIn n ns) longer on)) [
+        | inl old ↦ in_left n unseen (m ∷ []) (u.all n old unseen_n)
+        | inr new ↦ in_right n unseen (m ∷ []) (inl new)
+      ];
+    }
+
+pub unseen_same : (us : List Update) (items : List ℕ) (me : ℕ) (last : Option ℕ) (unseen : List ℕ) (i : ℕ) → i < length items → AreUnseen us items me last unseen i → (IsUnseen us me last (get_or items i 0) → ⊥) → AreUnseen us items me last unseen (i + 1)
+unseen_same us items me last unseen i lt u not_here =
+    let m = get_or items i 0 in
+    let longer = one_longer items i lt in
+    record {
+      inside = u.inside;
+      only = λ n on. let known = u.only n on in (subst (λ (ns : List ℕ). IsIn n ns) (sym longer) (in_left n (take i items) (m ∷ []) known.0), known.1);
+      all = λ n on unseen_n. elim (in_pushed n (take i items) m (subst (λ (ns : List ℕ). IsIn n ns) longer on)) [
+        | inl old ↦ u.all n old unseen_n
+        | inr new ↦ absurd (not_here (subst (IsUnseen us me last) (sym new) unseen_n))
+      ];
+    }
 
 -- ---- places
 
-somewhere : (us : List Update) (t : Update) → IsIn t us → (n : ℕ) × (slice_get us n ≡ Some t)
-somewhere [] t never = absurd never
-somewhere (x ∷ xs) t (inl here) = (0, ap (λ (u : Update). Some u) here)
-somewhere (x ∷ xs) t (inr there) = let p = somewhere xs t there in (suc p.0, p.1)
-
 item_of : (us : List Update) (t : Update) → IsCausal [] us → IsIn t us → slice_get us (leaf_in us t).item ≡ Some t
 item_of us t c on =
-    let p = somewhere us t on in
+    let p = its_place us t on in
     let item : (leaf_in us t).item ≡ p.0 = ap (λ (o : Option ℕ). unwrap_or o 0) (own_place us p.0 t c p.1) in
     ap (slice_get us) item ∙ p.1
 
@@ -218,10 +192,6 @@ updates_back us (t ∷ ts) c within =
 pub items_within : (us ts : List Update) → IsCausal [] us → ((u : Update) → IsIn u ts → IsIn u us) → AllByRecursion (λ item. item < length us) (map (λ l. l.item) (map (leaf_in us) ts))
 items_within us [] c within = tt
 items_within us (t ∷ ts) c within = (slice_get_within us (leaf_in us t).item t (item_of us t c (within t (inl refl))), items_within us ts c (λ u on. within u (inr on)))
-
--- what is sorted is of the list
-pub sorted_within : (us : List Update) (ms ns : List Bool) (u : Update) → IsIn u (by_id (chosen_but ms ns us)) → IsIn u us
-sorted_within us ms ns u on = in_chosen_but ms ns us u (in_by_id (chosen_but ms ns us) u on)
 
 -- what holds of a value that is given
 pub if_ok : {T E : Type 0} (r : Result T E) (P Q : T → Type 0) → IfOk r P → ((v : T) → P v → Q v) → IfOk r Q

@@ -1,16 +1,17 @@
 -- What ids reach in a list is what they name and all that precedes it.
-use Rattle.std.proofs.Common.{◌≡◌, ℕ, List, [], ◌∷◌, map, Option, Some, None, ◌||◌, refl, sym, subst, ◌⊎◌, inl, inr}
+use Rattle.std.proofs.Common.{◌≡◌, ℕ, Bool, true, false, List, [], ◌∷◌, map, Option, Some, None, ◌||◌, cond, refl, sym, ap, subst, ◌⊎◌, inl, inr}
 use Rattle.std.specs.List.{slice_get}
 use Rattle.std.specs.Option.{option_to_list}
 use Rattle.std.proofs.lemmas.Bool.{or_cases, or_left, or_right}
 use Rattle.depot_base.specs.declared.update.Update.{Update}
 use Rattle.depot_model.specs.Lists.{IsIn, is_among}
 use Rattle.depot_model.specs.Texts.{id_of_update}
-use Rattle.depot_model.specs.Order.{IsPath, IsParent, Precedes, parents, is_named, IsCausal}
+use Rattle.depot_model.specs.Order.{IsPath, IsParent, Precedes, parents, past, is_named, IsCausal}
 use Rattle.depot_model.specs.Items.{updates_at}
 use Rattle.depot_model.proofs.Elements.{in_at}
-use Rattle.depot_model.proofs.Members.{in_map, from_map, in_parts, among_from, among_to, chosen_cases, chosen_behind, chosen_front}
+use Rattle.depot_model.proofs.Members.{all_at, all_from, in_map, from_map, in_parts, among_from, among_to, chosen_cases, chosen_behind, chosen_front}
 use Rattle.depot_model.proofs.Orders.{parent_precedes, leads_more, first_names_none, causal_behind, one_of_id, precedes_from}
+use Rattle.depot_model.proofs.RisingUpdates.{AreApart}
 use Rattle.depot_model.proofs.Pasts.{named_by, is_named_by}
 use Rattle.depot_history.specs.Closure.{reached, closure_of}
 
@@ -30,7 +31,7 @@ at_places us (n ∷ ns) u on = elim (in_parts u (option_to_list (slice_get us n)
 ]
 
 -- one of the list with the id of one at these places stands at them
-of_places : (us : List Update) (places : List ℕ) (t : Update) → IsCausal [] us → IsIn t us → IsIn (id_of_update t) (map id_of_update (updates_at us places)) → IsIn t (updates_at us places)
+pub of_places : (us : List Update) (places : List ℕ) (t : Update) → IsCausal [] us → IsIn t us → IsIn (id_of_update t) (map id_of_update (updates_at us places)) → IsIn t (updates_at us places)
 of_places us places t c t_in named =
     let u = from_map id_of_update (id_of_update t) (updates_at us places) named in
     let same : u.0 ≡ t = one_of_id [] us u.0 t c (at_places us places u.0 u.1.0) t_in u.1.1 in
@@ -105,6 +106,10 @@ path_is_reached ids us u c on t (w ∷ stops) t_in path = reached_takes [] ids u
 abbrev pub IsUpTo : List Update → List ℕ → Update → Type 0
 IsUpTo us places t = IsIn t (updates_at us places) ⊎ ((u : Update) × (IsIn u (updates_at us places) × Precedes us t u))
 
+pub closure_in : (us : List Update) (places : List ℕ) (t : Update) → IsIn t (closure_of places us) → IsIn t us
+unfolding closure_of
+closure_in us places t on = reached_in (map id_of_update (updates_at us places)) us t on
+
 pub closure_precedes : (us : List Update) (places : List ℕ) (t : Update) → IsCausal [] us → IsIn t (closure_of places us) → IsUpTo us places t
 unfolding closure_of
 closure_precedes us places t c on = elim (reached_follows us (map id_of_update (updates_at us places)) us (λ w w_in. w_in) t on) [
@@ -118,3 +123,18 @@ precedes_closure us places t c (inl here) = reached_given (map id_of_update (upd
 precedes_closure us places t c (inr p) =
     path_is_reached (map id_of_update (updates_at us places)) us p.0 c
     (reached_given (map id_of_update (updates_at us places)) us p.0 (at_places us places p.0 p.1.0) (in_map id_of_update p.0 (updates_at us places) p.1.0)) t p.1.1.stops (precedes_from us t p.0 p.1.1) p.1.1.path
+
+-- the past of an update is what its parents reach
+pub past_is_reached : (u : Update) (us : List Update) → past u us ≡ reached (parents u) us
+unfolding past reached
+past_is_reached u [] = refl
+past_is_reached u (t ∷ ts) = ap (λ (rest : List Update). cond (is_among (id_of_update t) (parents u) || is_named t rest) (t ∷ rest) rest) (past_is_reached u ts)
+
+-- no id stands twice in what is reached
+pub reached_apart : (ids : List (List ℕ)) (us : List Update) → AreApart us → AreApart (reached ids us)
+unfolding reached
+reached_apart ids [] apart = tt
+reached_apart ids (t ∷ ts) apart = by_test (is_among (id_of_update t) ids || is_named t (reached ids ts)) (reached_apart ids ts apart.1) where
+  by_test : (b : Bool) → AreApart (reached ids ts) → AreApart (cond b (t ∷ reached ids ts) (reached ids ts))
+  by_test true rest = (all_from (λ (u : Update). id_of_update u ≡ id_of_update t → ⊥) (reached ids ts) (λ u on. all_at (λ (u : Update). id_of_update u ≡ id_of_update t → ⊥) ts u apart.0 (reached_in ids ts u on)), rest)
+  by_test false rest = rest

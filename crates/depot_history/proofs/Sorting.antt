@@ -1,29 +1,33 @@
 -- Leaves in order by writer and id, one put in after the other.
-use Rattle.std.proofs.Common.{◌≡◌, ℕ, zero, suc, ◌+◌, ◌-◌, ◌<◌, ◌≤◌, Bool, true, false, cond, not, ◌&&◌, List, [], ◌∷◌, length, map, drop, get_or, Option, Some, unwrap_or, refl, sym, ap, subst, ◌∙◌, arith, inl, inr}
+use Rattle.std.proofs.Common.{◌≡◌, ℕ, ◌+◌, ◌<◌, Bool, true, false, cond, List, [], ◌∷◌, ◌++◌, length, map, take, get_or, Option, Some, None, add-one, unwrap_or, refl, sym, ap, subst, ◌∙◌, inl, inr}
 use Rattle.std.specs.Prelude.{slice_get}
+use Rattle.std.specs.List.{filter, flat_map}
+use Rattle.std.specs.Option.{option_to_list}
 use Rattle.std.specs.declared.cmp.Ordering.{Ordering}
 use Rattle.std.specs.declared.cmp.Ordering.TheVariants.{Less, Equal, Greater}
 use Rattle.std.specs.Ordering.{nat_cmp, is_lt, is_eq, ordering_then, ordering_reverse, match_ordering}
 use Rattle.std.specs.Cmp.Lexicographic.{slice_cmp, nat_list_cmp_total}
 use Rattle.std.specs.BTreeSet.{insert_key}
+use Rattle.std.proofs.Math.Seq.{take-suc}
 use Rattle.std.proofs.lemmas.Cmp.{nat_cmp_total}
+use Rattle.std.proofs.lemmas.Grind.{flat_map-append}
 use Rattle.std.proofs.lemmas.Map.Text.{is_eq-slice_cmp}
-use Rattle.std.proofs.lemmas.Option.{slice_get-get_or}
 use Rattle.std.proofs.lemmas.Slice.Eq.{bytes_eq-Decides}
 use Rattle.depot_base.specs.declared.update.Update.{Update}
-use Rattle.depot_model.specs.Lists.{IsIn}
+use Rattle.depot_model.specs.Lists.{IsIn, is_among}
 use Rattle.depot_model.specs.Texts.{id_of_update}
 use Rattle.depot_model.specs.Order.{IsCausal}
 use Rattle.depot_model.specs.History.{is_lower, put_by_id, by_id}
-use Rattle.depot_model.specs.Items.{at, place_of_id}
-use Rattle.depot_model.proofs.Members.{chosen_cases}
-use Rattle.depot_model.proofs.Orders.{fresh, causal_behind}
+use Rattle.depot_model.specs.Items.{at, place_of_id, updates_at}
+use Rattle.depot_model.proofs.Elements.{in_at}
+use Rattle.depot_model.proofs.Members.{in_parts, in_left, in_right, in_map, from_map, from_filter, in_filter, among_from, among_to, all_at, all_from}
+use Rattle.depot_model.proofs.Orders.{one_of_id}
+use Rattle.depot_model.proofs.RisingLists.{HaveSame}
+use Rattle.depot_model.proofs.RisingUpdates.{AreApart, apart_from_causal, apart_filter, Rises, rises_by_id, from_by_id, in_by_id, same_by_id}
 use Rattle.depot_history.specs.declared.leaf.Leaf.{Leaf}
-use Rattle.depot_history.specs.Leaves.{leaf_in}
-use Rattle.depot_history.specs.Marks.{chosen_but}
-use Rattle.depot_model.proofs.Elements.{at_place, from_place}
+use Rattle.depot_history.specs.Leaves.{leaf_in, standing}
 use Rattle.depot_history.proofs.ItemPlaces.{own_place}
-use Rattle.depot_history.proofs.Markings.{nothing_left}
+use Rattle.depot_history.proofs.Reaching.{of_places, at_places}
 
 -- the order of leaves
 abbrev pub leaf_cmp : Leaf → Leaf → Ordering
@@ -63,80 +67,160 @@ insert_put us t (u ∷ ts) apart =
       through true later = ap (λ (ls : List Leaf). leaf_in us u ∷ ls) later
       through false later = refl
 
--- ---- sorting keeps the updates
+-- ---- what is in already
 
-in_put : (t : Update) (ts : List Update) (u : Update) → IsIn u (put_by_id t ts) → IsIn u (t ∷ ts)
-unfolding put_by_id
-in_put t [] u on = on
-in_put t (w ∷ ts) u on = by_test (is_lower w t) on (λ later. in_put t ts u later) where
-  by_test : (b : Bool) → IsIn u (cond b (w ∷ put_by_id t ts) (t ∷ w ∷ ts)) → (IsIn u (put_by_id t ts) → IsIn u (t ∷ ts)) → IsIn u (t ∷ w ∷ ts)
-  by_test true on' later = elim on' [
-    | inl here ↦ inr (inl here)
-    | inr there ↦ elim (later there) [ inl first ↦ inl first | inr behind ↦ inr (inr behind) ]
-  ]
-  by_test false on' later = on'
+-- the lower one stands first
+stays_behind : {X : Type 0} (p q rest : Ordering) (before same behind : X) → is_lt (ordering_then p q) ≡ true
+    → match_ordering (ordering_then (ordering_reverse p) (ordering_then (ordering_reverse q) rest)) before same behind ≡ behind
+stays_behind Less q rest before same behind e = refl
+stays_behind Greater q rest before same behind e = absurd cc
+stays_behind Equal Less rest before same behind e = refl
+stays_behind Equal Greater rest before same behind e = absurd cc
+stays_behind Equal Equal rest before same behind e = absurd cc
 
-pub in_by_id : (ts : List Update) (u : Update) → IsIn u (by_id ts) → IsIn u ts
+-- an order of its own reverse is of equals
+level : (o : Ordering) → o ≡ ordering_reverse o → o ≡ Equal
+level Less e = absurd cc
+level Equal e = refl
+level Greater e = absurd cc
+
+leaf_level : (l : Leaf) → leaf_cmp l l ≡ Equal
+leaf_level l =
+    let writers : nat_cmp l.writer l.writer ≡ Equal = level _ (nat_cmp_total.antisymm l.writer l.writer) in
+    let ids : slice_cmp nat_cmp l.id l.id ≡ Equal = level _ (nat_list_cmp_total.antisymm l.id l.id) in
+    let clocks : nat_cmp l.clock l.clock ≡ Equal = level _ (nat_cmp_total.antisymm l.clock l.clock) in
+    let items : nat_cmp l.item l.item ≡ Equal = level _ (nat_cmp_total.antisymm l.item l.item) in
+    rw (writers, ids, clocks, items) refl
+
+-- a leaf that is there is put in nowhere
+insert_same : (us : List Update) (t : Update) (ts : List Update) → Rises ts → IsIn t ts → insert_key leaf_cmp (map (leaf_in us) ts) (leaf_in us t) ≡ map (leaf_in us) ts
+insert_same us t [] rise never = absurd never
+insert_same us t (u ∷ ts) rise (inl here) =
+    let before = leaf_in us t ∷ leaf_in us u ∷ map (leaf_in us) ts in
+    let same = leaf_in us u ∷ map (leaf_in us) ts in
+    let behind = leaf_in us u ∷ insert_key leaf_cmp (map (leaf_in us) ts) (leaf_in us t) in
+    let level_here : leaf_cmp (leaf_in us t) (leaf_in us u) ≡ Equal = ap (λ (x : Update). leaf_cmp (leaf_in us t) (leaf_in us x)) here ∙ leaf_level (leaf_in us t) in
+    ap (λ (o : Ordering). match_ordering o before same behind) level_here
+insert_same us t (u ∷ ts) rise (inr there) =
+    let rest = ordering_then (nat_cmp t.clock u.clock) (nat_cmp (leaf_in us t).item (leaf_in us u).item) in
+    let before = leaf_in us t ∷ leaf_in us u ∷ map (leaf_in us) ts in
+    let same = leaf_in us u ∷ map (leaf_in us) ts in
+    let behind = leaf_in us u ∷ insert_key leaf_cmp (map (leaf_in us) ts) (leaf_in us t) in
+    let writers_turned : nat_cmp t.writer u.writer ≡ ordering_reverse (nat_cmp u.writer t.writer) = nat_cmp_total.antisymm t.writer u.writer in
+    let ids_turned : slice_cmp nat_cmp (id_of_update t) (id_of_update u) ≡ ordering_reverse (slice_cmp nat_cmp (id_of_update u) (id_of_update t)) = nat_list_cmp_total.antisymm (id_of_update t) (id_of_update u) in
+    ap (λ (o : Ordering). match_ordering (ordering_then o (ordering_then (slice_cmp nat_cmp (id_of_update t) (id_of_update u)) rest)) before same behind) writers_turned
+    ∙ ap (λ (o : Ordering). match_ordering (ordering_then (ordering_reverse (nat_cmp u.writer t.writer)) (ordering_then o rest)) before same behind) ids_turned
+    ∙ stays_behind (nat_cmp u.writer t.writer) (slice_cmp nat_cmp (id_of_update u) (id_of_update t)) rest before same behind (all_at (λ (x : Update). is_lower u x ≡ true) ts t rise.0 there)
+    ∙ ap (λ (ls : List Leaf). leaf_in us u ∷ ls) (insert_same us t ts rise.1 there)
+
+-- ---- what stands at some places
+
+from_option : {X : Type 0} (o : Option X) (x : X) → IsIn x (option_to_list o) → o ≡ Some x
+from_option None x never = absurd never
+from_option (Some y) x (inl here) = ap (λ (z : _). Some z) here
+from_option (Some y) x (inr never) = absurd never
+
+-- what stands at these places stands at one of them
+pub of_place : (us : List Update) (places : List ℕ) (t : Update) → IsIn t (updates_at us places) → (n : ℕ) × (IsIn n places × (slice_get us n ≡ Some t))
+of_place us [] t never = absurd never
+of_place us (n ∷ ns) t on = elim (in_parts t (option_to_list (slice_get us n)) (updates_at us ns) on) [
+  | inl here ↦ (n, (inl refl, from_option (slice_get us n) t here))
+  | inr there ↦ let p = of_place us ns t there in (p.0, (inr p.1.0, p.1.1))
+]
+
+in_option : {X : Type 0} (o : Option X) (x : X) → o ≡ Some x → IsIn x (option_to_list o)
+in_option None x e = absurd cc
+in_option (Some y) x e = let same : y ≡ x = cc in inl same
+
+-- and the other way
+pub at_its_place : (us : List Update) (places : List ℕ) (n : ℕ) (t : Update) → IsIn n places → slice_get us n ≡ Some t → IsIn t (updates_at us places)
+at_its_place us [] n t never at_n = never
+at_its_place us (m ∷ ms) n t (inl here) at_n = in_left t (option_to_list (slice_get us m)) (updates_at us ms) (in_option (slice_get us m) t (ap (slice_get us) here ∙ at_n))
+at_its_place us (m ∷ ms) n t (inr there) at_n = in_right t (option_to_list (slice_get us m)) (updates_at us ms) (at_its_place us ms n t there at_n)
+
+-- those that stand at some places are the updates there
+pub standing_is : (us : List Update) (places : List ℕ) (t : Update) → IsCausal [] us → IsIn t (standing us places) → IsIn t (updates_at us places)
+standing_is us places t c on =
+    let f = from_filter (λ (u : Update). is_among (id_of_update u) (map id_of_update (updates_at us places))) t us on in
+    of_places us places t c f.0 (among_to (id_of_update t) (map id_of_update (updates_at us places)) f.1)
+
+pub is_standing : (us : List Update) (places : List ℕ) (t : Update) → IsIn t (updates_at us places) → IsIn t (standing us places)
+is_standing us places t on =
+    in_filter (λ (u : Update). is_among (id_of_update u) (map id_of_update (updates_at us places))) t us (at_places us places t on)
+    (among_from (id_of_update t) (map id_of_update (updates_at us places)) (in_map id_of_update t (updates_at us places) on))
+
+pub standing_apart : (us : List Update) (places : List ℕ) → IsCausal [] us → AreApart (standing us places)
+standing_apart us places c = apart_filter (λ (u : Update). is_among (id_of_update u) (map id_of_update (updates_at us places))) us (apart_from_causal [] us c)
+
+-- what is sorted is of the list
+pub sorted_within : (us : List Update) (places : List ℕ) (t : Update) → IsIn t (by_id (standing us places)) → IsIn t us
+sorted_within us places t on = (from_filter (λ (u : Update). is_among (id_of_update u) (map id_of_update (updates_at us places))) t us (from_by_id t (standing us places) on)).0
+
+-- ---- one place after the other
+
+pub sort_begins : (us : List Update) (keys : List Leaf) → keys ≡ [] → keys ≡ map (leaf_in us) (by_id (standing us []))
 unfolding by_id
-in_by_id [] u never = never
-in_by_id (t ∷ ts) u on = elim (in_put t (by_id ts) u on) [ inl here ↦ inl here | inr there ↦ inr (in_by_id ts u there) ]
+sort_begins us keys none = none ∙ ap (λ (ts : List Update). map (leaf_in us) (by_id ts)) (sym (none_stands us)) where
+  none_stands : (ts : List Update) → filter (λ (u : Update). is_among (id_of_update u) []) ts ≡ []
+  none_stands [] = refl
+  none_stands (t ∷ ts) = none_stands ts
 
--- what is chosen is one of the list
-pub in_chosen_but : (ms ns : List Bool) (us : List Update) (u : Update) → IsIn u (chosen_but ms ns us) → IsIn u us
-in_chosen_but [] ns us u never = absurd never
-in_chosen_but (m ∷ ms) [] us u never = absurd never
-in_chosen_but (m ∷ ms) (n ∷ ns) [] u never = absurd never
-in_chosen_but (m ∷ ms) (n ∷ ns) (t ∷ ts) u on = elim (chosen_cases (m && not n) u t (chosen_but ms ns ts) on) [ inl here ↦ inl here.1 | inr there ↦ inr (in_chosen_but ms ns ts u there) ]
+-- the updates at one place more
+one_more : (us : List Update) (places : List ℕ) (i n : ℕ) (t : Update) → i < length places → n ≡ get_or places i 0 → slice_get us n ≡ Some t → updates_at us (take (i + 1) places) ≡ updates_at us (take i places) ++ t ∷ []
+one_more us places i n t lt is at_n =
+    let f : ℕ → List Update = λ place. option_to_list (slice_get us place) in
+    let longer : take (i + 1) places ≡ take i places ++ n ∷ [] = rw add-one (take-suc places i 0 lt ∙ ap (λ (k : ℕ). take i places ++ k ∷ []) (sym is)) in
+    ap (flat_map f) longer ∙ flat_map-append f (take i places) (n ∷ []) ∙ ap (λ (o : Option Update). updates_at us (take i places) ++ (option_to_list o ++ [])) at_n
 
--- ---- the loop from the last item to the first
+-- the members then, where t stood before and where it didn't
+more_same : (us : List Update) (front more : List ℕ) (t : Update) → IsCausal [] us → updates_at us more ≡ updates_at us front ++ t ∷ [] → IsIn t (standing us front) → HaveSame (standing us front) (standing us more)
+more_same us front more t c are there = record {
+  to = λ u on. is_standing us more u (subst (λ (ts : List Update). IsIn u ts) (sym are) (in_left u (updates_at us front) (t ∷ []) (standing_is us front u c on)));
+  back = λ u on. elim (in_parts u (updates_at us front) (t ∷ []) (subst (λ (ts : List Update). IsIn u ts) are (standing_is us more u c on))) [
+    | inl old ↦ is_standing us front u old
+    | inr new ↦ elim new [ inl here ↦ subst (λ (x : Update). IsIn x (standing us front)) here there | inr never ↦ absurd never ]
+  ];
+}
 
--- what is chosen from a place on, by the marks there
-chosen_but_at : (us : List Update) (n : ℕ) (t : Update) (ms ns : List Bool) (a b : Bool) → slice_get us n ≡ Some t → n < length ms → n < length ns → get_or ms n false ≡ a → get_or ns n false ≡ b
-    → chosen_but (drop n ms) (drop n ns) (drop n us) ≡ cond (a && not b) (t ∷ chosen_but (drop (n + 1) ms) (drop (n + 1) ns) (drop (n + 1) us)) (chosen_but (drop (n + 1) ms) (drop (n + 1) ns) (drop (n + 1) us))
-chosen_but_at us n t ms ns a b at lt also is too =
-    let first : drop n ms ≡ a ∷ drop (n + 1) ms = from_place ms n a (slice_get-get_or ms n false lt ∙ ap (λ (m : Bool). Some m) is) in
-    let second : drop n ns ≡ b ∷ drop (n + 1) ns = from_place ns n b (slice_get-get_or ns n false also ∙ ap (λ (m : Bool). Some m) too) in
-    rw (first, second, from_place us n t at) refl
+more_new : (us : List Update) (front more : List ℕ) (t : Update) → IsCausal [] us → updates_at us more ≡ updates_at us front ++ t ∷ [] → HaveSame (t ∷ standing us front) (standing us more)
+more_new us front more t c are = record {
+  to = λ u on. is_standing us more u (subst (λ (ts : List Update). IsIn u ts) (sym are) (elim on [
+    | inl here ↦ in_right u (updates_at us front) (t ∷ []) (inl here)
+    | inr old ↦ in_left u (updates_at us front) (t ∷ []) (standing_is us front u c old)
+  ]));
+  back = λ u on. elim (in_parts u (updates_at us front) (t ∷ []) (subst (λ (ts : List Update). IsIn u ts) are (standing_is us more u c on))) [
+    | inl old ↦ inr (is_standing us front u old)
+    | inr new ↦ elim new [ inl here ↦ inl here | inr never ↦ absurd never ]
+  ];
+}
 
--- the ids behind a place are others than the id there
-apart_behind : (ids : List (List ℕ)) (us : List Update) (n : ℕ) (t : Update) → IsCausal ids us → slice_get us n ≡ Some t → (u : Update) → IsIn u (drop (n + 1) us) → id_of_update u ≡ id_of_update t → ⊥
-apart_behind ids [] n t c at u on same = absurd cc
-apart_behind ids (x ∷ xs) zero t c at u on same =
-    let first : x ≡ t = cc in
-    fresh (id_of_update x ∷ ids) xs u (causal_behind ids x xs c) on (inl (ap id_of_update first ∙ sym same))
-apart_behind ids (x ∷ xs) (suc n) t c at u on same =
-    let less : drop (suc n + 1) (x ∷ xs) ≡ drop (n + 1) xs = let e : suc n + 1 ≡ suc (n + 1) = omega arith in rw e refl in
-    apart_behind (id_of_update x ∷ ids) xs n t (causal_behind ids x xs c) at u (subst (λ (ts : List Update). IsIn u ts) less on) same
-
-pub sort_begins : (us : List Update) (n : ℕ) (ms ns : List Bool) (keys : List Leaf) → keys ≡ [] → n ≡ length us → length ms ≡ length us → keys ≡ map (leaf_in us) (by_id (chosen_but (drop n ms) (drop n ns) (drop n us)))
+pub sort_more : (us : List Update) (places : List ℕ) (i n : ℕ) (t : Update) (keys new : List Leaf) → IsCausal [] us → i < length places → n ≡ get_or places i 0 → slice_get us n ≡ Some t
+    → keys ≡ map (leaf_in us) (by_id (standing us (take i places))) → new ≡ insert_key leaf_cmp keys (leaf_in us t) → new ≡ map (leaf_in us) (by_id (standing us (take (i + 1) places)))
 unfolding by_id
-sort_begins us n ms ns keys none is long = rw (nothing_left ms n (omega (arith, is, long))) none
+sort_more us places i n t keys new c lt is at_n are now = by_test (is_among (id_of_update t) (map id_of_update (standing us (take i places)))) refl where
+  old : List Update
+  old = standing us (take i places)
 
-pub sort_more : (us : List Update) (i : ℕ) (t : Update) (ms ns : List Bool) (keys new : List Leaf) → IsCausal [] us → 0 < i → slice_get us (i - 1) ≡ Some t → i - 1 < length ms → i - 1 < length ns
-    → get_or ms (i - 1) false ≡ true → get_or ns (i - 1) false ≡ false → keys ≡ map (leaf_in us) (by_id (chosen_but (drop i ms) (drop i ns) (drop i us))) → new ≡ insert_key leaf_cmp keys (leaf_in us t)
-    → new ≡ map (leaf_in us) (by_id (chosen_but (drop (i - 1) ms) (drop (i - 1) ns) (drop (i - 1) us)))
-unfolding by_id
-sort_more us i t ms ns keys new c pos at lt also is too are now =
-    let next : i ≡ i - 1 + 1 = omega arith in
-    let behind = chosen_but (drop (i - 1 + 1) ms) (drop (i - 1 + 1) ns) (drop (i - 1 + 1) us) in
-    let these : keys ≡ map (leaf_in us) (by_id behind) = subst (λ (k : ℕ). keys ≡ map (leaf_in us) (by_id (chosen_but (drop k ms) (drop k ns) (drop k us)))) next are in
-    now ∙ ap (λ (ls : List Leaf). insert_key leaf_cmp ls (leaf_in us t)) these
-    ∙ insert_put us t (by_id behind) (λ u on same. apart_behind [] us (i - 1) t c at u (in_chosen_but _ _ _ u (in_by_id behind u on)) same)
-    ∙ ap (λ (ts : List Update). map (leaf_in us) (by_id ts)) (sym (chosen_but_at us (i - 1) t ms ns true false at lt also is too))
+  put : new ≡ insert_key leaf_cmp (map (leaf_in us) (by_id old)) (leaf_in us t)
+  put = now ∙ ap (λ (ls : List Leaf). insert_key leaf_cmp ls (leaf_in us t)) are
 
-pub sort_same : (us : List Update) (i : ℕ) (ms ns : List Bool) (keys : List Leaf) → 0 < i → i - 1 < length us → i - 1 < length ms → i - 1 < length ns
-    → (get_or ms (i - 1) false && not (get_or ns (i - 1) false)) ≡ false → keys ≡ map (leaf_in us) (by_id (chosen_but (drop i ms) (drop i ns) (drop i us)))
-    → keys ≡ map (leaf_in us) (by_id (chosen_but (drop (i - 1) ms) (drop (i - 1) ns) (drop (i - 1) us)))
-sort_same us i ms ns keys pos within lt also is are =
-    let p = at_place us (i - 1) within in
-    let next : i ≡ i - 1 + 1 = omega arith in
-    let behind = chosen_but (drop (i - 1 + 1) ms) (drop (i - 1 + 1) ns) (drop (i - 1 + 1) us) in
-    let these : keys ≡ map (leaf_in us) (by_id behind) = subst (λ (k : ℕ). keys ≡ map (leaf_in us) (by_id (chosen_but (drop k ms) (drop k ns) (drop k us)))) next are in
-    let step = chosen_but_at us (i - 1) p.0 ms ns (get_or ms (i - 1) false) (get_or ns (i - 1) false) p.1 lt also refl refl in
-    these ∙ ap (λ (ts : List Update). map (leaf_in us) (by_id ts)) (sym (step ∙ ap (λ (b : Bool). cond b (p.0 ∷ behind) behind) is))
+  longer : updates_at us (take (i + 1) places) ≡ updates_at us (take i places) ++ t ∷ []
+  longer = one_more us places i n t lt is at_n
 
-pub sort_ends : (us : List Update) (i : ℕ) (ms ns : List Bool) (keys : List Leaf) → i ≤ 0 → keys ≡ map (leaf_in us) (by_id (chosen_but (drop i ms) (drop i ns) (drop i us))) → keys ≡ map (leaf_in us) (by_id (chosen_but ms ns us))
-sort_ends us i ms ns keys none are = let at_start : i ≡ 0 = omega arith in subst (λ (k : ℕ). keys ≡ map (leaf_in us) (by_id (chosen_but (drop k ms) (drop k ns) (drop k us)))) at_start are
+  by_test : (b : Bool) → is_among (id_of_update t) (map id_of_update old) ≡ b → new ≡ map (leaf_in us) (by_id (standing us (take (i + 1) places)))
+  by_test true there =
+      let u = from_map id_of_update (id_of_update t) old (among_to (id_of_update t) (map id_of_update old) there) in
+      let t_in = in_at us n t at_n in
+      let same : u.0 ≡ t = one_of_id [] us u.0 t c (from_filter (λ (x : Update). is_among (id_of_update x) (map id_of_update (updates_at us (take i places)))) u.0 us u.1.0).0 t_in u.1.1 in
+      let on : IsIn t old = subst (λ (x : Update). IsIn x old) same u.1.0 in
+      put ∙ insert_same us t (by_id old) (rises_by_id old (standing_apart us (take i places) c)) (in_by_id t old on)
+      ∙ ap (map (leaf_in us)) (same_by_id old (standing us (take (i + 1) places)) (standing_apart us (take i places) c) (standing_apart us (take (i + 1) places) c) (more_same us (take i places) (take (i + 1) places) t c longer on))
+  by_test false new_id =
+      let apart : (u : Update) → IsIn u old → id_of_update u ≡ id_of_update t → ⊥ = λ u on same. let hit = among_from (id_of_update t) (map id_of_update old) (subst (λ (h : List ℕ). IsIn h (map id_of_update old)) same (in_map id_of_update u old on)) in absurd cc in
+      put ∙ insert_put us t (by_id old) (λ u on. apart u (from_by_id u old on))
+      ∙ ap (map (leaf_in us)) (same_by_id (t ∷ old) (standing us (take (i + 1) places)) (all_from (λ (u : Update). id_of_update u ≡ id_of_update t → ⊥) old apart, standing_apart us (take i places) c) (standing_apart us (take (i + 1) places) c) (more_new us (take i places) (take (i + 1) places) t c longer))
+
+-- ---- what stands at a place
 
 -- the leaf made at a place is that of the update there
 pub made_at : (us : List Update) (n : ℕ) (t : Update) (id : List ℕ) → IsCausal [] us → slice_get us n ≡ Some t → id ≡ id_of_update t
@@ -152,12 +236,3 @@ at_gives us n t P e here = let there : slice_get us n ≡ Some here.0 = here.1.0
 
 pub at_is : (us : List Update) (n : ℕ) (t : Update) (P : Update → Type 0) → slice_get us n ≡ Some t → P t → at us n P
 at_is us n t P e here = (t, (e, here))
-
-pub not_first : (a b : Bool) → a ≡ false → (a && not b) ≡ false
-not_first true b e = absurd cc
-not_first false b e = refl
-
-pub but_second : (a b : Bool) → b ≡ true → (a && not b) ≡ false
-but_second true true e = refl
-but_second true false e = absurd cc
-but_second false b e = refl

@@ -1,3 +1,3 @@
 pub mod Closure
-pub mod Marks
+pub mod Lines
 pub mod Leaves

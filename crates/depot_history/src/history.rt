@@ -1,16 +1,17 @@
 //! The three calls.
-ghost use Rattle.std.specs.Prelude.{◌≡◌, ◌<◌, ◌+◌, ℕ, List, Option, length, map, IfOk};
+ghost use Rattle.std.specs.Prelude.{◌≡◌, ◌<◌, ◌↔◌, ℕ, List, Option, length, map, IfOk, IsTrue};
 ghost use Rattle.std.specs.Option.{ForSome};
 ghost use Rattle.std.specs.List.{AllByRecursion};
-ghost use Rattle.depot_model.specs.History.{leaves_of, by_id, history_hash as hash_of_history};
+ghost use Rattle.depot_model.specs.History.{by_id, history_hash as hash_of_history};
 ghost use Rattle.depot_model.specs.Items.{at, place_of_prev, updates_at};
+ghost use Rattle.depot_model.specs.Lists.{IsIn};
 ghost use Rattle.depot_model.specs.Own.{next_entries};
 ghost use Rattle.depot_history.specs.Closure.{closure_of};
-ghost use Rattle.depot_history.specs.Leaves.{leaf_in};
-ghost use Rattle.depot_history.specs.Marks.{chosen, chosen_but};
+ghost use Rattle.depot_history.specs.Leaves.{leaf_in, standing, IsUnseen};
 
+use crate::covered::precedes;
 use crate::leaf::{Leaf, Leaves, hash_of_rows, items_of};
-use crate::marks::{all_marks, closure_marks, marks_of_others, passed_marks, prev_marks};
+use crate::line::leaves_of_past;
 use depot_base::{Hash32, Items, Memory, NodeId};
 use depot_model::Past;
 use std::alloc::Global;
@@ -29,33 +30,16 @@ fn leaf_at<P: Past>(past: &P, item: u32) -> Leaf
     }
 }
 
-/// The items that are marked in the first and not in the second, in rising order of (writer, id).
-fn sorted<P: Past>(
-    alloc: Global,
-    past: &P,
-    among: &[bool],
-    left_out: &[bool],
-) -> Result<Leaves, Memory>
-    requires among { length among.now ≡ length (P.updates past.now) }
-    requires left_out { length left_out.now ≡ length (P.updates past.now) }
-    ensures { IfOk result (λ leaves. leaves.keys ≡ map (leaf_in (P.updates past.now)) (by_id (chosen_but among.now left_out.now (P.updates past.now)))) }
+/// These items, each once, in rising order of (writer, id).
+fn sorted<P: Past>(alloc: Global, past: &P, items: &[u32]) -> Result<Leaves, Memory>
+    requires { AllByRecursion (λ item. item < length (P.updates past.now)) items.now }
+    ensures { IfOk result (λ leaves. leaves.keys ≡ map (leaf_in (P.updates past.now)) (by_id (standing (P.updates past.now) items.now))) }
 {
     let mut leaves = Leaves::new(alloc);
-    for item in (0..past.count()).rev() {
-        if among[item as usize] && !left_out[item as usize] {
-            leaves.insert(leaf_at(past, item))?;
-        }
+    for item in items {
+        leaves.insert(leaf_at(past, *item))?;
     }
     Ok(leaves)
-}
-
-/// The leaves of the marked items, in rising order of (writer, id).
-fn leaves_among<P: Past>(alloc: Global, past: &P, among: &[bool]) -> Result<Leaves, Memory>
-    requires { length among.now ≡ length (P.updates past.now) }
-    ensures { IfOk result (λ leaves. leaves.keys ≡ map (leaf_in (P.updates past.now)) (by_id (leaves_of (chosen among.now (P.updates past.now))))) }
-{
-    let followed = prev_marks(alloc, past, among)?;
-    sorted(alloc, past, among, followed.as_slice())
 }
 
 /// The history hash of these items and all that precedes one of them: SHA-256 of a row of 42 bytes for each leaf of
@@ -64,8 +48,8 @@ pub fn history_hash<P: Past>(alloc: Global, past: &P, parents: &[u32]) -> Result
     requires { AllByRecursion (λ item. item < length (P.updates past.now)) parents.now }
     ensures { IfOk result (λ hash. hash ≡ hash_of_history (closure_of parents.now (P.updates past.now))) }
 {
-    let among = closure_marks(alloc, past, parents)?;
-    let leaves = leaves_among(alloc, past, among.as_slice())?;
+    let items = leaves_of_past(alloc, past, parents)?;
+    let leaves = sorted(alloc, past, items.as_slice())?;
     Ok(hash_of_rows(&leaves))
 }
 
@@ -73,8 +57,7 @@ pub fn history_hash<P: Past>(alloc: Global, past: &P, parents: &[u32]) -> Result
 pub fn summary<P: Past>(alloc: Global, past: &P) -> Result<Hash32, Memory>
     ensures { IfOk result (λ hash. hash ≡ hash_of_history (P.updates past.now)) }
 {
-    let among = all_marks(alloc, past, true)?;
-    let leaves = leaves_among(alloc, past, among.as_slice())?;
+    let leaves = sorted(alloc, past, past.leaves())?;
     Ok(hash_of_rows(&leaves))
 }
 
@@ -90,8 +73,44 @@ pub fn changed_leaves<P: Past>(
     ensures entries { IfOk result (λ items. (id : List ℕ) → place_of_prev id (P.updates past.now) ≡ prev → updates_at (P.updates past.now) items ≡ next_entries me (P.updates past.now) id) }
     ensures items { IfOk result (λ items. AllByRecursion (λ item. item < length (P.updates past.now)) items) }
 {
-    let left_out = passed_marks(alloc, past, prev)?;
-    let others = marks_of_others(alloc, past, me)?;
-    let leaves = sorted(alloc, past, others.as_slice(), left_out.as_slice())?;
+    let unseen = unseen_of(alloc, past, past.leaves(), me, prev)?;
+    let leaves = sorted(alloc, past, unseen.as_slice())?;
     items_of(alloc, &leaves)
+}
+
+/// Those of the items that are of other writers than this node, and don't precede its last one.
+fn unseen_of<P: Past>(
+    alloc: Global,
+    past: &P,
+    items: &[u32],
+    me: NodeId,
+    last: Option<u32>,
+) -> Result<Vec<u32>, Memory>
+    requires items { AllByRecursion (λ item. item < length (P.updates past.now)) items.now }
+    requires last { ForSome last (λ item. item < length (P.updates past.now)) }
+    ensures unseen { IfOk result (λ unseen. (n : ℕ) → (IsIn n unseen.items ↔ (IsIn n items.now × IsUnseen (P.updates past.now) me last n))) }
+    ensures inside { IfOk result (λ unseen. AllByRecursion (λ item. item < length (P.updates past.now)) unseen.items) }
+{
+    let mut unseen = Vec::new(alloc);
+    for item in items {
+        if is_unseen(past, *item, me, last) {
+            unseen.push(*item)?;
+        }
+    }
+    Ok(unseen)
+}
+
+/// Whether an item is of another writer than this node, and doesn't precede its last one.
+fn is_unseen<P: Past>(past: &P, item: u32, me: NodeId, last: Option<u32>) -> bool
+    requires item { item < length (P.updates past.now) }
+    requires last { ForSome last (λ item. item < length (P.updates past.now)) }
+    ensures { IsTrue result ↔ IsUnseen (P.updates past.now) me last item }
+{
+    if past.update(item).writer == me {
+        return false;
+    }
+    match last {
+        None => true,
+        Some(last) => !precedes(past, item, last),
+    }
 }

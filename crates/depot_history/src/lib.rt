@@ -1,15 +1,17 @@
 //! The history hash: what a set of accepted updates hashes to, and the leaves that a node's next update names.
 //!
-//! Everything here is computed from a `Past` at each call and nothing is kept: a set of updates is a mark for each item,
-//! found by a walk from the last item to the first, in the time of one look at each item and at each of its parents.
+//! Nothing here is kept: a `Past` keeps its leaves, and those of a past are found on the way back from them, each time from
+//! a first child to its prev. These lines have no item in common, and end at the first item that belongs to the past: so a
+//! hash looks at the leaves and at what isn't in the past, however long the past is.
 //!
 //! Nothing here asks whether an update may be accepted, or takes one.
 #![tactic(auto)]
 
+mod covered;
 mod history;
 mod laws;
 mod leaf;
-mod marks;
+mod line;
 #[cfg(test)]
 mod tests;
 

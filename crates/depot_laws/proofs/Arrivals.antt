@@ -28,7 +28,7 @@ use Rattle.depot_model.proofs.Members.{in_left, in_right, in_last, any_to}
 use Rattle.depot_model.proofs.TextLaws.{statement_lawful}
 use Rattle.depot_model.proofs.BodyLaws.{IsStatement-from_signed}
 use Rattle.depot_laws.proofs.Splits.{given_by, given_too, flat_gives, flat_left}
-use Rattle.depot_laws.proofs.Tests.{has_id_to}
+use Rattle.depot_model.proofs.NamedIds.{has_id_to}
 use Rattle.depot_laws.proofs.Taken.{AllNone, none_from_passes}
 use Rattle.depot_laws.proofs.Contrary.{kept_is_signed, accused_is, opponent_is}
 use Rattle.depot_laws.proofs.Growing.{front_of, Convicts, front_cases, added_is, not_forked, not_refused}

@@ -21,10 +21,11 @@ use Rattle.depot_model.specs.Journal.{accepted, accepted_by, update_in, own, own
 use Rattle.depot_model.specs.Own.{entry_of, next_entries, next_own, IsFresh}
 use Rattle.depot_model.specs.Checks.{Setting, given_statement, content_of, is_kept, answer_to}
 use Rattle.depot_model.specs.Lawful.{MayFollow, IsAllowed, IsLawful}
-use Rattle.depot_model.proofs.Members.{in_parts, in_map, from_map}
+use Rattle.depot_model.proofs.Members.{in_parts, in_map, from_map, from_filter}
 use Rattle.depot_model.proofs.Orders.{causal_push}
 use Rattle.depot_laws.proofs.Splits.{given_by, given_too, silent, lawful_from_end, accepted_push}
-use Rattle.depot_laws.proofs.Tests.{from_filter, from_by_id, new_id}
+use Rattle.depot_model.proofs.RisingUpdates.{from_by_id}
+use Rattle.depot_model.proofs.NamedIds.{new_id}
 use Rattle.depot_laws.proofs.Taken.{AllNone, HasId, IsNew, new_is, HasContent, content_is, parents_are_there}
 
 -- ---- the last own update

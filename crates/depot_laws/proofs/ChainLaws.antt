@@ -20,11 +20,11 @@ use Rattle.depot_model.specs.Contradictions.{is_of_kind, contradicts}
 use Rattle.depot_model.specs.Journal.{accepted, accepted_by, own, own_by, foreign, foreign_by, is_convicted}
 use Rattle.depot_model.specs.Checks.{Setting}
 use Rattle.depot_model.specs.Lawful.{MayFollow, IsAllowed, IsLawful}
-use Rattle.depot_model.proofs.Members.{in_last, all_at, all_push}
+use Rattle.depot_model.proofs.Members.{in_last, all_at, all_push, from_filter, in_filter}
 use Rattle.depot_model.proofs.BodyLaws.{text_of_statement-Update}
 use Rattle.depot_model.specs.Chains.{IsChain, IsEarlierStep, RisesInSteps, HasPrev}
 use Rattle.depot_laws.proofs.Splits.{given_by, given_too, flat_left, flat_gives, place_of, none_splits, lawful_push, lawful_from_end}
-use Rattle.depot_laws.proofs.Tests.{from_filter, in_filter, has_id_from}
+use Rattle.depot_model.proofs.NamedIds.{has_id_from}
 use Rattle.depot_laws.proofs.Causes.{Joins, record_joins, update_in_is, accepts}
 use Rattle.depot_laws.proofs.Contrary.{kept_is_genuine}
 use Rattle.depot_laws.proofs.Convictions.{unconvicted_before}

@@ -31,7 +31,7 @@ use Rattle.depot_model.proofs.Members.{any_from, any_to, among_from}
 use Rattle.depot_model.proofs.Orders.{one_of_id}
 use Rattle.depot_laws.specs.Verdicts.{ConvictsWriter}
 use Rattle.depot_laws.proofs.Splits.{given_by, given_too}
-use Rattle.depot_laws.proofs.Tests.{has_id_from, named_is}
+use Rattle.depot_model.proofs.NamedIds.{has_id_from, named_is}
 use Rattle.depot_laws.proofs.Taken.{AllNone}
 use Rattle.depot_laws.proofs.Causes.{lawful_is_causal}
 use Rattle.depot_laws.proofs.Contrary.{IsOpponent, opponent_is, named_opponent_is, foreign_is, accused_is}

@@ -17,12 +17,12 @@ use Rattle.depot_model.specs.Journal.{accepted, update_in, last_own}
 use Rattle.depot_model.specs.Checks.{Setting}
 use Rattle.depot_model.specs.Room.{foreign_leaves, take_an_update, HasRoom}
 use Rattle.depot_model.specs.Lawful.{IsAllowed, IsLawful}
-use Rattle.depot_model.proofs.Members.{any_from, among_from}
+use Rattle.depot_model.proofs.Members.{any_from, among_from, from_filter}
 use Rattle.depot_laws.proofs.Splits.{lawful_from_end}
-use Rattle.depot_laws.proofs.Tests.{from_filter, fails_from_not}
+use Rattle.depot_laws.proofs.Tests.{fails_from_not}
 use Rattle.depot_laws.proofs.Limits.{within_from_room}
 use Rattle.depot_laws.proofs.Causes.{lawful_is_causal}
-use Rattle.depot_laws.proofs.Sorted.{AreApart, apart_from_causal, apart_filter}
+use Rattle.depot_model.proofs.RisingUpdates.{AreApart, apart_from_causal, apart_filter}
 use Rattle.depot_laws.proofs.Counts.{silent_leaves, put_count}
 use Rattle.depot_laws.proofs.Puts.{put_from_writer, put_at, put_allowed, put_is_accepted}
 use Rattle.depot_laws.proofs.Follows.{in_prevs, in_line}

@@ -17,12 +17,13 @@ use Rattle.depot_model.specs.Journal.{accepted, accepted_by, own_by, has_id, nam
 use Rattle.depot_model.specs.Checks.{Setting}
 use Rattle.depot_model.specs.Own.{entry_of, precedes_named, next_entries, next_own}
 use Rattle.depot_model.specs.Lawful.{MayFollow, IsLawful}
-use Rattle.depot_model.proofs.Members.{in_left, in_right, in_last, in_map, any_from, any_to, among_from, among_to, chosen_cases}
+use Rattle.depot_model.proofs.Members.{in_left, in_right, in_last, in_map, any_from, any_to, among_from, among_to, chosen_cases, in_filter}
 use Rattle.depot_model.proofs.Orders.{leads_one, leads_more, leads_trans, precedes_child, precedes_wider, parent_precedes, fresh, one_of_id, first_names_none, causal_behind, child_is_behind}
 use Rattle.depot_model.proofs.Pasts.{past_in, past_of_listed, past_of_next}
 use Rattle.depot_model.specs.Causality.{puts_of}
 use Rattle.depot_laws.proofs.Splits.{flat_left, flat_gives, flat_cases, lawful_before, lawful_from_end, accepted_push}
-use Rattle.depot_laws.proofs.Tests.{in_filter, in_by_id, named_is, has_id_to}
+use Rattle.depot_model.proofs.RisingUpdates.{in_by_id}
+use Rattle.depot_model.proofs.NamedIds.{named_is, has_id_to}
 use Rattle.depot_laws.proofs.Causes.{lawful_is_causal}
 use Rattle.depot_laws.proofs.OwnAgree.{last_own-pushed}
 use Rattle.depot_laws.proofs.Puts.{put_by, PutAt, put_at, put_allowed, put_is_accepted, put_from_writer}

@@ -19,14 +19,14 @@ use Rattle.depot_model.specs.Checks.{Setting}
 use Rattle.depot_model.specs.Contents.{NamedValue, values_named}
 use Rattle.depot_model.specs.Lawful.{IsLawful, is_empty}
 use Rattle.depot_model.specs.Hello.{hello_leaf, hello_leaf_rises, hello, IsHello, named_leaf, convicted_nodes, lacking, hello_of}
-use Rattle.depot_model.proofs.Members.{all_at, all_from, from_map}
+use Rattle.depot_model.proofs.Members.{all_at, all_from, from_map, from_filter}
 use Rattle.depot_model.proofs.RisingLists.{RisesBy}
 use Rattle.depot_laws.proofs.Splits.{given_by}
-use Rattle.depot_laws.proofs.Tests.{from_filter, from_by_id}
+use Rattle.depot_model.proofs.RisingUpdates.{from_by_id, apart_from_causal, apart_filter, rises_by_id}
 use Rattle.depot_laws.proofs.Rosters.{entries_fit}
 use Rattle.depot_laws.proofs.Births.{roster_hash_is_digest, digest_from_length}
 use Rattle.depot_laws.proofs.Causes.{leaf_is_on, lawful_is_causal}
-use Rattle.depot_laws.proofs.Sorted.{apart_from_causal, apart_filter, rises_by_id, then_lower}
+use Rattle.depot_laws.proofs.Sorted.{then_lower}
 use Rattle.depot_laws.proofs.OwnTexts.{me_fits, accepted_fit, writer_fits, id_is_digest}
 use Rattle.depot_laws.proofs.Groups.{from_rising}
 use Rattle.depot_laws.proofs.RisingBytes.{rising_rises, last_pushed, rising_follow, digests_follow}

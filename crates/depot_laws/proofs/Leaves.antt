@@ -15,12 +15,12 @@ use Rattle.depot_model.specs.Texts.{id_of_update}
 use Rattle.depot_model.specs.Order.{prevs, IsCausal}
 use Rattle.depot_model.specs.History.{is_prev_in, leaves_of}
 use Rattle.depot_model.specs.Journal.{has_id}
-use Rattle.depot_model.proofs.Members.{in_left, in_map, any_to, among_to, all_at, same_test}
+use Rattle.depot_model.proofs.Members.{in_left, in_map, any_to, among_to, all_at, same_test, from_filter, in_filter}
 use Rattle.depot_model.proofs.Orders.{parent_is_there}
 use Rattle.depot_laws.specs.Leaves.{follows_leaf}
-use Rattle.depot_laws.proofs.Tests.{from_filter, in_filter, has_id_from, has_id_to, new_id}
+use Rattle.depot_model.proofs.NamedIds.{has_id_from, has_id_to, new_id}
 use Rattle.depot_laws.proofs.Causes.{Joins}
-use Rattle.depot_laws.proofs.Sorted.{AreApart, apart_from_causal, apart_filter}
+use Rattle.depot_model.proofs.RisingUpdates.{AreApart, apart_from_causal, apart_filter}
 
 -- ---- filters
 

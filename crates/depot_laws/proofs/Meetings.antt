@@ -22,11 +22,12 @@ use Rattle.depot_model.specs.Contents.{halves}
 use Rattle.depot_model.specs.Hello.{named_leaf, hello_of}
 use Rattle.depot_model.specs.Bundle.{is_covered, has_candidate, candidates}
 use Rattle.depot_model.specs.World.{Correct, World, setting_of, signed_in, signed_met, IsWorld, IsAuthentic, IsCollisionFree, writes_of}
-use Rattle.depot_model.proofs.Members.{in_left, from_map, any_from, any_to, among_to}
+use Rattle.depot_model.proofs.Members.{in_left, from_map, any_from, any_to, among_to, in_filter}
 use Rattle.depot_model.proofs.Pasts.{past_in}
 use Rattle.depot_laws.specs.Rejoin.{hello_at}
 use Rattle.depot_laws.proofs.Splits.{given_by, given_too, flat_left, flat_gives, none_splits, lawful_front}
-use Rattle.depot_laws.proofs.Tests.{from_by_id, in_filter, has_id_to}
+use Rattle.depot_model.proofs.RisingUpdates.{from_by_id}
+use Rattle.depot_model.proofs.NamedIds.{has_id_to}
 use Rattle.depot_laws.proofs.Causes.{own_in_accepted, leaf_is_on, record_joins, lawful_is_causal}
 use Rattle.depot_laws.proofs.Convictions.{convicted_by}
 use Rattle.depot_laws.proofs.OwnSteps.{own_writer}

@@ -26,12 +26,14 @@ use Rattle.depot_model.specs.Lawful.{IsAllowed, IsLawful, is_birth, is_empty}
 use Rattle.depot_model.proofs.BodyLaws.{IsUpdate-from_statement, IsStatement-from_update, IsStatement-from_signed}
 use Rattle.depot_model.proofs.TextLaws.{update_body_lawful}
 use Rattle.depot_laws.proofs.Splits.{given_by, lawful_push, lawful_from_end}
-use Rattle.depot_laws.proofs.Tests.{fails_from_not, from_filter, from_by_id}
+use Rattle.depot_laws.proofs.Tests.{fails_from_not}
+use Rattle.depot_model.proofs.Members.{from_filter}
+use Rattle.depot_model.proofs.RisingUpdates.{from_by_id, AreApart, apart_from_causal, apart_filter, rises_by_id}
 use Rattle.depot_laws.proofs.Limits.{within_from_room}
 use Rattle.depot_laws.proofs.Records.{IsSigned-from_record, IsStatement-from_own_voucher}
 use Rattle.depot_laws.proofs.Causes.{last_own_cases, update_in_is, leaf_is_on, lawful_is_causal}
 use Rattle.depot_laws.proofs.Clocks.{clocks_within}
-use Rattle.depot_laws.proofs.Sorted.{AreApart, apart_from_causal, apart_filter, rises_by_id, entries_follow}
+use Rattle.depot_laws.proofs.Sorted.{entries_follow}
 
 -- ---- the sizes of a lawful journal
 

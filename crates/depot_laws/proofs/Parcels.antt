@@ -18,11 +18,10 @@ use Rattle.depot_model.specs.Texts.{id_of_update}
 use Rattle.depot_model.specs.Journal.{accepted, accepted_by, own, update_in, held, value_with}
 use Rattle.depot_model.specs.Vouching.{own_voucher_by, own_vouchers, is_mine_vouched, new_vouchers, records_of}
 use Rattle.depot_model.specs.Bundle.{Signs, signed_with, signed_by, is_candidate, has_candidate, candidates, Parcel, candidate_parcel, candidate_parcels, wanted_parcel, hashes_of, parcels, sent_for, sent_foreign, unvouched, with_vouchers, bundle_of}
-use Rattle.depot_model.proofs.Members.{in_left, in_right, in_map, any_from, any_to, among_to}
+use Rattle.depot_model.proofs.Members.{in_left, in_right, in_map, any_from, any_to, among_to, from_filter, in_filter}
 use Rattle.depot_model.proofs.BundleLaws.{fitting_is_longest}
 use Rattle.depot_laws.specs.Rejoin.{updates_of}
 use Rattle.depot_laws.proofs.Splits.{given_by, flat_gives}
-use Rattle.depot_laws.proofs.Tests.{from_filter, in_filter}
 use Rattle.depot_laws.proofs.Worlds.{giver_in}
 use Rattle.depot_laws.proofs.Groups.{HasVoucher, vouchers_keep}
 

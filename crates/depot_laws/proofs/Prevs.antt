@@ -20,7 +20,8 @@ use Rattle.depot_model.proofs.FirstLaws.{each_is_none, when-none}
 use Rattle.depot_model.proofs.Orders.{one_of_id}
 use Rattle.depot_model.specs.Chains.{HasPrev}
 use Rattle.depot_laws.proofs.Splits.{given_by, flat_left, lawful_before}
-use Rattle.depot_laws.proofs.Tests.{all_left, named_is}
+use Rattle.depot_laws.proofs.Tests.{all_left}
+use Rattle.depot_model.proofs.NamedIds.{named_is}
 use Rattle.depot_laws.proofs.Taken.{AllNone, HasContent, new_is}
 use Rattle.depot_laws.proofs.Causes.{last_own_is, own_in_accepted, content_of_new, update_in_is}
 use Rattle.depot_laws.proofs.OwnSteps.{own_writer, below_next}

@@ -10,7 +10,7 @@ use Rattle.depot_base.specs.declared.key.RosterEntry.{RosterEntry}
 use Rattle.depot_base.proofs.Numbers.{number_within}
 use Rattle.depot_model.specs.Texts.{roster, IsRoster}
 use Rattle.depot_model.specs.Roster.{key_of, has_node}
-use Rattle.depot_laws.proofs.Tests.{named_cases}
+use Rattle.depot_model.proofs.NamedIds.{named_cases}
 
 -- each entry of a list fits
 pub follows_fit : {E : Type 0} (entry : Format E) (may_follow : Option E → E → Bool) (front es : List E) → Follows entry may_follow front es → AllByRecursion entry.fits es

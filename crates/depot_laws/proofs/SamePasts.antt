@@ -19,10 +19,10 @@ use Rattle.depot_model.proofs.Pasts.{past_in, past_takes}
 use Rattle.depot_model.specs.World.{Correct, World, setting_of, IsWorld, IsCollisionFree}
 use Rattle.depot_laws.specs.Parents.{HasParents}
 use Rattle.depot_laws.proofs.Splits.{lawful_before}
-use Rattle.depot_laws.proofs.Tests.{has_id_from, has_id_to, named_some}
+use Rattle.depot_model.proofs.NamedIds.{has_id_from, has_id_to, named_some}
 use Rattle.depot_laws.proofs.Taken.{HasId}
 use Rattle.depot_laws.proofs.Causes.{own_joins, lawful_is_causal}
-use Rattle.depot_laws.proofs.Sorted.{AreApart, apart_from_causal}
+use Rattle.depot_model.proofs.RisingUpdates.{AreApart, apart_from_causal}
 use Rattle.depot_laws.proofs.Follows.{prev_is_parent, entry_is_parent}
 use Rattle.depot_laws.proofs.OwnContent.{own_passes}
 use Rattle.depot_model.proofs.RisingLists.{HaveSame}

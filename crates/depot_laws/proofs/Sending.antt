@@ -21,10 +21,10 @@ use Rattle.depot_model.specs.Frames.{Frame}
 use Rattle.depot_model.specs.Bundle.{Signs, signed_with, signed_by, has_candidate, candidates, values_behind, candidate_parcel, candidate_parcels, statement_frame, value_frame, frames_of}
 use Rattle.depot_model.specs.Hello.{hello_of}
 use Rattle.depot_model.specs.World.{Correct, World, setting_of}
-use Rattle.depot_model.proofs.Members.{in_right, in_parts, from_map, any_from, any_to, among_from}
+use Rattle.depot_model.proofs.Members.{in_right, in_parts, from_map, any_from, any_to, among_from, from_filter}
 use Rattle.depot_laws.specs.Rejoin.{hello_at, IsWellSigned}
 use Rattle.depot_laws.proofs.Splits.{given_by, flat_push, flat_left, flat_gives}
-use Rattle.depot_laws.proofs.Tests.{all_both, from_filter, fails_from_not}
+use Rattle.depot_laws.proofs.Tests.{all_both, fails_from_not}
 use Rattle.depot_laws.proofs.Taken.{AllNone, HasId}
 use Rattle.depot_laws.proofs.Causes.{lawful_is_causal}
 use Rattle.depot_laws.proofs.Contrary.{kept_is_signed, kept_is_genuine}

@@ -17,7 +17,8 @@ use Rattle.depot_model.specs.Journal.{named}
 use Rattle.depot_model.specs.Checks.{Setting, given_statement, sight, lost, missing, wrong_dep, backward, clock_low, clock_far, bad_history, content_checks, content_of, forked, refused_as_convicted, statement_checks, first_failed_check, is_kept, is_known, answer_by, answer_to}
 use Rattle.depot_model.proofs.FirstLaws.{each_is_none, when-none}
 use Rattle.depot_model.proofs.Members.{in_left, in_right, in_parts, in_map, from_map, all_at}
-use Rattle.depot_laws.proofs.Tests.{holds_from_not, all_left, all_right, all_both, first-none, named_is}
+use Rattle.depot_laws.proofs.Tests.{holds_from_not, all_left, all_right, all_both, first-none}
+use Rattle.depot_model.proofs.NamedIds.{named_is}
 
 -- a list in which each is none
 abbrev pub AllNone : List (Option Check) → Type 0

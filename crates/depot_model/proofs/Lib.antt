@@ -7,6 +7,8 @@ pub mod Members
 pub mod Orders
 pub mod Pasts
 pub mod RisingLists
+pub mod RisingUpdates
+pub mod NamedIds
 pub mod LatestLaws
 pub mod LogLaws
 pub mod RecordLaws

@@ -2,16 +2,15 @@
 use Rattle.std.proofs.Common.{◌≡◌, ℕ, ◌+◌, ◌≤◌, Bool, true, false, cond, ◌||◌, List, [], ◌∷◌, ◌++◌, length, drop, nat_lt, Some, refl, sym, ap, ◌∙◌, arith, append_assoc, inl, inr, ◌⊎◌}
 use Rattle.std.specs.Prelude.{slice_get, Result, Ok, Err, IfOk}
 use Rattle.std.specs.List.{list_any}
-use Rattle.std.proofs.lemmas.List.{append-nil}
+use Rattle.std.proofs.lemmas.List.{append-nil, drop_all}
 use Rattle.depot_base.specs.declared.record.Record.{Record}
 use Rattle.depot_base.specs.declared.update.Update.{Update}
 use Rattle.depot_model.specs.Bundle.{records_where, is_candidate, candidate_places}
 use Rattle.depot_model.specs.Journal.{accepted, accepted_by}
 use Rattle.depot_model.proofs.Elements.{from_place}
-use Rattle.depot_history.proofs.Markings.{nothing_left}
 use Rattle.depot_laws.proofs.Causes.{none_or_one}
 use Rattle.depot_store.specs.Places.{accepts, accept_places}
-use Rattle.depot_node.specs.Telling.{beside, items_named}
+use Rattle.depot_node.specs.Telling.{beside, items_named, IsJoinedRow}
 
 -- ---- one update more
 
@@ -31,7 +30,7 @@ pub so_far_same : (test : Update → Bool) (us : List Update) (ns : List ℕ) (i
 so_far_same test us ns i u n found at also is before = ap (λ (ms : List ℕ). found ++ ms) (sym (beside_at test us ns i u n false at also is)) ∙ before
 
 pub so_far_all : (test : Update → Bool) (us : List Update) (ns : List ℕ) (i : ℕ) (found : List ℕ) → length us ≤ i → IsSoFar test us ns i found → found ≡ beside test us ns
-so_far_all test us ns i found past before = sym (append-nil found) ∙ ap (λ (ts : List Update). found ++ beside test ts (drop i ns)) (sym (nothing_left us i past)) ∙ before
+so_far_all test us ns i found past before = sym (append-nil found) ∙ ap (λ (ts : List Update). found ++ beside test ts (drop i ns)) (sym (drop_all i us past)) ∙ before
 
 -- ---- all records
 
@@ -55,11 +54,11 @@ beside_records test n (r ∷ J) = by_updates (accepted_by r) (none_or_one r) (be
 -- ---- candidates
 
 -- what is found beside the updates is what there is among the records
-pub candidates_are : {E : Type 0} (J : List Record) (us : List Update) (places covering : List ℕ) (ids : List (List ℕ)) (reader : ℕ) (result : Result (List ℕ) E) → accepted J ≡ us → places ≡ accept_places J → covering ≡ items_named us ids
-    → IfOk result (λ found. (hs : List (List ℕ)) → covering ≡ items_named us hs → found ≡ beside (is_candidate us hs reader) us places) → IfOk result (λ found. found ≡ candidate_places J ids reader)
-candidates_are J us places covering ids reader (Ok found) all are named each =
-    each ids named
+pub candidates_are : {E : Type 0} (J : List Record) (us : List Update) (places row : List ℕ) (ids : List (List ℕ)) (reader : ℕ) (result : Result (List ℕ) E) → accepted J ≡ us → places ≡ accept_places J → IsJoinedRow us (items_named us ids) row
+    → IfOk result (λ found. (hs : List (List ℕ)) → IsJoinedRow us (items_named us hs) row → found ≡ beside (is_candidate us hs reader) us places) → IfOk result (λ found. found ≡ candidate_places J ids reader)
+candidates_are J us places row ids reader (Ok found) all are joined each =
+    each ids joined
     ∙ ap (λ (ts : List Update). beside (is_candidate ts ids reader) ts places) (sym all)
     ∙ ap (beside (is_candidate (accepted J) ids reader) (accepted J)) are
     ∙ beside_records (is_candidate (accepted J) ids reader) 0 J
-candidates_are J us places covering ids reader (Err e) all are named each = tt
+candidates_are J us places row ids reader (Err e) all are joined each = tt

@@ -1,7 +1,6 @@
 -- Which updates are covered by the items that some ids name.
-use Rattle.std.proofs.Common.{◌≡◌, ℕ, add-one, suc, ◌+◌, ◌<◌, true, false, ◌&&◌, ◌||◌, List, [], ◌∷◌, ◌++◌, length, take, get_or, Some, None, Option, sym, ap, subst, ◌∙◌, inl, inr, ◌⊎◌}
+use Rattle.std.proofs.Common.{◌≡◌, ℕ, add-one, suc, ◌+◌, ◌<◌, true, false, ◌&&◌, ◌||◌, List, [], ◌∷◌, ◌++◌, length, take, get_or, Some, None, Option, sym, ap, subst, ◌∙◌, inl, inr}
 use Rattle.std.specs.Prelude.{slice_get}
-use Rattle.std.specs.List.{AllByRecursion}
 use Rattle.std.specs.Option.{option_to_list}
 use Rattle.std.specs.Str.{bytes_eq}
 use Rattle.std.proofs.Math.Seq.{take-suc}
@@ -10,14 +9,15 @@ use Rattle.std.proofs.lemmas.Option.{slice_get_within}
 use Rattle.std.proofs.lemmas.Slice.Eq.{bytes_eq-Decides}
 use Rattle.depot_base.specs.declared.update.Update.{Update}
 use Rattle.depot_model.specs.Bundle.{is_covered}
-use Rattle.depot_model.specs.Items.{place_of_id, PrecedesAt}
+use Rattle.depot_model.specs.Items.{place_of_id}
 use Rattle.depot_model.specs.Journal.{has_id}
 use Rattle.depot_model.specs.Lists.{IsIn, is_among}
 use Rattle.depot_model.specs.Order.{IsCausal, Precedes, past}
 use Rattle.depot_model.specs.Texts.{id_of_update}
 use Rattle.depot_model.proofs.Elements.{in_at}
-use Rattle.depot_model.proofs.Members.{all_at, any_from, any_to, among_from, among_to}
+use Rattle.depot_model.proofs.Members.{any_from, any_to, among_from, among_to}
 use Rattle.depot_model.proofs.Pasts.{past_of_listed}
+use Rattle.depot_graph.specs.UpdateRows.{IsUpToAt}
 use Rattle.depot_graph.proofs.Front.{has_past, is_past}
 use Rattle.depot_history.proofs.ItemPlaces.{has_place, own_place, one_place}
 use Rattle.depot_laws.proofs.Splits.{flat_gives, flat_push, given_by}
@@ -71,15 +71,10 @@ place_of (t ∷ ts) u (inr there) = let p = place_of ts u there in (suc p.0, p.1
 
 -- ---- covering
 
--- the item is another than this one, and doesn't precede it
-pub record IsApart (us : List Update) (item n : ℕ) : Type 0 where
-  pub other : item ≡ n → ⊥
-  pub before : PrecedesAt us item n → ⊥
-
 same_at : (us : List Update) (n : ℕ) (t u : Update) → slice_get us n ≡ Some t → slice_get us n ≡ Some u → t ≡ u
 same_at us n t u one two = let both : Some t ≡ Some u = sym one ∙ two in cc
 
-pub covered : (us : List Update) (ids : List (List ℕ)) (item n : ℕ) (u : Update) → IsCausal [] us → slice_get us item ≡ Some u → IsIn n (items_named us ids) → (n ≡ item) ⊎ PrecedesAt us item n → is_covered us ids u ≡ true
+pub covered : (us : List Update) (ids : List (List ℕ)) (item n : ℕ) (u : Update) → IsCausal [] us → slice_get us item ≡ Some u → IsIn n (items_named us ids) → IsUpToAt us item n → is_covered us ids u ≡ true
 unfolding is_covered
 covered us ids item n u c at on how =
     let named = named_is us ids n on in
@@ -87,7 +82,7 @@ covered us ids item n u c at on how =
     let l_in = in_at us n l named.at in
     let up : (bytes_eq (id_of_update u) (id_of_update l) || has_id (past l us) (id_of_update u)) ≡ true = elim how [
       | inl same ↦
-          let is : u ≡ l = same_at us n u l (ap (slice_get us) same ∙ at) named.at in
+          let is : u ≡ l = same_at us n u l (ap (slice_get us) (sym same) ∙ at) named.at in
           or_left _ _ ((bytes_eq-Decides (id_of_update u) (id_of_update l)).1 (ap id_of_update is))
       | inr p ↦
           let first : p.0 ≡ u = same_at us item p.0 u p.1.0 at in
@@ -98,7 +93,7 @@ covered us ids item n u c at on how =
     any_from (λ (x : Update). is_among (id_of_update x) ids && (bytes_eq (id_of_update u) (id_of_update x) || has_id (past x us) (id_of_update u))) l us l_in
     (and_from _ _ (among_from (id_of_update l) ids named.on) up)
 
-pub uncovered : (us : List Update) (ids : List (List ℕ)) (item : ℕ) (u : Update) → IsCausal [] us → slice_get us item ≡ Some u → AllByRecursion (IsApart us item) (items_named us ids) → is_covered us ids u ≡ false
+pub uncovered : (us : List Update) (ids : List (List ℕ)) (item : ℕ) (u : Update) → IsCausal [] us → slice_get us item ≡ Some u → ((n : ℕ) → IsIn n (items_named us ids) → IsUpToAt us item n → ⊥) → is_covered us ids u ≡ false
 unfolding is_covered
 uncovered us ids item u c at apart = false_from_ne_true _ (λ yes.
     let l = any_to (λ (x : Update). is_among (id_of_update x) ids && (bytes_eq (id_of_update u) (id_of_update x) || has_id (past x us) (id_of_update u))) us yes in
@@ -106,8 +101,7 @@ uncovered us ids item u c at apart = false_from_ne_true _ (λ yes.
     let p = place_of us l.0 l.1.0 in
     let f : List ℕ → List ℕ = λ h. option_to_list (place_of_id h us) in
     let on : IsIn p.0 (items_named us ids) = flat_gives f p.0 (id_of_update l.0) ids (among_to (id_of_update l.0) ids parts.0) (in_place_list (place_of_id (id_of_update l.0) us) p.0 (own_place us p.0 l.0 c p.1)) in
-    let other = all_at (IsApart us item) (items_named us ids) p.0 apart on in
     elim (or_cases (bytes_eq (id_of_update u) (id_of_update l.0)) (has_id (past l.0 us) (id_of_update u)) parts.1) [
-      | inl same ↦ other.other (one_place [] us item p.0 u l.0 c at p.1 ((bytes_eq-Decides (id_of_update u) (id_of_update l.0)).0 same))
-      | inr behind ↦ other.before (u, (at, (l.0, (p.1, (past_of_listed us l.0 u c l.1.0).0 (has_past us u l.0 c (in_at us item u at) behind)))))
+      | inl same ↦ apart p.0 on (inl (one_place [] us item p.0 u l.0 c at p.1 ((bytes_eq-Decides (id_of_update u) (id_of_update l.0)).0 same)))
+      | inr behind ↦ apart p.0 on (inr (u, (at, (l.0, (p.1, (past_of_listed us l.0 u c l.1.0).0 (has_past us u l.0 c (in_at us item u at) behind))))))
     ])

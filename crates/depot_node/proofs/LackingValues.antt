@@ -19,7 +19,7 @@ use Rattle.depot_model.specs.Journal.{accepted, first_values, held, value_with, 
 use Rattle.depot_model.specs.Vouching.{put_rising, rising}
 use Rattle.depot_model.proofs.Elements.{from_place}
 use Rattle.depot_model.proofs.Members.{among-append}
-use Rattle.depot_history.proofs.Markings.{nothing_left}
+use Rattle.std.proofs.lemmas.List.{drop_all}
 use Rattle.depot_node.proofs.RisingIds.{insert_put}
 
 -- ---- what is held of a name
@@ -91,7 +91,7 @@ lacking_at J us n t b at is = ap (lacking_by J) (from_place us n t at) ∙ by_te
 
 pub lacking_begins : (J : List Record) (us : List Update) (n : ℕ) (keys : List (List ℕ)) → keys ≡ [] → n ≡ length us → keys ≡ lacking_by J (drop n us)
 unfolding rising
-lacking_begins J us n keys none is = rw (nothing_left us n (omega (arith, is))) none
+lacking_begins J us n keys none is = rw (drop_all n us (omega (arith, is))) none
 
 pub lacking_more : (J : List Record) (us : List Update) (i : ℕ) (t : Update) (keys new : List (List ℕ)) → 0 < i → slice_get us (i - 1) ≡ Some t → holds J t.value_hash t.value_len ≡ false
     → keys ≡ lacking_by J (drop i us) → new ≡ insert_key (slice_cmp nat_cmp) keys t.value_hash → new ≡ lacking_by J (drop (i - 1) us)

@@ -9,7 +9,7 @@ use Rattle.std.specs.declared.cmp.Ordering.{Ordering}
 use Rattle.std.specs.declared.cmp.Ordering.TheVariants.{Less, Equal, Greater}
 use Rattle.std.proofs.lemmas.Bool.{lt-ltb, false_from_ne_true}
 use Rattle.std.proofs.lemmas.Cmp.{nat_cmp_total}
-use Rattle.std.proofs.lemmas.List.{take-append-drop}
+use Rattle.std.proofs.lemmas.List.{take-append-drop, drop_all}
 use Rattle.std.proofs.lemmas.Map.Text.{is_eq-slice_cmp}
 use Rattle.std.proofs.lemmas.Slice.Eq.{bytes_eq-Decides}
 use Rattle.depot_base.specs.declared.record.Record.{Record}
@@ -25,13 +25,13 @@ use Rattle.depot_model.specs.Lists.{IsIn}
 use Rattle.depot_model.specs.Order.{IsCausal}
 use Rattle.depot_model.specs.Texts.{id_of_update}
 use Rattle.depot_model.proofs.Elements.{in_at, from_place}
-use Rattle.depot_model.proofs.Members.{same_test}
+use Rattle.depot_model.proofs.Members.{same_test, from_filter, in_filter}
 use Rattle.depot_model.proofs.Orders.{fresh, causal_behind}
 use Rattle.depot_graph.proofs.Front.{apart, in_take}
 use Rattle.depot_history.proofs.ItemPlaces.{own_place}
-use Rattle.depot_history.proofs.Markings.{nothing_left}
 use Rattle.depot_laws.proofs.Causes.{none_or_one, leaf_is_on, lawful_is_causal}
-use Rattle.depot_laws.proofs.Tests.{from_filter, in_filter, from_by_id, has_id_from, has_id_to}
+use Rattle.depot_model.proofs.RisingUpdates.{from_by_id}
+use Rattle.depot_model.proofs.NamedIds.{has_id_from, has_id_to}
 use Rattle.depot_store.proofs.LeafLaws.{leaf_by_children}
 use Rattle.depot_store.specs.Places.{accepts, accept_places}
 use Rattle.depot_node.specs.Telling.{leaf_in}
@@ -183,7 +183,7 @@ apart_behind us n t c at u on same =
 
 pub leaves_begin : (J : List Record) (us : List Update) (n : ℕ) (keys : List Leaf) → keys ≡ [] → n ≡ length us → keys ≡ leaves_behind J us (drop n us)
 unfolding by_id
-leaves_begin J us n keys none is = rw (nothing_left us n (omega (arith, is))) none
+leaves_begin J us n keys none is = rw (drop_all n us (omega (arith, is))) none
 
 -- a leaf is put in
 pub leaves_more : (J : List Record) (us : List Update) (places : List ℕ) (i : ℕ) (t : Update) (place : ℕ) (leaf : Leaf) (keys new : List Leaf) → accepted J ≡ us → IsCausal [] us → places ≡ accept_places J → 0 < i → slice_get us (i - 1) ≡ Some t

@@ -26,6 +26,7 @@ pub mod ForeignIds
 pub mod StatementTexts
 pub mod CoveredItems
 pub mod BesidePlaces
+pub mod JoinedRows
 pub mod LeafInserts
 pub mod RisingIds
 pub mod VoucherGroups

@@ -2,20 +2,21 @@
 ghost use Rattle.std.specs.Prelude.{◌≡◌, false, ◌<◌, ℕ, List, length, IfOk, Some, slice_get};
 ghost use Rattle.std.specs.List.{AllByRecursion};
 ghost use Rattle.depot_base.specs.declared.update.Update.{Update};
-ghost use Rattle.depot_model.specs.Bundle.{candidate_places, is_candidate, is_covered};
-ghost use Rattle.depot_node.specs.Telling.{beside, items_named};
+ghost use Rattle.depot_model.specs.Bundle.{candidate_places, is_candidate};
+ghost use Rattle.depot_virtual.specs.Spots.{number_of_chains};
+ghost use Rattle.depot_graph.specs.Kept.{prev_places};
+ghost use Rattle.depot_node.specs.Telling.{beside, items_named, IsJoinedRow};
 
-use depot_base::{Hash32, Ids, Items, Memory, NodeId, Steps};
+use depot_base::{Hash32, Ids, Items, Memory, NodeId};
 use depot_graph::Graph;
+use depot_lanes::max_into;
 use depot_model::{Past, Scheme};
 use depot_outside::Disk;
 use depot_store::Store;
 use std::alloc::Global;
-use std::marker::Brand;
-use std::sync::ledger::{Blank, Ledger};
 
 /// The places of the records whose updates a reader with these leaves lacks, rising: those of other writers that neither are
-/// one of the leaves nor precede one. It takes a test of precedence for each item and each leaf at most.
+/// one of the leaves nor precede one. The rows of the leaves are joined once, and each item's is then held against that.
 pub fn candidates<D: Disk, S: Scheme>(
     alloc: Global,
     store: &Store<D, S>,
@@ -27,42 +28,8 @@ pub fn candidates<D: Disk, S: Scheme>(
 {
     let graph = store.state().graph();
     let covering = items_named(alloc, graph, leaves.as_slice())?;
-    let places = store.places();
-    candidates_by::<Brand>(
-        alloc,
-        graph,
-        places,
-        covering.as_slice(),
-        reader,
-        Blank::new(1),
-    )
-}
-
-/// The places, of those beside the items, of the items that a reader lacks whose leaves are these items. The tests of
-/// precedence go into a ledger that is still blank.
-fn candidates_by<L: Ledger>(
-    alloc: Global,
-    graph: &Graph,
-    places: &[u32],
-    leaves: &[u32],
-    reader: NodeId,
-    blank: Blank,
-) -> Result<Items, Memory>
-    requires name { blank.name ≡ L.name }
-    requires parts { blank.parts ≡ L.parts }
-    requires some { 0 < blank.parts }
-    requires beside { length places.now ≡ length (⟦<Graph as Past>⟧.updates graph.now) }
-    requires inside { AllByRecursion (λ item. item < length (⟦<Graph as Past>⟧.updates graph.now)) leaves.now }
-    ensures { IfOk result (λ found. (ids : List (List ℕ)) → leaves.now ≡ items_named (⟦<Graph as Past>⟧.updates graph.now) ids → found ≡ beside (is_candidate (⟦<Graph as Past>⟧.updates graph.now) ids reader) (⟦<Graph as Past>⟧.updates graph.now) places.now) }
-{
-    let mut steps = Steps::<L>::new(blank);
-    let mut found = Items::new(alloc);
-    for item in 0..graph.count() {
-        if is_candidate(graph, leaves, reader, item, &mut steps) {
-            found.push(places[item as usize])?;
-        }
-    }
-    Ok(found)
+    let row = joined_row(alloc, graph, covering.as_slice())?;
+    lacked(alloc, graph, store.places(), row.as_slice(), reader)
 }
 
 /// The items with these ids. An id that no update has is left out.
@@ -80,31 +47,58 @@ fn items_named(alloc: Global, graph: &Graph, ids: &[Hash32]) -> Result<Vec<u32>,
     Ok(items)
 }
 
-/// Whether an item is of another writer than the reader, and neither is one of these nor precedes one.
-fn is_candidate<L: Ledger>(
-    graph: &Graph,
-    leaves: &[u32],
-    reader: NodeId,
-    item: u32,
-    steps: &mut Steps<L>,
-) -> bool
-    requires item { item < length (⟦<Graph as Past>⟧.updates graph.now) }
-    requires inside { AllByRecursion (λ item. item < length (⟦<Graph as Past>⟧.updates graph.now)) leaves.now }
-    ensures { (ids : List (List ℕ)) (u : Update) → leaves.now ≡ items_named (⟦<Graph as Past>⟧.updates graph.now) ids → slice_get (⟦<Graph as Past>⟧.updates graph.now) item ≡ Some u → result ≡ is_candidate (⟦<Graph as Past>⟧.updates graph.now) ids reader u }
+/// The rows of these items, joined.
+fn joined_row(alloc: Global, graph: &Graph, items: &[u32]) -> Result<Vec<u32>, Memory>
+    requires { AllByRecursion (λ item. item < length (⟦<Graph as Past>⟧.updates graph.now)) items.now }
+    ensures { IfOk result (λ row. IsJoinedRow (⟦<Graph as Past>⟧.updates graph.now) items.now row.items) }
 {
-    graph.update(item).writer != reader && !is_covered(graph, leaves, item, steps)
+    let chains = graph.chain_count() as usize;
+    let mut next = vec![in alloc; 0u32; chains]?;
+    let mut row = vec![in alloc; 0u32; chains]?;
+    join_rows(graph, items, next.as_mut_slice(), row.as_mut_slice());
+    Ok(row)
 }
 
-/// Whether an item is one of these, or precedes one.
-fn is_covered<L: Ledger>(graph: &Graph, leaves: &[u32], item: u32, steps: &mut Steps<L>) -> bool
-    requires item { item < length (⟦<Graph as Past>⟧.updates graph.now) }
-    requires inside { AllByRecursion (λ item. item < length (⟦<Graph as Past>⟧.updates graph.now)) leaves.now }
-    ensures { (ids : List (List ℕ)) (u : Update) → leaves.now ≡ items_named (⟦<Graph as Past>⟧.updates graph.now) ids → slice_get (⟦<Graph as Past>⟧.updates graph.now) item ≡ Some u → result ≡ is_covered (⟦<Graph as Past>⟧.updates graph.now) ids u }
+/// Joins the rows of these items into a row that counts nothing, each by way of `next`.
+fn join_rows(graph: &Graph, items: &[u32], next: &mut [u32], row: &mut [u32])
+    requires items { AllByRecursion (λ item. item < length (⟦<Graph as Past>⟧.updates graph.now)) items.now }
+    requires next { length next.old ≡ number_of_chains (prev_places (⟦<Graph as Past>⟧.updates graph.now)) }
+    requires row { length row.old ≡ number_of_chains (prev_places (⟦<Graph as Past>⟧.updates graph.now)) }
+    requires zeros { AllByRecursion (λ entry. entry ≡ 0) row.old }
+    ensures { IsJoinedRow (⟦<Graph as Past>⟧.updates graph.now) items.now row.new }
 {
-    for leaf in leaves {
-        if *leaf == item || graph.before(item, *leaf, steps) {
-            return true;
+    for item in items {
+        graph.row_into(*item, next);
+        max_into(row, next);
+    }
+}
+
+/// The places, of those beside the items, of the items that a reader lacks where this row counts what it has.
+fn lacked(
+    alloc: Global,
+    graph: &Graph,
+    places: &[u32],
+    row: &[u32],
+    reader: NodeId,
+) -> Result<Items, Memory>
+    requires beside { length places.now ≡ length (⟦<Graph as Past>⟧.updates graph.now) }
+    requires row { length row.now ≡ number_of_chains (prev_places (⟦<Graph as Past>⟧.updates graph.now)) }
+    ensures { IfOk result (λ found. (ids : List (List ℕ)) → IsJoinedRow (⟦<Graph as Past>⟧.updates graph.now) (items_named (⟦<Graph as Past>⟧.updates graph.now) ids) row.now → found ≡ beside (is_candidate (⟦<Graph as Past>⟧.updates graph.now) ids reader) (⟦<Graph as Past>⟧.updates graph.now) places.now) }
+{
+    let mut found = Items::new(alloc);
+    for item in 0..graph.count() {
+        if is_lacked(graph, row, reader, item) {
+            found.push(places[item as usize])?;
         }
     }
-    false
+    Ok(found)
+}
+
+/// Whether an item is of another writer than the reader, and this row, which counts what the reader has, doesn't count it.
+fn is_lacked(graph: &Graph, row: &[u32], reader: NodeId, item: u32) -> bool
+    requires item { item < length (⟦<Graph as Past>⟧.updates graph.now) }
+    requires row { length row.now ≡ number_of_chains (prev_places (⟦<Graph as Past>⟧.updates graph.now)) }
+    ensures { (ids : List (List ℕ)) (u : Update) → IsJoinedRow (⟦<Graph as Past>⟧.updates graph.now) (items_named (⟦<Graph as Past>⟧.updates graph.now) ids) row.now → slice_get (⟦<Graph as Past>⟧.updates graph.now) item ≡ Some u → result ≡ is_candidate (⟦<Graph as Past>⟧.updates graph.now) ids reader u }
+{
+    graph.update(item).writer != reader && !graph.within(item, row)
 }

@@ -26,8 +26,9 @@ use Rattle.depot_model.proofs.Members.{all_from, among-append, among_from, any_f
 use Rattle.depot_laws.proofs.NewVouchers.{voucher_fits}
 use Rattle.depot_laws.proofs.OwnTexts.{entry_fits, id_is_digest, value_is_digest}
 use Rattle.depot_laws.proofs.Records.{IsStatement-from_own_voucher}
-use Rattle.depot_laws.proofs.Sorted.{AreApart, entries_follow, rises_by_id}
-use Rattle.depot_laws.proofs.Tests.{all_both, from_by_id}
+use Rattle.depot_laws.proofs.Sorted.{entries_follow}
+use Rattle.depot_model.proofs.RisingUpdates.{AreApart, rises_by_id, from_by_id}
+use Rattle.depot_laws.proofs.Tests.{all_both}
 use Rattle.depot_schedule.specs.EventLines.{update, voucher}
 use Rattle.depot_schedule.specs.Language.{or_empty}
 use Rattle.depot_schedule.specs.Vocabulary.{FitsHistory, references}

@@ -14,12 +14,11 @@ use Rattle.depot_model.specs.Lists.{IsIn, is_among}
 use Rattle.depot_model.specs.Log.{firsts, firsts_behind}
 use Rattle.depot_model.specs.Texts.{IsStatement, IsUpdate, id_of_update}
 use Rattle.depot_model.proofs.BodyLaws.{IsUpdate-from_statement, IsStatement-from_signed}
-use Rattle.depot_model.proofs.Members.{all_at, all_from, any_from, among_from, in_left, in_last, in_right, from_map}
+use Rattle.depot_model.proofs.Members.{all_at, all_from, any_from, among_from, in_left, in_last, in_right, from_map, from_filter}
 use Rattle.depot_laws.proofs.Causes.{update_in_is, own_in_accepted}
 use Rattle.depot_laws.proofs.OwnTexts.{accepted_fit}
-use Rattle.depot_laws.proofs.Sorted.{AreApart, Rises, rises_by_id}
+use Rattle.depot_model.proofs.RisingUpdates.{AreApart, Rises, rises_by_id, from_by_id}
 use Rattle.depot_laws.proofs.Splits.{given_by}
-use Rattle.depot_laws.proofs.Tests.{from_filter, from_by_id}
 use Rattle.depot_schedule.specs.declared.event.Ref.{Ref}
 use Rattle.depot_schedule.specs.declared.event.Ref.TheVariants as ref
 use Rattle.depot_world.specs.Run.{Station, Made, Run, station_in, made_in, signed_of, first_update, own_update, referred}

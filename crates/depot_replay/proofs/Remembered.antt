@@ -8,7 +8,7 @@ use Rattle.depot_model.specs.Order.{parents, IsCausal}
 use Rattle.depot_model.specs.Texts.{id_of_update}
 use Rattle.depot_model.proofs.Members.{in_left, in_last, in_map, all_at, all_from}
 use Rattle.depot_model.proofs.Orders.{causal_push}
-use Rattle.depot_laws.proofs.Tests.{has_id_from, has_id_to, new_id}
+use Rattle.depot_model.proofs.NamedIds.{has_id_from, has_id_to, new_id}
 use Rattle.depot_world.specs.Run.{seen_with}
 use Rattle.depot_replay.specs.Playing.{WereSeen}
 

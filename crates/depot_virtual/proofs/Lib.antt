@@ -1,3 +1,4 @@
+pub mod ChainLengths
 pub mod Places
 pub mod Placing
 pub mod Tips

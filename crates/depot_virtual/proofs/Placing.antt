@@ -169,7 +169,7 @@ placed_behind before placed (prev ∷ rest) p =
     subst (λ (l : List (Option ℕ)). Placed l (spots_behind (before ++ prev ∷ []) (placed ++ next_spot before placed prev ∷ []) rest)) (append_assoc before (prev ∷ []) rest)
     (placed_behind (before ++ prev ∷ []) (placed ++ next_spot before placed prev ∷ []) rest (placed_next before placed prev p))
 
-none_placed : Placed [] []
+pub none_placed : Placed [] []
 none_placed = record {
   size = refl;
   back = λ item chain place e. absurd cc;

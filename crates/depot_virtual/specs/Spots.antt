@@ -57,6 +57,10 @@ spots prevs = spots_behind [] [] prevs
 abbrev pub IsAt : List (Option ℕ) → ℕ → ℕ → ℕ → Type 0
 IsAt prevs item chain place = slice_get (spots prevs) item ≡ Some (record { chain = chain; place = place })
 
+-- how many items with these spots a chain has
+abbrev pub chain_length : List Spot → ℕ → ℕ
+chain_length placed chain = count_by (λ s. s.chain == chain) placed
+
 -- how many chains there are
 abbrev pub number_of_chains : List (Option ℕ) → ℕ
 number_of_chains prevs = chains_of (spots prevs)

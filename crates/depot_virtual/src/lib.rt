@@ -10,7 +10,7 @@
 
 ghost use Rattle.std.specs.Prelude.{◌≡◌, ◌<◌, ◌-◌, ◌≤◌, ◌==◌, ℕ, List, [], ◌∷◌, ◌++◌, length, Option, Some, slice_get, slice_set, OnOk, OnErr, IfOk, IfSome, IsOk, vec_len, if◌then◌else◌};
 ghost use Rattle.std.specs.Vec.{vec_capacity};
-ghost use Rattle.depot_virtual.specs.Spots.{IsForest, spots, next_spot, number_of_chains, IsAt, IsTip, LeadsBack};
+ghost use Rattle.depot_virtual.specs.Spots.{IsForest, spots, next_spot, chain_length, number_of_chains, IsAt, IsTip, LeadsBack};
 
 use depot_base::Memory;
 use std::alloc::Global;
@@ -83,6 +83,19 @@ impl Chains {
         let spot = self.next_spot(prev);
         self.place(prev, spot);
         Ok(spot)
+    }
+
+    /// The spot that the next item gets, if it has this prev. It stands behind the last item of its chain, which is its prev;
+    /// or it is the first of the next chain. It takes no memory.
+    pub fn next(&self, prev: Option<u32>) -> Spot
+        requires earlier { IfSome prev (λ item. item < length self.now.prevs) }
+        requires few { length self.now.prevs < 4294967295 }
+        ensures spot { result ≡ next_spot self.now.prevs (spots self.now.prevs) prev }
+        ensures chain { result.chain ≤ number_of_chains self.now.prevs }
+        ensures place { result.place ≡ chain_length (spots self.now.prevs) result.chain }
+        ensures behind { 0 < result.place → (p : ℕ) × ((prev ≡ Some p) × IsAt self.now.prevs p result.chain (result.place - 1)) }
+    {
+        self.next_spot(prev)
     }
 
     /// The spot of the next item, if it has this prev.

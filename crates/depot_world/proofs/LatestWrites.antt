@@ -20,8 +20,8 @@ use Rattle.depot_model.proofs.Members.{any_from, any_to, from_filter, in_filter}
 use Rattle.depot_model.proofs.Orders.{one_of_id}
 use Rattle.depot_model.proofs.Pasts.{past_in, past_of_listed}
 use Rattle.depot_model.proofs.RisingLists.{RisesBy}
-use Rattle.depot_laws.proofs.Sorted.{AreApart, apart_from_causal, apart_filter}
-use Rattle.depot_laws.proofs.Tests.{has_id_from, has_id_to}
+use Rattle.depot_model.proofs.RisingUpdates.{AreApart, apart_from_causal, apart_filter}
+use Rattle.depot_model.proofs.NamedIds.{has_id_from, has_id_to}
 use Rattle.depot_world.specs.Insertion.{order_by}
 use Rattle.depot_world.specs.Latest.{is_listed_before, is_last, latest_in}
 use Rattle.depot_world.proofs.InsertionLaws.{IsOrderOf, AllDiffer, from_order, in_order, order_rises}

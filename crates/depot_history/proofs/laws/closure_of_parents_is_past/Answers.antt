@@ -1,6 +1,6 @@
 use Rattle.std.proofs.Common.{◌∙◌, ap, sym, List, ℕ}
 use Rattle.depot_history.specs.Closure.{closure_of, reached}
-use Rattle.depot_history.proofs.Markings.{past_is_reached}
+use Rattle.depot_history.proofs.Reaching.{past_is_reached}
 use Rattle.depot_history.proofs.laws.closure_of_parents_is_past.Goals as goal
 
 pub returns : goal.returns

@@ -1,14 +1,13 @@
-use Rattle.std.proofs.Common.{◌∙◌, sym, ap, subst, [], List, ℕ}
+use Rattle.std.proofs.Common.{◌∙◌, sym, subst, []}
 use Rattle.depot_graph.specs.Causal.{causal_from_test}
 use Rattle.depot_graph.specs.Kept.{updates_in}
-use Rattle.depot_graph.specs.Latest.{list_of}
 use Rattle.depot_graph.proofs.PlaceLaws.{AreLatestPlaces, are_latest_places, below_at}
 use Rattle.depot_graph.proofs.graph.Graph.latest.Goals as goal
 
-found : (c : goal.After-get) → AreLatestPlaces c.args.key.now (updates_in c.args.self.now.items.entries) c.get.result.now
+found : (c : goal.After-latest) → AreLatestPlaces c.args.key.now (updates_in c.args.self.now.items.entries) c.latest.result.now
 found c =
     let us = updates_in c.args.self.now.items.entries in
-    let same = c.get.ensures ∙ (ap (λ (key : List ℕ). list_of key c.args.self.now.latest.map.entries) c.bytes.ensures.same ∙ c.args.self.now.reads c.args.key.now) in
+    let same = c.latest.ensures ∙ c.args.self.now.reads c.args.key.now in
     subst (AreLatestPlaces c.args.key.now us) (sym same) (are_latest_places c.args.key.now us (causal_from_test [] us c.args.self.now.causal))
 
 pub returns-clause-latest : goal.returns-clause-latest

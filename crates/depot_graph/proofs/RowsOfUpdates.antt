@@ -1,0 +1,102 @@
+-- The rows of clocks are those of the updates.
+use Rattle.std.proofs.Common.{◌≡◌, ℕ, zero, suc, ◌<◌, List, [], length, Some, Bool, IsTrue, option_map, EachIndex, slice_index, sym, ap, subst, ◌∙◌, arith, inl, inr, slice_get}
+use Rattle.std.proofs.lemmas.Option.{slice_get-map, slice_get_within}
+use Rattle.depot_base.specs.declared.update.Update.{Update}
+use Rattle.depot_model.specs.Order.{IsCausal}
+use Rattle.depot_virtual.specs.declared.Spot.{Spot}
+use Rattle.depot_virtual.specs.Spots.{spots, chains_of, IsAt as SpotIsAt}
+use Rattle.depot_clocks.specs.ChainItems.{ChainItem, IsAt, IsUpTo, IsCount, IsOfPast, IsTrueOf, CountsAll, IsWithin, number_of_chains}
+use Rattle.depot_graph.specs.Clocked.{clock_items}
+use Rattle.depot_graph.specs.Kept.{prev_places}
+use Rattle.depot_graph.specs.UpdateRows.{IsUpToAt, IsOfPastAt, IsCountAt, CountsAllAt, IsWithinAt}
+use Rattle.depot_graph.proofs.ClockedItems.{spotted_at, spotted_length}
+use Rattle.depot_graph.proofs.ClockedUpdates.{clock_spotted, clock_long, clock_number, clock_precedes}
+
+-- ---- items and their spots
+
+-- an item stands in the forest where its clocks say
+to_spot : (us : List Update) (a : ℕ) (x : ChainItem) → IsCausal [] us → slice_get (clock_items us) a ≡ Some x → SpotIsAt (prev_places us) a x.chain x.place
+to_spot us a x c at =
+    let f : ChainItem → Spot = λ y. record { chain = y.chain; place = y.place } in
+    ap (λ (l : List Spot). slice_get l a) (sym (clock_spotted us c)) ∙ (slice_get-map f (clock_items us) a ∙ ap (option_map f) at)
+
+from_spot : (us : List Update) (a chain place : ℕ) → IsCausal [] us → SpotIsAt (prev_places us) a chain place → IsAt (clock_items us) a chain place
+from_spot us a chain place c at = spotted_at (clock_items us) (spots (prev_places us)) a chain place (clock_spotted us c) at
+
+low_at : (us : List Update) (a : ℕ) (x : ChainItem) → IsCausal [] us → slice_get (clock_items us) a ≡ Some x → a < length us
+low_at us a x c at = let low = slice_get_within (clock_items us) a x at in omega (arith, low, clock_long us c)
+
+-- ---- what an item is up to
+
+up_to : (us : List Update) (a b : ℕ) → IsCausal [] us → a < length us → b < length us → IsUpTo (clock_items us) a b → IsUpToAt us a b
+up_to us a b c low_a low_b (zero, same) = inl (sym same)
+up_to us a b c low_a low_b (suc steps, leads) = inr ((clock_precedes us a b c low_a low_b).0 (steps, leads))
+
+up_from : (us : List Update) (a b : ℕ) → IsCausal [] us → a < length us → b < length us → IsUpToAt us a b → IsUpTo (clock_items us) a b
+up_from us a b c low_a low_b (inl same) = (0, sym same)
+up_from us a b c low_a low_b (inr p) = let q = (clock_precedes us a b c low_a low_b).1 p in (suc q.0, q.1)
+
+-- ---- counts and rows
+
+module _ (us : List Update) (c : IsCausal [] us) (item : ℕ) (low : item < length us) where
+  count_at : (chain n : ℕ) → IsCount (clock_items us) chain item n → IsCountAt us chain item n
+  count_at chain n k = record {
+    there = omega (arith, k.there, spotted_length (clock_items us) (spots (prev_places us)) chain (clock_spotted us c));
+    counted = λ a place at up.
+        let x = from_spot us a chain place c at in
+        let low_a = low_at us a x.0 c x.1.0 in
+        let below = k.counted a x.0 x.1.0 x.1.1.0 (up_from us a item c low_a low up) in
+        omega (arith, below, x.1.1.1);
+    only = λ a place at below.
+        let x = from_spot us a chain place c at in
+        up_to us a item c (low_at us a x.0 c x.1.0) low (k.only a x.0 x.1.0 x.1.1.0 (omega (arith, below, x.1.1.1)));
+  }
+
+  count_from : (chain n : ℕ) → IsCountAt us chain item n → IsCount (clock_items us) chain item n
+  count_from chain n k = record {
+    there = omega (arith, k.there, spotted_length (clock_items us) (spots (prev_places us)) chain (clock_spotted us c));
+    counted = λ a x at is up. k.counted a x.place (subst (λ (d : ℕ). SpotIsAt (prev_places us) a d x.place) is (to_spot us a x c at)) (up_to us a item c (low_at us a x c at) low up);
+    only = λ a x at is below. up_from us a item c (low_at us a x c at) low (k.only a x.place (subst (λ (d : ℕ). SpotIsAt (prev_places us) a d x.place) is (to_spot us a x c at)) below);
+  }
+
+  many_at : (chain n : ℕ) → IsTrueOf (IsOfPast (clock_items us) chain item) n → IsTrueOf (IsOfPastAt us chain item) n
+  many_at chain n k = record {
+    numbers = k.numbers;
+    all = λ a is.
+        let x = from_spot us a chain is.0.0 c is.0.1 in
+        k.all a (x.0, (x.1.0, (x.1.1.0, up_from us a item c (low_at us a x.0 c x.1.0) low is.1)));
+    only = λ a on.
+        let is = k.only a on in
+        let low_a = low_at us a is.0 c is.1.0 in
+        ((is.0.place, subst (λ (d : ℕ). SpotIsAt (prev_places us) a d is.0.place) is.1.1.0 (to_spot us a is.0 c is.1.0)), up_to us a item c low_a low is.1.1.1);
+    apart = k.apart;
+    many = k.many;
+  }
+
+  -- ---- over items that are those of the updates
+
+  pub row_counts : (items : List ChainItem) (row : List ℕ) → items ≡ clock_items us → EachIndex row (λ chain. IsCount items chain item (slice_index row chain)) → EachIndex row (λ chain. IsCountAt us chain item (slice_index row chain))
+  row_counts items row clocked each chain inside = count_at chain (slice_index row chain) (subst (λ (xs : List ChainItem). IsCount xs chain item (slice_index row chain)) clocked (each chain inside))
+
+  pub row_many : (items : List ChainItem) (row : List ℕ) → items ≡ clock_items us → EachIndex row (λ chain. IsTrueOf (IsOfPast items chain item) (slice_index row chain)) → EachIndex row (λ chain. IsTrueOf (IsOfPastAt us chain item) (slice_index row chain))
+  row_many items row clocked each chain inside = many_at chain (slice_index row chain) (subst (λ (xs : List ChainItem). IsTrueOf (IsOfPast xs chain item) (slice_index row chain)) clocked (each chain inside))
+
+  pub within_rows : (items : List ChainItem) (row : List ℕ) (told : Bool) → items ≡ clock_items us → (IsTrue told → IsWithin items item row) × (IsWithin items item row → IsTrue told) → (IsTrue told → IsWithinAt us item row) × (IsWithinAt us item row → IsTrue told)
+  within_rows items row told clocked tells = (
+    (λ yes_ chain n k. tells.0 yes_ chain n (subst (λ (xs : List ChainItem). IsCount xs chain item n) (sym clocked) (count_from chain n k))),
+    (λ is. tells.1 (λ chain n k. is chain n (count_at chain n (subst (λ (xs : List ChainItem). IsCount xs chain item n) clocked k)))),
+  )
+
+  pub within_counts : (items : List ChainItem) (row : List ℕ) (told : Bool) → items ≡ clock_items us → (IsTrue told → CountsAll items item row) × (CountsAll items item row → IsTrue told) → (IsTrue told → CountsAllAt us item row) × (CountsAllAt us item row → IsTrue told)
+  within_counts items row told clocked tells = (
+    (λ yes_ a chain place at up.
+        let x = from_spot us a chain place c at in
+        let up_x = up_from us a item c (low_at us a x.0 c x.1.0) low up in
+        let below : x.0.place < slice_index row x.0.chain = subst (λ (xs : List ChainItem). CountsAll xs item row) clocked (tells.0 yes_) a x.0 x.1.0 up_x in
+        let here : x.0.place < slice_index row chain = subst (λ (d : ℕ). x.0.place < slice_index row d) x.1.1.0 below in
+        omega (arith, here, x.1.1.1)),
+    (λ all. tells.1 (subst (λ (xs : List ChainItem). CountsAll xs item row) (sym clocked) (λ a x at up. all a x.chain x.place (to_spot us a x c at) (up_to us a item c (low_at us a x c at) low up)))),
+  )
+
+pub row_long : (us : List Update) (items : List ChainItem) (row : List ℕ) → IsCausal [] us → items ≡ clock_items us → length row ≡ chains_of (spots (prev_places us)) → length row ≡ number_of_chains items
+row_long us items row c clocked long = long ∙ (sym (clock_number us c) ∙ ap number_of_chains (sym clocked))

@@ -1,0 +1,111 @@
+-- The two orders of updates by places, by paths of parents and as they are listed, are orders.
+use Rattle.std.proofs.Common.{◌≡◌, ℕ, zero, suc, ◌<◌, ◌⊎◌, List, [], ◌∷◌, Some, Bool, true, false, refl, sym, ap, subst, ◌∙◌, arith, inl, inr, slice_get, length}
+use Rattle.std.specs.declared.cmp.Ordering.{Ordering}
+use Rattle.std.specs.declared.cmp.Ordering.TheVariants.{Less, Equal, Greater}
+use Rattle.std.specs.Ordering.{is_lt, is_eq, ordering_reverse}
+use Rattle.std.proofs.lemmas.Bool.{cases_order}
+use Rattle.std.proofs.lemmas.Cmp.{nat_list_cmp_total}
+use Rattle.std.proofs.lemmas.Map.Text.{is_eq-slice_cmp}
+use Rattle.std.proofs.lemmas.Slice.Eq.{bytes_eq-Decides}
+use Rattle.depot_base.specs.declared.update.Update.{Update}
+use Rattle.depot_model.specs.Texts.{id_of_update}
+use Rattle.depot_model.specs.Order.{IsParent, Precedes, listed, IsCausal}
+use Rattle.depot_model.specs.Items.{PrecedesAt}
+use Rattle.depot_model.proofs.Elements.{at_place, in_at}
+use Rattle.depot_model.proofs.LatestLaws.{rank, listed_one_way}
+use Rattle.depot_model.proofs.Orders.{fresh, leads_trans, precedes_irreflexive}
+use Rattle.depot_graph.specs.Listing.{ListedAt}
+
+pub some_same : {X : Type 0} (x y : X) → Some x ≡ Some y → x ≡ y
+some_same x y e = cc
+
+-- ---- by paths of parents
+
+-- what is said of two places, where they are known
+pub at_both : (us : List Update) (a b : ℕ) (t u : Update) → slice_get us a ≡ Some t → slice_get us b ≡ Some u → (PrecedesAt us a b → Precedes us t u) × (Precedes us t u → PrecedesAt us a b)
+at_both us a b t u at_a at_b = (
+  (λ p.
+      let first : p.0 ≡ t = some_same _ _ (sym p.1.0 ∙ at_a) in
+      let second : p.1.1.0 ≡ u = some_same _ _ (sym p.1.1.1.0 ∙ at_b) in
+      subst (λ (x : Update). Precedes us x u) first (subst (Precedes us p.0) second p.1.1.1.1)),
+  (λ p. (t, (at_a, (u, (at_b, p))))),
+)
+
+pub precedes_no_self : (us : List Update) (a : ℕ) → IsCausal [] us → PrecedesAt us a a → ⊥
+precedes_no_self us a c p = precedes_irreflexive [] us p.0 c ((at_both us a a p.0 p.0 p.1.0 p.1.0).0 p)
+
+pub precedes_on : (us : List Update) (a b d : ℕ) → PrecedesAt us a b → PrecedesAt us b d → PrecedesAt us a d
+precedes_on us a b d p q =
+    let first = (at_both us a b p.0 q.0 p.1.0 q.1.0).0 p in
+    (p.0, (p.1.0, (q.1.1.0, (q.1.1.1.0, leads_trans (IsParent us) p.0 q.0 q.1.1.0 first q.1.1.1.1))))
+
+-- ---- the listed order of updates
+
+lt_is : (o : Ordering) → is_lt o ≡ true → o ≡ Less
+lt_is Less e = refl
+lt_is Equal e = absurd cc
+lt_is Greater e = absurd cc
+
+pub listed_trans : (t u v : Update) → is_lt (listed t u) ≡ true → is_lt (listed u v) ≡ true → is_lt (listed t v) ≡ true
+listed_trans t u v p q = ap is_lt (nat_list_cmp_total.trans (rank t) (rank u) (rank v) (lt_is _ p) (lt_is _ q))
+
+ends : (a b c : ℕ) (xs : List ℕ) (d e f : ℕ) (ys : List ℕ) → a ∷ b ∷ c ∷ xs ≡ d ∷ e ∷ f ∷ ys → xs ≡ ys
+ends a b c xs d e f ys h = cc
+
+tied_ids : (t u : Update) → listed t u ≡ Equal → id_of_update t ≡ id_of_update u
+tied_ids t u e = ends t.clock t.writer t.seq (id_of_update t) u.clock u.writer u.seq (id_of_update u) ((bytes_eq-Decides (rank t) (rank u)).0 (sym (is_eq-slice_cmp (rank t) (rank u)) ∙ ap is_eq e))
+
+turned : (o p : Ordering) → o ≡ ordering_reverse p → is_lt p ≡ false → (p ≡ Equal → ⊥) → is_lt o ≡ true
+turned o Less e n ne = absurd cc
+turned o Equal e n ne = absurd (ne refl)
+turned o Greater e n ne = ap is_lt e
+
+-- of two with different ids one stands before the other
+pub listed_back : (u t : Update) → is_lt (listed u t) ≡ false → (id_of_update t ≡ id_of_update u → ⊥) → is_lt (listed t u) ≡ true
+listed_back u t n ne = turned (listed t u) (listed u t) (nat_list_cmp_total.antisymm (rank t) (rank u)) n (λ e. ne (sym (tied_ids u t e)))
+
+-- an id stands at one place
+one_place_behind : (ids : List (List ℕ)) (us : List Update) (k p : ℕ) (t w : Update) → IsCausal ids us → slice_get us k ≡ Some t → slice_get us p ≡ Some w → id_of_update t ≡ id_of_update w → k < p → ⊥
+unfolding IsCausal
+one_place_behind ids [] k p t w c at_k at_p e lt = absurd cc
+one_place_behind ids (x ∷ xs) zero zero t w c at_k at_p e lt = omega (arith, lt)
+one_place_behind ids (x ∷ xs) (suc k) zero t w c at_k at_p e lt = omega (arith, lt)
+one_place_behind ids (x ∷ xs) zero (suc p) t w c at_k at_p e lt = fresh (id_of_update x ∷ ids) xs w c.1.1 (in_at xs p w at_p) (inl (ap id_of_update (some_same x t at_k) ∙ e))
+one_place_behind ids (x ∷ xs) (suc k) (suc p) t w c at_k at_p e lt = one_place_behind (id_of_update x ∷ ids) xs k p t w c.1.1 at_k at_p e (omega (arith, lt))
+
+pub one_place : (us : List Update) (k p : ℕ) (t w : Update) → IsCausal [] us → slice_get us k ≡ Some t → slice_get us p ≡ Some w → id_of_update t ≡ id_of_update w → k < p → ⊥
+one_place us k p t w c at_k at_p e lt = one_place_behind [] us k p t w c at_k at_p e lt
+
+-- ---- as they are listed
+
+-- the same of the listed order
+pub listed_both : (us : List Update) (a b : ℕ) (t u : Update) → slice_get us a ≡ Some t → slice_get us b ≡ Some u → ListedAt us a b → is_lt (listed t u) ≡ true
+listed_both us a b t u at_a at_b p =
+    let first : p.0 ≡ t = some_same _ _ (sym p.1.0 ∙ at_a) in
+    let second : p.1.1.0 ≡ u = some_same _ _ (sym p.1.1.1.0 ∙ at_b) in
+    subst (λ (x : Update). is_lt (listed x u) ≡ true) first (subst (λ (x : Update). is_lt (listed p.0 x) ≡ true) second p.1.1.1.1)
+
+pub lists_no_self : (us : List Update) (a : ℕ) → ListedAt us a a → ⊥
+lists_no_self us a p = let before = listed_both us a a p.0 p.0 p.1.0 p.1.0 p in listed_one_way p.0 p.0 before before
+
+pub lists_on : (us : List Update) (a b d : ℕ) → ListedAt us a b → ListedAt us b d → ListedAt us a d
+lists_on us a b d p q =
+    let first = listed_both us a b p.0 q.0 p.1.0 q.1.0 p in
+    (p.0, (p.1.0, (q.1.1.0, (q.1.1.1.0, listed_trans p.0 q.0 q.1.1.0 first q.1.1.1.1))))
+
+-- of two places one is listed before the other, since no id stands at both
+lists_either : (b : Bool) (us : List Update) (x y : ℕ) (t u : Update) → is_lt (listed t u) ≡ b → slice_get us x ≡ Some t → slice_get us y ≡ Some u → (id_of_update u ≡ id_of_update t → ⊥) → ListedAt us x y ⊎ ListedAt us y x
+lists_either true us x y t u e at_x at_y apart = inl (t, (at_x, (u, (at_y, e))))
+lists_either false us x y t u e at_x at_y apart = inr (u, (at_y, (t, (at_x, listed_back t u e apart))))
+
+pub lists_all : (us : List Update) (a b : ℕ) → IsCausal [] us → a < length us → b < length us → (a ≡ b) ⊎ (ListedAt us a b ⊎ ListedAt us b a)
+lists_all us a b c low_a low_b =
+    let t = at_place us a low_a in
+    let u = at_place us b low_b in
+    elim (cases_order a b) [
+      | inl same ↦ inl same
+      | inr other ↦ inr (lists_either (is_lt (listed t.0 u.0)) us a b t.0 u.0 refl t.1 u.1 (λ one. elim other [
+        | inl lt ↦ one_place us a b t.0 u.0 c t.1 u.1 (sym one) lt
+        | inr gt ↦ one_place us b a u.0 t.0 c u.1 t.1 one gt
+      ]))
+    ]

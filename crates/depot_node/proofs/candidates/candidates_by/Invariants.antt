@@ -1,9 +1,0 @@
-use Rattle.std.proofs.Common.{◌≡◌, ℕ, List}
-use Rattle.depot_graph.specs.Kept.{updates_in}
-use Rattle.depot_model.specs.Bundle.{is_candidate}
-use Rattle.depot_node.specs.Telling.{items_named}
-use Rattle.depot_node.proofs.BesidePlaces.{IsSoFar}
-use Rattle.depot_node.proofs.candidates.candidates_by.Given as goal
-
-abbrev pub invariant-loop-item : goal.invariant-loop-item
-invariant-loop-item g l = (ids : List (List ℕ)) → l.leaves ≡ items_named (updates_in l.graph.items.entries) ids → IsSoFar (is_candidate (updates_in l.graph.items.entries) ids l.reader) (updates_in l.graph.items.entries) l.places l.item l.found
