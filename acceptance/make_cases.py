@@ -49,6 +49,10 @@ def signed(body, signature):
     return u(4, len(body)) + body + u(4, len(signature)) + signature
 
 
+def frame(tag, payload):
+    return u(1, tag) + u(4, len(payload)) + payload
+
+
 def proof(kind, first, second):
     return b"\x01" + u(1, kind) + first + second
 
@@ -195,6 +199,12 @@ def words():
         "words_seed_in_capitals": ["key", "AB" * 32, "2"],
         "words_unknown_command": ["play", "SCHEDULE"],
         "words_that_are_no_text": ["scan", b"\xff", "6b"],
+        "words_load_alone": ["load"],
+        "words_load_of_two_numbers": ["load", "1", "2"],
+        "words_load_of_no_number": ["load", "one"],
+        "words_load_with_a_zero": ["load", "01"],
+        "words_load_with_a_sign": ["load", "+1"],
+        "words_load_above": ["load", str(2**32)],
     }.items():
         case(name, args, "words\n", 1)
 

@@ -10,7 +10,7 @@ the documents define it, without any of the checks that these cases don't need; 
 import os
 import shutil
 
-from make_cases import HERE, ZEROS, Signer, history_of, proof, roster, sha, signed, u, update
+from make_cases import HERE, ZEROS, Signer, frame, history_of, proof, roster, sha, signed, u, update
 
 JOURNAL = "depot.journal"
 HEIGHT = 2
@@ -19,10 +19,6 @@ KINDS = ["SameNumber", "SamePrev"]
 
 def seed(node):
     return bytes([node]) * 32
-
-
-def frame(tag, payload):
-    return u(1, tag) + u(4, len(payload)) + payload
 
 
 END, MORE = frame(4, b"\0"), frame(4, b"\1")

@@ -13,7 +13,7 @@ use Rattle.depot_tool.specs.declared.status.Status.TheVariants.{Done, Input, She
 use Rattle.depot_tool.specs.declared.command.Command.{Command}
 use Rattle.depot_tool.specs.declared.command.Command.TheVariants as asked
 use Rattle.depot_outside.specs.Told.{Shelves, Loads, Sinks, HasFile, LacksFile}
-use Rattle.depot_tool.specs.Runs.{IsNoLog, IsOrphaned, Scans, PrintsKey, IsRosterText, IsNoRoster, HasRoster, JudgesProof, Judges, IsNoSchedule, Replays, Answers, Begins, Ends, IsWell, IsWholeLog, IsScheduleText, Completes}
+use Rattle.depot_tool.specs.Runs.{IsNoLog, IsOrphaned, Scans, PrintsKey, IsRosterText, IsNoRoster, HasRoster, JudgesProof, Judges, IsNoSchedule, PrintsLoad, Replays, Answers, Begins, Ends, IsWell, IsWholeLog, IsScheduleText, Completes}
 
 -- a file that is there isn't lacking where the shelf is well
 pub not_lacking : (shelf : Shelves) (sink : Sinks) (name bytes : List ℕ) → IsWell shelf sink → shelf.file name ≡ Some bytes → LacksFile shelf name → ⊥
@@ -83,12 +83,17 @@ replay_completes shelf sink name Input text well answer good = absurd (no_schedu
 replay_completes shelf sink name Shelf text well answer good = absurd (not_lacking shelf sink name good.bytes well good.there answer.0)
 replay_completes shelf sink name status text well answer good = absurd answer
 
+load_completes : (number : ℕ) (status : Status) (text : List ℕ) → PrintsLoad number status text → (status ≡ Done) ⊎ (status ≡ Memory)
+load_completes number Done text answer = inl refl
+load_completes number status text answer = absurd answer
+
 -- what a command answers is what it comes to
 completes : (shelf : Shelves) (loads : Loads) (sink : Sinks) (command : Option Command) (status : Status) (text : List ℕ) → Answers shelf loads command status text → IsWell shelf sink → Completes shelf command status
 completes shelf loads sink None status text (loaded, (is, line)) well = inl is
 completes shelf loads sink (Some (asked.Scan log key)) status text (loaded, answer) well = scan_completes shelf sink log key status text well answer
 completes shelf loads sink (Some (asked.Root seed height)) status text (loaded, answer) well = key_completes seed height status text answer
 completes shelf loads sink (Some (asked.Judge name proof)) status text answer well = judge_completes shelf loads sink name proof status text well answer
+completes shelf loads sink (Some (asked.Load number)) status text (loaded, answer) well = load_completes number status text answer
 completes shelf loads sink (Some (asked.Node n)) status text answer well = tt
 completes shelf loads sink (Some (asked.Replay name)) status text (loaded, answer) well = replay_completes shelf sink name status text well answer
 
@@ -99,6 +104,7 @@ without_memory shelf (Some (asked.Scan log key)) status is = λ there. inr is
 without_memory shelf (Some (asked.Root seed height)) status is = inr is
 without_memory shelf (Some (asked.Judge name proof)) status is = λ good there. inr (inr is)
 without_memory shelf (Some (asked.Replay name)) status is = λ good. inr is
+without_memory shelf (Some (asked.Load number)) status is = inr is
 without_memory shelf (Some (asked.Node n)) status is = tt
 
 -- a run that ends as its command answers completes it, where nothing failed

@@ -126,6 +126,7 @@ pub results_complete : (disk : Disks) (shelf : Shelves) (loads : Loads) (sink : 
 results_complete disk shelf loads sink same_disk same_files None status r well = ends_complete shelf loads sink None status r.1 well
 results_complete disk shelf loads sink same_disk same_files (Some (asked.Scan log key)) status r well = ends_complete shelf loads sink (Some (asked.Scan log key)) status r.1 well
 results_complete disk shelf loads sink same_disk same_files (Some (asked.Root seed height)) status r well = ends_complete shelf loads sink (Some (asked.Root seed height)) status r.1 well
+results_complete disk shelf loads sink same_disk same_files (Some (asked.Load number)) status r well = ends_complete shelf loads sink (Some (asked.Load number)) status r.1 well
 results_complete disk shelf loads sink same_disk same_files (Some (asked.Judge name proof)) status r well = ends_complete shelf loads sink (Some (asked.Judge name proof)) status r.1 well
 results_complete disk shelf loads sink same_disk same_files (Some (asked.Replay name)) status r well = ends_complete shelf loads sink (Some (asked.Replay name)) status r.1 well
 results_complete disk shelf loads sink same_disk same_files (Some (asked.Node n)) status r well = tt
@@ -192,6 +193,7 @@ pub results_complete_node : (disk : Disks) (shelf : Shelves) (loads : Loads) (si
 results_complete_node disk shelf loads sink same_disk same_files None status r well disk_well = tt
 results_complete_node disk shelf loads sink same_disk same_files (Some (asked.Scan log key)) status r well disk_well = tt
 results_complete_node disk shelf loads sink same_disk same_files (Some (asked.Root seed height)) status r well disk_well = tt
+results_complete_node disk shelf loads sink same_disk same_files (Some (asked.Load number)) status r well disk_well = tt
 results_complete_node disk shelf loads sink same_disk same_files (Some (asked.Judge name proof)) status r well disk_well = tt
 results_complete_node disk shelf loads sink same_disk same_files (Some (asked.Replay name)) status r well disk_well = tt
 results_complete_node disk shelf loads sink same_disk same_files (Some (asked.Node n)) status r well disk_well = node_completes disk shelf loads sink same_disk same_files n status r well disk_well

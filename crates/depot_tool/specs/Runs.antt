@@ -26,6 +26,8 @@ use Rattle.depot_schedule.specs.Schedules.{schedule_of}
 use Rattle.depot_schedule.specs.declared.fault.LineFault.{LineFault}
 use Rattle.depot_schedule.specs.declared.schedule.Schedule.{Schedule}
 use Rattle.depot_world.specs.Transcript.{transcript_of, world_of}
+use Rattle.depot_load.specs.Loads.{load_of}
+use Rattle.depot_load.specs.Summaries.{summary_of}
 use Rattle.depot_tool.specs.Lines.{line_of_write}
 use Rattle.depot_outside.specs.Told.{Shelves, Loads, HasLoaded, HasFile, WhereTold, LacksFile, Sinks, Wrote, WroteFront}
 use Rattle.depot_tool.specs.declared.command.Command.{Command}
@@ -169,6 +171,13 @@ Replays shelf name Input text = WhereTold shelf (HasFile shelf name (IsNoSchedul
 Replays shelf name Shelf text = LacksFile shelf name × (text ≡ shelf_line name)
 Replays shelf name status text = ⊥
 
+-- ---- load
+
+-- what is summed up of the replay of the schedule that the number makes
+abbrev pub PrintsLoad : ℕ → Status → List ℕ → Type 0
+PrintsLoad number Done text = text ≡ summary_of number (transcript_of (load_of number))
+PrintsLoad number status text = ⊥
+
 -- ---- node
 
 -- the bytes are no script's, and the text tells the first faulty line and its first fault
@@ -199,6 +208,7 @@ Answers shelf loads (Some (asked.Scan log key)) status text = HasLoaded loads (l
 Answers shelf loads (Some (asked.Root seed height)) status text = HasLoaded loads [] × PrintsKey seed height status text
 Answers shelf loads (Some (asked.Judge roster proof)) status text = Judges shelf loads roster proof status text
 Answers shelf loads (Some (asked.Replay schedule)) status text = HasLoaded loads (schedule ∷ []) × Replays shelf schedule status text
+Answers shelf loads (Some (asked.Load number)) status text = HasLoaded loads [] × PrintsLoad number status text
 Answers shelf loads (Some (asked.Node n)) status text = NodeInputs shelf loads n.roster n.script status text
 
 -- nothing, or a front of a text of which this holds
@@ -271,5 +281,6 @@ Completes shelf None status = (status ≡ Words) ⊎ (status ≡ Memory)
 Completes shelf (Some (asked.Scan log key)) status = HasFile shelf log IsWholeLog → (status ≡ Done) ⊎ (status ≡ Memory)
 Completes shelf (Some (asked.Root seed height)) status = (status ≡ Done) ⊎ (status ≡ Memory)
 Completes shelf (Some (asked.Judge roster proof)) status = HasRoster shelf roster → HasFile shelf proof (λ bytes. Unit {0}) → (status ≡ Done) ⊎ ((status ≡ NoProof) ⊎ (status ≡ Memory))
+Completes shelf (Some (asked.Load number)) status = (status ≡ Done) ⊎ (status ≡ Memory)
 Completes shelf (Some (asked.Node n)) status = Unit {0}
 Completes shelf (Some (asked.Replay schedule)) status = HasFile shelf schedule IsScheduleText → (status ≡ Done) ⊎ (status ≡ Memory)

@@ -4,7 +4,7 @@ use Rattle.std.specs.Str.{bytes_eq}
 use Rattle.depot_model.specs.Lists.{when}
 use Rattle.depot_schedule.specs.Spelling.{is_within, hex_word, sized, number_word, is_name}
 use Rattle.depot_tool.specs.declared.command.Command.{Command}
-use Rattle.depot_tool.specs.declared.command.Command.TheVariants.{Scan, Root, Judge, Replay, Node}
+use Rattle.depot_tool.specs.declared.command.Command.TheVariants.{Scan, Root, Judge, Load, Replay, Node}
 
 -- ---- commands
 
@@ -33,6 +33,10 @@ judge_command roster proof = both (name_word roster) (name_word proof) (λ roste
 abbrev pub replay_command : List ℕ → Option Command
 replay_command schedule = option_map (λ name. Replay name) (name_word schedule)
 
+-- `load NUMBER`
+abbrev pub load_command : List ℕ → Option Command
+load_command number = option_map (λ n. Load n) (number_word 0 4294967295 number)
+
 -- `node ROSTER SEED HEIGHT ID SCRIPT`
 abbrev pub node_command : List ℕ → List ℕ → List ℕ → List ℕ → List ℕ → Option Command
 node_command roster seed height id script =
@@ -40,7 +44,9 @@ node_command roster seed height id script =
 
 -- a command of two words
 unfoldable pub command_with : List ℕ → List ℕ → Option Command
-command_with verb a = if bytes_eq verb (codes "replay") then replay_command a else None
+command_with verb a =
+    if bytes_eq verb (codes "replay") then replay_command a else
+    if bytes_eq verb (codes "load") then load_command a else None
 
 -- a command of three words
 unfoldable pub command_by : List ℕ → List ℕ → List ℕ → Option Command

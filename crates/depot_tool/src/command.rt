@@ -1,10 +1,10 @@
 //! The commands, and which words ask for them.
 ghost use Rattle.std.specs.Prelude.{◌≡◌, ◌≤◌, IfOk, None, Some, option_map};
-ghost use Rattle.depot_tool.specs.Words.{command_of, command_by, command_for, command_with, scan_command, key_command, judge_command, node_command, replay_command};
+ghost use Rattle.depot_tool.specs.Words.{command_of, command_by, command_for, command_with, scan_command, key_command, judge_command, load_command, node_command, replay_command};
 
 use crate::height::Height;
 use crate::word::Word;
-use crate::words::{hash_word, height_word, id_word, key_word, name_word};
+use crate::words::{hash_word, height_word, id_word, key_word, load_word, name_word};
 use depot_base::{Hash32, Key, Memory, NodeId};
 use std::alloc::Global;
 
@@ -19,6 +19,8 @@ pub enum Command {
     Judge(Word, Word),
     /// `replay SCHEDULE`: the transcript of a schedule. The name of the schedule.
     Replay(Word),
+    /// `load NUMBER`: what is summed up of the replay of a long schedule. The number that makes it.
+    Load(u32),
     /// `node ROSTER SEED HEIGHT ID SCRIPT`: what a script makes of a node over the disk.
     Node(NodeWords),
 }
@@ -82,6 +84,16 @@ fn replay_command(schedule: &Word) -> Result<Option<Command>, Memory>
     }
 }
 
+/// The command of `load`'s word.
+fn load_command(number: &Word) -> Option<Command>
+    ensures { result ≡ load_command number.now }
+{
+    match load_word(number) {
+        Some(number) => Some(Command::Load(number)),
+        None => None,
+    }
+}
+
 /// The command of `node`'s five words.
 fn node_command(
     alloc: Global,
@@ -124,6 +136,9 @@ fn two_words(verb: &Word, word: &Word) -> Result<Option<Command>, Memory>
 {
     if verb.is("replay") {
         return replay_command(word);
+    }
+    if verb.is("load") {
+        return Ok(load_command(word));
     }
     Ok(None)
 }

@@ -16,6 +16,7 @@ mod key;
 mod lines;
 mod load;
 mod log;
+mod long_run;
 mod node;
 mod order;
 mod outcome;

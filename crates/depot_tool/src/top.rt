@@ -8,6 +8,7 @@ ghost use Rattle.depot_tool.specs.Runs.{EndsAtFault, IsWell, Completes};
 use crate::command::{Command, parse};
 use crate::judge::judge;
 use crate::key::key;
+use crate::long_run::summed_up;
 use crate::node::node;
 use crate::outcome::{Outcome, finish};
 use crate::replay::replay;
@@ -37,6 +38,7 @@ fn run<F: Shelf, D: Disk, S: Sink>(
             out,
         ),
         Command::Replay(schedule) => replay(alloc, shelf, schedule.text(), out),
+        Command::Load(number) => finish(summed_up(alloc, *number), out),
         Command::Node(words) => node(alloc, words, shelf, disk, out),
     }
 }
@@ -44,8 +46,8 @@ fn run<F: Shelf, D: Disk, S: Sink>(
 /// Runs the program: does what the words ask for, writes its text to `out`, and says how the run ended. The first
 /// fault ends the run.
 ///
-/// The commands built so far are `scan LOG KEY`, `key SEED HEIGHT`, `judge ROSTER PROOF`, `replay SCHEDULE` and
-/// `node ROSTER SEED HEIGHT ID SCRIPT`; other words are refused as Words. `docs/FORMATS.md` has each text that is
+/// The commands built so far are `scan LOG KEY`, `key SEED HEIGHT`, `judge ROSTER PROOF`, `replay SCHEDULE`, `load NUMBER`
+/// and `node ROSTER SEED HEIGHT ID SCRIPT`; other words are refused as Words. `docs/FORMATS.md` has each text that is
 /// printed, and `docs/PROMISES.md` the clauses in plain words.
 pub fn depot<F: Shelf, D: Disk, S: Sink>(
     alloc: Global,

@@ -64,3 +64,13 @@ pub fn id_word(word: &Word) -> Option<NodeId>
         None => None,
     }
 }
+
+/// The number from 0 to 4294967295 that a word gives in decimal.
+pub fn load_word(word: &Word) -> Option<u32>
+    ensures { result ≡ number_word 0 4294967295 word.now }
+{
+    match number_word(word.text().as_bytes(), 0, 4_294_967_295) {
+        Some(number) => Some(number as u32),
+        None => None,
+    }
+}

@@ -21,3 +21,8 @@ returns-in-Judge-clause-results g c =
 
 pub returns-in-Replay-clause-results : goal.returns-in-Replay-clause-results
 returns-in-Replay-clause-results g c = rw c.in-Replay.is ((refl, c.replay.ensures.files), rw c.text-in-Replay.ensures at c.replay.ensures.ends)
+
+pub returns-in-Load-clause-results : goal.returns-in-Load-clause-results
+returns-in-Load-clause-results g c =
+    let answered = IfOk-weaker c.summed_up.result _ _ (λ o is. (sym (append-nil (g.F.Shelf.loads c.args.shelf.now)), is)) c.summed_up.ensures in
+    rw c.in-Load.is ((refl, refl), finished _ _ _ c.summed_up.result c.finish-in-Load.result answered refl c.finish-in-Load.ensures)

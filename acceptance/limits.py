@@ -1,0 +1,107 @@
+#!/usr/bin/env python3
+"""Replays schedules that reach the limits, and says of each whether it prints what it must. They are told as those of make_replays.py, and
+are too large to be kept as files.
+
+    python3 acceptance/limits.py
+"""
+
+import os
+import subprocess
+import sys
+import tempfile
+
+from make_cases import HERE, ZEROS, frame
+from make_replays import REFUSED_ONE, TOOK, branches, doubled, hello_of, members, raw, schedule, signed_update, signed_voucher, transcript
+
+WIDE = ["depot schedule 1", "scheme plain 12"]
+
+
+def long_values():
+    """Values of 65,536 bytes are put and taken, and none is that is longer."""
+    long = "76" * 65_536
+    return members("node 1", "faulty 9"), [
+        ("update x 9 0 1 - 6b 61 - right", "9/0/1"),
+        (f"update y 9 1 2 x 6c {long} - right", "9/1/2"),
+        ("give 1 x", TOOK),
+        ("give 1 y 1460", TOOK),
+        raw("z", frame(3, b"v" * 65_537)),
+        ("give 1 z", REFUSED_ONE, "refused 0 1 IllFormed 65536"),
+        (f"put 1 6d {long}", "0/3"),
+        ("put 1 6b 62", "1/4"),
+        ("restart 1", "records 7"),
+        ("get 1 6b", "1/1/4=62"),
+        ("get 1 6c", f"9/1/2={long}"),
+        ("get 1 6d", f"1/0/3={long}"),
+    ]
+
+
+def many_branches():
+    """Others have 4,096 branches at most."""
+    return WIDE + ["node 1", "faulty 8", "faulty 9"], branches(4096, "Tips 4096", [
+        ("update x 8 16 1 - 6b 62 - right", "8/16/1"),
+        ("give 1 x", "accepted 0 known 0 refused 0 full writers 4096"),
+        ("restart 1", f"records {1 + 16 + 1 + 4096 + 4096}"),
+    ])
+
+
+def many_records():
+    """A journal has 131,072 records at most: the birth, an update, and vouchers for an update that nobody has."""
+    update = frame(2, signed_update(34, 0, 1, b"a"))
+    count = 131_070
+    vouchers = [frame(2, signed_voucher(2 + at // 4096, at % 4096, ZEROS)) for at in range(count)]
+    full = "accepted 0 known 0 refused 0 full records 131072"
+    return WIDE + ["node 1"] + [f"faulty {node}" for node in range(2, 35)], [
+        raw("a", update + b"".join(vouchers)),
+        ("give 1 a 65536", f"accepted {1 + count} known 0 refused 0 bare"),
+        raw("b", frame(2, signed_voucher(34, 1, ZEROS))),
+        ("give 1 b", full),
+        raw("c", frame(3, b"a")),
+        ("give 1 c", full),
+        ("put 1 6b 62", "full records 131072"),
+        raw("d", hello_of(2, 12, *range(1, 35))),
+        ("bundle 1 d e", "full records 131072"),
+        ("give 1 a", f"accepted 0 known {1 + count} refused 0 bare"),
+        ("restart 1", "records 131072"),
+    ]
+
+
+def long_bundle():
+    """The updates and values of a bundle have 67,108,864 bytes at most: with its value each of these takes 165 and 65,541."""
+    return WIDE + ["node 1", "node 2"], [
+        *[(f"put 1 6b {seq:04x}{'00' * 65_534}", f"{seq}/{seq + 1}") for seq in range(1022)],
+        ("hello 2 a", "convicted 0 leaves 0 wanted 0"),
+        ("bundle 1 a b", "proofs 0 vouchers 0 updates 1021 values 1021 more"),
+        ("give 2 b 65536", "accepted 2042 known 0 refused 0 more"),
+        ("hello 2 c", "convicted 0 leaves 1 wanted 0"),
+        ("bundle 1 c d", "proofs 0 vouchers 0 updates 1 values 1 whole"),
+        ("give 2 d", "accepted 2 known 0 refused 0 whole"),
+    ]
+
+
+def many_frames():
+    """A stream has 524,288 frames at most: values without bytes, which nobody wants."""
+    refusals = [f"refused {frame} 14 Unwanted" for frame in range(524_288)]
+    return members("node 1"), doubled("f", "0300000000", 19) + [
+        ("join g f19 f0", "2621445 bytes"),
+        ("give 1 g", "accepted 0 known 0 refused 524288 ill-formed 2621440", *refusals),
+    ]
+
+
+def plays(name, header, events):
+    with tempfile.TemporaryDirectory() as room:
+        with open(os.path.join(room, "schedule"), "w") as out:
+            out.write(schedule(header, events))
+        run = subprocess.run([os.path.join(HERE, "..", "depot"), "replay", "schedule"], cwd=room, capture_output=True, text=True)
+    good = run.returncode == 0 and run.stdout == transcript(events)
+    print(f"{name}: " + ("as told" if good else f"status {run.returncode}, not as told"))
+    return good
+
+
+def main():
+    cases = [long_values, many_branches, many_records, long_bundle, many_frames]
+    results = [plays(case.__name__, *case()) for case in cases]
+    sys.exit(0 if all(results) else 1)
+
+
+if __name__ == "__main__":
+    main()
