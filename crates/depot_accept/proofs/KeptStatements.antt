@@ -29,7 +29,8 @@ use Rattle.depot_model.specs.Contradictions.{kind_of}
 use Rattle.depot_model.specs.Checks.{is_kept, is_update_with, named_opponent}
 use Rattle.depot_fork.specs.Opponents.{has_body_of}
 use Rattle.depot_fork.proofs.KindLaws.{same_from_text, bodies_by_fields, update_id}
-use Rattle.depot_accept.specs.View.{View, IsStateOf, own_voucher_by}
+use Rattle.depot_model.specs.Vouching.{own_voucher_by}
+use Rattle.depot_accept.specs.View.{View, IsStateOf}
 use Rattle.depot_accept.specs.OwnVouchers.{has_body_of_voucher, AreVouchersOf}
 use Rattle.depot_accept.specs.AfterSignature.{IsOpponent}
 

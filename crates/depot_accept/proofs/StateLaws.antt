@@ -21,7 +21,8 @@ use Rattle.depot_model.specs.Journal.{own_by, accepted_by, foreign_by, proof_by,
 use Rattle.depot_model.proofs.BodyLaws.{text_of_statement-Update}
 use Rattle.depot_model.proofs.Members.{among-append}
 use Rattle.depot_vouch.specs.Vouching.{with_node, AreTogether}
-use Rattle.depot_accept.specs.View.{View, IsStateOf, own_voucher_by}
+use Rattle.depot_model.specs.Vouching.{own_voucher_by}
+use Rattle.depot_accept.specs.View.{View, IsStateOf}
 
 push : {R X : Type 0} (f : R → List X) (rs : List R) (r : R) → flat_map f (rs ++ r ∷ []) ≡ flat_map f rs ++ f r
 push f rs r = flat_map-append f rs (r ∷ []) ∙ ap (λ (ys : List _). flat_map f rs ++ ys) (append-nil (f r))

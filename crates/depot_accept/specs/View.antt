@@ -1,5 +1,5 @@
 -- What is seen of a state, and of which journals it is the state.
-use Rattle.std.specs.Prelude.{◌≡◌, ◌<◌, ◌+◌, ℕ, List, [], ◌∷◌}
+use Rattle.std.specs.Prelude.{◌≡◌, ◌<◌, ◌+◌, ℕ, List}
 use Rattle.std.specs.List.{flat_map}
 use Rattle.depot_base.specs.declared.update.Update.{Update}
 use Rattle.depot_base.specs.declared.voucher.Voucher.{Voucher}
@@ -8,9 +8,9 @@ use Rattle.depot_base.specs.declared.statement.Statement.TheVariants as statemen
 use Rattle.depot_base.specs.declared.statement.Signed.{Signed}
 use Rattle.depot_base.specs.declared.key.RosterEntry.{RosterEntry}
 use Rattle.depot_base.specs.declared.record.Record.{Record}
-use Rattle.depot_base.specs.declared.record.Record.TheVariants.{OwnVoucher}
 use Rattle.depot_model.specs.Lists.{is_among, is_one_of}
 use Rattle.depot_model.specs.Journal.{accepted, foreign, vouched, is_convicted}
+use Rattle.depot_model.specs.Vouching.{own_voucher_by}
 use Rattle.depot_model.specs.Checks.{Setting}
 use Rattle.depot_model.specs.Roster.{Verifies}
 
@@ -42,10 +42,6 @@ IsRoomAfter (statements.Voucher v) old new = 0 < old → new + 1 ≡ old
 -- where the node stands
 abbrev pub setting : {S : Type 0} → Verifies → View S → Setting
 setting verifies v = record { verifies = verifies; me = v.me; listed = v.listed }
-
-abbrev pub own_voucher_by : Record → List Voucher
-own_voucher_by (OwnVoucher v) = v ∷ []
-own_voucher_by r = []
 
 -- The state is that of these records.
 pub record IsStateOf {S : Type 0} (J : List Record) (v : View S) : Type 0 where

@@ -15,6 +15,7 @@ ghost use Rattle.depot_accept.specs.Content.{checks_of_parents, items_of, ArePla
 
 use depot_base::limits::MOST_AHEAD;
 use depot_base::{Check, Dep, Hash32, Memory, Update};
+use depot_graph::Graph;
 use depot_history::history_hash;
 use depot_model::Past;
 use std::alloc::Global;
@@ -214,16 +215,16 @@ fn failed_by_parents<P: Past>(past: &P, update: &Update, items: &[u32]) -> Optio
 }
 
 /// The check that the history hash is that of the past.
-fn bad_history<P: Past>(
+fn bad_history(
     alloc: Global,
-    past: &P,
+    graph: &Graph,
     update: &Update,
     items: &[u32],
 ) -> Result<Option<Check>, Memory>
-    requires { ArePlaces (P.updates past.now) (parents update.now) items.now }
-    ensures { IfOk result (λ failed. failed ≡ bad_history update.now (sight (P.updates past.now) update.now)) }
+    requires { ArePlaces (⟦<Graph as Past>⟧.updates graph.now) (parents update.now) items.now }
+    ensures { IfOk result (λ failed. failed ≡ bad_history update.now (sight (⟦<Graph as Past>⟧.updates graph.now) update.now)) }
 {
-    let right = history_hash(alloc, past, items)?;
+    let right = history_hash(alloc, graph, items)?;
     if update.history != right {
         return Ok(Some(Check::BadHistory {
             given: update.history,
@@ -235,20 +236,20 @@ fn bad_history<P: Past>(
 
 /// The first check of an update's content that fails among the accepted updates, and None where none does. The past is
 /// hashed only where all checks before it hold.
-pub(crate) fn failed_content<P: Past>(
+pub(crate) fn failed_content(
     alloc: Global,
-    past: &P,
+    graph: &Graph,
     update: &Update,
 ) -> Result<Option<Check>, Memory>
     requires few { length update.now.deps ≤ MOST_ENTRIES }
-    ensures { IfOk result (λ failed. failed ≡ first (content_checks update.now (sight (P.updates past.now) update.now))) }
+    ensures { IfOk result (λ failed. failed ≡ first (content_checks update.now (sight (⟦<Graph as Past>⟧.updates graph.now) update.now))) }
 {
     let mut items = Vec::new(alloc);
-    if let Some(check) = find_parents(past, update, &mut items)? {
+    if let Some(check) = find_parents(graph, update, &mut items)? {
         return Ok(Some(check));
     }
-    if let Some(check) = failed_by_parents(past, update, items.as_slice()) {
+    if let Some(check) = failed_by_parents(graph, update, items.as_slice()) {
         return Ok(Some(check));
     }
-    bad_history(alloc, past, update, items.as_slice())
+    bad_history(alloc, graph, update, items.as_slice())
 }

@@ -26,6 +26,3 @@ pub use judgements::{point, roster_error, verdict};
 pub use limits::{collides, full, spent, tips};
 pub use record_faults::record_fault;
 pub use words::numbered;
-
-#[cfg(test)]
-mod tests;

@@ -2,8 +2,8 @@
 use Rattle.std.proofs.Common.{◌≡◌, ℕ, zero, suc, ◌+◌, ◌<◌, ◌≤◌, List, [], ◌∷◌, ◌++◌, length, get_or, max, Some, refl, sym, ap, subst, ◌∙◌, arith, inl, inr, slice_get}
 use Rattle.std.proofs.lemmas.Bool.{cases_lt}
 use Rattle.std.proofs.lemmas.Option.{slice_get_within}
-use Rattle.depot_clocks.specs.ChainItems.{ChainItem, Precedes, IsUpTo, chain_length, number_of_chains, IsCount, CountsAll}
-use Rattle.depot_clocks.specs.KeptRows.{AreChained, IsNext, JoinsUpTo}
+use Rattle.depot_clocks.specs.ChainItems.{ChainItem, Precedes, IsUpTo, chain_length, number_of_chains, IsCount, CountsAll, JoinsUpTo}
+use Rattle.depot_clocks.specs.KeptRows.{AreChained, IsNext}
 use Rattle.depot_clocks.proofs.ItemPaths.{from_pushed, contained_at, contains_at, up_to_low, leads_down, up_to_parent, up_to_more, up_to_less, parent_of_last, last_has_parent}
 use Rattle.depot_clocks.proofs.ChainCounts.{chain_length-more, chain_length-own, chained_next}
 

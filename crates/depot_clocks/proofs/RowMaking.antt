@@ -8,12 +8,12 @@ use Rattle.std.proofs.lemmas.List.{length-append, append-nil, take_all, drop_all
 use Rattle.std.proofs.lemmas.Option.{slice_get_within}
 use Rattle.depot_lanes.specs.Lanes.{greater_of_each}
 use Rattle.depot_lanes.proofs.LaneLaws.{get_or-greater, length-greater}
-use Rattle.depot_clocks.specs.ChainItems.{ChainItem, IsUpTo, number_of_chains, IsCount}
+use Rattle.depot_clocks.specs.ChainItems.{ChainItem, IsUpTo, number_of_chains, IsCount, JoinsUpTo, IsJoined}
 use Rattle.depot_clocks.specs.declared.row.Entry.{Entry}
 use Rattle.depot_clocks.specs.declared.row.Row.{Row}
 use Rattle.depot_clocks.specs.declared.row.Row.TheVariants.{Whole, Changed}
 use Rattle.depot_clocks.specs.declared.row.Kept.{Kept}
-use Rattle.depot_clocks.specs.KeptRows.{AreChained, IsNext, JoinsUpTo, IsJoined, IsNextRow, own_entry, HasEntry, AreAbove, IsWholeRow, IsChangedRow, KeepsRow, KeepsItem, KeepsItems}
+use Rattle.depot_clocks.specs.KeptRows.{AreChained, IsNext, IsNextRow, own_entry, HasEntry, AreAbove, IsWholeRow, IsChangedRow, KeepsRow, KeepsItem, KeepsItems}
 use Rattle.depot_clocks.proofs.ItemPaths.{from_pushed, to_pushed, at_pushed, contained_at, up_to_self, up_to_parent, up_to_trans, up_to_more, last_has_parent}
 use Rattle.depot_clocks.proofs.ChainCounts.{number_of_chains-push, number_of_chains-first, number_of_chains-more, starts_next, goes_on, chained_next}
 use Rattle.depot_clocks.proofs.RowCounts.{count_past, count_more, count_own, joins_one, count_of_parents}

@@ -52,6 +52,17 @@ pub record IsCount (items : List ChainItem) (chain item n : ℕ) : Type 0 where
   pub counted : (a : ℕ) (x : ChainItem) → slice_get items a ≡ Some x → x.chain ≡ chain → IsUpTo items a item → x.place < n
   pub only : (a : ℕ) (x : ChainItem) → slice_get items a ≡ Some x → x.chain ≡ chain → x.place < n → IsUpTo items a item
 
+-- n is how many items of the chain are one of the first i of these, or precede one
+pub record JoinsUpTo (items : List ChainItem) (parts : List ℕ) (i chain n : ℕ) : Type 0 where
+  pub there : n ≤ chain_length items chain
+  pub counted : (a : ℕ) (x : ChainItem) (k : ℕ) → slice_get items a ≡ Some x → x.chain ≡ chain → k < i → IsUpTo items a (slice_index parts k) → x.place < n
+  pub only : (a : ℕ) (x : ChainItem) → slice_get items a ≡ Some x → x.chain ≡ chain → x.place < n → (k : ℕ) × ((k < i) × IsUpTo items a (slice_index parts k))
+
+-- the joined row of some items: an entry for each chain, that counts those of its items that are one of these or precede one
+pub record IsJoined (items : List ChainItem) (parts row : List ℕ) : Type 0 where
+  pub long : length row ≡ number_of_chains items
+  pub joins : (chain : ℕ) → chain < length row → JoinsUpTo items parts (length parts) chain (slice_index row chain)
+
 -- the item a is of the chain, and is the other item or precedes it
 abbrev pub IsOfPast : List ChainItem → ℕ → ℕ → ℕ → Type 0
 IsOfPast items chain item a = (x : ChainItem) × ((slice_get items a ≡ Some x) × ((x.chain ≡ chain) × IsUpTo items a item))

@@ -26,17 +26,6 @@ pub record IsNext (items : List ChainItem) (x : ChainItem) : Type 0 where
 
 -- ---- rows
 
--- n is how many items of the chain are one of the first i of these, or precede one
-pub record JoinsUpTo (items : List ChainItem) (parents : List ℕ) (i chain n : ℕ) : Type 0 where
-  pub there : n ≤ chain_length items chain
-  pub counted : (a : ℕ) (x : ChainItem) (k : ℕ) → slice_get items a ≡ Some x → x.chain ≡ chain → k < i → IsUpTo items a (slice_index parents k) → x.place < n
-  pub only : (a : ℕ) (x : ChainItem) → slice_get items a ≡ Some x → x.chain ≡ chain → x.place < n → (k : ℕ) × ((k < i) × IsUpTo items a (slice_index parents k))
-
--- what the rows of its parents tell of the next item's
-pub record IsJoined (items : List ChainItem) (parents row : List ℕ) : Type 0 where
-  pub long : length row ≡ number_of_chains items
-  pub joins : (chain : ℕ) → chain < length row → JoinsUpTo items parents (length parents) chain (slice_index row chain)
-
 -- the next item's row
 pub record IsNextRow (items : List ChainItem) (x : ChainItem) (row : List ℕ) : Type 0 where
   pub long : length row ≡ number_of_chains (items ++ x ∷ [])

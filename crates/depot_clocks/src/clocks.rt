@@ -1,7 +1,7 @@
 //! The clocks, and what they keep of each item.
 ghost use Rattle.std.specs.Prelude.{◌≡◌, ◌<◌, ◌≤◌, ◌+◌, ◌↔◌, ℕ, [], ◌∷◌, ◌++◌, length, IsTrue, IfOk, OnOk, OnErr, All, EachIndex, Contains, IfSome, ◌-◌, slice_index};
-ghost use Rattle.depot_clocks.specs.KeptRows.{AreChained, IsNext, IsJoined, IsNextRow, IsChangedFrom, KeepsRow};
-ghost use Rattle.depot_clocks.specs.ChainItems.{Precedes, IsAt, chain_length, number_of_chains, IsLinked, IsOfPast, IsTrueOf, IsCount, CountsAll, IsWithin};
+ghost use Rattle.depot_clocks.specs.KeptRows.{AreChained, IsNext, IsNextRow, IsChangedFrom, KeepsRow};
+ghost use Rattle.depot_clocks.specs.ChainItems.{Precedes, IsAt, chain_length, number_of_chains, IsLinked, IsOfPast, IsTrueOf, IsCount, CountsAll, IsWithin, IsJoined};
 
 use crate::added::Added;
 use crate::row::{
@@ -136,22 +136,16 @@ impl Clocks {
         }
     }
 
-    /// How many items of a chain are the item or precede it.
-    fn count_of(&self, item: u32, chain: u32) -> u32
-        requires { item < length self.now }
-        ensures { IsCount self.now chain item result }
+    /// The rows of these items, joined: at each chain how many of its items are one of these or precede one.
+    pub fn joined(&self, items: &[u32]) -> Result<Vec<u32>, Memory>
+        requires { All (λ p. p < length self.now) items.now }
+        ensures joined { IfOk result (λ row. IsJoined self.now items.now row.items) }
     {
-        match &self.kept[item as usize].row {
-            Row::Whole(entries) => entry_at(entries.as_slice(), chain),
-            Row::Changed { behind, entries } => match count_among(entries.as_slice(), chain) {
-                Some(count) => count,
-                None => self.count_of(*behind, chain),
-            },
-        }
+        self.join(items)
     }
 
-    /// The rows of these items, joined: at each chain the greatest entry.
-    fn joined(&self, items: &[u32]) -> Result<Vec<u32>, Memory>
+    /// The same. What always holds of the items is told beside it.
+    fn join(&self, items: &[u32]) -> Result<Vec<u32>, Memory>
         requires { All (λ p. p < length self.now) items.now }
         ensures joined { IfOk result (λ row. IsJoined self.now items.now row.items) }
         ensures chained { AreChained self.now }
@@ -166,13 +160,27 @@ impl Clocks {
         Ok(row)
     }
 
+    /// How many items of a chain are the item or precede it.
+    fn count_of(&self, item: u32, chain: u32) -> u32
+        requires { item < length self.now }
+        ensures { IsCount self.now chain item result }
+    {
+        match &self.kept[item as usize].row {
+            Row::Whole(entries) => entry_at(entries.as_slice(), chain),
+            Row::Changed { behind, entries } => match count_among(entries.as_slice(), chain) {
+                Some(count) => count,
+                None => self.count_of(*behind, chain),
+            },
+        }
+    }
+
     /// The whole row of the next item.
     fn next_row(&self, chain: u32, place: u32, parents: &[u32]) -> Result<Vec<u32>, Memory>
         requires few { length self.now < 4294967295 }
         requires next { IsNext self.now (record { chain = chain; place = place; parents = parents.now }) }
         ensures { IfOk result (λ row. IsNextRow self.now (record { chain = chain; place = place; parents = parents.now }) row.items) }
     {
-        let mut row = self.joined(parents)?;
+        let mut row = self.join(parents)?;
         put_own(&mut row, chain, place)?;
         Ok(row)
     }

@@ -5,7 +5,7 @@ use Rattle.std.specs.Option.{option_to_list, option_map_or}
 use Rattle.std.specs.Ordering.{is_lt}
 use Rattle.std.specs.Str.{bytes_eq}
 use Rattle.std.proofs.lemmas.Slice.Eq.{bytes_eq-Decides}
-use Rattle.std.proofs.lemmas.Option.{slice_get-map, slice_get-get_or, get_or_from_slice_get}
+use Rattle.std.proofs.lemmas.Option.{slice_get-get_or}
 use Rattle.std.proofs.lemmas.List.{length_push}
 use Rattle.depot_base.specs.declared.update.Update.{Update}
 use Rattle.depot_model.specs.Texts.{id_of_update}
@@ -14,7 +14,6 @@ use Rattle.depot_model.specs.Items.{updates_at}
 use Rattle.depot_model.specs.Journal.{has_id}
 use Rattle.depot_model.proofs.Elements.{get_front, get_last}
 use Rattle.depot_model.proofs.Orders.{causal_front}
-use Rattle.depot_graph.specs.Kept.{past_row}
 use Rattle.depot_graph.specs.Latest.{stands_before, put_place, is_apart, mended, latest_behind, latest_places}
 use Rattle.depot_graph.proofs.RisingLaws.{put_listed}
 use Rattle.depot_graph.proofs.LatestLaws.{is_free, others_stay, mended_are_latest}
@@ -56,9 +55,7 @@ updates_at-put us u (n ∷ ns) below =
     ∙ (put_chosen (is_lt (listed u t)) us u t n ns e below (updates_at-put us u ns below.1) ∙ ap (put_listed u) (sym (at_cons us n ns t e)))
 
 apart_is_free : (us : List Update) (u t : Update) (n : ℕ) → slice_get us n ≡ Some t → is_apart u us n ≡ is_free us u t
-apart_is_free us u t n e =
-    let f : Update → Bool = λ w. has_id (past u us) (id_of_update w) in
-    ap not (get_or_from_slice_get (past_row us u) n (f t) false (slice_get-map f us n ∙ ap (λ (o : Option Update). option_map f o) e))
+apart_is_free us u t n e = ap (λ (o : Option Update). option_map_or (λ w. not (has_id (past u us) (id_of_update w))) o true) e
 
 filter_chosen : (b : Bool) (us : List Update) (t : Update) (n : ℕ) (ns : List ℕ) (ts : List Update) → slice_get us n ≡ Some t → updates_at us ns ≡ ts → updates_at us (cond b (n ∷ ns) ns) ≡ cond b (t ∷ ts) ts
 filter_chosen true us t n ns ts e rest = at_cons us n ns t e ∙ ap (λ (vs : List Update). t ∷ vs) rest

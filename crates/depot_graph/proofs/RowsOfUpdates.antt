@@ -1,14 +1,16 @@
 -- The rows of clocks are those of the updates.
-use Rattle.std.proofs.Common.{◌≡◌, ℕ, zero, suc, ◌<◌, List, [], length, Some, Bool, IsTrue, option_map, EachIndex, slice_index, sym, ap, subst, ◌∙◌, arith, inl, inr, slice_get}
+use Rattle.std.proofs.Common.{◌≡◌, ℕ, zero, suc, ◌<◌, List, [], ◌∷◌, length, Some, Bool, IsTrue, Result, Ok, Err, IfOk, option_map, EachIndex, slice_index, refl, sym, ap, subst, ◌∙◌, arith, inl, inr, slice_get}
 use Rattle.std.proofs.lemmas.Option.{slice_get-map, slice_get_within}
 use Rattle.depot_base.specs.declared.update.Update.{Update}
+use Rattle.depot_model.specs.Lists.{IsIn}
 use Rattle.depot_model.specs.Order.{IsCausal}
 use Rattle.depot_virtual.specs.declared.Spot.{Spot}
 use Rattle.depot_virtual.specs.Spots.{spots, chains_of, IsAt as SpotIsAt}
-use Rattle.depot_clocks.specs.ChainItems.{ChainItem, IsAt, IsUpTo, IsCount, IsOfPast, IsTrueOf, CountsAll, IsWithin, number_of_chains}
+use Rattle.depot_virtual.proofs.Placing.{all_placed}
+use Rattle.depot_clocks.specs.ChainItems.{ChainItem, IsAt, IsUpTo, IsCount, IsOfPast, IsTrueOf, CountsAll, IsWithin, number_of_chains, JoinsUpTo, IsJoined}
 use Rattle.depot_graph.specs.Clocked.{clock_items}
 use Rattle.depot_graph.specs.Kept.{prev_places}
-use Rattle.depot_graph.specs.UpdateRows.{IsUpToAt, IsOfPastAt, IsCountAt, CountsAllAt, IsWithinAt}
+use Rattle.depot_graph.specs.UpdateRows.{IsUpToAt, IsOfPastAt, IsCountAt, CountsAllAt, IsWithinAt, IsJoinedRow}
 use Rattle.depot_graph.proofs.ClockedItems.{spotted_at, spotted_length}
 use Rattle.depot_graph.proofs.ClockedUpdates.{clock_spotted, clock_long, clock_number, clock_precedes}
 
@@ -100,3 +102,43 @@ module _ (us : List Update) (c : IsCausal [] us) (item : ℕ) (low : item < leng
 
 pub row_long : (us : List Update) (items : List ChainItem) (row : List ℕ) → IsCausal [] us → items ≡ clock_items us → length row ≡ chains_of (spots (prev_places us)) → length row ≡ number_of_chains items
 row_long us items row c clocked long = long ∙ (sym (clock_number us c) ∙ ap number_of_chains (sym clocked))
+
+-- ---- joined rows
+
+place_in : (items : List ℕ) (m : ℕ) → IsIn m items → (k : ℕ) × ((k < length items) × (slice_index items k ≡ m))
+place_in [] m never = absurd never
+place_in (n ∷ ns) m (inl here) = (0, (omega arith, here))
+place_in (n ∷ ns) m (inr there) = let p = place_in ns m there in (suc p.0, (omega (arith, p.1.0), p.1.1))
+
+in_place : (items : List ℕ) (k : ℕ) → k < length items → IsIn (slice_index items k) items
+in_place [] k low = absurd (omega arith)
+in_place (n ∷ ns) zero low = inl refl
+in_place (n ∷ ns) (suc k) low = inr (in_place ns k (omega arith))
+
+-- the joined row of clocks that are those of the updates
+joined_row_is : (us : List Update) (items : List ChainItem) (ms row : List ℕ) → IsCausal [] us → items ≡ clock_items us → ((k : ℕ) → k < length ms → slice_index ms k < length us) → IsJoined items ms row → IsJoinedRow us ms row
+joined_row_is us items ms row c clocked inside joined =
+    let long : length row ≡ chains_of (spots (prev_places us)) = joined.long ∙ (ap number_of_chains clocked ∙ clock_number us c) in
+    let joins : (chain : ℕ) → chain < length row → JoinsUpTo (clock_items us) ms (length ms) chain (slice_index row chain) = λ chain low. subst (λ (xs : List ChainItem). JoinsUpTo xs ms (length ms) chain (slice_index row chain)) clocked (joined.joins chain low) in
+    let there : (a chain place : ℕ) → SpotIsAt (prev_places us) a chain place → chain < length row = λ a chain place at. let low = (all_placed (prev_places us)).chain a (record { chain = chain; place = place }) at in omega (arith, low, long) in
+    record {
+      long = long;
+      counted = λ m a chain place on at up.
+          let k = place_in ms m on in
+          let x = from_spot us a chain place c at in
+          let low_a = low_at us a x.0 c x.1.0 in
+          let low_m : slice_index ms k.0 < length us = inside k.0 k.1.0 in
+          let up_k : IsUpToAt us a (slice_index ms k.0) = subst (IsUpToAt us a) (sym k.1.1) up in
+          let below = (joins chain (there a chain place at)).counted a x.0 k.0 x.1.0 x.1.1.0 k.1.0 (up_from us a (slice_index ms k.0) c low_a low_m up_k) in
+          omega (arith, below, x.1.1.1);
+      only = λ a chain place at below.
+          let x = from_spot us a chain place c at in
+          let k = (joins chain (there a chain place at)).only a x.0 x.1.0 x.1.1.0 (omega (arith, below, x.1.1.1)) in
+          (slice_index ms k.0, (in_place ms k.0 k.1.0, up_to us a (slice_index ms k.0) c (low_at us a x.0 c x.1.0) (inside k.0 k.1.0) k.1.1));
+    }
+
+-- where memory was found for it
+pub joined_row_if : {T E : Type 0} (us : List Update) (items : List ChainItem) (ms : List ℕ) (view : T → List ℕ) (r : Result T E) → IsCausal [] us → items ≡ clock_items us → ((k : ℕ) → k < length ms → slice_index ms k < length us)
+    → IfOk r (λ v. IsJoined items ms (view v)) → IfOk r (λ v. IsJoinedRow us ms (view v))
+joined_row_if us items ms view (Ok v) c clocked inside joined = joined_row_is us items ms (view v) c clocked inside joined
+joined_row_if us items ms view (Err e) c clocked inside joined = tt

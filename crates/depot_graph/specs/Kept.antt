@@ -1,20 +1,15 @@
 -- What a graph keeps of each item.
-use Rattle.std.specs.Prelude.{ℕ, List, map, Bool, not, Option}
+use Rattle.std.specs.Prelude.{ℕ, List, map, not, Option}
 use Rattle.depot_base.specs.declared.update.Update.{Update}
 use Rattle.depot_model.specs.Lists.{is_among}
 use Rattle.depot_model.specs.Texts.{id_of_update}
-use Rattle.depot_model.specs.Order.{prevs, past}
+use Rattle.depot_model.specs.Order.{prevs}
 use Rattle.depot_model.specs.History.{is_prev_in}
-use Rattle.depot_model.specs.Journal.{has_id}
 use Rattle.depot_model.specs.Items.{place_of_prev, places_where}
 
 -- the updates under their ids
 abbrev pub updates_in : List (List ℕ × Update) → List Update
 updates_in items = map (λ e. e.1) items
-
--- of each of some updates, whether it is in the past of u
-abbrev pub past_row : List Update → Update → List Bool
-past_row us u = map (λ t. has_id (past u us) (id_of_update t)) us
 
 -- the places of the children of each of the updates
 abbrev pub child_lists : List Update → List (List ℕ)

@@ -1,12 +1,12 @@
 -- The places of the latest writes of each key, mended update by update.
-use Rattle.std.specs.Prelude.{ℕ, List, [], ◌∷◌, ◌++◌, length, filter, Bool, false, not, slice_get, if◌then◌else◌}
-use Rattle.std.specs.List.{slice_index_or}
+use Rattle.std.specs.Prelude.{ℕ, List, [], ◌∷◌, ◌++◌, length, filter, Bool, false, true, not, slice_get, if◌then◌else◌}
 use Rattle.std.specs.Option.{option_map_or}
 use Rattle.std.specs.Ordering.{is_lt}
 use Rattle.std.specs.Str.{bytes_eq}
 use Rattle.depot_base.specs.declared.update.Update.{Update}
-use Rattle.depot_model.specs.Order.{listed}
-use Rattle.depot_graph.specs.Kept.{past_row}
+use Rattle.depot_model.specs.Order.{listed, past}
+use Rattle.depot_model.specs.Journal.{has_id}
+use Rattle.depot_model.specs.Texts.{id_of_update}
 
 -- u stands before the update at a place, in the listed order
 abbrev pub stands_before : Update → List Update → ℕ → Bool
@@ -19,7 +19,7 @@ put_place u us (n ∷ ns) = if stands_before u us n then length us ∷ n ∷ ns 
 
 -- the update at a place isn't in the past of u
 abbrev pub is_apart : Update → List Update → ℕ → Bool
-is_apart u us n = not (slice_index_or (past_row us u) n false)
+is_apart u us n = option_map_or (λ t. not (has_id (past u us) (id_of_update t))) (slice_get us n) true
 
 -- the latest writes once u is written behind us: those that u doesn't follow, and u itself
 abbrev pub mended : Update → List Update → List ℕ → List ℕ

@@ -1,8 +1,9 @@
 -- Rows of updates: of each chain of the forest by prev, how many of its items are an item or precede it.
-use Rattle.std.specs.Prelude.{◌≡◌, ◌<◌, ◌≤◌, ◌⊎◌, ℕ, List, slice_index}
+use Rattle.std.specs.Prelude.{◌≡◌, ◌<◌, ◌≤◌, ◌⊎◌, ℕ, List, length, slice_index}
 use Rattle.depot_base.specs.declared.update.Update.{Update}
 use Rattle.depot_model.specs.Items.{PrecedesAt}
-use Rattle.depot_virtual.specs.Spots.{spots, IsAt, chain_length}
+use Rattle.depot_model.specs.Lists.{IsIn}
+use Rattle.depot_virtual.specs.Spots.{spots, IsAt, chain_length, number_of_chains}
 use Rattle.depot_graph.specs.Kept.{prev_places}
 
 -- the item a is the other item or precedes it
@@ -26,3 +27,9 @@ CountsAllAt us item row = (a chain place : ℕ) → IsAt (prev_places us) a chai
 -- no entry of the item's row is above that of another row
 abbrev pub IsWithinAt : List Update → ℕ → List ℕ → Type 0
 IsWithinAt us item row = (chain n : ℕ) → IsCountAt us chain item n → n ≤ slice_index row chain
+
+-- an entry for each chain: it counts an item of the chain exactly where that is one of these or precedes one
+pub record IsJoinedRow (us : List Update) (items row : List ℕ) : Type 0 where
+  pub long : length row ≡ number_of_chains (prev_places us)
+  pub counted : (m a chain place : ℕ) → IsIn m items → IsAt (prev_places us) a chain place → IsUpToAt us a m → place < slice_index row chain
+  pub only : (a chain place : ℕ) → IsAt (prev_places us) a chain place → place < slice_index row chain → (m : ℕ) × (IsIn m items × IsUpToAt us a m)

@@ -1,5 +1,6 @@
 //! The graph, and what it keeps of each item.
 ghost use Rattle.std.specs.Prelude.{◌≡◌, ◌<◌, ◌≤◌, ◌+◌, ◌^◌, ℕ, List, [], ◌∷◌, ◌++◌, length, map, filter, not, true, IfOk, OnOk, OnErr, Some, slice_get, slice_index, All, EachIndex, IsTrue, ◌↔◌, vec_len, vec_capacity};
+ghost use Rattle.std.specs.List.{AllByRecursion};
 ghost use Rattle.std.specs.Map.{keys_of};
 ghost use Rattle.std.specs.Option.{ForSome, option_to_list};
 ghost use Rattle.std.specs.HashMap.{spare};
@@ -7,7 +8,7 @@ ghost use Rattle.depot_base.specs.declared.update.Update.{Update};
 ghost use Rattle.depot_model.specs.Order.{IsCausal, AreLatestIn};
 ghost use Rattle.depot_model.specs.Texts.{id_of_update};
 ghost use Rattle.depot_model.specs.Items.{place_of_prev, updates_at};
-ghost use Rattle.depot_virtual.specs.Spots.{spots, number_of_chains};
+ghost use Rattle.depot_virtual.specs.Spots.{spots, number_of_chains, IsTip};
 ghost use Rattle.depot_clocks.specs.ChainItems.{IsTrueOf};
 ghost use Rattle.depot_index.specs.KeyLists.{latest_of, room_of};
 ghost use Rattle.depot_graph.specs.Causal.{is_causal, causal_from_test};
@@ -16,7 +17,7 @@ ghost use Rattle.depot_graph.specs.Clocked.{parent_places, clock_items, are_item
 ghost use Rattle.depot_graph.specs.Kin.{is_place, siblings_of, with_siblings};
 ghost use Rattle.depot_graph.specs.Kept.{updates_in, child_lists, leaf_places, prev_places};
 ghost use Rattle.depot_graph.specs.Latest.{latest_places};
-ghost use Rattle.depot_graph.specs.UpdateRows.{IsOfPastAt, IsCountAt, IsWithinAt, CountsAllAt};
+ghost use Rattle.depot_graph.specs.UpdateRows.{IsOfPastAt, IsCountAt, IsWithinAt, CountsAllAt, IsJoinedRow};
 
 use crate::change::Change;
 use crate::item::item_at;
@@ -147,7 +148,7 @@ impl Graph {
     /// How many virtual writers the updates make: the chains by prev, where the first child continues its prev's chain.
     /// It takes no memory.
     pub fn chain_count(&self) -> u32
-        ensures { let us = ⟦<Graph as Past>⟧.updates self.now in result ≡ number_of_chains (map (λ u. place_of_prev u.prev us) us) }
+        ensures { result ≡ number_of_chains (prev_places (⟦<Graph as Past>⟧.updates self.now)) }
     {
         self.chains.chain_count()
     }
@@ -155,7 +156,7 @@ impl Graph {
     /// Where an item stands in the forest by prev. It takes no memory.
     pub fn spot(&self, item: u32) -> Spot
         requires { item < length (⟦<Graph as Past>⟧.updates self.now) }
-        ensures { let us = ⟦<Graph as Past>⟧.updates self.now in slice_get (spots (map (λ u. place_of_prev u.prev us) us)) item ≡ Some result }
+        ensures { slice_get (spots (prev_places (⟦<Graph as Past>⟧.updates self.now))) item ≡ Some result }
     {
         self.chains.spot(item)
     }
@@ -164,7 +165,7 @@ impl Graph {
     /// given row has one entry for each chain. It takes no memory.
     pub fn row_into(&self, item: u32, row: &mut [u32])
         requires item { item < length (⟦<Graph as Past>⟧.updates self.now) }
-        requires row { let us = ⟦<Graph as Past>⟧.updates self.now in length row.old ≡ number_of_chains (map (λ u. place_of_prev u.prev us) us) }
+        requires row { length row.old ≡ number_of_chains (prev_places (⟦<Graph as Past>⟧.updates self.now)) }
         ensures many { EachIndex row.new (λ chain. IsTrueOf (IsOfPastAt (⟦<Graph as Past>⟧.updates self.now) chain item) (slice_index row.new chain)) }
         ensures counts { EachIndex row.new (λ chain. IsCountAt (⟦<Graph as Past>⟧.updates self.now) chain item (slice_index row.new chain)) }
     {
@@ -175,11 +176,36 @@ impl Graph {
     /// given row counts the item and all that precede it. It takes no memory.
     pub fn within(&self, item: u32, row: &[u32]) -> bool
         requires item { item < length (⟦<Graph as Past>⟧.updates self.now) }
-        requires row { let us = ⟦<Graph as Past>⟧.updates self.now in length row.now ≡ number_of_chains (map (λ u. place_of_prev u.prev us) us) }
+        requires row { length row.now ≡ number_of_chains (prev_places (⟦<Graph as Past>⟧.updates self.now)) }
         ensures rows { IsTrue result ↔ IsWithinAt (⟦<Graph as Past>⟧.updates self.now) item row.now }
         ensures counts { IsTrue result ↔ CountsAllAt (⟦<Graph as Past>⟧.updates self.now) item row.now }
     {
         self.clocks.within(item, row)
+    }
+
+    /// The item of an item's prev, if it has one. It takes no memory.
+    pub fn prev(&self, item: u32) -> Option<u32>
+        requires { item < length (⟦<Graph as Past>⟧.updates self.now) }
+        ensures { slice_get (prev_places (⟦<Graph as Past>⟧.updates self.now)) item ≡ Some result }
+    {
+        self.chains.prev(item)
+    }
+
+    /// The last item of a chain of the forest by prev. It takes no memory.
+    pub fn tip(&self, chain: u32) -> u32
+        requires { chain < number_of_chains (prev_places (⟦<Graph as Past>⟧.updates self.now)) }
+        ensures { IsTip (spots (prev_places (⟦<Graph as Past>⟧.updates self.now))) chain result }
+    {
+        self.chains.tip(chain)
+    }
+
+    /// The rows of these items, joined: an entry for each chain, that counts those of its items that are one of these or precede
+    /// one.
+    pub fn joined_row(&self, items: &[u32]) -> Result<Vec<u32>, Memory>
+        requires { AllByRecursion (λ item. item < length (⟦<Graph as Past>⟧.updates self.now)) items.now }
+        ensures { IfOk result (λ row. IsJoinedRow (⟦<Graph as Past>⟧.updates self.now) items.now row.items) }
+    {
+        self.clocks.joined(items)
     }
 
     /// The item of the update's prev, if it has one.

@@ -2,8 +2,9 @@
 //!
 //! A `Graph` is the list of the updates that were added, each behind its parents and each with an id of its own. Its items
 //! are numbered from 0 in that order. It tells the item with an id, whether an item precedes another by a path of parents,
-//! the leaves, the children by prev, the latest writes of each key (those that precede no other write of the key), and how
-//! many virtual writers there are.
+//! the leaves, the children by prev, the latest writes of each key (those that precede no other write of the key), and of the
+//! virtual writers how many there are, the last item of each, where an item stands, its prev, and the rows, of one item or of
+//! several joined.
 //!
 //! What always holds: each parent of an item is an earlier item, and no two items have one id. Of each item a graph keeps
 //! the update, its children, its spot in the forest by prev (`Chains`) and a row over the chains of that forest, which tells
@@ -23,8 +24,3 @@ mod item;
 mod order;
 
 pub use graph::Graph;
-
-#[cfg(test)]
-mod long_chains;
-#[cfg(test)]
-mod tests;

@@ -1,6 +1,6 @@
 pub mod Rows
 pub mod ItemPlaces
-pub mod Lines
+pub mod Chains
 pub mod Sorting
 pub mod Leaving
 pub mod Reaching

@@ -1,3 +1,3 @@
 pub mod Closure
-pub mod Lines
+pub mod Chains
 pub mod Leaves

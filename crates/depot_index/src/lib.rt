@@ -17,6 +17,3 @@ mod latest;
 
 pub use index::KeyIndex;
 pub use latest::latest_items_are_one_list;
-
-#[cfg(test)]
-mod tests;

@@ -76,6 +76,3 @@ fn above_in(a: &[u32], b: &[u32]) -> Option<usize>
 {
     a.iter().zip(b).position(|(x, y)| y < x)
 }
-
-#[cfg(test)]
-mod tests;

@@ -4,7 +4,8 @@
 //! appends what the definitions say keeps its journal lawful. `journals` says what holds of every lawful journal: its own
 //! statements agree with each other, whoever contradicts himself in it is convicted, and nobody else's updates fork.
 //! `causality` says what holds of all correct nodes together: an update has one past everywhere, and what they observe is
-//! fork-join-causal.
+//! fork-join-causal. `gossip` says what they tell one another: hellos and bundles have texts, and histories rejoin. `verdicts`
+//! says when a conviction is allowed, and that a fork or a step back leaves one.
 //!
 //! A law is a public function with an empty body, whose contract is the law. This crate computes nothing.
 #![tactic(auto)]

@@ -25,6 +25,3 @@ pub use laws::loads_are_schedules;
 pub use making::make_load;
 pub use running::load;
 pub use summing::summary;
-
-#[cfg(test)]
-mod tests;

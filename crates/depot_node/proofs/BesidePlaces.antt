@@ -10,7 +10,8 @@ use Rattle.depot_model.specs.Journal.{accepted, accepted_by}
 use Rattle.depot_model.proofs.Elements.{from_place}
 use Rattle.depot_laws.proofs.Causes.{none_or_one}
 use Rattle.depot_store.specs.Places.{accepts, accept_places}
-use Rattle.depot_node.specs.Telling.{beside, items_named, IsJoinedRow}
+use Rattle.depot_graph.specs.UpdateRows.{IsJoinedRow}
+use Rattle.depot_node.specs.Telling.{beside, items_named}
 
 -- ---- one update more
 

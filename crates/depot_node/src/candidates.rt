@@ -5,11 +5,11 @@ ghost use Rattle.depot_base.specs.declared.update.Update.{Update};
 ghost use Rattle.depot_model.specs.Bundle.{candidate_places, is_candidate};
 ghost use Rattle.depot_virtual.specs.Spots.{number_of_chains};
 ghost use Rattle.depot_graph.specs.Kept.{prev_places};
-ghost use Rattle.depot_node.specs.Telling.{beside, items_named, IsJoinedRow};
+ghost use Rattle.depot_graph.specs.UpdateRows.{IsJoinedRow};
+ghost use Rattle.depot_node.specs.Telling.{beside, items_named};
 
 use depot_base::{Hash32, Ids, Items, Memory, NodeId};
 use depot_graph::Graph;
-use depot_lanes::max_into;
 use depot_model::{Past, Scheme};
 use depot_outside::Disk;
 use depot_store::Store;
@@ -28,7 +28,7 @@ pub fn candidates<D: Disk, S: Scheme>(
 {
     let graph = store.state().graph();
     let covering = items_named(alloc, graph, leaves.as_slice())?;
-    let row = joined_row(alloc, graph, covering.as_slice())?;
+    let row = graph.joined_row(covering.as_slice())?;
     lacked(alloc, graph, store.places(), row.as_slice(), reader)
 }
 
@@ -45,32 +45,6 @@ fn items_named(alloc: Global, graph: &Graph, ids: &[Hash32]) -> Result<Vec<u32>,
         items.push(item)?;
     }
     Ok(items)
-}
-
-/// The rows of these items, joined.
-fn joined_row(alloc: Global, graph: &Graph, items: &[u32]) -> Result<Vec<u32>, Memory>
-    requires { AllByRecursion (λ item. item < length (⟦<Graph as Past>⟧.updates graph.now)) items.now }
-    ensures { IfOk result (λ row. IsJoinedRow (⟦<Graph as Past>⟧.updates graph.now) items.now row.items) }
-{
-    let chains = graph.chain_count() as usize;
-    let mut next = vec![in alloc; 0u32; chains]?;
-    let mut row = vec![in alloc; 0u32; chains]?;
-    join_rows(graph, items, next.as_mut_slice(), row.as_mut_slice());
-    Ok(row)
-}
-
-/// Joins the rows of these items into a row that counts nothing, each by way of `next`.
-fn join_rows(graph: &Graph, items: &[u32], next: &mut [u32], row: &mut [u32])
-    requires items { AllByRecursion (λ item. item < length (⟦<Graph as Past>⟧.updates graph.now)) items.now }
-    requires next { length next.old ≡ number_of_chains (prev_places (⟦<Graph as Past>⟧.updates graph.now)) }
-    requires row { length row.old ≡ number_of_chains (prev_places (⟦<Graph as Past>⟧.updates graph.now)) }
-    requires zeros { AllByRecursion (λ entry. entry ≡ 0) row.old }
-    ensures { IsJoinedRow (⟦<Graph as Past>⟧.updates graph.now) items.now row.new }
-{
-    for item in items {
-        graph.row_into(*item, next);
-        max_into(row, next);
-    }
 }
 
 /// The places, of those beside the items, of the items that a reader lacks where this row counts what it has.

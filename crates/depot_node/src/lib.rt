@@ -9,8 +9,8 @@
 //!
 //! What is put or taken is decided over the `Store` of `depot_store` as it stands, which appends nothing (`put`, `statement`,
 //! `proof`, `value`), and then carried out by one call, `Store::commit`, by which alone the journal grows once it is started;
-//! `take` does the one and then the other, `start` has the starts, and `node` puts them together. Once the disk failed a node is stopped. So are the node's own vouchers
-//! for what it took from others (`vouch`).
+//! `take` does the one and then the other, `start` has the starts, and `node` puts them together. So are the node's own vouchers
+//! for what it took from others (`vouch`). Once the disk failed a node is stopped.
 //!
 //! What others are told of a journal is read off the store: whom the node convicted and what values it lacks (`tell`), the
 //! leaves (`leaf_places`), the updates that a reader lacks (`candidates`), and their signed statements (`signed_text`).

@@ -32,6 +32,3 @@ pub use parse::parse_script;
 pub use print::print_script;
 pub use script::Script;
 pub use verb::Verb;
-
-#[cfg(test)]
-mod tests;

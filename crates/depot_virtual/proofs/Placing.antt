@@ -1,12 +1,13 @@
 -- How the spots of a forest lie: chains by their places.
-use Rattle.std.proofs.Common.{◌≡◌, ℕ, zero, suc, ◌+◌, ◌<◌, ◌≤◌, List, [], ◌∷◌, ◌++◌, length, Bool, true, false, cond, eqb, Option, Some, None, refl, sym, ap, subst, ◌∙◌, arith, inl, inr, ◌⊎◌, add-one, append_assoc, append-nil, length-append}
+use Rattle.std.proofs.Common.{◌≡◌, ℕ, zero, suc, ◌+◌, ◌-◌, nat_lt, ◌<◌, ◌≤◌, List, [], ◌∷◌, ◌++◌, length, Bool, true, false, cond, eqb, Option, Some, None, refl, sym, ap, subst, ◌∙◌, arith, inl, inr, ◌⊎◌, add-one, append_assoc, append-nil, length-append}
+use Rattle.std.proofs.lemmas.Bool.{ltb-true, ltb-false}
 use Rattle.std.proofs.lemmas.Bool.Decides.{nat_tests}
 use Rattle.std.proofs.lemmas.List.Sums.{sum_by-append}
 use Rattle.std.proofs.lemmas.Option.{slice_get_within}
 use Rattle.std.proofs.lemmas.Map.Keys.{any_passes_from_place}
 use Rattle.std.specs.List.{slice_get}
 use Rattle.depot_virtual.specs.declared.Spot.{Spot}
-use Rattle.depot_virtual.specs.Spots.{is_item, has_child, chains_of, next_chain, place_behind, next_spot, spots_behind, spots, LeadsBack}
+use Rattle.depot_virtual.specs.Spots.{IsForest, IsTip, is_item, has_child, chains_of, next_chain, place_behind, next_spot, spots_behind, spots, LeadsBack}
 use Rattle.depot_virtual.proofs.Places.{from_pushed, to_pushed, at_pushed}
 
 abbrev pub spot_at : ℕ → ℕ → Spot
@@ -219,3 +220,21 @@ path_between prevs placed p a b s t at_a at_b same steps more =
     let there : t ≡ spot_at s.chain (steps + s.place) = ap (λ (c : ℕ). spot_at c t.place) (sym same) ∙ ap (λ (k : ℕ). spot_at s.chain k) more in
     let r = back_by prevs placed p steps b s.chain s.place (at_b ∙ ap (λ (x : Spot). Some x) there) in
     subst (λ (i : ℕ). LeadsBack prevs steps b i) (p.once r.from a s r.spot at_a) r.path
+
+-- ---- tips
+
+-- steps by prev lead to earlier items
+leads_earlier : (prevs : List (Option ℕ)) → IsForest prevs → (steps from to : ℕ) → LeadsBack prevs steps from to → to + steps ≤ from
+leads_earlier prevs forest zero from to same = omega (arith, same)
+leads_earlier prevs forest (suc steps) from to b = omega (arith, forest from b.0 b.1.0, leads_earlier prevs forest steps b.0 to b.1.1)
+
+-- no item of a chain stands behind its last one
+pub tip_is_highest : (prevs : List (Option ℕ)) (chain tip : ℕ) → IsForest prevs → (t : IsTip (spots prevs) chain tip) → (item place : ℕ) → slice_get (spots prevs) item ≡ Some (spot_at chain place) → place ≤ t.place
+tip_is_highest prevs chain tip forest t item place at = by_test (nat_lt t.place place) refl where
+  by_test : (b : Bool) → nat_lt t.place place ≡ b → place ≤ t.place
+  by_test false is = ltb-false t.place place is
+  by_test true is =
+      let higher = ltb-true t.place place is in
+      let path = path_between prevs (spots prevs) (all_placed prevs) tip item (spot_at chain t.place) (spot_at chain place) t.own at refl (place - t.place) (omega (arith, higher)) in
+      let later : tip < item = omega (arith, higher, leads_earlier prevs forest (place - t.place) item tip path) in
+      absurd (t.last item (spot_at chain place) at later refl)

@@ -141,6 +141,14 @@ impl Chains {
         self.placed[item as usize]
     }
 
+    /// The prev of an item, if it has one. It takes no memory.
+    pub fn prev(&self, item: u32) -> Option<u32>
+        requires { item < length self.now.prevs }
+        ensures { slice_get self.now.prevs item ≡ Some result }
+    {
+        self.prevs[item as usize]
+    }
+
     /// The last item of a chain. It takes no memory.
     pub fn tip(&self, chain: u32) -> u32
         requires { chain < number_of_chains self.now.prevs }

@@ -4,21 +4,22 @@ use Rattle.depot_base.specs.declared.check.Check.{Check}
 use Rattle.depot_model.specs.Lists.{first}
 use Rattle.depot_model.specs.Checks.{sight, content_checks, bad_history}
 use Rattle.depot_history.proofs.Leaving.{if_ok}
+use Rattle.depot_graph.specs.Kept.{updates_in}
 use Rattle.depot_accept.proofs.ContentOrder.{fails_missing, fails_by_parents, fails_last}
 use Rattle.depot_accept.proofs.content.failed_content.Goals as goal
 
 pub returns-in-Some : goal.returns-in-Some
-returns-in-Some g c = sym (fails_missing c.args.update.now (sight (g.P.Past.updates c.args.past.now) c.args.update.now) c.in-Some.check (sym (sym c.in-Some.is ∙ c.in_ok-check.ensures.first)))
+returns-in-Some c = sym (fails_missing c.args.update.now (sight (updates_in c.args.graph.now.items.entries) c.args.update.now) c.in-Some.check (sym (sym c.in-Some.is ∙ c.in_ok-check.ensures.first)))
 
 pub returns-in-Some-failed_by_parents : goal.returns-in-Some-failed_by_parents
-returns-in-Some-failed_by_parents g c =
+returns-in-Some-failed_by_parents c =
     let u = c.args.update.now in
-    let seen = sight (g.P.Past.updates c.args.past.now) u in
+    let seen = sight (updates_in c.args.graph.now.items.entries) u in
     sym (fails_by_parents u seen c.in-Some-failed_by_parents.check (sym (sym c.in_default.is ∙ c.in_ok-check.ensures.first)) (sym c.in-Some-failed_by_parents.ensures))
 
 pub returns : goal.returns
-returns g c =
+returns c =
     let u = c.args.update.now in
-    let seen = sight (g.P.Past.updates c.args.past.now) u in
+    let seen = sight (updates_in c.args.graph.now.items.entries) u in
     if_ok c.bad_history.result (λ (failed : Option Check). failed ≡ bad_history u seen) (λ (failed : Option Check). failed ≡ first (content_checks u seen)) c.bad_history.ensures
     (λ failed is. is ∙ fails_last u seen (sym (sym c.in_default.is ∙ c.in_ok-check.ensures.first)) (sym c.in_default-failed_by_parents.ensures))

@@ -3,13 +3,14 @@ use Rattle.std.proofs.lemmas.List.{take_all}
 use Rattle.std.proofs.lemmas.Option.{slice_get-get_or}
 use Rattle.depot_model.specs.Lists.{IsIn}
 use Rattle.depot_model.proofs.Elements.{each_at}
+use Rattle.depot_graph.specs.Kept.{updates_in}
 use Rattle.depot_history.proofs.Leaving.{AreUnseen, unseen_one, unseen_same}
 use Rattle.depot_history.proofs.history.unseen_of.Goals as goal
 use Rattle.depot_history.proofs.history.unseen_of.Goals.{then-is_unseen+in_ok-push, else-is_unseen}
 
 pub loop-item-preserved : goal.loop-item-preserved
-loop-item-preserved g c =
-    let us = g.P.Past.updates c.args.past.now in
+loop-item-preserved c =
+    let us = updates_in c.args.graph.now.items.entries in
     let items = c.args.items.now in
     let i = c.loop-item.item-index in
     elim c.if-is_unseen.branch as (λ _. AreUnseen us items c.args.me c.args.last c.if-is_unseen.unseen.items (i + 1)) [
@@ -22,7 +23,7 @@ loop-item-preserved g c =
     ]
 
 pub returns-clause-unseen : goal.returns-clause-unseen
-returns-clause-unseen g c = λ n.
+returns-clause-unseen c = λ n.
     let whole = take_all c.loop-item.item-index c.args.items.now c.loop-item-test.false in (
       (λ on. let known = c.loop-item.invariant.only n on in (subst (λ (ns : List ℕ). IsIn n ns) whole known.0, known.1)),
       (λ both. c.loop-item.invariant.all n (subst (λ (ns : List ℕ). IsIn n ns) (sym whole) both.0) both.1),

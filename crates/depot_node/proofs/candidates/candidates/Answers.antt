@@ -1,7 +1,8 @@
 use Rattle.std.proofs.Common.{◌≡◌, List, ℕ, length, sym, ap, subst, ◌∙◌}
 use Rattle.depot_virtual.specs.Spots.{number_of_chains}
 use Rattle.depot_graph.specs.Kept.{updates_in, prev_places}
-use Rattle.depot_node.specs.Telling.{items_named, IsJoinedRow}
+use Rattle.depot_graph.specs.UpdateRows.{IsJoinedRow}
+use Rattle.depot_node.specs.Telling.{items_named}
 use Rattle.depot_store.proofs.AcceptPlaceLaws.{as_many_places}
 use Rattle.depot_node.proofs.BesidePlaces.{candidates_are}
 use Rattle.depot_node.proofs.candidates.candidates.Goals as goal

@@ -1,7 +1,8 @@
 use Rattle.std.proofs.Common.{List, ℕ}
 use Rattle.depot_graph.specs.Kept.{updates_in}
 use Rattle.depot_model.specs.Bundle.{is_candidate}
-use Rattle.depot_node.specs.Telling.{items_named, IsJoinedRow}
+use Rattle.depot_graph.specs.UpdateRows.{IsJoinedRow}
+use Rattle.depot_node.specs.Telling.{items_named}
 use Rattle.depot_node.proofs.BesidePlaces.{IsSoFar}
 use Rattle.depot_node.proofs.candidates.lacked.Given as goal
 

@@ -1,0 +1,202 @@
+//! Each text once, as docs/FORMATS.md or the worked schedules of `depot_world` have it.
+
+use depot_answers::{
+    Closing, check, collides, counts, faulty_line, full, named, numbered, point, put, record_fault,
+    records, refusal, report, roster_error, spent, tips, verdict, write,
+};
+use depot_base::{Bytes, Check, Deps, Full, FullOf, Hash32, Ids, Key, Kind, NodeId, Nodes, Update};
+use depot_model::{
+    Counts, Ending, Half, Hello, HelloLeaf, HelloLeaves, JudgeError, RecordFault, Refusal,
+    Refusals, Report, RosterError, Verdict,
+};
+use depot_schedule::LineFault;
+use std::alloc::Global;
+use std::test::Fail;
+
+/// What is answered, and what else is printed with it.
+#[derive(Drop)]
+enum Answer {
+    Check(Check),
+    Refusal(Refusal),
+    Full(Full),
+    Spent(u32),
+    Tips(u32),
+    Collides,
+    Put(u32, u64),
+    Write(Option<&'static [u8]>),
+    Records(u32),
+    RecordFault(RecordFault),
+    Named,
+    Counts(Counts, bool),
+    Report(Ending, Option<Closing>),
+    FaultyLine(u32, LineFault),
+    Point(JudgeError),
+    Verdict(Verdict),
+    RosterError(RosterError),
+    Numbered(&'static str, u64),
+}
+
+/// The update of node 1 with seq 0 and clock 2.
+fn update(alloc: Global) -> Result<Update, Fail> {
+    Ok(Update {
+        writer: NodeId::new(1).ok_or("1")?,
+        seq: 0,
+        clock: 2,
+        prev: Hash32::zeros(),
+        key: Key::new(alloc, b"k")?,
+        value_hash: Hash32::new([7; 32]),
+        value_len: 1,
+        deps: Deps::new(alloc),
+        history: Hash32::new([8; 32]),
+    })
+}
+
+/// A hello with a convicted node and two leaves.
+fn hello(alloc: Global) -> Result<Hello, Fail> {
+    let node = NodeId::new(1).ok_or("1")?;
+    let mut convicted = Nodes::new(alloc);
+    convicted.push(NodeId::new(9).ok_or("9")?)?;
+    let mut leaves = HelloLeaves::new(alloc);
+    for first in [5, 6] {
+        let id = Hash32::new([first; 32]);
+        leaves.push(HelloLeaf { writer: node, id })?;
+    }
+    Ok(Hello {
+        node,
+        roster: Hash32::new([4; 32]),
+        convicted,
+        leaves,
+        wanted: Ids::new(alloc),
+    })
+}
+
+/// The report of a stream of which two frames were new, and one was refused.
+fn report_of(alloc: Global, ending: Ending) -> Result<Report, Fail> {
+    let mut refused = Refusals::new(alloc);
+    refused.push(Refusal {
+        frame: 2,
+        check: Check::AgainstMe,
+    })?;
+    Ok(Report {
+        accepted: 2,
+        known: 0,
+        refused,
+        ending,
+    })
+}
+
+/// Prints an answer.
+fn print(alloc: Global, out: &mut Bytes, answer: &Answer) -> Result<(), Fail> {
+    match answer {
+        Answer::Check(failed) => check(alloc, out, failed)?,
+        Answer::Refusal(refused) => refusal(alloc, out, refused)?,
+        Answer::Full(what) => full(alloc, out, what)?,
+        Answer::Spent(count) => spent(alloc, out, *count)?,
+        Answer::Tips(count) => tips(alloc, out, *count)?,
+        Answer::Collides => collides(out)?,
+        Answer::Put(seq, clock) => put(alloc, out, *seq, *clock)?,
+        Answer::Write(value) => write(alloc, out, &update(alloc)?, *value)?,
+        Answer::Records(count) => records(alloc, out, *count)?,
+        Answer::RecordFault(fault) => record_fault(alloc, out, fault)?,
+        Answer::Named => named(alloc, out, &hello(alloc)?)?,
+        Answer::Counts(found, more) => counts(alloc, out, found, *more)?,
+        Answer::Report(ending, closing) => report(
+            alloc,
+            out,
+            &report_of(alloc, *ending)?,
+            *closing,
+        )?,
+        Answer::FaultyLine(number, fault) => faulty_line(alloc, out, *number, *fault)?,
+        Answer::Point(failed) => point(alloc, out, failed)?,
+        Answer::Verdict(found) => verdict(alloc, out, found)?,
+        Answer::RosterError(error) => roster_error(alloc, out, error)?,
+        Answer::Numbered(name, n) => numbered(alloc, out, name, *n)?,
+    }
+    Ok(())
+}
+
+#[test]
+fn each_answer_has_its_text(rt: HostRuntime) -> Result<(), Fail> {
+    let node = NodeId::new(9).ok_or("9")?;
+    let kind = Kind::SamePrev;
+    let hash = Hash32::zeros();
+    let what = Full {
+        what: FullOf::Records,
+        number: 131_072,
+    };
+    let sent = Counts {
+        proofs: 1,
+        vouchers: 2,
+        updates: 3,
+        values: 4,
+    };
+    let forked = Check::Forked {
+        kept: hash,
+        came: hash,
+        kind,
+    };
+    let refused = Refusal {
+        frame: 1,
+        check: Check::Missing(hash),
+    };
+    let rows = [
+        (Answer::Check(Check::BadSignature(node)), "4 BadSignature 9"),
+        (Answer::Check(Check::ClockFar(0)), "9 ClockFar 0"),
+        (Answer::FaultyLine(2, LineFault::Number), "line 2 Number"),
+        (Answer::Check(forked), "11 Forked SamePrev"),
+        (Answer::Check(Check::AgainstMe), "16 AgainstMe"),
+        (Answer::Refusal(refused), " refused 1 5 Missing"),
+        (Answer::Full(what), "full records 131072"),
+        (Answer::Spent(4), "Spent 4"),
+        (Answer::Tips(1025), "Tips 1025"),
+        (Answer::Collides, "Collides"),
+        (Answer::Put(0, 1), "0/1"),
+        (Answer::Write(Some(b"\x0f\xab")), "1/0/2=0fab"),
+        (Answer::Write(Some(b"")), "1/0/2="),
+        (Answer::Write(None), "1/0/2=?"),
+        (Answer::Records(2), "records 2"),
+        (Answer::RecordFault(RecordFault::Ill(3)), "Ill 3"),
+        (
+            Answer::RecordFault(RecordFault::Refused(Check::BadSignature(node))),
+            "4 BadSignature 9",
+        ),
+        (Answer::Named, "convicted 1 leaves 2 wanted 0"),
+        (
+            Answer::Counts(sent, true),
+            "proofs 1 vouchers 2 updates 3 values 4 more",
+        ),
+        (
+            Answer::Report(Ending::Cut(3), None),
+            "accepted 2 known 0 refused 1 cut 3",
+        ),
+        (
+            Answer::Report(Ending::Closed, Some(Closing::IllFormed(7))),
+            "accepted 2 known 0 refused 1 ill-formed 7",
+        ),
+        (
+            Answer::Report(Ending::Closed, Some(Closing::Full(what))),
+            "accepted 2 known 0 refused 1 full records 131072",
+        ),
+        (
+            Answer::Point(JudgeError::BadSignature(Half::First)),
+            "BadSignature first",
+        ),
+        (
+            Answer::Point(JudgeError::TwoWriters(node, node)),
+            "TwoWriters 9 9",
+        ),
+        (
+            Answer::Point(JudgeError::NotContradictory(kind)),
+            "NotContradictory SamePrev",
+        ),
+        (Answer::Verdict(Verdict { node, kind }), "9 SamePrev"),
+        (Answer::RosterError(RosterError::TwiceNode(node)), "twice 9"),
+        (Answer::Numbered("stopped records", 2), "stopped records 2"),
+    ];
+    for (answer, text) in &rows {
+        let mut out = Bytes::new(rt.alloc());
+        print(rt.alloc(), &mut out, answer)?;
+        assert!(rt; out.as_slice() == text.as_bytes(), "{text}");
+    }
+    Ok(())
+}

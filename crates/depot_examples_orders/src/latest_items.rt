@@ -1,0 +1,91 @@
+//! Numbers, of which each precedes the greater ones of its own parity.
+ghost use Rattle.std.specs.Prelude.{◌≡◌, ◌<◌, ◌%◌, ◌⊎◌, ℕ};
+
+use depot_base::{Key, Precedes, Steps};
+use depot_index::KeyIndex;
+use std::alloc::Global;
+use std::marker::Brand;
+use std::process::Abort;
+use std::sync::ledger::{Blank, Ledger};
+use std::test::Fail;
+
+/// The order of numbers by parity, listed by size.
+struct ByParity;
+
+impl Precedes for ByParity {
+    ghost has = { λ _ _. Unit {0} };
+
+    ghost precedes = { λ _ a b. (a < b) × (a % 2 ≡ b % 2) };
+
+    ghost listed = { λ _ a b. a < b };
+
+    fn before<L: Ledger>(&self, a: u32, b: u32, steps: &mut Steps<L>) -> bool {
+        steps.tick();
+        a < b && a % 2 == b % 2
+    }
+
+    fn lists_first(&self, a: u32, b: u32) -> bool {
+        a < b
+    }
+
+    ghost use Rattle.std.proofs.Common.{arith};
+    ghost use Rattle.std.proofs.lemmas.Bool.{cases_order};
+
+    ghost precedes_no_self = { λ p a has before. Prim.omega (arith, before.0) };
+
+    ghost precedes_on = { λ p a b c has_a has_b has_c first second. (Prim.omega (arith, first.0, second.0), Prim.omega (arith, first.1, second.1)) };
+
+    ghost lists_no_self = { λ p a has before. Prim.omega (arith, before) };
+
+    ghost lists_on = { λ p a b c has_a has_b has_c first second. Prim.omega (arith, first, second) };
+
+    ghost lists_all = { λ p a b has_a has_b. cases_order a b };
+}
+
+/// An item that is added, and the latest items of its key then.
+type Written<'a> = (u32, &'a [u32]);
+
+/// Adds items of a key in turn, and looks at its latest items after each.
+fn write_all<L: Ledger>(
+    rt: &impl Abort,
+    index: &mut KeyIndex,
+    key: &Key,
+    items: &[Written],
+    steps: &mut Steps<L>,
+) -> Result<(), Fail> {
+    for (item, latest) in items {
+        index.add(&ByParity, key, *item, steps)?;
+        assert_eq!(rt; index.latest(key), *latest, "after {item}");
+    }
+    Ok(())
+}
+
+/// Writes to two keys in turn.
+fn two_keys<L: Ledger>(rt: &impl Abort, alloc: Global, blank: Blank) -> Result<(), Fail>
+    requires name { blank.name ≡ L.name }
+    requires parts { blank.parts ≡ L.parts }
+    requires some { 0 < blank.parts }
+{
+    let mut steps = Steps::<L>::new(blank);
+    let mut index = KeyIndex::new(alloc);
+    let key = Key::new(alloc, b"k")?;
+    let other = Key::new(alloc, b"other")?;
+    index.reserve(&other)?;
+    assert!(rt; index.latest(&other).is_empty());
+    write_all(rt, &mut index, &key, &[(9, &[9]), (4, &[4, 9])], &mut steps)?;
+    write_all(rt, &mut index, &other, &[(3, &[3]), (5, &[5])], &mut steps)?;
+    write_all(
+        rt,
+        &mut index,
+        &key,
+        &[(6, &[6, 9]), (11, &[6, 11]), (12, &[11, 12])],
+        &mut steps,
+    )?;
+    assert_eq!(rt; index.latest(&other), [5].as_slice());
+    Ok(())
+}
+
+#[test]
+fn latest_items_are_mended(rt: HostRuntime) -> Result<(), Fail> {
+    two_keys::<Brand>(&rt, rt.alloc(), Blank::new(1))
+}

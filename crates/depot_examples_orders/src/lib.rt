@@ -1,0 +1,17 @@
+//! Examples of orders: lanes of numbers, rows of clocks, the latest items of a key, and graphs of updates.
+//!
+//! Numbers, chains and updates whose order is known beforehand, and two chains that are too long to be walked, are tried on the
+//! public calls of each of these crates. What is promised of them is proved there; nothing is promised here. The tests stand in a
+//! crate of their own so that those crates are proved once: a crate with tests is proved a second time for them.
+#![tactic(auto)]
+
+#[cfg(test)]
+mod graphs;
+#[cfg(test)]
+mod lanes;
+#[cfg(test)]
+mod latest_items;
+#[cfg(test)]
+mod long_chains;
+#[cfg(test)]
+mod rows;

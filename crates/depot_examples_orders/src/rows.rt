@@ -1,0 +1,139 @@
+//! A chain of 70 items that joins a chain of 24 at each third item.
+ghost use Rattle.std.specs.Prelude.{◌≡◌, ◌+◌, ◌<◌, ◌≤◌, ℕ, length, OnOk, IfOk};
+ghost use Rattle.depot_clocks.specs.ChainItems.{chain_length, number_of_chains};
+
+use depot_base::Steps;
+use depot_clocks::Clocks;
+use std::alloc::Global;
+use std::marker::Brand;
+use std::process::Abort;
+use std::sync::ledger::{Blank, Ledger};
+use std::test::Fail;
+
+/// The items of the chain that is joined; those of the other one come behind them.
+const JOINED: u32 = 24;
+
+/// Adds a chain behind the others: `first` items are here. Where it joins the first chain, the third item of every three has
+/// the next item of that chain as a parent too.
+fn grow(clocks: &mut Clocks, first: u32, chain: u32, count: u32, joins: bool) -> Result<(), Fail>
+    requires first { length clocks.old ≡ first }
+    requires few { first + count < 1000 }
+    requires some { 0 < count }
+    requires chain { number_of_chains clocks.old ≡ chain }
+    requires none { (c : ℕ) → chain ≤ c → chain_length clocks.old c ≡ 0 }
+    ensures items { OnOk result (length clocks.new ≡ first + count) }
+    ensures chains { OnOk result (number_of_chains clocks.new ≡ chain + 1) }
+    ensures none { OnOk result ((c : ℕ) → chain < c → chain_length clocks.new c ≡ 0) }
+{
+    clocks.add(chain, 0, [].as_slice())?;
+    for place in 1..count {
+        let last = first + place - 1;
+        let other = if joins && place % 3 == 2 {
+            place / 3
+        } else {
+            last
+        };
+        clocks.add(chain, place, [last, other].as_slice())?;
+    }
+    Ok(())
+}
+
+/// Both chains.
+fn joined(alloc: Global) -> Result<Clocks, Fail>
+    ensures items { IfOk result (λ clocks. length clocks ≡ 94) }
+    ensures chains { IfOk result (λ clocks. number_of_chains clocks ≡ 2) }
+{
+    let mut clocks = Clocks::new(alloc);
+    grow(&mut clocks, 0, 0, JOINED, false)?;
+    grow(&mut clocks, JOINED, 1, 70, true)?;
+    Ok(clocks)
+}
+
+/// The rows of some places of the second chain: so many items of each chain.
+fn rows(rt: &impl Abort, clocks: &Clocks)
+    requires items { length clocks.now ≡ 94 }
+    requires chains { number_of_chains clocks.now ≡ 2 }
+{
+    for (place, counts) in [
+        (0, [0, 1]),
+        (31, [10, 32]),
+        (32, [11, 33]),
+        (33, [11, 34]),
+        (63, [21, 64]),
+        (64, [21, 65]),
+        (69, [23, 70]),
+    ] {
+        assert!(rt; place < 70);
+        let mut row = [7u32; 2];
+        clocks.row_into(JOINED + place, row.as_mut_slice());
+        assert_eq!(rt; row, counts, "the row of place {place}");
+    }
+}
+
+/// Which items of the two chains precede which.
+fn order<L: Ledger>(rt: &impl Abort, clocks: &Clocks, steps: &mut Steps<L>)
+    requires { length clocks.now ≡ 94 }
+{
+    for (a, b, is_before) in [
+        (0, 25, false),
+        (0, 26, true),
+        (9, 55, true),
+        (10, 55, false),
+        (10, 56, true),
+        (22, 93, true),
+        (23, 93, false),
+        (24, 93, true),
+        (93, 93, false),
+        (93, 24, false),
+        (0, 23, true),
+        (23, 0, false),
+        (26, 23, false),
+    ] {
+        assert!(rt; a < 94);
+        assert!(rt; b < 94);
+        assert_eq!(rt; clocks.before(a, b, steps), is_before, "{a} and {b}");
+    }
+}
+
+/// Which rows count which items.
+fn within(rt: &impl Abort, clocks: &Clocks)
+    requires items { length clocks.now ≡ 94 }
+    requires chains { number_of_chains clocks.now ≡ 2 }
+{
+    for (item, row, is_within) in [
+        (55, [10, 32], true),
+        (55, [10, 31], false),
+        (55, [9, 70], false),
+        (56, [11, 33], true),
+        (56, [10, 70], false),
+        (88, [21, 65], true),
+        (88, [20, 65], false),
+        (22, [23, 0], true),
+        (23, [23, 70], false),
+    ] {
+        assert!(rt; item < 94);
+        assert_eq!(rt;
+            clocks.within(item, row.as_slice()),
+            is_within,
+            "{item} in {row:?}"
+        );
+    }
+}
+
+fn joins<L: Ledger>(rt: &impl Abort, alloc: Global, blank: Blank) -> Result<(), Fail>
+    requires name { blank.name ≡ L.name }
+    requires parts { blank.parts ≡ L.parts }
+    requires some { 0 < blank.parts }
+{
+    let mut steps = Steps::<L>::new(blank);
+    let clocks = joined(alloc)?;
+    rows(rt, &clocks);
+    order(rt, &clocks, &mut steps);
+    within(rt, &clocks);
+    Ok(())
+}
+
+#[test]
+fn a_chain_joins_another(rt: HostRuntime) -> Result<(), Fail> {
+    joins::<Brand>(&rt, rt.alloc(), Blank::new(1))
+}

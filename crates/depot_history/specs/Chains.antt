@@ -1,0 +1,23 @@
+-- The leaves of a past, by the chains of the forest by prev.
+use Rattle.std.specs.Prelude.{◌≡◌, ◌<◌, ◌≤◌, ◌⊎◌, ℕ, List}
+use Rattle.depot_base.specs.declared.update.Update.{Update}
+use Rattle.depot_model.specs.Lists.{IsIn}
+use Rattle.depot_model.specs.Items.{PrecedesAt, children_of}
+use Rattle.depot_virtual.specs.Spots.{IsAt}
+use Rattle.depot_graph.specs.Kept.{prev_places}
+
+-- the item is one of these, or precedes one of them
+abbrev pub IsCovered : List Update → List ℕ → ℕ → Type 0
+IsCovered us items n = (m : ℕ) × (IsIn m items × ((n ≡ m) ⊎ PrecedesAt us n m))
+
+-- the item is covered, and none whose prev it is
+pub record IsLast (us : List Update) (items : List ℕ) (n : ℕ) : Type 0 where
+  pub covered : IsCovered us items n
+  pub childless : (child : ℕ) → IsIn child (children_of us n) → IsCovered us items child → ⊥
+
+-- the item is the last of its chain that stands before this place
+pub record IsLastCounted (us : List Update) (chain count n : ℕ) : Type 0 where
+  pub place : ℕ
+  pub at : IsAt (prev_places us) n chain place
+  pub counted : place < count
+  pub last : (m other : ℕ) → IsAt (prev_places us) m chain other → other < count → other ≤ place
