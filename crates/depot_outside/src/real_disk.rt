@@ -36,7 +36,7 @@ impl<R: Files + Drop> RealDisk<R> {
     }
 }
 
-/// The file, once it is open.
+/// The file, once it is open. Where it was made, the folder that names it is synced, so that no stop loses it.
 fn reach<'a, R: Files>(rt: &R, file: &'a mut Option<R::File>) -> io::Result<&'a mut R::File> {
     match file {
         Some(file) => Ok(file),
@@ -46,9 +46,15 @@ fn reach<'a, R: Files>(rt: &R, file: &'a mut Option<R::File>) -> io::Result<&'a 
                 .write(true)
                 .create(true)
                 .open(rt, NAME)?;
+            sync_folder(rt)?;
             Ok(file.insert(opened))
         }
     }
+}
+
+/// Has the system write out the names that it holds back of the current folder.
+fn sync_folder<R: Files>(rt: &R) -> io::Result<()> {
+    OpenOptions::new().read(true).open(rt, ".")?.sync_all()
 }
 
 /// How many bytes the file has.
@@ -85,7 +91,7 @@ fn write_piece<R: Files>(
 
 /// Has the system write out what it holds back of the file.
 fn flush<R: Files>(rt: &R, file: &mut Option<R::File>) -> io::Result<()> {
-    reach(rt, file)?.sync_all()
+    reach(rt, file)?.sync_data()
 }
 
 impl<R: Files + Drop> RealDisk<R> {
