@@ -8,7 +8,8 @@ use Rattle.depot_model.specs.Texts.{id_of_update}
 use Rattle.depot_model.specs.Order.{IsPath, IsParent, Precedes, parents, IsCausal, IsLatest}
 use Rattle.depot_model.proofs.Members.{among_from, among_to, chosen_cases, chosen_behind, chosen_front}
 use Rattle.depot_model.proofs.Orders.{leads_more, parent_precedes, precedes_wider, causal_behind, child_is_behind, path_behind}
-use Rattle.depot_tool.specs.Covered.{writes_key, covers, uncovered}
+use Rattle.depot_model.specs.Contents.{writes as writes_key}
+use Rattle.depot_tool.specs.Covered.{covers, uncovered}
 
 writes_is : (key : List ℕ) (u : Update) → writes_key key u ≡ true → u.key ≡ key
 writes_is key u e = (bytes_eq-Decides u.key key).0 e

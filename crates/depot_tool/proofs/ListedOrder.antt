@@ -26,7 +26,8 @@ use Rattle.depot_model.proofs.Members.{bytes_eq_comm, in_permuted}
 use Rattle.depot_model.proofs.LatestLaws.{rank}
 use Rattle.depot_model.proofs.Orders.{fresh, causal_behind}
 use Rattle.depot_tool.specs.Bodies.{updates}
-use Rattle.depot_tool.specs.Covered.{writes_key, covers, uncovered}
+use Rattle.depot_model.specs.Contents.{writes as writes_key}
+use Rattle.depot_tool.specs.Covered.{covers, uncovered}
 use Rattle.depot_tool.specs.declared.body.Body.{Body}
 use Rattle.depot_tool.proofs.CoveredLaws.{uncovered_in, latest_from_uncovered, uncovered_from_latest}
 

@@ -4,7 +4,8 @@ use Rattle.std.proofs.lemmas.List.{append_assoc, append-nil, reverse-append, map
 use Rattle.depot_base.specs.declared.update.Update.{Update}
 use Rattle.depot_model.specs.Texts.{id_of_update}
 use Rattle.depot_tool.specs.Bodies.{updates}
-use Rattle.depot_tool.specs.Covered.{writes_key, covers, uncovered, Covers}
+use Rattle.depot_model.specs.Contents.{writes as writes_key}
+use Rattle.depot_tool.specs.Covered.{covers, uncovered, Covers}
 use Rattle.depot_tool.specs.declared.body.Body.{Body}
 
 -- these bodies are left, and the others were visited

@@ -14,9 +14,9 @@ use Rattle.depot_script.specs.declared.command.Command as line
 use Rattle.depot_session.specs.declared.ending.Ending.{Ending}
 use Rattle.depot_session.specs.declared.ending.Ending.TheVariants as ending
 use Rattle.depot_session.specs.Runs as runs
-use Rattle.depot_session.specs.Sessions.{answers_of, loads_of, session_from}
+use Rattle.depot_session.specs.Sessions.{answers_of, loads_of, session_from, shelf_line}
 use Rattle.depot_winter.specs.Signing.{key_of_seed}
-use Rattle.depot_tool.specs.Runs.{Answers, Begins, Ends, IsNoScript, IsRosterText, shelf_line}
+use Rattle.depot_tool.specs.Runs.{Answers, Begins, Ends, IsNoScript, IsRosterText}
 use Rattle.depot_tool.specs.Statuses.{status_of}
 use Rattle.depot_tool.specs.declared.command.Command.{Command}
 use Rattle.depot_tool.specs.declared.command.Command.TheVariants as asked

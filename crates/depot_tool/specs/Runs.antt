@@ -28,6 +28,7 @@ use Rattle.depot_schedule.specs.declared.schedule.Schedule.{Schedule}
 use Rattle.depot_world.specs.Transcript.{transcript_of, world_of}
 use Rattle.depot_load.specs.Loads.{load_of}
 use Rattle.depot_load.specs.Summaries.{summary_of}
+use Rattle.depot_session.specs.Sessions.{shelf_line}
 use Rattle.depot_tool.specs.Lines.{line_of_write}
 use Rattle.depot_outside.specs.Told.{Shelves, Loads, HasLoaded, HasFile, WhereTold, LacksFile, Sinks, Wrote, WroteFront}
 use Rattle.depot_tool.specs.declared.command.Command.{Command}
@@ -46,9 +47,6 @@ IsLoaded shelf name None = LacksFile shelf name
 -- where the shelf failed nothing else is answered
 abbrev pub EndsAtFault : Shelves → Status → Type 0
 EndsAtFault shelf status = (status ≡ Shelf) ⊎ (shelf.faults_after ≡ shelf.faults_before)
-
-abbrev pub shelf_line : List ℕ → List ℕ
-shelf_line name = codes "shelf " ++ name ++ codes "\n"
 
 -- ---- scan
 

@@ -27,7 +27,7 @@ impl Body {
     ghost use Rattle.depot_model.specs.Texts.{update_body};
     ghost use Rattle.depot_model.specs.Order.{listed};
     ghost use Rattle.depot_tool.specs.Bodies.{seen_by};
-    ghost use Rattle.depot_tool.specs.Covered.{writes_key};
+    ghost use Rattle.depot_model.specs.Contents.{writes as writes_key};
 
     /// The update whose body this is, beside its id. The text is hashed once. `IllFormed` comes exactly where it is no
     /// update's body, with the offset of the first fault (docs/FORMATS.md).

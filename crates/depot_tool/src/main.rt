@@ -4,7 +4,7 @@
 //! is said by the contract of `depot` in `top.rt`; what the real adapters do is trusted (`depot_outside`).
 //!
 //! `scan` stands in `body`, `ids`, `log`, `order`, `writes`, `lines` and `scan`; `key`, `judge`, `replay` and `node` in
-//! files of their names; how words are read in `words`.
+//! files of their names; `load` in `long_run`; how words are read in `words`.
 #![tactic(auto)]
 
 mod body;

@@ -3,7 +3,8 @@ ghost use Rattle.std.specs.Prelude.{◌≡◌, ◌&&◌, [], not, reverse, IfOk,
 ghost use Rattle.depot_model.specs.Order.{IsCausal, AreLatestIn};
 ghost use Rattle.depot_tool.specs.Bodies.{updates};
 ghost use Rattle.depot_tool.specs.Ids.{is_covered, IsUncovered};
-ghost use Rattle.depot_tool.specs.Covered.{writes_key, Covers, uncovered};
+ghost use Rattle.depot_model.specs.Contents.{writes as writes_key};
+ghost use Rattle.depot_tool.specs.Covered.{Covers, uncovered};
 
 use crate::body::Body;
 use crate::ids::Ids;
