@@ -1,6 +1,6 @@
 #!/usr/bin/env python3
-"""Replays schedules that reach the limits, and says of each whether it prints what it must. They are told as those of make_replays.py, and
-are too large to be kept as files.
+"""Replays schedules that reach the limits, and starts nodes over journals that pass them, and says of each whether it prints what it must. They
+are told as those of make_replays.py and of make_node_cases.py, and are too large to be kept as files.
 
     python3 acceptance/limits.py
 """
@@ -11,8 +11,10 @@ import sys
 import tempfile
 
 from make_cases import HERE, ZEROS, frame
+from make_node_cases import JOURNAL, LISTED, words
 from make_replays import REFUSED_ONE, TOOK, branches, doubled, hello_of, members, raw, schedule, signed_update, signed_voucher, transcript
 
+DEPOT = os.path.join(HERE, "..", "depot")
 WIDE = ["depot schedule 1", "scheme plain 12"]
 
 
@@ -91,15 +93,46 @@ def plays(name, header, events):
     with tempfile.TemporaryDirectory() as room:
         with open(os.path.join(room, "schedule"), "w") as out:
             out.write(schedule(header, events))
-        run = subprocess.run([os.path.join(HERE, "..", "depot"), "replay", "schedule"], cwd=room, capture_output=True, text=True)
+        run = subprocess.run([DEPOT, "replay", "schedule"], cwd=room, capture_output=True, text=True)
     good = run.returncode == 0 and run.stdout == transcript(events)
     print(f"{name}: " + ("as told" if good else f"status {run.returncode}, not as told"))
     return good
 
 
+def too_many_records(file):
+    """A journal of one record more than there may be. They have no bytes, so each takes five: the last one's gate is told."""
+    file.write(b"\1\0\0\0\0" * 131_073 + b"\0")
+    return 5 * 131_072
+
+
+def too_many_bytes(file):
+    """A journal whose one record is a byte too long for it. It has no content, so that it takes no room."""
+    length = 2**30 - 5
+    file.write(b"\1" + length.to_bytes(4, "big"))
+    file.truncate(5 + length + 1)
+    return 0
+
+
+def is_damaged(name, write):
+    """Whether a node over such a journal says where it is damaged, and leaves it as it was."""
+    with tempfile.TemporaryDirectory() as room:
+        path = os.path.join(room, JOURNAL)
+        for file, data in (("ROSTER", LISTED), ("SCRIPT", b"")):
+            with open(os.path.join(room, file), "wb") as out:
+                out.write(data)
+        with open(path, "wb") as file:
+            offset = write(file)
+        before = os.stat(path)
+        ran = subprocess.run([DEPOT, *words(1)], cwd=room, capture_output=True, text=True)
+        after = os.stat(path)
+    good = (ran.returncode, ran.stdout) == (9, f"damaged {offset}\n") and (before.st_size, before.st_mtime_ns) == (after.st_size, after.st_mtime_ns)
+    print(f"{name}: " + ("as told" if good else f"not as told: status {ran.returncode}, {ran.stdout[:80]!r}"))
+    return good
+
+
 def main():
-    cases = [long_values, many_branches, many_records, long_bundle, many_frames]
-    results = [plays(case.__name__, *case()) for case in cases]
+    results = [plays(case.__name__, *case()) for case in (long_values, many_branches, many_records, long_bundle, many_frames)]
+    results += [is_damaged(write.__name__, write) for write in (too_many_records, too_many_bytes)]
     sys.exit(0 if all(results) else 1)
 
 
