@@ -1,15 +1,16 @@
 #!/usr/bin/env bash
-# Prints how long the program takes; run it by hand. It is no timed test.
+# Prints how much processor time the program takes, in seconds and in units of `depot key` of height 12; run it by hand. It is no timed test.
 set -eu
 here=$(cd "$(dirname "$0")" && pwd)
+depot=$here/../depot
 room=$(mktemp -d)
 trap 'rm -rf "$room"' EXIT
 cd "$room"
-"$here/../depot" >/dev/null || true
+. "$here/measure.sh"
+
 for count in 10000 100000; do
   python3 "$here/make_log.py" chain.log --chain "$count"
-  echo "scan of a chain of $count updates of one key:"
-  time "$here/../depot" scan chain.log 6e6f7465
+  measure "scan of a chain of $count updates of one key" "$depot" scan chain.log 6e6f7465
 done
 if command -v valgrind >/dev/null; then
   python3 "$here/make_log.py" chain.log --chain 20000
@@ -17,12 +18,11 @@ if command -v valgrind >/dev/null; then
   echo "instructions of a scan of 20000 updates, in all and outside of SHA-256:"
   callgrind_annotate --threshold=100 scan.out | tr -d , | awk '/PROGRAM TOTALS/ { all = $1 } /sha2::/ { hash += $1 } END { print all, all - hash }'
 fi
+measure "load 1" "$depot" load 1
 python3 "$here/make_schedule.py" busy
-echo "replay of five busy nodes with keys of height 10:"
-time "$here/../depot" replay busy >/dev/null
-python3 "$here/make_schedule.py" branches --branches 1025
-echo "replay of a node that takes 1025 branches:"
-time "$here/../depot" replay branches >/dev/null
-echo "key of height 12:"
-time "$here/../depot" key "$(printf '0%.0s' {1..64})" 12
+measure "replay of five busy nodes with keys of height 10" "$depot" replay busy
+for count in 1025 4096; do
+  python3 "$here/make_schedule.py" branches --branches "$count"
+  measure "replay of a node that takes $count branches" "$depot" replay branches
+done
 "$here/bench_node.sh"

@@ -1,40 +1,48 @@
 #!/usr/bin/env bash
-# Prints how long `depot node` takes: 2,000 puts, and a journal of 20,000 updates that is opened, taken and bundled. Run it by hand; it is no
-# timed test. All keys have height 12, so each time has that of making a key in it, which is printed first.
+# Prints how much processor time `depot node` takes, in seconds and in units of `depot key` of height 12: puts, and journals of 2,000 and of
+# 20,000 updates of five writers who know nothing of one another, that are bundled by their writers, taken, opened, and written on. Run it by
+# hand; it is no timed test. All keys have height 12. Each run makes its node's key; from the third line on that unit is taken off.
 set -eu
 here=$(cd "$(dirname "$0")" && pwd)
 depot=$here/../depot
 room=$(mktemp -d)
 trap 'rm -rf "$room"' EXIT
 cd "$room"
-"$depot" >/dev/null || true
+. "$here/measure.sh"
 
 seed() { printf "0$1%.0s" {1..32}; }
-echo "key of height 12:"
-time "$depot" key "$(seed 1)" 12 >/dev/null
 {
   printf 01040007
   for number in {1..7}; do printf '%04x0c%s' "$number" "$("$depot" key "$(seed "$number")" 12)"; done
 } | python3 -c 'import sys; sys.stdout.buffer.write(bytes.fromhex(sys.stdin.read()))' >roster
-mkdir {1..7}
 
-# Runs node NUMBER through the commands that come in.
+# Measures node NUMBER through the commands that come in, in its folder below PLACE, under a name.
 node() {
-  cat >"$1/script"
-  (cd "$1" && "$depot" node ../roster "$(seed "$1")" 12 "$1" script >>printed)
+  mkdir -p "$1/$2"
+  cat >"$1/$2/script"
+  (cd "$1/$2" && measure "$3" "$depot" node "$room/roster" "$(seed "$2")" 12 "$2" script && echo "$last" >"$room/last")
 }
 
-# COUNT puts on 40 keys, of values of 300 bytes.
-puts() { awk -v count="$1" 'BEGIN { for (i = 0; i < count; i++) printf "put %02x %0600x\n", 1 + i % 40, i }'; }
+# COUNT puts of a WRITER on 40 keys, of values of 300 bytes, each different from all others.
+puts() { awk -v count="$1" -v writer="$2" 'BEGIN { for (i = 0; i < count; i++) printf "put %02x %02x%0598x\n", 1 + i % 40, writer, i }'; }
 
-echo "2000 puts:"
-time puts 2000 | node 7
-node 6 <<<'hello ../hello'
-for number in {1..5}; do { puts 4000; echo "bundle ../hello ../bundle-$number"; } | node "$number"; done
-echo "five bundles of 4000 updates and their values are taken:"
-time printf 'take ../bundle-%s\n' {1..5} | node 6
-echo "the journal of 20000 updates and their values is opened:"
-time node 6 </dev/null
-node 7 <<<'hello ../hello'
-echo "and bundled for a node that has none of them:"
-time node 6 <<<'bundle ../hello ../bundle'
+# Five writers put COUNT updates in all. They bundle them, and a sixth node takes the bundles, is opened again, and puts.
+journal() {
+  local count=$1 place=$room/$1 number opened
+  beside=1
+  node "$place" 6 "hello of an empty node" <<<'hello ../hello'
+  for number in {1..5}; do puts $((count / 5)) "$number" | node "$place" "$number" "$((count / 5)) puts of writer $number"; done
+  for number in {1..5}; do node "$place" "$number" "the journal of writer $number is opened and bundled" <<<"bundle ../hello ../bundle-$number"; done
+  printf 'take ../bundle-%s\n' {1..5} | node "$place" 6 "$count updates and their values are taken"
+  node "$place" 6 "the journal of $count updates and their values is opened" </dev/null
+  opened=$(cat "$room/last")
+  node "$place" 7 "hello of another empty node" <<<'hello ../hello'
+  beside=$opened
+  node "$place" 6 "and bundled for a node that has none of them" <<<'bundle ../hello ../bundle'
+  puts 500 6 | node "$place" 6 "500 puts over $count updates, once it is opened"
+}
+
+beside=0
+puts 2000 7 | node "$room/puts" 7 "2000 puts, the key among them"
+journal 2000
+journal 20000
