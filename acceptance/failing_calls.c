@@ -1,6 +1,6 @@
-/* Loaded before the C library. Three kinds of calls are counted, each from 1 on: DISK, those that ask for the length of the file depot.journal,
-   read, write or sync it; OUTPUT, the writes to standard output; SHELF, those that open any other file than that one and the current folder.
-   The call of a kind that is named by KIND_REFUSED (DISK_REFUSED and so on) fails. At the call DISK_STOPPED the machine stops, with the status
+/* Loaded before the C library. Three kinds of calls are counted, each from 1 on: DISK, those that open the file depot.journal and the current
+   folder, sync that folder, and ask for the length of the file, read, write or sync it; OUTPUT, the writes to standard output; SHELF, those that
+   open any other file. The call of a kind that is named by KIND_REFUSED (DISK_REFUSED and so on) fails. At the call DISK_STOPPED the machine stops, with the status
    99: of what was written since the last sync the journal then has nothing where DISK_IMAGE is 0, all (the write of that call too) where it is
    1, and as many bytes FF where it is 2. At the end the three numbers of calls are written to the file that CALL_COUNTS names. */
 #define _GNU_SOURCE
@@ -77,8 +77,20 @@ static int is_disk_refused(int file) {
     return is_refused(DISK, EIO);
 }
 
+static int is_stop(void) { return calls[DISK] == number("DISK_STOPPED"); }
+
+/* Whether a call before the journal is open fails. Where the machine stops in it, nothing was written. */
+static int is_opening_refused(void) {
+    if (is_refused(DISK, EIO)) return 1;
+    if (is_stop()) {
+        tell();
+        _exit(STOPPED);
+    }
+    return 0;
+}
+
 static void stop(int file) {
-    if (calls[DISK] != number("DISK_STOPPED")) return;
+    if (!is_stop()) return;
     switch (number("DISK_IMAGE")) {
     case 0:
         if (ftruncate(file, 0) || pwrite(file, stable, stable_length, 0) != stable_length) abort();
@@ -139,5 +151,11 @@ int open(const char *path, int flags, ...) {
     mode_t mode = va_arg(rest, mode_t);
     va_end(rest);
     int is_shelf = strcmp(path, JOURNAL) && strcmp(path, ".");
-    return is_shelf && is_refused(SHELF, EACCES) ? -1 : real(path, flags, mode);
+    return (is_shelf ? is_refused(SHELF, EACCES) : is_opening_refused()) ? -1 : real(path, flags, mode);
+}
+
+/* The program calls this of the folder alone. */
+int fsync(int file) {
+    REAL(int, "fsync", int);
+    return is_opening_refused() ? -1 : real(file);
 }

@@ -8,10 +8,10 @@ compiler.
     python3 acceptance/failing_calls.py NAME ..   # these cases
 
 A run of which a call fails ends with the status of what failed, behind a front of what the whole run writes: with the line `disk`, with no
-line where the output fails, with a line `shelf NAME`. It makes no call on the journal's file after one that failed. What stands on the disk
-then are records of the whole run from the first one on: those that were there before, those of which a line was written, and maybe more.
-The run that is made again over them meets no fault of a disk, and no unlawful or damaged journal. The same holds of a machine that stops,
-but for the status and the line.
+line where the output fails, with a line `shelf NAME`; but for the output the front is of whole lines. It makes no call on the journal's file
+after one that failed. What stands on the disk then are records of the whole run from the first one on, all that were there before and all
+that the commands leave whose lines were written among them. The run that is made again over them ends well, or where the leaves of the key
+are used up, and keeps them. The same holds of a machine that stops, but for the status and the line.
 """
 
 import os
@@ -24,7 +24,7 @@ import tempfile
 HERE = os.path.dirname(os.path.abspath(__file__))
 DEPOT = os.path.join(os.path.dirname(HERE), "crates/depot_tool/out/depot_tool")
 JOURNAL = "depot.journal"
-SHELF, DISK, OUTPUT, NOT_LAWFUL, STOPPED = 3, 4, 5, 9, 99
+SHELF, DISK, OUTPUT, LIMIT, STOPPED = 3, 4, 5, 8, 99
 IMAGES = 3
 
 # What a run that fails writes behind a front of the whole text.
@@ -92,34 +92,45 @@ class Run:
         with open(path, "rb") as file:
             return records(file.read())
 
-    def told(self, text):
-        """How many records the whole lines of this run speak of, at least: one for each put, and each frame that was accepted."""
-        if self.words(self.number)[0][0] != "node":
-            return 0
-        whole = text[:text.rfind(b"\n") + 1].decode()
-        return len(re.findall(r"^put .* -> \d+/\d+$", whole, re.M)) + sum(map(int, re.findall(r"^take .* -> accepted (\d+) ", whole, re.M)))
+    def told(self, front):
+        """The records that the commands leave whose lines a front has: those of a run that has no others. Where it has none, those from before."""
+        words, at = self.words(self.number)
+        place = self.place()
+        lines = sum(not line.startswith(b" ") for line in front.split(b"\n")[:-1])
+        if words[0] == "node" and lines:
+            script = os.path.join(place, at, words[-1])
+            with open(script, "rb") as file:
+                commands = file.readlines()[:lines]
+            with open(script, "wb") as file:
+                file.writelines(commands)
+            self.run(place)
+        return self.journal(place)
 
 
 def front_of(whole, status, text):
     """What a run with this status wrote of the whole text, if it wrote a front of it and then the line of what failed."""
     for at in range(len(text), -1, -1):
-        if whole.startswith(text[:at]) and re.fullmatch(LAST_LINES[status], text[at:]):
+        is_cut = text[:at].endswith(b"\n") or at == 0 or status == OUTPUT
+        if is_cut and whole.startswith(text[:at]) and re.fullmatch(LAST_LINES[status], text[at:]):
             return text[:at]
     return None
+
+
+def begins(records_, front):
+    return records_[:len(front)] == front
 
 
 def ends_well(run, whole, after, status, failing):
     """Whether a run in which a call fails ends with this status, leaves what it must, and goes on."""
     place = run.place()
-    before = run.journal(place)
     ended, text, calls = run.run(place, **failing)
     front = front_of(whole, status, text)
     if ended != status or front is None or status in (DISK, STOPPED) and calls[0] not in failing.values():
         return False
     left = run.journal(place)
-    stands = left == after[:len(left)] and len(left) >= len(before) + run.told(front)
     again, _, _ = run.run(place)
-    return stands and again not in (SHELF, DISK, OUTPUT, NOT_LAWFUL)
+    goes_on = again in (0, LIMIT) and begins(run.journal(place), left)
+    return goes_on and begins(after, left) and begins(left, run.told(front))
 
 
 def failures(calls):
@@ -138,7 +149,8 @@ def failures(calls):
 def tried(run):
     """How often a run has a failing call here, and in which of them it ended otherwise than it must."""
     place = run.place()
-    _, whole, calls = run.run(place)
+    status, whole, calls = run.run(place)
+    assert status == 0 and (calls[0] > 0) == (run.words(run.number)[0][0] == "node"), (run.folder, status, calls)
     after, failing = run.journal(place), list(failures(calls))
     return len(failing), [which for status, which in failing if not ends_well(run, whole, after, status, which)]
 

@@ -1,8 +1,9 @@
 #!/usr/bin/env bash
-# Prints how much processor time the program takes, in seconds and in units of `depot key` of height 12; run it by hand. It is no timed test.
+# Prints how much processor time the program takes, the least of three runs, in seconds and in units of `depot key` of height 12; run it by
+# hand. It is no timed test.
 set -eu
 here=$(cd "$(dirname "$0")" && pwd)
-depot=$here/../depot
+many=3
 room=$(mktemp -d)
 trap 'rm -rf "$room"' EXIT
 cd "$room"
@@ -14,7 +15,7 @@ for count in 10000 100000; do
 done
 if command -v valgrind >/dev/null; then
   python3 "$here/make_log.py" chain.log --chain 20000
-  valgrind -q --tool=callgrind --callgrind-out-file=scan.out "$here/../crates/depot_tool/out/depot_tool" scan chain.log 6e6f7465
+  valgrind -q --tool=callgrind --callgrind-out-file=scan.out "$depot" scan chain.log 6e6f7465
   echo "instructions of a scan of 20000 updates, in all and outside of SHA-256:"
   callgrind_annotate --threshold=100 scan.out | tr -d , | awk '/PROGRAM TOTALS/ { all = $1 } /sha2::/ { hash += $1 } END { print all, all - hash }'
 fi

@@ -1,10 +1,9 @@
 #!/usr/bin/env bash
 # Prints how much processor time `depot node` takes, in seconds and in units of `depot key` of height 12: puts, and journals of 2,000 and of
-# 20,000 updates of five writers who know nothing of one another, that are bundled by their writers, taken, opened, and written on. Run it by
-# hand; it is no timed test. All keys have height 12. Each run makes its node's key; from the third line on that unit is taken off.
+# 20,000 updates of five writers who know nothing of one another, that are bundled by their writers, taken, opened, and written on. All keys
+# have height 12, and each run makes its node's: one unit of each line is that. Run it by hand; it is no timed test.
 set -eu
 here=$(cd "$(dirname "$0")" && pwd)
-depot=$here/../depot
 room=$(mktemp -d)
 trap 'rm -rf "$room"' EXIT
 cd "$room"
@@ -20,29 +19,26 @@ seed() { printf "0$1%.0s" {1..32}; }
 node() {
   mkdir -p "$1/$2"
   cat >"$1/$2/script"
-  (cd "$1/$2" && measure "$3" "$depot" node "$room/roster" "$(seed "$2")" 12 "$2" script && echo "$last" >"$room/last")
+  (cd "$1/$2" && measure "$3" "$depot" node "$room/roster" "$(seed "$2")" 12 "$2" script) || exit 1
 }
 
 # COUNT puts of a WRITER on 40 keys, of values of 300 bytes, each different from all others.
 puts() { awk -v count="$1" -v writer="$2" 'BEGIN { for (i = 0; i < count; i++) printf "put %02x %02x%0598x\n", 1 + i % 40, writer, i }'; }
 
-# Five writers put COUNT updates in all. They bundle them, and a sixth node takes the bundles, is opened again, and puts.
+# Five writers put COUNT updates in all. They bundle them, and a sixth node takes the bundles, is opened again, bundles and puts.
 journal() {
-  local count=$1 place=$room/$1 number opened
-  beside=1
+  local count=$1 place=$room/$1 number
   node "$place" 6 "hello of an empty node" <<<'hello ../hello'
   for number in {1..5}; do puts $((count / 5)) "$number" | node "$place" "$number" "$((count / 5)) puts of writer $number"; done
   for number in {1..5}; do node "$place" "$number" "the journal of writer $number is opened and bundled" <<<"bundle ../hello ../bundle-$number"; done
   printf 'take ../bundle-%s\n' {1..5} | node "$place" 6 "$count updates and their values are taken"
-  node "$place" 6 "the journal of $count updates and their values is opened" </dev/null
-  opened=$(cat "$room/last")
   node "$place" 7 "hello of another empty node" <<<'hello ../hello'
-  beside=$opened
-  node "$place" 6 "and bundled for a node that has none of them" <<<'bundle ../hello ../bundle'
-  puts 500 6 | node "$place" 6 "500 puts over $count updates, once it is opened"
+  node "$place" 6 "the journal of $count updates and their values is opened" </dev/null
+  node "$place" 6 "it is opened, and bundled for a node that has none of them" <<<'bundle ../hello ../bundle'
+  node "$place" 6 "it is opened" </dev/null
+  puts 500 6 | node "$place" 6 "it is opened, and 500 puts are made"
 }
 
-beside=0
-puts 2000 7 | node "$room/puts" 7 "2000 puts, the key among them"
+puts 2000 7 | node "$room/puts" 7 "2000 puts"
 journal 2000
 journal 20000

@@ -1,22 +1,27 @@
-# Read by the scripts that measure the program (with `.`), which name it as $depot: the unit of time, and how a run is measured in it.
+# Read by the scripts that measure the program (with `.`), which name the examples' folder as $here: the program, built, as $depot; the unit of
+# time; and how a run is measured in it. A run that ends otherwise than with status 0 ends the script.
 
-# The processor time of a run, in seconds.
+"$here/../depot" >/dev/null || true
+depot=$here/../crates/depot_tool/out/depot_tool
+
+# The processor time of a run, in seconds: the least of three where MANY is 3.
 seconds() {
-  local TIMEFORMAT='%3U %3S'
-  { time "$@" >printed; } 2>taken
-  awk '{ print $1 + $2 }' taken
+  local many=$1 TIMEFORMAT='%3U %3S' turn
+  shift
+  : >taken
+  for ((turn = 0; turn < many; turn++)); do
+    { time "$@" >printed; } 2>>taken || { cat printed >&2; exit 1; }
+  done
+  awk 'NR == 1 || $1 + $2 < least { least = $1 + $2 } END { print least }' taken
 }
 
-"$depot" >/dev/null || true
-unit=$(seconds "$depot" key "$(printf '01%.0s' {1..32})" 12)
+unit=$(seconds 3 "$depot" key "$(printf '01%.0s' {1..32})" 12) || exit 1
 echo "key of height 12, the unit: $unit s"
 
-# Measures a run, whose name comes first. Of it so many units are taken off that what it does beside takes, 0 if none are named in `beside`.
-beside=0
+# Measures a run, whose name comes first.
 measure() {
   local name=$1 taken
   shift
-  taken=$(seconds "$@")
-  awk -v name="$name" -v taken="$taken" -v unit="$unit" -v beside="$beside" 'BEGIN { printf "%s: %.2f s, %.2f units\n", name, taken - beside * unit, taken / unit - beside }'
-  last=$(awk -v taken="$taken" -v unit="$unit" 'BEGIN { print taken / unit }')
+  taken=$(seconds "${many:-1}" "$@") || exit 1
+  awk -v name="$name" -v taken="$taken" -v unit="$unit" 'BEGIN { printf "%s: %.2f s, %.2f units\n", name, taken, taken / unit }'
 }

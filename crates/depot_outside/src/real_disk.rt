@@ -36,7 +36,7 @@ impl<R: Files + Drop> RealDisk<R> {
     }
 }
 
-/// The file, once it is open. Where it was made, the folder that names it is synced, so that no stop loses it.
+/// The file, once it is open. The folder that names it is synced then, so that no stop loses a file that was made.
 fn reach<'a, R: Files>(rt: &R, file: &'a mut Option<R::File>) -> io::Result<&'a mut R::File> {
     match file {
         Some(file) => Ok(file),
