@@ -12,6 +12,8 @@ mod covered;
 mod history;
 mod laws;
 mod leaf;
+#[cfg(test)]
+mod tests;
 
 pub use history::{changed_leaves, history_hash, summary};
 pub use laws::{closure_is_what_precedes, closure_of_parents_is_past};
