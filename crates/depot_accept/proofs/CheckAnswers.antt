@@ -14,7 +14,7 @@ use Rattle.depot_model.specs.Texts.{id_of_statement}
 use Rattle.depot_model.specs.Roster.{Verifies, key_of, has_node, is_signed}
 use Rattle.depot_model.specs.Checks.{Setting, given_statement, is_kept, statement_checks, first_failed_check, is_known, answer_by, answer_to, exposed, growth_by, growth}
 use Rattle.depot_fork.specs.declared.Found.{Found}
-use Rattle.depot_accept.specs.View.{View, setting}
+use Rattle.depot_accept.specs.StateView.{View, setting}
 use Rattle.depot_accept.specs.Answers.{AreDue, IsNew, IsChecked}
 use Rattle.depot_accept.specs.AfterSignature.{failed_after_signature, Passes, IsCheckedAfterSignature}
 use Rattle.depot_accept.specs.declared.answer.Pass.{Pass}

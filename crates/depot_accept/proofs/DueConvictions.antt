@@ -1,5 +1,5 @@
 -- What is appended for a statement, and the convictions that are due.
-use Rattle.std.proofs.Common.{◌≡◌, ℕ, zero, suc, ◌<◌, Bool, true, false, ◌||◌, List, [], ◌∷◌, ◌++◌, length, Some, None, refl, sym, ap, subst, ◌∙◌, arith}
+use Rattle.std.proofs.Common.{◌≡◌, ℕ, zero, suc, ◌<◌, Bool, true, false, List, [], ◌∷◌, ◌++◌, length, Some, None, refl, sym, ap, subst, ◌∙◌, arith}
 use Rattle.std.specs.Prelude.{Option, Err}
 use Rattle.std.specs.List.{slice_get}
 use Rattle.depot_base.specs.Statement.{writer_of}
@@ -21,12 +21,14 @@ use Rattle.depot_model.specs.Checks.{given_statement, sight, content_checks, con
 use Rattle.depot_fork.specs.declared.Found.{Found}
 use Rattle.depot_fork.specs.Opponents.{IsContradiction}
 use Rattle.depot_fork.proofs.KindLaws.{update_id}
-use Rattle.depot_accept.specs.View.{View, IsStateOf}
+use Rattle.std.proofs.Math.Bool.{or-false}
+use Rattle.depot_model.proofs.DueLaws.{none_due, no_fork_vouched, no_fork_alone}
+use Rattle.depot_accept.specs.StateView.{View, IsStateOf}
 use Rattle.depot_accept.specs.Answers.{AreDue}
 use Rattle.depot_accept.specs.AfterSignature.{IsOpponent, failed_after_signature, Passes, IsCheckedAfterSignature}
 use Rattle.depot_accept.specs.declared.answer.CheckError.{CheckError}
 use Rattle.depot_accept.specs.declared.answer.CheckError.TheVariants as failed
-use Rattle.depot_accept.proofs.LaterChecks.{no_fork_convicted, no_fork_vouched, no_fork_alone, fork_is_told, not_refused, not_refused_vouched, refused_update, refused_voucher, fails_as_fork, fails_as_convicted, fails_nowhere}
+use Rattle.depot_accept.proofs.LaterChecks.{no_fork_convicted, fork_is_told, not_refused, not_refused_vouched, refused_update, refused_voucher, fails_as_fork, fails_as_convicted, fails_nowhere}
 
 -- ---- what the state tells of the journal
 
@@ -38,16 +40,12 @@ writer_convicted {S = S} J v w s n b seen st is e =
     ∙ ap (λ (x : View S). is_one_of n x.convicted) (sym seen)
     ∙ sym e
 
-or_nothing : (b : Bool) → (b || false) ≡ b
-or_nothing true = refl
-or_nothing false = refl
-
 -- whether someone vouched for an update
 pub update_vouched : {S : Type 0} (J : List Record) (v w : View S) (s : Statement) (u : Update) (id : List ℕ) (b : Bool) → v ≡ w → IsStateOf J w → s ≡ statements.Update u → id ≡ id_of_statement s → b ≡ is_among id v.vouched → is_vouched J s ≡ b
 unfolding is_vouched
 update_vouched {S = S} J v w (statements.Voucher x) u id b seen st is name e = absurd cc
 update_vouched {S = S} J v w (statements.Update t) u id b seen st is name e =
-    or_nothing (is_among (id_of_update t) (vouched J))
+    or-false (is_among (id_of_update t) (vouched J))
     ∙ ap (λ (h : List ℕ). is_among h (vouched J)) (sym (name ∙ update_id t))
     ∙ st.vouched id
     ∙ ap (λ (x : View S). is_among id x.vouched) (sym seen)
@@ -71,12 +69,6 @@ content_seen {S = S} J v w s u o seen st is e =
     ∙ sym e
 
 -- ---- the convictions
-
--- nobody is convicted twice
-pub none_due : (J : List Record) (s : Signed) (o : Option (Signed × Kind)) → is_convicted J (writer_of s.statement) ≡ true → due J s o ≡ []
-unfolding due
-none_due J s None e = refl
-none_due J s (Some o) e = rw e refl
 
 is_due : (J : List Record) (s : Signed) (o : Signed × Kind) → is_convicted J (writer_of s.statement) ≡ false → due J s (Some o) ≡ Conviction (proof_of o.1 o.0 s) ∷ []
 unfolding due

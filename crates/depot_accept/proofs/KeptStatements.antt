@@ -8,7 +8,7 @@ use Rattle.std.specs.Str.{bytes_eq}
 use Rattle.std.proofs.Math.Seq.{drop-cons}
 use Rattle.std.proofs.lemmas.List.{drop_all}
 use Rattle.std.proofs.lemmas.Bool.Decides.{nat_tests}
-use Rattle.std.proofs.lemmas.Bool.{ltb-false}
+use Rattle.std.proofs.lemmas.Bool.{ltb-false, eqb-false}
 use Rattle.std.proofs.lemmas.Iterator.Adapters.{position_from-zero}
 use Rattle.std.proofs.lemmas.Option.{slice_get_past}
 use Rattle.std.proofs.lemmas.Slice.Eq.{bytes_eq-Decides}
@@ -30,7 +30,8 @@ use Rattle.depot_model.specs.Checks.{is_kept, is_update_with, named_opponent}
 use Rattle.depot_fork.specs.Opponents.{has_body_of}
 use Rattle.depot_fork.proofs.KindLaws.{same_from_text, bodies_by_fields, update_id}
 use Rattle.depot_model.specs.Vouching.{own_voucher_by}
-use Rattle.depot_accept.specs.View.{View, IsStateOf}
+use Rattle.depot_base.proofs.GeneralLaws.{when_none, when_some, at_place as there_is}
+use Rattle.depot_accept.specs.StateView.{View, IsStateOf}
 use Rattle.depot_accept.specs.OwnVouchers.{has_body_of_voucher, AreVouchersOf}
 use Rattle.depot_accept.specs.AfterSignature.{IsOpponent}
 
@@ -144,9 +145,6 @@ any_later test xs i x lt is e = rw (add-one, drop-cons xs i x lt, ← is, e) ref
 pub any_nowhere : {X : Type 0} (test : X → Bool) (xs : List X) (i : ℕ) → length xs ≤ i → list_any test (drop i xs) ≡ false
 any_nowhere test xs i past = rw (drop_all i xs past) refl
 
-apart : (a b : ℕ) → eqb a b ≡ false → a ≡ b → ⊥
-apart a b differ same = grind (arith, nat_tests)
-
 -- a voucher of another node is none of them
 none_of_another : (vs : List Voucher) (v : Voucher) (me : ℕ) → AllByRecursion (λ w. IsStatement (statements.Voucher w)) vs → AllByRecursion (λ w. w.node ≡ me) vs → IsStatement (statements.Voucher v) → (v.node ≡ me → ⊥) → list_any (has_body_of_voucher v) vs ≡ false
 none_of_another [] v me texts nodes fits other = refl
@@ -161,7 +159,7 @@ none_of_another (w ∷ ws) v me texts nodes fits other = by_test (has_body_of_vo
 
 pub not_own : {S : Type 0} (v w : View S) (x : Voucher) (me : ℕ) (b : Bool) → v ≡ w → AreVouchersOf me v.own_vouchers → IsStatement (statements.Voucher x) → b ≡ eqb x.node me → b ≡ false → b ≡ list_any (has_body_of_voucher x) w.own_vouchers
 not_own {S = S} v w x me b seen all fits e isnt =
-    isnt ∙ sym (none_of_another v.own_vouchers x me all.texts all.nodes fits (apart x.node me (sym e ∙ isnt))) ∙ ap (λ (y : View S). list_any (has_body_of_voucher x) y.own_vouchers) seen
+    isnt ∙ sym (none_of_another v.own_vouchers x me all.texts all.nodes fits (eqb-false x.node me (sym e ∙ isnt))) ∙ ap (λ (y : View S). list_any (has_body_of_voucher x) y.own_vouchers) seen
 
 -- ---- the first kept update with an id
 
@@ -180,21 +178,13 @@ named_at (f ∷ fs) h s = by_test (is_update_with h f.statement) (named_at fs h 
       let next : suc (position_or_len (λ g. is_update_with h g.statement) fs) ≡ 1 + position_or_len (λ g. is_update_with h g.statement) fs = omega arith in
       later ∙ ap (λ (k : ℕ). by_first s (slice_get (f ∷ fs) k)) next
 
-some_of : (b : Bool) (p n : ℕ) → cond b (Some p) None ≡ Some n → (b ≡ true) × (p ≡ n)
-some_of true p n e = (refl, cc)
-some_of false p n e = absurd cc
-
-none_of : (b : Bool) (p : ℕ) → cond b (Some p) None ≡ None → b ≡ false
-none_of true p e = absurd cc
-none_of false p e = refl
-
 within : (a b : ℕ) → nat_lt a b ≡ true → a < b
 within a b e = grind (arith, nat_tests)
 
 -- a place is one of the list
 place_within : {X : Type 0} (test : X → Bool) (xs : List X) (n : ℕ) → position test xs ≡ Some n → n < length xs
 place_within test xs n e =
-    let r = some_of _ (position_or_len test xs) n e in
+    let r = when_some _ (position_or_len test xs) n e in
     let below : position_or_len test xs < length xs = within (position_or_len test xs) (length xs) r.0 in
     subst (λ (k : ℕ). k < length xs) r.1 below
 
@@ -203,18 +193,13 @@ pub none_named : (fs gs : List Signed) (h : List ℕ) (s : Statement) → fs ≡
 none_named fs gs h s seen e =
     ap (λ (l : List Signed). named_opponent l h s) (sym seen)
     ∙ named_at fs h s
-    ∙ ap (by_first s) (slice_get_past fs (position_or_len (λ f. is_update_with h f.statement) fs) (ltb-false _ _ (none_of _ (position_or_len (λ f. is_update_with h f.statement) fs) e)))
+    ∙ ap (by_first s) (slice_get_past fs (position_or_len (λ f. is_update_with h f.statement) fs) (ltb-false _ _ (when_none _ (position_or_len (λ f. is_update_with h f.statement) fs) e)))
 
 -- the one at the place of the id
 at_place : (fs : List Signed) (h : List ℕ) (s : Statement) (n : ℕ) (f : Signed) → position (λ g. is_update_with h g.statement) fs ≡ Some n → slice_get fs n ≡ Some f → named_opponent fs h s ≡ option_map (λ k. (f, k)) (kind_of f.statement s)
 at_place fs h s n f e at =
-    let r = some_of _ (position_or_len (λ g. is_update_with h g.statement) fs) n e in
+    let r = when_some _ (position_or_len (λ g. is_update_with h g.statement) fs) n e in
     named_at fs h s ∙ ap (λ (k : ℕ). by_first s (slice_get fs k)) r.1 ∙ ap (by_first s) at
-
-there_is : {X : Type 0} (xs : List X) (n : ℕ) → n < length xs → (x : X) × (slice_get xs n ≡ Some x)
-there_is [] n lt = absurd (omega arith)
-there_is (x ∷ xs) zero lt = (x, refl)
-there_is (x ∷ xs) (suc n) lt = there_is xs n (omega arith)
 
 -- the statement contradicts it in this way, or not
 pub named_by : (fs gs : List Signed) (h : List ℕ) (s : Statement) (n : ℕ) (k : Option Kind) → fs ≡ gs → position (λ g. is_update_with h g.statement) fs ≡ Some n → ((f : Signed) → slice_get fs n ≡ Some f → k ≡ kind_of f.statement s)

@@ -1,6 +1,5 @@
 -- The checks after that of the signature, in their order.
-use Rattle.std.proofs.Common.{◌≡◌, Bool, true, false, cond, ◌&&◌, ◌||◌, List, [], ◌∷◌, Some, None, refl, sym, ap, ◌∙◌}
-use Rattle.std.specs.Prelude.{Option}
+use Rattle.std.proofs.Common.{◌≡◌, Bool, true, false, cond, ◌&&◌, List, [], ◌∷◌, Some, None, refl, sym, ap, ◌∙◌}
 use Rattle.depot_base.specs.Statement.{writer_of}
 use Rattle.depot_base.specs.declared.check.Check.{Check}
 use Rattle.depot_base.specs.declared.check.Check.TheVariants as check
@@ -24,22 +23,6 @@ use Rattle.depot_accept.proofs.FirstFound.{first_front, first_behind, first_one,
 pub no_fork_convicted : (J : List Record) (s : Statement) → is_convicted J (writer_of s) ≡ true → forked J s ≡ None
 unfolding forked
 no_fork_convicted J s e = rw e refl
-
--- nor where someone vouched for the statement
-pub no_fork_vouched : (J : List Record) (s : Statement) → is_vouched J s ≡ true → forked J s ≡ None
-unfolding forked
-no_fork_vouched J s e = rw e (by_test (is_convicted J (writer_of s)) (forked_by s (opponent (foreign J) s))) where
-  by_test : (b : Bool) (o : Option Check) → cond (b || true) None o ≡ None
-  by_test true o = refl
-  by_test false o = refl
-
--- nor where it contradicts nothing that is kept
-pub no_fork_alone : (J : List Record) (s : Statement) → opponent (foreign J) s ≡ None → forked J s ≡ None
-unfolding forked
-no_fork_alone J s e = by_test (is_convicted J (writer_of s) || is_vouched J s) (forked_by s (opponent (foreign J) s)) (ap (forked_by s) e) where
-  by_test : (b : Bool) (o : Option Check) → o ≡ None → cond b None o ≡ None
-  by_test true o is = refl
-  by_test false o is = is
 
 -- else the first contradiction is one
 pub fork_is_told : (J : List Record) (s : Statement) (o : Signed × Kind) → is_convicted J (writer_of s) ≡ false → is_vouched J s ≡ false → opponent (foreign J) s ≡ Some o

@@ -4,6 +4,7 @@ pub mod ContentOrder
 pub mod ParentItems
 pub mod Convicting
 pub mod StateLaws
+pub mod ContentShows
 pub mod PlainContent
 pub mod LaterChecks
 pub mod DueConvictions

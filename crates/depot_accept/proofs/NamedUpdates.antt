@@ -18,6 +18,7 @@ use Rattle.depot_model.specs.Items.{place_of_id}
 use Rattle.depot_model.specs.Order.{parents}
 use Rattle.depot_model.specs.Checks.{sight, lost, wrong_entry, wrong_entries}
 use Rattle.depot_history.proofs.ItemPlaces.{has_place}
+use Rattle.depot_base.proofs.GeneralLaws.{when_none}
 use Rattle.depot_accept.proofs.FirstFound.{first_one}
 
 -- ---- the update of an id
@@ -37,10 +38,6 @@ some_of : (b : Bool) (p n : ℕ) → cond b (Some p) None ≡ Some n → p ≡ n
 some_of true p n e = cc
 some_of false p n e = absurd cc
 
-none_of : (b : Bool) (p : ℕ) → cond b (Some p) None ≡ None → b ≡ false
-none_of true p e = absurd cc
-none_of false p e = refl
-
 -- what stands at the place of an id is the update that it names
 pub named_found : (us : List Update) (h : List ℕ) (n : ℕ) (t : Update) → place_of_id h us ≡ Some n → slice_get us n ≡ Some t → named us h ≡ Some t
 named_found us h n t e at =
@@ -49,7 +46,7 @@ named_found us h n t e at =
 -- an id that has no place names none
 pub named_lost : (us : List Update) (h : List ℕ) → place_of_id h us ≡ None → named us h ≡ None
 named_lost us h e =
-    named_at us h ∙ slice_get_past us (position_or_len (λ u. bytes_eq (id_of_update u) h) us) (ltb-false _ _ (none_of _ (position_or_len (λ u. bytes_eq (id_of_update u) h) us) e))
+    named_at us h ∙ slice_get_past us (position_or_len (λ u. bytes_eq (id_of_update u) h) us) (ltb-false _ _ (when_none _ (position_or_len (λ u. bytes_eq (id_of_update u) h) us) e))
 
 -- 32 zero bytes name none as a prev
 pub prev_zeros : (us : List Update) (h : List ℕ) → bytes_eq h zeros ≡ true → prev_of us h ≡ None

@@ -19,12 +19,11 @@ use Rattle.depot_model.specs.Texts.{id_of_update}
 use Rattle.depot_model.specs.Order.{prevs, parents}
 use Rattle.depot_model.specs.History.{history_hash}
 use Rattle.depot_model.specs.Journal.{named, prev_of}
-use Rattle.depot_model.specs.Items.{at, place_of_id, updates_at}
+use Rattle.depot_model.specs.Items.{at, place_of_id, updates_at, places_of, AreItemsOf}
 use Rattle.depot_model.specs.Checks.{Sight, sight, lost, missing, not_above, clock_low, greatest_of, clock_far, bad_history}
 use Rattle.depot_history.specs.Closure.{reached, closure_of}
-use Rattle.depot_history.proofs.ItemPlaces.{has_place}
+use Rattle.depot_history.proofs.ItemPlaces.{has_place, places_within}
 use Rattle.depot_history.proofs.Reaching.{past_is_reached}
-use Rattle.depot_accept.specs.Content.{items_of, ArePlaces}
 use Rattle.depot_accept.proofs.FirstFound.{first_front, first_behind, none_front, none_behind}
 use Rattle.depot_accept.proofs.NamedUpdates.{named_found, named_lost, prev_named, each_parent}
 
@@ -42,14 +41,14 @@ has_item us h e = by_place (place_of_id h us) refl where
   by_place (Some n) is = (n, is)
 
 -- where none is lost, each id has its place
-none_lost : (us : List Update) (hs : List (List ℕ)) → first_lost us hs ≡ None → ArePlaces us hs (items_of us hs)
+none_lost : (us : List Update) (hs : List (List ℕ)) → first_lost us hs ≡ None → AreItemsOf us hs (places_of us hs)
 none_lost us [] e = refl
 none_lost us (h ∷ hs) e =
     let rest = map (λ k. lost k (named us k)) hs in
     let p = has_item us h (none_front (lost h (named us h)) rest e) in
     ap (λ (o : Option ℕ). o ∷ map (λ k. place_of_id k us) hs) p.1
     ∙ ap (λ (os : List (Option ℕ)). Some p.0 ∷ os) (none_lost us hs (none_behind (lost h (named us h)) rest e))
-    ∙ ap (λ (o : Option ℕ). map (λ n. Some n) (option_to_list o ++ items_of us hs)) (sym p.1)
+    ∙ ap (λ (o : Option ℕ). map (λ n. Some n) (option_to_list o ++ places_of us hs)) (sym p.1)
 
 -- the missing parent is the first that is lost
 missing_is : (us : List Update) (u : Update) → missing u (sight us u) ≡ first_lost us (parents u)
@@ -74,40 +73,29 @@ missing_entry us u ds r same none e =
     ∙ sym (missing_is us u ∙ lost_both us (prevs u) (map (λ d. d.id) u.deps) ∙ first_behind (map (λ h. lost h (named us h)) (prevs u)) (map (λ h. lost h (named us h)) (map (λ d. d.id) u.deps)) (sym none))
 
 -- where none is missing, what was put together is the items of the parents
-pub parents_found : (us : List Update) (u : Update) (ds : List Dep) (none some items : List ℕ) → ds ≡ u.deps → none ≡ [] → some ≡ none ++ items_of us (prevs u) → items ≡ some ++ items_of us (map (λ d. d.id) ds) → missing u (sight us u) ≡ None → ArePlaces us (parents u) items
+pub parents_found : (us : List Update) (u : Update) (ds : List Dep) (none some items : List ℕ) → ds ≡ u.deps → none ≡ [] → some ≡ none ++ places_of us (prevs u) → items ≡ some ++ places_of us (map (λ d. d.id) ds) → missing u (sight us u) ≡ None → AreItemsOf us (parents u) items
 parents_found us u ds none some items same empty first_are are here =
     none_lost us (parents u) (sym (missing_is us u) ∙ here)
     ∙ ap (λ (ks : List ℕ). map (λ n. Some n) ks) (sym (
-    are ∙ ap (λ (ks : List ℕ). ks ++ items_of us (map (λ d. d.id) ds)) (first_are ∙ ap (λ (ks : List ℕ). ks ++ items_of us (prevs u)) empty)
-    ∙ ap (λ (xs : List Dep). items_of us (prevs u) ++ items_of us (map (λ d. d.id) xs)) same
+    are ∙ ap (λ (ks : List ℕ). ks ++ places_of us (map (λ d. d.id) ds)) (first_are ∙ ap (λ (ks : List ℕ). ks ++ places_of us (prevs u)) empty)
+    ∙ ap (λ (xs : List Dep). places_of us (prevs u) ++ places_of us (map (λ d. d.id) xs)) same
     ∙ sym (flat_map-append (λ h. option_to_list (place_of_id h us)) (prevs u) (map (λ d. d.id) u.deps))))
 
 -- ---- the updates at the items
 
 -- what is asked of the updates with these ids is asked of those at their places
-at_places : {X : Type 0} (g : List ℕ → Option Update → X) (us : List Update) (hs : List (List ℕ)) (ns : List ℕ) → ArePlaces us hs ns → map (λ h. g h (named us h)) hs ≡ map (λ t. g (id_of_update t) (Some t)) (updates_at us ns)
+at_places : {X : Type 0} (g : List ℕ → Option Update → X) (us : List Update) (hs : List (List ℕ)) (ns : List ℕ) → AreItemsOf us hs ns → map (λ h. g h (named us h)) hs ≡ map (λ t. g (id_of_update t) (Some t)) (updates_at us ns)
 at_places g us [] [] e = refl
 at_places g us [] (n ∷ ns) e = absurd cc
 at_places g us (h ∷ hs) [] e = absurd cc
 at_places {X = X} g us (h ∷ hs) (n ∷ ns) e =
     let place : place_of_id h us ≡ Some n = cc in
-    let rest : ArePlaces us hs ns = cc in
+    let rest : AreItemsOf us hs ns = cc in
     let p = has_place h us n place in
     ap (λ (o : Option Update). g h o ∷ map (λ k. g k (named us k)) hs) (named_found us h n p.0 place p.1.0)
     ∙ ap (λ (k : List ℕ). g k (Some p.0) ∷ map (λ j. g j (named us j)) hs) (sym p.1.1)
     ∙ ap (λ (xs : List X). g (id_of_update p.0) (Some p.0) ∷ xs) (at_places g us hs ns rest)
     ∙ ap (λ (o : Option Update). map (λ t. g (id_of_update t) (Some t)) (option_to_list o ++ updates_at us ns)) (sym p.1.0)
-
--- places are places of the list
-pub places_within : (us : List Update) (hs : List (List ℕ)) (ns : List ℕ) → ArePlaces us hs ns → AllByRecursion (λ n. n < length us) ns
-places_within us [] [] e = tt
-places_within us [] (n ∷ ns) e = absurd cc
-places_within us (h ∷ hs) [] e = absurd cc
-places_within us (h ∷ hs) (n ∷ ns) e =
-    let place : place_of_id h us ≡ Some n = cc in
-    let rest : ArePlaces us hs ns = cc in
-    let p = has_place h us n place in
-    (slice_get_within us n p.0 p.1.0, places_within us hs ns rest)
 
 within_at : (k : ℕ) (ns : List ℕ) (i : ℕ) → AllByRecursion (λ n. n < k) ns → i < length ns → get_or ns i 0 < k
 within_at k [] i all lt = absurd (omega arith)
@@ -115,20 +103,20 @@ within_at k (n ∷ ns) zero all lt = all.0
 within_at k (n ∷ ns) (suc i) all lt = within_at k ns i all.1 (omega arith)
 
 -- and so is the one at an index
-pub place_within : (us : List Update) (hs : List (List ℕ)) (ns : List ℕ) (i : ℕ) → ArePlaces us hs ns → i < length ns → get_or ns i 0 < length us
+pub place_within : (us : List Update) (hs : List (List ℕ)) (ns : List ℕ) (i : ℕ) → AreItemsOf us hs ns → i < length ns → get_or ns i 0 < length us
 place_within us hs ns i e lt = within_at (length us) ns i (places_within us hs ns e) lt
 
 -- ---- the prev
 
 -- it has the first item
-prev_first : (us : List Update) (h : List ℕ) (hs : List (List ℕ)) (ns : List ℕ) → ArePlaces us (h ∷ hs) ns → (n : ℕ) × ((ns ≡ n ∷ drop 1 ns) × (place_of_id h us ≡ Some n))
+prev_first : (us : List Update) (h : List ℕ) (hs : List (List ℕ)) (ns : List ℕ) → AreItemsOf us (h ∷ hs) ns → (n : ℕ) × ((ns ≡ n ∷ drop 1 ns) × (place_of_id h us ≡ Some n))
 prev_first us h hs [] e = absurd cc
 prev_first us h hs (n ∷ ns) e = let place : place_of_id h us ≡ Some n = cc in (n, (refl, place))
 
-where_named : (us : List Update) (u : Update) (ns : List ℕ) → bytes_eq u.prev zeros ≡ false → ArePlaces us (parents u) ns → ArePlaces us (u.prev ∷ map (λ d. d.id) u.deps) ns
-where_named us u ns named_is e = subst (λ (b : Bool). ArePlaces us (cond b [] (u.prev ∷ []) ++ map (λ d. d.id) u.deps) ns) named_is e
+where_named : (us : List Update) (u : Update) (ns : List ℕ) → bytes_eq u.prev zeros ≡ false → AreItemsOf us (parents u) ns → AreItemsOf us (u.prev ∷ map (λ d. d.id) u.deps) ns
+where_named us u ns named_is e = subst (λ (b : Bool). AreItemsOf us (cond b [] (u.prev ∷ []) ++ map (λ d. d.id) u.deps) ns) named_is e
 
-pub prev_at_item : (us : List Update) (u t : Update) (ns : List ℕ) (n : ℕ) → bytes_eq u.prev zeros ≡ false → ArePlaces us (parents u) ns → n ≡ get_or ns 0 0 → slice_get us n ≡ Some t → Some t ≡ prev_of us u.prev
+pub prev_at_item : (us : List Update) (u t : Update) (ns : List ℕ) (n : ℕ) → bytes_eq u.prev zeros ≡ false → AreItemsOf us (parents u) ns → n ≡ get_or ns 0 0 → slice_get us n ≡ Some t → Some t ≡ prev_of us u.prev
 prev_at_item us u t ns n named_is e is there =
     let p = prev_first us u.prev (map (λ d. d.id) u.deps) ns (where_named us u ns named_is e) in
     let same : n ≡ p.0 = is ∙ ap (λ (ks : List ℕ). get_or ks 0 0) p.1.0 in
@@ -137,22 +125,22 @@ prev_at_item us u t ns n named_is e is there =
 -- ---- the entries
 
 -- the item at a place is that of the entry there
-pub entry_at : (us : List Update) (ds : List Dep) (ns : List ℕ) (i : ℕ) (d : Dep) (n : ℕ) → ArePlaces us (map (λ x. x.id) ds) ns → i < length ds → d ≡ get_or ds i d → n ≡ get_or ns i 0 → place_of_id d.id us ≡ Some n
+pub entry_at : (us : List Update) (ds : List Dep) (ns : List ℕ) (i : ℕ) (d : Dep) (n : ℕ) → AreItemsOf us (map (λ x. x.id) ds) ns → i < length ds → d ≡ get_or ds i d → n ≡ get_or ns i 0 → place_of_id d.id us ≡ Some n
 entry_at us [] ns i d n e lt is at = absurd (omega arith)
 entry_at us (x ∷ ds) [] i d n e lt is at = absurd cc
 entry_at us (x ∷ ds) (m ∷ ns) zero d n e lt is at =
     let place : place_of_id x.id us ≡ Some m = cc in
     ap (λ (y : Dep). place_of_id y.id us) is ∙ place ∙ ap (λ (k : ℕ). Some k) (sym at)
 entry_at us (x ∷ ds) (m ∷ ns) (suc i) d n e lt is at =
-    let rest : ArePlaces us (map (λ y. y.id) ds) ns = cc in
+    let rest : AreItemsOf us (map (λ y. y.id) ds) ns = cc in
     entry_at us ds ns i d n rest (omega arith) is at
 
 -- and the update at this item is the one that it names
-pub entry_named : (us : List Update) (ds : List Dep) (ns : List ℕ) (i : ℕ) (d : Dep) (n : ℕ) (t : Update) → ArePlaces us (map (λ x. x.id) ds) ns → i < length ds → d ≡ get_or ds i d → n ≡ get_or ns i 0 → slice_get us n ≡ Some t → Some t ≡ named us d.id
+pub entry_named : (us : List Update) (ds : List Dep) (ns : List ℕ) (i : ℕ) (d : Dep) (n : ℕ) (t : Update) → AreItemsOf us (map (λ x. x.id) ds) ns → i < length ds → d ≡ get_or ds i d → n ≡ get_or ns i 0 → slice_get us n ≡ Some t → Some t ≡ named us d.id
 entry_named us ds ns i d n t e lt is at there = sym (named_found us d.id n t (entry_at us ds ns i d n e lt is at) there)
 
 -- it is one of the list
-pub entry_within : (us : List Update) (ds : List Dep) (ns : List ℕ) (i : ℕ) (d : Dep) (n : ℕ) → ArePlaces us (map (λ x. x.id) ds) ns → i < length ds → d ≡ get_or ds i d → n ≡ get_or ns i 0 → n < length us
+pub entry_within : (us : List Update) (ds : List Dep) (ns : List ℕ) (i : ℕ) (d : Dep) (n : ℕ) → AreItemsOf us (map (λ x. x.id) ds) ns → i < length ds → d ≡ get_or ds i d → n ≡ get_or ns i 0 → n < length us
 entry_within us ds ns i d n e lt is at = let p = has_place d.id us n (entry_at us ds ns i d n e lt is at) in slice_get_within us n p.0 p.1.0
 
 -- ---- a check of each parent, from a place on
@@ -170,7 +158,7 @@ abbrev pub low_against : Update → Update → Option Check
 low_against u t = not_above u (id_of_update t) (Some t)
 
 -- and against all
-pub low_at_items : (us : List Update) (u : Update) (ns : List ℕ) → ArePlaces us (parents u) ns → clock_low u (sight us u) ≡ first (map (low_against u) (updates_at us ns))
+pub low_at_items : (us : List Update) (u : Update) (ns : List ℕ) → AreItemsOf us (parents u) ns → clock_low u (sight us u) ≡ first (map (low_against u) (updates_at us ns))
 low_at_items us u ns e = ap (λ (os : List (Option Check)). first os) (each_parent (not_above u) us u ∙ at_places (not_above u) us (parents u) ns e)
 
 -- the update at an item has this id, and its clock isn't below
@@ -188,13 +176,13 @@ each_itself [] = refl
 each_itself {X = X} (x ∷ xs) = ap (λ (ys : List X). x ∷ ys) (each_itself xs)
 
 -- that of the items is that of the parents
-pub greatest_at_items : (us : List Update) (u : Update) (ns : List ℕ) → ArePlaces us (parents u) ns → greatest_of (map (λ t. Some t) (updates_at us ns)) ≡ greatest_of ((sight us u).before ++ map (λ e. e.1) (sight us u).entries)
+pub greatest_at_items : (us : List Update) (u : Update) (ns : List ℕ) → AreItemsOf us (parents u) ns → greatest_of (map (λ t. Some t) (updates_at us ns)) ≡ greatest_of ((sight us u).before ++ map (λ e. e.1) (sight us u).entries)
 greatest_at_items us u ns e =
     ap (λ (os : List (Option Update)). greatest_of os)
     (sym (at_places (λ h o. o) us (parents u) ns e) ∙ sym (each_parent (λ h o. o) us u) ∙ ap (λ (os : List (Option Update)). os ++ map (λ x. x.1) (sight us u).entries) (each_itself (sight us u).before))
 
 -- the clock is held against it
-pub far_above : (us : List Update) (u : Update) (ns : List ℕ) (g : ℕ) (b : Bool) → ArePlaces us (parents u) ns → g ≡ greatest_of (map (λ t. Some t) (updates_at us ns)) → b ≡ nat_lt (g + 65536) u.clock → when b (check.ClockFar g) ≡ clock_far u (sight us u)
+pub far_above : (us : List Update) (u : Update) (ns : List ℕ) (g : ℕ) (b : Bool) → AreItemsOf us (parents u) ns → g ≡ greatest_of (map (λ t. Some t) (updates_at us ns)) → b ≡ nat_lt (g + 65536) u.clock → when b (check.ClockFar g) ≡ clock_far u (sight us u)
 far_above us u ns g b e is far =
     ap (λ (x : Bool). when x (check.ClockFar g)) far
     ∙ ap (λ (k : ℕ). when (nat_lt (k + 65536) u.clock) (check.ClockFar k)) (is ∙ greatest_at_items us u ns e)
@@ -202,7 +190,7 @@ far_above us u ns g b e is far =
 -- ---- the history
 
 -- what the items of the parents hash to, with all that precedes them, is the right history
-pub right_history : (us : List Update) (u : Update) (ns right : List ℕ) → ArePlaces us (parents u) ns → right ≡ history_hash (closure_of ns us) → right ≡ (sight us u).history
+pub right_history : (us : List Update) (u : Update) (ns right : List ℕ) → AreItemsOf us (parents u) ns → right ≡ history_hash (closure_of ns us) → right ≡ (sight us u).history
 unfolding sight closure_of
 right_history us u ns right e is =
     is ∙ ap (λ (hs : List (List ℕ)). history_hash (reached hs us)) (sym (at_places (λ h o. h) us (parents u) ns e) ∙ each_itself (parents u))

@@ -20,12 +20,10 @@ use Rattle.depot_model.specs.Lists.{is_among, is_one_of}
 use Rattle.depot_model.specs.Journal.{own_by, accepted_by, foreign_by, proof_by, accepted, foreign, vouched, convicted, is_convicted, accused, update_in, voucher_in}
 use Rattle.depot_model.proofs.BodyLaws.{text_of_statement-Update}
 use Rattle.depot_model.proofs.Members.{among-append}
-use Rattle.depot_vouch.specs.Vouching.{with_node, AreTogether}
+use Rattle.depot_vouch.specs.VouchedView.{with_node, AreTogether}
 use Rattle.depot_model.specs.Vouching.{own_voucher_by}
-use Rattle.depot_accept.specs.View.{View, IsStateOf}
-
-push : {R X : Type 0} (f : R → List X) (rs : List R) (r : R) → flat_map f (rs ++ r ∷ []) ≡ flat_map f rs ++ f r
-push f rs r = flat_map-append f rs (r ∷ []) ∙ ap (λ (ys : List _). flat_map f rs ++ ys) (append-nil (f r))
+use Rattle.depot_base.proofs.GeneralLaws.{or_none, flat_push}
+use Rattle.depot_accept.specs.StateView.{View, IsStateOf}
 
 -- what a record more adds to each part of a state
 pub record Grows {S : Type 0} (v : View S) (r : Record) (w : View S) : Type 0 where
@@ -44,9 +42,9 @@ convicted_push J r = ap (map accused) (flat_map-append proof_by J (r ∷ [])) �
 pub grown : {S : Type 0} (J : List Record) (v w : View S) (r : Record) → IsStateOf J v → Grows v r w → IsStateOf (J ++ r ∷ []) w
 unfolding is_convicted
 grown J v w r s g = record {
-  accepted = push accepted_by J r ∙ ap (λ (us : List _). us ++ accepted_by r) s.accepted ∙ sym g.accepted;
-  foreign = push foreign_by J r ∙ ap (λ (fs : List _). fs ++ foreign_by r) s.foreign ∙ sym g.foreign;
-  own_vouchers = push own_voucher_by J r ∙ ap (λ (vs : List _). vs ++ own_voucher_by r) s.own_vouchers ∙ sym g.own_vouchers;
+  accepted = flat_push accepted_by J r ∙ ap (λ (us : List _). us ++ accepted_by r) s.accepted ∙ sym g.accepted;
+  foreign = flat_push foreign_by J r ∙ ap (λ (fs : List _). fs ++ foreign_by r) s.foreign ∙ sym g.foreign;
+  own_vouchers = flat_push own_voucher_by J r ∙ ap (λ (vs : List _). vs ++ own_voucher_by r) s.own_vouchers ∙ sym g.own_vouchers;
   vouched = λ h. ap (is_among h) (vouched_push J r) ∙ among-append h (vouched J) (vouched (r ∷ [])) ∙ ap (λ (b : Bool). b || is_among h (vouched (r ∷ []))) (s.vouched h) ∙ sym (g.vouched h);
   convicted = λ n. ap (list_any (λ m. eqb m n)) (convicted_push J r) ∙ list_any-append (λ m. eqb m n) (convicted J) (convicted (r ∷ [])) ∙ ap (λ (b : Bool). b || is_convicted (r ∷ []) n) (s.convicted n) ∙ sym (g.convicted n);
 }
@@ -56,17 +54,13 @@ grown J v w r s g = record {
 nothing_more : {X : Type 0} (xs : List X) → xs ≡ xs ++ []
 nothing_more xs = sym (append-nil xs)
 
-or_false : (b : Bool) → b ≡ (b || false)
-or_false true = refl
-or_false false = refl
-
 one_of_with : (ns : List ℕ) (node n : ℕ) → is_one_of n (with_node ns node) ≡ (is_one_of n ns || (eqb node n || false))
 one_of_with ns node n = by_test (is_one_of node ns) refl where
   by_test : (b : Bool) → is_one_of node ns ≡ b → is_one_of n (cond b ns (ns ++ node ∷ [])) ≡ (is_one_of n ns || (eqb node n || false))
   by_test false is = list_any-append (λ m. eqb m n) ns (node ∷ [])
   by_test true is = by_same (eqb node n) refl where
     by_same : (t : Bool) → eqb node n ≡ t → is_one_of n ns ≡ (is_one_of n ns || (t || false))
-    by_same false other = or_false (is_one_of n ns)
+    by_same false other = or_none (is_one_of n ns)
     by_same true same = let one : node ≡ n = grind (arith, nat_tests) in rw (sym (ap (λ (k : ℕ). is_one_of k ns) one) ∙ is) refl
 
 -- all parts but some are as before
@@ -81,7 +75,7 @@ convict_grows v w p node named accepted foreign own vouched convicted = record {
   accepted = accepted ∙ nothing_more v.accepted;
   foreign = foreign ∙ nothing_more v.foreign;
   own_vouchers = own ∙ nothing_more v.own_vouchers;
-  vouched = λ h. ap (is_among h) vouched ∙ or_false (is_among h v.vouched);
+  vouched = λ h. ap (is_among h) vouched ∙ or_none (is_among h v.vouched);
   convicted = λ n. ap (is_one_of n) convicted ∙ one_of_with v.convicted node n ∙ ap (λ (k : ℕ). is_one_of n v.convicted || (eqb k n || false)) (sym named);
 }
 
@@ -98,9 +92,9 @@ update_grows v w s u same accepted foreign keeps = record {
   own_vouchers = keeps.own_vouchers ∙ nothing_more v.own_vouchers;
   vouched = λ h.
       ap (is_among h) keeps.vouched
-      ∙ or_false (is_among h v.vouched)
+      ∙ or_none (is_among h v.vouched)
       ∙ ap (λ (t : Statement). is_among h v.vouched || is_among h (flat_map (λ x. x.ids) (voucher_in t) ++ [])) (sym same);
-  convicted = λ n. ap (is_one_of n) keeps.convicted ∙ or_false (is_one_of n v.convicted);
+  convicted = λ n. ap (is_one_of n) keeps.convicted ∙ or_none (is_one_of n v.convicted);
 }
 
 pub voucher_grows : {S : Type 0} (v w : View S) (s : Signed) (x : Voucher) → s.statement ≡ statements.Voucher x → w.accepted ≡ v.accepted → w.foreign ≡ v.foreign ++ s ∷ [] → w.own_vouchers ≡ v.own_vouchers → w.convicted ≡ v.convicted → AreTogether v.vouched x.ids w.vouched → Grows v (Foreign s) w
@@ -113,7 +107,7 @@ voucher_grows v w s x same accepted foreign own convicted together = record {
       together h
       ∙ ap (λ (ids : List (List ℕ)). is_among h v.vouched || is_among h ids) (nothing_more x.ids ∙ nothing_more (x.ids ++ []))
       ∙ ap (λ (t : Statement). is_among h v.vouched || is_among h (flat_map (λ y. y.ids) (voucher_in t) ++ [])) (sym same);
-  convicted = λ n. ap (is_one_of n) convicted ∙ or_false (is_one_of n v.convicted);
+  convicted = λ n. ap (is_one_of n) convicted ∙ or_none (is_one_of n v.convicted);
 }
 
 pub own_update_grows : {S : Type 0} (v w : View S) (r : Record) (u : Update) → own_by r ≡ statements.Update u ∷ [] → w.accepted ≡ v.accepted ++ u ∷ [] → w.foreign ≡ v.foreign → Keeps v w → Grows v r w
@@ -124,8 +118,8 @@ own_update_grows v w (OwnPut t value) u by accepted foreign keeps =
       accepted = accepted ∙ ap (λ (x : Update). v.accepted ++ x ∷ []) one;
       foreign = foreign ∙ nothing_more v.foreign;
       own_vouchers = keeps.own_vouchers ∙ nothing_more v.own_vouchers;
-      vouched = λ h. ap (is_among h) keeps.vouched ∙ or_false (is_among h v.vouched);
-      convicted = λ n. ap (is_one_of n) keeps.convicted ∙ or_false (is_one_of n v.convicted);
+      vouched = λ h. ap (is_among h) keeps.vouched ∙ or_none (is_among h v.vouched);
+      convicted = λ n. ap (is_one_of n) keeps.convicted ∙ or_none (is_one_of n v.convicted);
     }
 own_update_grows v w r u by accepted foreign keeps = absurd cc
 
@@ -137,8 +131,8 @@ own_voucher_grows v w (OwnVoucher t) x by accepted foreign own vouched convicted
       accepted = accepted ∙ nothing_more v.accepted;
       foreign = foreign ∙ nothing_more v.foreign;
       own_vouchers = own ∙ ap (λ (y : Voucher). v.own_vouchers ++ y ∷ []) one;
-      vouched = λ h. ap (is_among h) vouched ∙ or_false (is_among h v.vouched);
-      convicted = λ n. ap (is_one_of n) convicted ∙ or_false (is_one_of n v.convicted);
+      vouched = λ h. ap (is_among h) vouched ∙ or_none (is_among h v.vouched);
+      convicted = λ n. ap (is_one_of n) convicted ∙ or_none (is_one_of n v.convicted);
     }
 own_voucher_grows v w r x by accepted foreign own vouched convicted = absurd cc
 
@@ -151,8 +145,8 @@ is_silent r = false
 -- leaves the state as it is
 pub silent_grows : {S : Type 0} (v : View S) (r : Record) → is_silent r ≡ true → Grows v r v
 unfolding is_convicted is_silent
-silent_grows v (Birth node roster) silent = record { accepted = nothing_more v.accepted; foreign = nothing_more v.foreign; own_vouchers = nothing_more v.own_vouchers; vouched = λ h. or_false (is_among h v.vouched); convicted = λ n. or_false (is_one_of n v.convicted) }
-silent_grows v (Held value) silent = record { accepted = nothing_more v.accepted; foreign = nothing_more v.foreign; own_vouchers = nothing_more v.own_vouchers; vouched = λ h. or_false (is_among h v.vouched); convicted = λ n. or_false (is_one_of n v.convicted) }
+silent_grows v (Birth node roster) silent = record { accepted = nothing_more v.accepted; foreign = nothing_more v.foreign; own_vouchers = nothing_more v.own_vouchers; vouched = λ h. or_none (is_among h v.vouched); convicted = λ n. or_none (is_one_of n v.convicted) }
+silent_grows v (Held value) silent = record { accepted = nothing_more v.accepted; foreign = nothing_more v.foreign; own_vouchers = nothing_more v.own_vouchers; vouched = λ h. or_none (is_among h v.vouched); convicted = λ n. or_none (is_one_of n v.convicted) }
 silent_grows v r silent = absurd cc
 
 -- what follows from what holds where a result is Ok
@@ -163,7 +157,7 @@ on_ok (Err e) held more = tt
 -- ---- a conviction that comes late
 
 -- a reading of both in either order, where only one of them tells something
-turned : {X : Type 0} (f : Record → List X) (J : List Record) (s : Signed) (p : Proof) → flat_map f (Conviction p ∷ Foreign s ∷ []) ≡ flat_map f (Foreign s ∷ Conviction p ∷ []) → flat_map f ((J ++ Conviction p ∷ []) ++ Foreign s ∷ []) ≡ flat_map f ((J ++ Foreign s ∷ []) ++ Conviction p ∷ [])
+pub turned : {X : Type 0} (f : Record → List X) (J : List Record) (s : Signed) (p : Proof) → flat_map f (Conviction p ∷ Foreign s ∷ []) ≡ flat_map f (Foreign s ∷ Conviction p ∷ []) → flat_map f ((J ++ Conviction p ∷ []) ++ Foreign s ∷ []) ≡ flat_map f ((J ++ Foreign s ∷ []) ++ Conviction p ∷ [])
 turned f J s p same =
     ap (flat_map f) (append_assoc J (Conviction p ∷ []) (Foreign s ∷ [])) ∙ flat_map-append f J (Conviction p ∷ Foreign s ∷ []) ∙ ap (λ (xs : List _). flat_map f J ++ xs) same
     ∙ sym (flat_map-append f J (Foreign s ∷ Conviction p ∷ [])) ∙ ap (flat_map f) (sym (append_assoc J (Foreign s ∷ []) (Conviction p ∷ [])))

@@ -1,4 +1,4 @@
-pub mod View
+pub mod StateView
 pub mod Convicts
 pub mod OwnVouchers
 pub mod Content

@@ -9,9 +9,9 @@ ghost use Rattle.depot_base.specs.declared.limits.TheConstants.{MOST_ENTRIES};
 ghost use Rattle.depot_model.specs.Lists.{first};
 ghost use Rattle.depot_model.specs.Order.{prevs, parents};
 ghost use Rattle.depot_model.specs.Journal.{named, prev_of};
-ghost use Rattle.depot_model.specs.Items.{place_of_id, updates_at};
+ghost use Rattle.depot_model.specs.Items.{place_of_id, updates_at, places_of, AreItemsOf};
 ghost use Rattle.depot_model.specs.Checks.{sight, content_checks, lost, missing, wrong_prev, wrong_entry, wrong_entries, wrong_dep, behind, backward, not_above, clock_low, greatest_of, clock_far, bad_history};
-ghost use Rattle.depot_accept.specs.Content.{checks_of_parents, items_of, ArePlaces};
+ghost use Rattle.depot_accept.specs.Content.{checks_of_parents};
 
 use depot_base::limits::MOST_AHEAD;
 use depot_base::{Check, Dep, Hash32, Memory, Update};
@@ -43,7 +43,7 @@ fn find_prev<P: Past>(
     items: &mut Vec<u32>,
 ) -> Result<Option<Check>, Memory>
     ensures first { IfOk result (λ failed. failed ≡ first (map (λ h. lost h (named (P.updates past.now) h)) (prevs update.now))) }
-    ensures items { result ≡ Ok None → items.new.items ≡ items.old.items ++ items_of (P.updates past.now) (prevs update.now) }
+    ensures items { result ≡ Ok None → items.new.items ≡ items.old.items ++ places_of (P.updates past.now) (prevs update.now) }
 {
     if update.prev.is_zeros() {
         return Ok(None);
@@ -58,7 +58,7 @@ fn find_entries<P: Past>(
     items: &mut Vec<u32>,
 ) -> Result<Option<Check>, Memory>
     ensures first { IfOk result (λ failed. failed ≡ first (map (λ h. lost h (named (P.updates past.now) h)) (map (λ d. d.id) deps.now))) }
-    ensures items { result ≡ Ok None → items.new.items ≡ items.old.items ++ items_of (P.updates past.now) (map (λ d. d.id) deps.now) }
+    ensures items { result ≡ Ok None → items.new.items ≡ items.old.items ++ places_of (P.updates past.now) (map (λ d. d.id) deps.now) }
 {
     for dep in deps {
         if let Some(check) = find_parent(past, &dep.id, items)? {
@@ -77,7 +77,7 @@ fn find_parents<P: Past>(
 ) -> Result<Option<Check>, Memory>
     requires { items.old.items ≡ [] }
     ensures first { IfOk result (λ failed. failed ≡ missing update.now (sight (P.updates past.now) update.now)) }
-    ensures places { result ≡ Ok None → ArePlaces (P.updates past.now) (parents update.now) items.new.items }
+    ensures places { result ≡ Ok None → AreItemsOf (P.updates past.now) (parents update.now) items.new.items }
 {
     if let Some(check) = find_prev(past, update, items)? {
         return Ok(Some(check));
@@ -87,7 +87,7 @@ fn find_parents<P: Past>(
 
 /// The prev of an update whose parents have these items, if one is named.
 fn prev_of<'p, P: Past>(past: &'p P, update: &Update, items: &[u32]) -> Option<&'p Update>
-    requires { ArePlaces (P.updates past.now) (parents update.now) items.now }
+    requires { AreItemsOf (P.updates past.now) (parents update.now) items.now }
     ensures { option_copied result ≡ prev_of (P.updates past.now) update.now.prev }
 {
     if update.prev.is_zeros() {
@@ -120,7 +120,7 @@ fn wrong_entry(place: u32, dep: &Dep, parent: &Update) -> Option<Check>
 /// entries have these items.
 fn wrong_entries<P: Past>(past: &P, deps: &[Dep], items: &[u32]) -> Option<Check>
     requires few { length deps.now < u32.MAX }
-    requires places { ArePlaces (P.updates past.now) (map (λ d. d.id) deps.now) items.now }
+    requires places { AreItemsOf (P.updates past.now) (map (λ d. d.id) deps.now) items.now }
     ensures { result ≡ first (wrong_entries 1 (map (λ d. (d, named (P.updates past.now) d.id)) deps.now)) }
 {
     for (place, dep) in deps.iter().enumerate() {
@@ -135,7 +135,7 @@ fn wrong_entries<P: Past>(past: &P, deps: &[Dep], items: &[u32]) -> Option<Check
 /// names.
 fn wrong_dep<P: Past>(past: &P, update: &Update, items: &[u32]) -> Option<Check>
     requires few { length update.now.deps < u32.MAX }
-    requires places { ArePlaces (P.updates past.now) (parents update.now) items.now }
+    requires places { AreItemsOf (P.updates past.now) (parents update.now) items.now }
     ensures { result ≡ wrong_dep update.now (sight (P.updates past.now) update.now) }
 {
     match wrong_prev(update, prev_of(past, update, items)) {
@@ -161,7 +161,7 @@ fn behind(update: &Update, prev: Option<&Update>) -> Option<Check>
 
 /// The check that the clock is above that of each parent: the prev, and then the entries.
 fn clock_low<P: Past>(past: &P, update: &Update, items: &[u32]) -> Option<Check>
-    requires { ArePlaces (P.updates past.now) (parents update.now) items.now }
+    requires { AreItemsOf (P.updates past.now) (parents update.now) items.now }
     ensures { result ≡ clock_low update.now (sight (P.updates past.now) update.now) }
 {
     for item in items {
@@ -186,7 +186,7 @@ fn greatest_clock<P: Past>(past: &P, items: &[u32]) -> u64
 
 /// The check that the clock isn't too far above the greatest of the parents.
 fn clock_far<P: Past>(past: &P, update: &Update, items: &[u32]) -> Option<Check>
-    requires { ArePlaces (P.updates past.now) (parents update.now) items.now }
+    requires { AreItemsOf (P.updates past.now) (parents update.now) items.now }
     ensures { result ≡ clock_far update.now (sight (P.updates past.now) update.now) }
 {
     let greatest = greatest_clock(past, items);
@@ -199,7 +199,7 @@ fn clock_far<P: Past>(past: &P, update: &Update, items: &[u32]) -> Option<Check>
 /// The first check that fails of those of the parents and of the clock.
 fn failed_by_parents<P: Past>(past: &P, update: &Update, items: &[u32]) -> Option<Check>
     requires few { length update.now.deps < u32.MAX }
-    requires places { ArePlaces (P.updates past.now) (parents update.now) items.now }
+    requires places { AreItemsOf (P.updates past.now) (parents update.now) items.now }
     ensures { result ≡ first (checks_of_parents update.now (sight (P.updates past.now) update.now)) }
 {
     if let Some(check) = wrong_dep(past, update, items) {
@@ -221,7 +221,7 @@ fn bad_history(
     update: &Update,
     items: &[u32],
 ) -> Result<Option<Check>, Memory>
-    requires { ArePlaces (⟦<Graph as Past>⟧.updates graph.now) (parents update.now) items.now }
+    requires { AreItemsOf (⟦<Graph as Past>⟧.updates graph.now) (parents update.now) items.now }
     ensures { IfOk result (λ failed. failed ≡ bad_history update.now (sight (⟦<Graph as Past>⟧.updates graph.now) update.now)) }
 {
     let right = history_hash(alloc, graph, items)?;

@@ -16,13 +16,13 @@
 //! name this node. No text is read here, nothing is signed, and room for records is not asked.
 #![tactic(auto)]
 
+mod accept_laws;
 mod answer;
-mod check;
+mod checking;
 mod content;
-mod laws;
 mod state;
 
+pub use accept_laws::convictions_may_come_late;
 pub use answer::{CheckError, Pass};
 pub use depot_fork::Found;
-pub use laws::convictions_may_come_late;
 pub use state::State;

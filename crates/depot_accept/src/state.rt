@@ -10,7 +10,7 @@ ghost use Rattle.depot_base.specs.Statement.{writer_of};
 ghost use Rattle.depot_model.specs.Order.{IsCausal};
 ghost use Rattle.depot_model.specs.Roster.{has_node};
 ghost use Rattle.depot_model.specs.Journal.{update_in, own_by, accused};
-ghost use Rattle.depot_accept.specs.View.{IsStateOf, IsAsBefore, IsRoomAfter, setting};
+ghost use Rattle.depot_accept.specs.StateView.{IsStateOf, IsAsBefore, IsRoomAfter, setting};
 ghost use Rattle.depot_accept.specs.OwnVouchers.{spare};
 
 use depot_base::{Hash32, Memory, NodeId, Signed, Statement, Voucher};
@@ -38,7 +38,7 @@ pub struct State<S: Scheme> {
 
 impl<S: Scheme> Model for State<S> {
     ghost use Rattle.depot_accept.specs.OwnVouchers.{spare};
-    ghost use Rattle.depot_accept.specs.View.{View};
+    ghost use Rattle.depot_accept.specs.StateView.{View};
     ghost use Rattle.depot_accept.specs.Convicts.{AreConvicts};
     ghost use Rattle.depot_accept.specs.OwnVouchers.{AreVouchersOf};
 

@@ -20,8 +20,8 @@ use Rattle.depot_model.specs.declared.bundle.Ending.TheVariants as ending
 use Rattle.depot_model.specs.Limits.{Limit, spent, tips, collides, full}
 use Rattle.depot_model.specs.Lines.{name_of_kind}
 use Rattle.depot_model.specs.World.{Shown}
-use Rattle.depot_schedule.specs.declared.fault.LineFault.{LineFault}
-use Rattle.depot_schedule.specs.declared.fault.LineFault.TheVariants as line_fault
+use Rattle.depot_schedule.specs.declared.line_fault.LineFault.{LineFault}
+use Rattle.depot_schedule.specs.declared.line_fault.LineFault.TheVariants as line_fault
 
 -- a text behind a space
 abbrev pub spaced : List ℕ → List ℕ

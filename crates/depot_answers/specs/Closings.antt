@@ -1,7 +1,7 @@
 -- Why a feed was closed, as a caller says it.
 use Rattle.std.specs.Prelude.{Option, Some, None}
-use Rattle.depot_answers.specs.declared.exchanges.Closing.{Closing}
-use Rattle.depot_answers.specs.declared.exchanges.Closing.TheVariants.{IllFormed, Full}
+use Rattle.depot_answers.specs.declared.exchange_answers.Closing.{Closing}
+use Rattle.depot_answers.specs.declared.exchange_answers.Closing.TheVariants.{IllFormed, Full}
 use Rattle.depot_model.specs.Feeding.{ill_formed, out_of_room}
 use Rattle.depot_model.specs.Feeding as feeding
 

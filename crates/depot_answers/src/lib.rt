@@ -10,19 +10,19 @@
 #![tactic(auto)]
 
 mod checks;
-mod exchanges;
-mod faults;
-mod journals;
-mod judgements;
-mod limits;
+mod exchange_answers;
+mod fault_answers;
+mod journal_answers;
+mod judgement_answers;
+mod limit_answers;
 mod record_faults;
 mod words;
 
 pub use checks::{check, refusal};
-pub use exchanges::{Closing, counts, named, report};
-pub use faults::faulty_line;
-pub use journals::{put, records, write};
-pub use judgements::{point, roster_error, verdict};
-pub use limits::{collides, full, spent, tips};
+pub use exchange_answers::{Closing, counts, named, report};
+pub use fault_answers::faulty_line;
+pub use journal_answers::{put, records, write};
+pub use judgement_answers::{point, roster_error, verdict};
+pub use limit_answers::{collides, full, spent, tips};
 pub use record_faults::record_fault;
 pub use words::numbered;

@@ -4,7 +4,7 @@ use Rattle.std.proofs.lemmas.Bool.{ltb-false, ltb-true, le-ltb, lt-ltb}
 use Rattle.depot_base.specs.Cursor.{Cursor}
 use Rattle.depot_base.specs.Format.{Format, HasPart}
 use Rattle.depot_base.specs.Closed.{Closed, closing, rest_of, before, closed_variant, closed_choose}
-use Rattle.depot_base.proofs.Laws.{IsBytes, cursor, Lawful, bind_ok, bind_err, guard_ok, guard_err, ok, ok_is, not_err}
+use Rattle.depot_base.proofs.FormatLaws.{IsBytes, cursor, Lawful, bind_ok, bind_err, guard_ok, guard_err, ok, ok_is, not_err}
 use Rattle.depot_base.proofs.Combined.{whole_takes, whole_again, whole_faults, whole_stops, whole_early}
 
 pub record ClosedFaulty {V : Type 0} (f : Closed V) (c : Cursor) (o : ℕ) : Type 0 where
@@ -91,12 +91,18 @@ before_lawful first part more m n fl heads ml = record {
       ];
 }
 
--- the part is there, and what is made of it is the value
-made_from : {A V : Type 0} (make : A → V) (part : V → Option A) (f : Closed A) → ((v : V) (a : A) → part v ≡ Some a → v ≡ make a) → (v : V) (o : Option A) → part v ≡ o → HasPart f.fits o → (a : A) × (f.fits a × ((v ≡ make a) × ((closed_variant make part f).text v ≡ f.text a)))
-made_from make part f back v None e h = absurd h
-made_from make part f back v (Some a) e h = (a, (h, (back v a e, rw e refl)))
+-- the part of a value of this kind: it fits, the value is made of it, and they have one text
+record HasMade {A V : Type 0} (make : A → V) (part : V → Option A) (f : Closed A) (v : V) : Type 0 where
+  pub of : A
+  pub fits : f.fits of
+  pub is : v ≡ make of
+  pub same_text : (closed_variant make part f).text v ≡ f.text of
 
-made_of : {A V : Type 0} (make : A → V) (part : V → Option A) (f : Closed A) → ((v : V) (a : A) → part v ≡ Some a → v ≡ make a) → (v : V) → (closed_variant make part f).fits v → (a : A) × (f.fits a × ((v ≡ make a) × ((closed_variant make part f).text v ≡ f.text a)))
+made_from : {A V : Type 0} (make : A → V) (part : V → Option A) (f : Closed A) → ((v : V) (a : A) → part v ≡ Some a → v ≡ make a) → (v : V) (o : Option A) → part v ≡ o → HasPart f.fits o → HasMade make part f v
+made_from make part f back v None e h = absurd h
+made_from make part f back v (Some a) e h = record { of = a; fits = h; is = back v a e; same_text = rw e refl }
+
+made_of : {A V : Type 0} (make : A → V) (part : V → Option A) (f : Closed A) → ((v : V) (a : A) → part v ≡ Some a → v ≡ make a) → (v : V) → (closed_variant make part f).fits v → HasMade make part f v
 made_of make part f back v fits = made_from make part f back v (part v) refl fits
 
 pub closed_variant_lawful : {A V : Type 0} (make : A → V) (part : V → Option A) (f : Closed A) (m : ℕ) → ((a : A) → part (make a) ≡ Some a) → ((v : V) (a : A) → part v ≡ Some a → v ≡ make a) → LawfulClosed f m → LawfulClosed (closed_variant make part f) m
@@ -108,8 +114,8 @@ closed_variant_lawful {A = A} {V = V} make part f m there back l = record {
       subst (λ (x : V). (closed_variant make part f).fits x × (c.rest ≡ (closed_variant make part f).text x)) (ok_is (make b.0) v b.2) made;
   again = λ at v fits.
       let p = made_of make part f back v fits in
-      let one : f.read (cursor at (f.text p.0)) ≡ Ok p.0 = l.again at p.0 p.1.0 in
-      rw (p.1.1.1, one) (ap (λ (x : V). ok x) (sym p.1.1.0));
+      let one : f.read (cursor at (f.text p.of)) ≡ Ok p.of = l.again at p.of p.fits in
+      rw (p.same_text, one) (ap (λ (x : V). ok x) (sym p.is));
   faults = λ c o fits e.
       elim (bind_err (f.read c) (λ x. Ok (make x)) o e) [
         | inl p ↦ let g = l.faults c o fits p in record { after = g.after; place = g.place; fault = g.fault }

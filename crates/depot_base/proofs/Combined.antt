@@ -4,7 +4,7 @@ use Rattle.std.proofs.lemmas.Bool.{ltb-false, ltb-true, le-ltb, lt-ltb, eqb-true
 use Rattle.std.proofs.lemmas.List.{take_at, drop_at, take-append-drop, length-append, length-take, append-nil, nil_from_length}
 use Rattle.depot_base.specs.Cursor.{Cursor, advanced}
 use Rattle.depot_base.specs.Format.{◌>>=◌, Format, bytes_of, field, Later, made, whole, FirstFault, inner, kept, choose, variant, HasPart}
-use Rattle.depot_base.proofs.Laws.{IsBytes, IsBytes-drop, IsBytes-take, cursor, Took, Faulty, Lawful, bind_ok, bind_err, guard_ok, guard_err, need_ok, need_err, ok_is, not_err}
+use Rattle.depot_base.proofs.FormatLaws.{IsBytes, IsBytes-drop, IsBytes-take, cursor, Took, Faulty, Lawful, bind_ok, bind_err, guard_ok, guard_err, need_ok, need_err, ok_is, not_err}
 
 pos_of_test : (n : ℕ) → eqb n 0 ≡ false → 0 < n
 pos_of_test n e = let no : n ≡ 0 → ⊥ = eqb-false n 0 e in omega arith

@@ -6,7 +6,7 @@ use Rattle.depot_base.specs.declared.fault.DecodeError.TheVariants as errors
 use Rattle.depot_base.specs.Format.{Format, whole, FirstFault}
 use Rattle.depot_base.specs.Closed.{Closed}
 use Rattle.depot_base.specs.Reading.{Gives, decoded, IsEarly, Decodes, DecodesClosed, IsReadInOneWay, IsClosedReadInOneWay}
-use Rattle.depot_base.proofs.Laws.{IsBytes, cursor, Lawful, ok_is, not_err, err_is}
+use Rattle.depot_base.proofs.FormatLaws.{IsBytes, cursor, Lawful, ok_is, not_err, err_is}
 use Rattle.depot_base.proofs.ClosedLaws.{LawfulClosed}
 use Rattle.depot_base.proofs.Combined.{prefix_free, whole_takes, whole_again, whole_faults, whole_stops, whole_early}
 

@@ -1,7 +1,8 @@
-pub mod Laws
+pub mod FormatLaws
 pub mod Numbers
+pub mod GeneralLaws
 pub mod Combined
-pub mod Lists
+pub mod EntryLists
 pub mod Loop
 pub mod PartLaws
 pub mod ClosedLaws

@@ -6,7 +6,7 @@ use Rattle.depot_base.specs.declared.fault.Fault.{Fault}
 use Rattle.depot_base.specs.declared.fault.Fault.TheVariants.{Memory, At}
 use Rattle.depot_base.specs.Format.{last_of, read_entries}
 
-abbrev failing : {V : Type 0} → Fault → Result V Fault
+abbrev pub failing : {V : Type 0} → Fault → Result V Fault
 failing f = Err f
 
 pub goes_on : {E : Type 0} (entry : Cursor → Result (E × Cursor) ℕ) (may_follow : Option E → E → Bool) (count i : ℕ) (front : List E) (c : Cursor) (e : E) (d : Cursor) (total : Result (List E × Cursor) ℕ)

@@ -1,12 +1,12 @@
 -- Numbers and plain bytes are lawful.
-use Rattle.std.proofs.Common.{◌≡◌, ℕ, ◌+◌, ◌<◌, ◌≤◌, Bool, true, false, cond, ltb, leb, ◌&&◌, List, [], ◌∷◌, ◌++◌, length, take, Ok, Err, refl, sym, ap, subst, arith, inl, inr}
+use Rattle.std.proofs.Common.{◌≡◌, ℕ, ◌+◌, ◌<◌, ◌≤◌, true, false, cond, ltb, leb, List, [], ◌∷◌, ◌++◌, length, take, Ok, Err, refl, sym, ap, subst, arith, inl, inr}
 use Rattle.std.specs.Int.{Width, w8, w16, w32, w64, byte_len, from_be_bytes, to_be_bytes, is_in_range}
-use Rattle.std.proofs.lemmas.Bool.{ltb-false, ltb-true, le-ltb, lt-ltb, leb-true, le-leb}
+use Rattle.std.proofs.lemmas.Bool.{ltb-false, ltb-true, le-ltb, lt-ltb, leb-true, le-leb, and_parts}
 use Rattle.std.proofs.lemmas.List.{take_at, drop_at, take-append-drop, length-append, length-take}
 use Rattle.std.proofs.lemmas.Nat.{be_bytes_2, be_bytes_4, be_bytes_8, from_be_bytes-to_be_bytes_2, from_be_bytes-to_be_bytes_4, from_be_bytes-to_be_bytes_8}
 use Rattle.depot_base.specs.Cursor.{Cursor, advanced, numeral}
 use Rattle.depot_base.specs.Format.{number}
-use Rattle.depot_base.proofs.Laws.{IsBytes, IsBytes-drop, IsBytes-take, cursor, Took, Faulty, Lawful, guard_ok, guard_err, need_ok, need_err, ok_is}
+use Rattle.depot_base.proofs.FormatLaws.{IsBytes, IsBytes-drop, IsBytes-take, cursor, Took, Faulty, Lawful, guard_ok, guard_err, need_ok, need_err, ok_is}
 
 pub record IsWide (w : Width) (limit : ℕ) : Type 0 where
   pub len : (n : ℕ) → length (to_be_bytes w n) ≡ byte_len w
@@ -30,14 +30,10 @@ wide32 = record { len = λ n. refl; back = λ bytes len fits. be_bytes_4 bytes _
 pub wide64 : IsWide w64 18446744073709551616
 wide64 = record { len = λ n. refl; back = λ bytes len fits. be_bytes_8 bytes _ len fits refl; again = λ n lt. from_be_bytes-to_be_bytes_8 n lt }
 
-both : (a b : Bool) → (a && b) ≡ true → (a ≡ true) × (b ≡ true)
-both true b e = (refl, e)
-both false b e = absurd cc
-
 in_range : (low high n : ℕ) → is_in_range low high n ≡ true → (low ≤ n) × (n ≤ high)
-in_range low high n e = let p = both (leb low n) (leb n high) e in (leb-true _ _ p.0, leb-true _ _ p.1)
+in_range low high n e = let p = and_parts (leb low n) (leb n high) e in (leb-true _ _ p.0, leb-true _ _ p.1)
 
-is_in : (low high n : ℕ) → low ≤ n → n ≤ high → is_in_range low high n ≡ true
+pub is_in : (low high n : ℕ) → low ≤ n → n ≤ high → is_in_range low high n ≡ true
 is_in low high n a b = rw (le-leb _ _ a, le-leb _ _ b) refl
 
 number_takes : (w : Width) (limit low high : ℕ) (wide : IsWide w limit) (c : Cursor) (v : ℕ) (d : Cursor) → IsBytes c.rest → (number w low high).read c ≡ Ok (v, d) → Took (number w low high) c v d

@@ -4,10 +4,10 @@ use Rattle.std.specs.Int.{w8, w16, w32, w64}
 use Rattle.depot_base.specs.declared.key.RosterEntry.{RosterEntry}
 use Rattle.depot_base.specs.Format.{number, constant}
 use Rattle.depot_base.specs.Parts.{node_number, digest, digest_rises, digests, dep, dep_rises, deps_of, roster_entry}
-use Rattle.depot_base.proofs.Laws.{Lawful}
+use Rattle.depot_base.proofs.FormatLaws.{Lawful}
 use Rattle.depot_base.proofs.Numbers.{wide8, wide16, wide32, wide64, number_lawful}
 use Rattle.depot_base.proofs.Combined.{bytes_lawful, made_lawful, field_lawful}
-use Rattle.depot_base.proofs.Lists.{list_lawful}
+use Rattle.depot_base.proofs.EntryLists.{list_lawful}
 
 pub u8_lawful : (low high : ℕ) → high ≤ 255 → Lawful (number w8 low high) 1
 u8_lawful low high le = number_lawful w8 256 low high wide8 (omega arith)

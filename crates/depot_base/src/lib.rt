@@ -20,7 +20,7 @@ mod hash;
 mod key;
 pub mod limits;
 mod memory;
-mod node;
+mod node_id;
 mod precedes;
 mod proof;
 pub mod reading;
@@ -39,7 +39,7 @@ pub use fields::Fields;
 pub use hash::Hash32;
 pub use key::{PublicKey, RosterEntry};
 pub use memory::{LengthError, Memory};
-pub use node::NodeId;
+pub use node_id::NodeId;
 pub use precedes::Precedes;
 pub use proof::{Kind, Proof};
 pub use record::Record;
@@ -47,8 +47,5 @@ pub use sequence::{Deps, Ids, Items, Nodes, Sequence, Texts};
 pub use sized::{Key, Value};
 pub use statement::{Signed, Statement};
 pub use steps::Steps;
-pub use update::{Dep, Update};
+pub use update::{Dep, NamedValue, Update};
 pub use voucher::Voucher;
-
-#[cfg(test)]
-mod tests;

@@ -1,4 +1,4 @@
-//! The limits of values, journals and streams, each named once. Clauses and definitions cite them by these names.
+//! The limits of values, journals, streams, schedules and scripts, each named once. Clauses and definitions cite them by these names.
 
 /// The most bytes of a key; the least is 1.
 pub const MOST_KEY: usize = 255;
@@ -17,6 +17,15 @@ pub const MOST_BODY: u32 = 43_382;
 
 /// The most bytes of a signature.
 pub const MOST_SIGNATURE: u32 = 8_192;
+
+/// The most bytes of a signed statement's text.
+pub const MOST_SIGNED: u32 = 51_582;
+
+/// The most bytes of a proof's text.
+pub const MOST_PROOF: u32 = 103_166;
+
+/// The most bytes of a record's text: those of an own update with its value.
+pub const MOST_RECORD: u32 = 108_923;
 
 /// How far a clock may be above the greatest of its parents.
 pub const MOST_AHEAD: u64 = 65_536;
@@ -56,3 +65,18 @@ pub const MOST_BUNDLE: u32 = 67_108_864;
 
 /// The most frames of updates and values in a bundle.
 pub const MOST_BUNDLE_FRAMES: u32 = 262_144;
+
+/// The most lines of a schedule or a script.
+pub const MOST_LINES: u32 = 100_000;
+
+/// The most correct nodes of a schedule.
+pub const MOST_CORRECT: usize = 32;
+
+/// The most bytes of a piece that an event of a schedule names; the least is 1.
+pub const MOST_PIECE: u32 = 1_000_000;
+
+/// The last call on a disk in which an event of a schedule sets a stop; the first is 1.
+pub const MOST_STOP_CALL: u32 = 1_000_000;
+
+/// The most bytes of a file's name; the least is 1.
+pub const MOST_NAME: usize = 4_096;

@@ -1,6 +1,8 @@
 //! Proofs of misbehaviour.
+ghost use Rattle.std.specs.Prelude.{◌≡◌};
+ghost use Rattle.depot_base.specs.Statement.{writer_of};
 
-use crate::Signed;
+use crate::{NodeId, Signed};
 
 /// How two statements of one writer contradict each other.
 #[derive(Clone, Copy, Debug, PartialEq, Eq)]
@@ -22,4 +24,13 @@ pub struct Proof {
     pub first: Signed,
     /// The other.
     pub second: Signed,
+}
+
+impl Proof {
+    /// The node that it accuses: the writer of its first statement.
+    pub fn accused(&self) -> NodeId
+        ensures { result ≡ writer_of self.now.first.statement }
+    {
+        self.first.statement.writer()
+    }
 }

@@ -14,6 +14,15 @@ pub struct Dep {
     pub id: Hash32,
 }
 
+/// A value as an update names it: a hash, which is to be its SHA-256, and its length in bytes.
+#[derive(Clone, Copy, Debug, PartialEq, Eq, PartialOrd, Ord)]
+pub struct NamedValue {
+    /// The hash that is named as the value's SHA-256.
+    pub hash: Hash32,
+    /// The length in bytes that is named, at most 65,536 in a text.
+    pub size: u32,
+}
+
 /// One write of a key, as its writer signs it.
 #[derive(Debug, Drop)]
 pub struct Update {
@@ -53,6 +62,23 @@ impl Update {
             deps: self.deps.copy()?,
             history: self.history,
         })
+    }
+
+    /// The key that it writes.
+    pub fn key_written(&self) -> &Key
+        ensures { result.now ≡ self.now.key }
+    {
+        &self.key
+    }
+
+    /// The value that its write names.
+    pub fn value_named(&self) -> NamedValue
+        ensures { result ≡ record { hash = self.now.value_hash; size = self.now.value_len } }
+    {
+        NamedValue {
+            hash: self.value_hash,
+            size: self.value_len,
+        }
     }
 
     /// Whether the two are one update.

@@ -1,11 +1,12 @@
 -- The lengths of chains, with one item more.
-use Rattle.std.proofs.Common.{◌≡◌, ℕ, ◌+◌, ◌<◌, ◌≤◌, List, [], ◌∷◌, ◌++◌, length, get_or, Bool, true, false, cond, eqb, Some, refl, sym, ap, subst, ◌∙◌, arith, inl, inr, ◌⊎◌, slice_get}
+use Rattle.std.proofs.Common.{◌≡◌, ℕ, ◌+◌, ◌-◌, ◌<◌, ◌≤◌, List, [], ◌∷◌, ◌++◌, length, get_or, cond, eqb, Some, refl, sym, ap, subst, ◌∙◌, arith, inl, inr, slice_get}
 use Rattle.std.proofs.lemmas.Bool.{cases_lt}
 use Rattle.std.proofs.lemmas.Bool.Decides.{nat_tests}
 use Rattle.std.proofs.lemmas.List.Sums.{sum_by-append}
+use Rattle.depot_base.proofs.GeneralLaws.{from_pushed, to_pushed, get_last, one_or_none}
 use Rattle.depot_clocks.specs.ChainItems.{ChainItem, IsUpTo, IsAt, chain_length, number_of_chains}
 use Rattle.depot_clocks.specs.KeptRows.{AreChained, IsNext}
-use Rattle.depot_clocks.proofs.ItemPaths.{from_pushed, to_pushed, at_pushed, up_to_self, up_to_parent, up_to_more, last_has_parent}
+use Rattle.depot_clocks.proofs.ItemPaths.{standing, up_to_self, up_to_parent, up_to_more, last_has_parent}
 
 pub chain_length-push : (items : List ChainItem) (x : ChainItem) (c : ℕ) → chain_length (items ++ x ∷ []) c ≡ chain_length items c + cond (eqb x.chain c) 1 0
 chain_length-push items x c = sum_by-append (λ (y : ChainItem). cond (eqb y.chain c) 1 0) items (x ∷ []) ∙ omega arith
@@ -13,30 +14,20 @@ chain_length-push items x c = sum_by-append (λ (y : ChainItem). cond (eqb y.cha
 pub number_of_chains-push : (items : List ChainItem) (x : ChainItem) → number_of_chains (items ++ x ∷ []) ≡ number_of_chains items + cond (eqb x.place 0) 1 0
 number_of_chains-push items x = sum_by-append (λ (y : ChainItem). cond (eqb y.place 0) 1 0) items (x ∷ []) ∙ omega arith
 
-chosen : (m n : ℕ) → ((m ≡ n) × (cond {A = ℕ} (eqb m n) 1 0 ≡ 1)) ⊎ ((m ≡ n → ⊥) × (cond {A = ℕ} (eqb m n) 1 0 ≡ 0))
-chosen m n = elim (either (eqb m n)) [
-  | inl yes_ ↦ inl (grind (arith, nat_tests), ap (λ (b : Bool). cond {A = ℕ} b 1 0) yes_)
-  | inr no_ ↦ inr ((λ same. absurd (grind (arith, nat_tests))), ap (λ (b : Bool). cond {A = ℕ} b 1 0) no_)
-]
-  where
-    either : (b : Bool) → (b ≡ true) ⊎ (b ≡ false)
-    either true = inl refl
-    either false = inr refl
-
 -- a chain never gets shorter
 pub chain_length-more : (items : List ChainItem) (x : ChainItem) (c : ℕ) → chain_length items c ≤ chain_length (items ++ x ∷ []) c
 chain_length-more items x c = omega (arith, chain_length-push items x c)
 
 -- the new item's chain gets one longer
 pub chain_length-own : (items : List ChainItem) (x : ChainItem) → chain_length (items ++ x ∷ []) x.chain ≡ chain_length items x.chain + 1
-chain_length-own items x = elim (chosen x.chain x.chain) [
+chain_length-own items x = elim (one_or_none x.chain x.chain) [
   | inl same ↦ omega (arith, chain_length-push items x x.chain, same.1)
   | inr other ↦ absurd (other.0 refl)
 ]
 
 -- other chains stay as long
 pub chain_length-other : (items : List ChainItem) (x : ChainItem) (c : ℕ) → (x.chain ≡ c → ⊥) → chain_length (items ++ x ∷ []) c ≡ chain_length items c
-chain_length-other items x c apart = elim (chosen x.chain c) [
+chain_length-other items x c apart = elim (one_or_none x.chain c) [
   | inl same ↦ absurd (apart same.0)
   | inr other ↦ omega (arith, chain_length-push items x c, other.1)
 ]
@@ -83,11 +74,15 @@ parents_next items x c n item y k at low = elim (from_pushed items x item y at) 
       subst Low h.1 last low
 ]
 
+-- an item stands where it stood
+pub stands_more : (items : List ChainItem) (x : ChainItem) (item chain place : ℕ) → IsAt items item chain place → IsAt (items ++ x ∷ []) item chain place
+stands_more items x item chain place (y, (at, is)) = (y, (to_pushed items x item y at, is))
+
 gapless_next : (items : List ChainItem) (x : ChainItem) → AreChained items → IsNext items x → (chain place : ℕ) → place < chain_length (items ++ x ∷ []) chain → (item : ℕ) × IsAt (items ++ x ∷ []) item chain place
 gapless_next items x c n chain place low = elim (cases_lt place (chain_length items chain)) [
-  | inl lt ↦ let r = c.gapless chain place lt in (r.0, (r.1.0, (to_pushed items x r.0 r.1.0 r.1.1.0, r.1.1.1)))
-  | inr ge ↦ elim (chosen x.chain chain) [
-    | inl same ↦ (length items, (x, (at_pushed items x, (same.0, omega (arith, n.place, ap (chain_length items) same.0, chain_length-push items x chain, same.1)))))
+  | inl lt ↦ let r = c.gapless chain place lt in (r.0, stands_more items x r.0 chain place r.1)
+  | inr ge ↦ elim (one_or_none x.chain chain) [
+    | inl same ↦ (length items, (x, (get_last items x, (same.0, omega (arith, n.place, ap (chain_length items) same.0, chain_length-push items x chain, same.1)))))
     | inr other ↦ absurd (omega (arith, chain_length-push items x chain, other.1))
   ]
 ]
@@ -95,7 +90,7 @@ gapless_next items x c n chain place low = elim (cases_lt place (chain_length it
 started_next : (items : List ChainItem) (x : ChainItem) → AreChained items → IsNext items x → (chain : ℕ) → chain < number_of_chains (items ++ x ∷ []) → 0 < chain_length (items ++ x ∷ []) chain
 started_next items x c n chain low = elim (cases_lt chain (number_of_chains items)) [
   | inl lt ↦ omega (arith, c.started chain lt, chain_length-more items x chain)
-  | inr ge ↦ elim (chosen x.place 0) [
+  | inr ge ↦ elim (one_or_none x.place 0) [
     | inl first ↦
         let own = starts_next items x c n first.0 in
         let here : chain ≡ x.chain = omega (arith, own, number_of_chains-push items x, first.1) in
@@ -107,8 +102,8 @@ started_next items x c n chain low = elim (cases_lt chain (number_of_chains item
 counted_next : (items : List ChainItem) (x : ChainItem) → AreChained items → IsNext items x → (chain : ℕ) → number_of_chains (items ++ x ∷ []) ≤ chain → chain_length (items ++ x ∷ []) chain ≡ 0
 counted_next items x c n chain high =
     let none : chain_length items chain ≡ 0 = c.counted chain (omega (arith, number_of_chains-more items x)) in
-    elim (chosen x.chain chain) [
-      | inl same ↦ elim (chosen x.place 0) [
+    elim (one_or_none x.chain chain) [
+      | inl same ↦ elim (one_or_none x.place 0) [
         | inl first ↦ absurd (omega (arith, n.chain, number_of_chains-push items x, first.1, same.0))
         | inr later ↦ absurd (later.0 (n.place ∙ (ap (chain_length items) same.0 ∙ none)))
       ]
@@ -120,7 +115,8 @@ linked_last : (items : List ChainItem) (x : ChainItem) → AreChained items → 
 linked_last items x c n a y at same =
     let low : y.place < x.place = omega (arith, c.placed a y at, ap (chain_length items) same, n.place) in
     let p = n.linked (omega arith) in
-    let up : IsUpTo items a p.0 = c.linked a p.0 y p.1.0.0 at p.1.0.1.0 (same ∙ sym p.1.0.1.1.0) (omega (arith, low, p.1.0.1.1.1)) in
+    let before = standing items p.0 x.chain (x.place - 1) p.1.0 in
+    let up : IsUpTo items a p.0 = c.linked a p.0 y before.it at before.at (same ∙ sym before.of_chain) (omega (arith, low, before.at_place)) in
     up_to_parent (items ++ x ∷ []) a p.0 (length items) (last_has_parent items x p.0 p.1.1) (up_to_more items x a p.0 up)
 
 linked_next : (items : List ChainItem) (x : ChainItem) → AreChained items → IsNext items x → (a b : ℕ) (y z : ChainItem) → slice_get (items ++ x ∷ []) a ≡ Some y → slice_get (items ++ x ∷ []) b ≡ Some z → y.chain ≡ z.chain → y.place ≤ z.place → IsUpTo (items ++ x ∷ []) a b

@@ -6,9 +6,9 @@ use Rattle.std.proofs.lemmas.List.{length-drop, take_all, get_or-drop}
 use Rattle.std.proofs.lemmas.Option.{slice_get_within}
 use Rattle.depot_lanes.specs.Lanes.{first_above}
 use Rattle.depot_lanes.proofs.LaneLaws.{first_above-Some, first_above-None, first_above-within}
+use Rattle.depot_base.proofs.GeneralLaws.{from_pushed, to_pushed, get_last}
 use Rattle.depot_clocks.specs.declared.row.Entry.{Entry}
 use Rattle.depot_clocks.specs.KeptRows.{HasEntry, HasCount, ArePut, AreAbove, NoneAbove, IsFirstFrom}
-use Rattle.depot_clocks.proofs.ItemPaths.{from_pushed, to_pushed, at_pushed}
 
 -- ---- the first entries
 
@@ -26,7 +26,7 @@ none_more entries i chain e none at other k f low at_f same = elim (cases_lt k i
 ]
 
 pub none_of_all : (entries : List Entry) (i chain : ℕ) → NoneUpTo entries i chain → length entries ≤ i → HasEntry entries chain → ⊥
-none_of_all entries i chain none all has = none has.0 has.1.0 (omega (arith, all, slice_get_within entries has.0 has.1.0 has.1.1.0)) has.1.1.0 has.1.1.1
+none_of_all entries i chain none all has = none has.place has.entry (omega (arith, all, slice_get_within entries has.place has.entry has.at)) has.at has.of_chain
 
 -- the first i entries aren't above those of the row
 abbrev pub WithinUpTo : List Entry → ℕ → List ℕ → Type 0
@@ -48,7 +48,7 @@ pub put_more : (entries : List Entry) (i : ℕ) (old new : List ℕ) (e : Entry)
 put_more entries i old new e put at inside chain = elim (cases_order e.chain chain) [
   | inl same ↦
       let read : get_or (set new e.chain e.count) chain 0 ≡ e.count = subst (λ (k : ℕ). get_or (set new e.chain e.count) k 0 ≡ e.count) same (rw get_or-set_same refl) in
-      inl (i, (e, (at, (same, sym read))))
+      inl (record { place = i; entry = e; at = at; of_chain = same; counts = sym read })
   | inr other ↦
       let apart : chain ≢ e.chain = elim other [ inl lt ↦ omega arith | inr gt ↦ omega arith ] in
       let read : get_or (set new e.chain e.count) chain 0 ≡ get_or new chain 0 = rw get_or-set_other refl in
@@ -104,10 +104,10 @@ above_more row before entries at e above place count = record {
     | inr h ↦ subst (λ (g : Entry). (g.chain < length row) × (g.count ≡ get_or row g.chain 0)) h.1 (place.inside, count)
   ];
   all = λ chain low higher. elim (cases_lt chain at) [
-    | inl lt ↦ let r = above.all chain lt higher in (r.0, (r.1.0, (to_pushed entries e r.0 r.1.0 r.1.1.0, r.1.1.1)))
+    | inl lt ↦ let r = above.all chain lt higher in record { place = r.place; entry = r.entry; at = to_pushed entries e r.place r.entry r.at; of_chain = r.of_chain }
     | inr ge ↦ elim (cases_lt chain e.chain) [
       | inl lt ↦ absurd (omega (arith, higher, place.first chain ge lt))
-      | inr le ↦ (length entries, (e, (at_pushed entries e, omega (arith, low, le))))
+      | inr le ↦ record { place = length entries; entry = e; at = get_last entries e; of_chain = omega (arith, low, le) }
     ]
   ];
 }

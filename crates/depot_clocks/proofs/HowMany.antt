@@ -6,21 +6,25 @@ use Rattle.std.proofs.lemmas.Bool.{cases_lt}
 use Rattle.std.proofs.lemmas.List.{length-append, get_or_default}
 use Rattle.depot_clocks.specs.ChainItems.{ChainItem, IsAt, chain_length, IsCount, IsOfPast, IsTrueOf}
 use Rattle.depot_clocks.specs.KeptRows.{AreChained}
-use Rattle.depot_clocks.proofs.ItemPaths.{up_to_low}
+use Rattle.depot_clocks.proofs.ItemPaths.{standing, up_to_low}
 
 -- at each place of a chain stands one item
 one_at : (items : List ChainItem) (a b chain place : ℕ) → AreChained items → IsAt items a chain place → IsAt items b chain place → a ≡ b
-one_at items a b chain place c at_a at_b =
-    let same = at_a.1.1.0 ∙ sym at_b.1.1.0 in
-    let low = up_to_low items a b c (c.linked a b at_a.0 at_b.0 at_a.1.0 at_b.1.0 same (omega (arith, at_a.1.1.1, at_b.1.1.1))) in
-    let high = up_to_low items b a c (c.linked b a at_b.0 at_a.0 at_b.1.0 at_a.1.0 (sym same) (omega (arith, at_a.1.1.1, at_b.1.1.1))) in
+one_at items a b chain place c is_a is_b =
+    let at_a = standing items a chain place is_a in
+    let at_b = standing items b chain place is_b in
+    let same = at_a.of_chain ∙ sym at_b.of_chain in
+    let low = up_to_low items a b c (c.linked a b at_a.it at_b.it at_a.at at_b.at same (omega (arith, at_a.at_place, at_b.at_place))) in
+    let high = up_to_low items b a c (c.linked b a at_b.it at_a.it at_b.at at_a.at (sym same) (omega (arith, at_a.at_place, at_b.at_place))) in
     omega (arith, low, high)
 
 -- an item stands at one place
 one_place : (items : List ChainItem) (a chain i j : ℕ) → IsAt items a chain i → IsAt items a chain j → i ≡ j
-one_place items a chain i j at_i at_j =
-    let same : at_i.0 ≡ at_j.0 = some_same at_i.0 at_j.0 (sym at_i.1.0 ∙ at_j.1.0) in
-    omega (arith, at_i.1.1.1, at_j.1.1.1, ap (λ (x : ChainItem). x.place) same)
+one_place items a chain i j is_i is_j =
+    let at_i = standing items a chain i is_i in
+    let at_j = standing items a chain j is_j in
+    let same : at_i.it ≡ at_j.it = some_same at_i.it at_j.it (sym at_i.at ∙ at_j.at) in
+    omega (arith, at_i.at_place, at_j.at_place, ap (λ (x : ChainItem). x.place) same)
   where
     some_same : (x y : ChainItem) → Some x ≡ Some y → x ≡ y
     some_same x y e = cc
@@ -57,16 +61,16 @@ count_is_how_many items chain item n c count =
     record {
       numbers = f.numbers;
       all = λ a past.
-          let x = past.0 in
-          let low = count.counted a x past.1.0 past.1.1.0 past.1.1.1 in
-          let here : get_or f.numbers x.place 0 ≡ a = one_at items (get_or f.numbers x.place 0) a chain x.place c (f.at x.place low) (x, (past.1.0, (past.1.1.0, refl))) in
+          let x = past.it in
+          let low = count.counted a x past.at past.of_chain past.up_to in
+          let here : get_or f.numbers x.place 0 ≡ a = one_at items (get_or f.numbers x.place 0) a chain x.place c (f.at x.place low) (x, (past.at, (past.of_chain, refl))) in
           let inside : x.place < length f.numbers = omega (arith, low, f.many) in
           (x.place, inside, get_or_default f.numbers x.place a 0 inside ∙ here);
       only = λ a on.
           let k = on.0 in
           let here : get_or f.numbers k 0 ≡ a = get_or_default f.numbers k 0 a on.1 ∙ on.2 in
-          let at : IsAt items a chain k = subst (λ (b : ℕ). IsAt items b chain k) here (f.at k (omega (arith, on.1, f.many))) in
-          (at.0, (at.1.0, (at.1.1.0, count.only a at.0 at.1.0 at.1.1.0 (omega (arith, at.1.1.1, on.1, f.many)))));
+          let at = standing items a chain k (subst (λ (b : ℕ). IsAt items b chain k) here (f.at k (omega (arith, on.1, f.many)))) in
+          record { it = at.it; at = at.at; of_chain = at.of_chain; up_to = count.only a at.it at.at at.of_chain (omega (arith, at.at_place, on.1, f.many)) };
       apart = λ i j d less inside same.
           let low : i < length f.numbers = omega (arith, less, inside) in
           let same_0 : get_or f.numbers i 0 ≡ get_or f.numbers j 0 = get_or_default f.numbers i 0 d low ∙ (same ∙ get_or_default f.numbers j d 0 inside) in

@@ -1,29 +1,22 @@
 -- Paths to parents among items, and with one item more.
-use Rattle.std.proofs.Common.{◌≡◌, ℕ, zero, suc, ◌+◌, ◌<◌, ◌≤◌, List, [], ◌∷◌, ◌++◌, length, get_or, Some, refl, sym, subst, ◌∙◌, arith, inl, inr, ◌⊎◌, Contains, slice_get}
+use Rattle.std.proofs.Common.{◌≡◌, ℕ, zero, suc, ◌+◌, ◌<◌, ◌≤◌, List, [], ◌∷◌, ◌++◌, length, get_or, Some, refl, sym, subst, ◌∙◌, arith, inl, inr, Contains, slice_get}
 use Rattle.std.proofs.lemmas.List.{get_or_default}
 use Rattle.std.proofs.lemmas.Option.{slice_get_within}
-use Rattle.depot_clocks.specs.ChainItems.{ChainItem, IsParentOf, LeadsTo, IsUpTo}
+use Rattle.depot_base.proofs.GeneralLaws.{from_pushed, to_pushed, get_last}
+use Rattle.depot_clocks.specs.ChainItems.{ChainItem, IsAt, IsParentOf, LeadsTo, IsUpTo}
 use Rattle.depot_clocks.specs.KeptRows.{AreChained}
 
 -- ---- elements by their places
 
--- an element of a list with one more behind it: one of the list, or the last
-pub from_pushed : {X : Type 0} (xs : List X) (y : X) (i : ℕ) (x : X) → slice_get (xs ++ y ∷ []) i ≡ Some x → (slice_get xs i ≡ Some x) ⊎ ((i ≡ length xs) × (y ≡ x))
-from_pushed [] y zero x e = inr (refl, cc)
-from_pushed [] y (suc i) x e = absurd cc
-from_pushed (z ∷ zs) y zero x e = inl e
-from_pushed (z ∷ zs) y (suc i) x e = elim (from_pushed zs y i x e) [ inl h ↦ inl h | inr h ↦ inr (omega arith, h.1) ]
+-- the item at a place of a chain
+pub record Standing (items : List ChainItem) (item chain place : ℕ) : Type 0 where
+  pub it : ChainItem
+  pub at : slice_get items item ≡ Some it
+  pub of_chain : it.chain ≡ chain
+  pub at_place : it.place ≡ place
 
--- an element stays where it is
-pub to_pushed : {X : Type 0} (xs : List X) (y : X) (i : ℕ) (x : X) → slice_get xs i ≡ Some x → slice_get (xs ++ y ∷ []) i ≡ Some x
-to_pushed [] y i x e = absurd cc
-to_pushed (z ∷ zs) y zero x e = e
-to_pushed (z ∷ zs) y (suc i) x e = to_pushed zs y i x e
-
--- the last one
-pub at_pushed : {X : Type 0} (xs : List X) (y : X) → slice_get (xs ++ y ∷ []) (length xs) ≡ Some y
-at_pushed [] y = refl
-at_pushed (z ∷ zs) y = at_pushed zs y
+pub standing : (items : List ChainItem) (item chain place : ℕ) → IsAt items item chain place → Standing items item chain place
+standing items item chain place (x, (at, (of_chain, at_place))) = record { it = x; at = at; of_chain = of_chain; at_place = at_place }
 
 -- where an element that a list of numbers contains stands
 pub contained_at : (ps : List ℕ) (p : ℕ) → Contains ps p → (k : ℕ) × ((k < length ps) × (get_or ps k 0 ≡ p))
@@ -101,4 +94,4 @@ parent_of_last items x p on = elim (from_pushed items x (length items) on.0 on.1
 ]
 
 pub last_has_parent : (items : List ChainItem) (x : ChainItem) (p : ℕ) → Contains x.parents p → IsParentOf (items ++ x ∷ []) p (length items)
-last_has_parent items x p on = (x, (at_pushed items x, on))
+last_has_parent items x p on = (x, (get_last items x, on))

@@ -28,7 +28,7 @@ row_of items kept chains item k row keeps low is row_is = subst (KeepsRow items 
 -- what an entry tells
 pub count_by_entry : (items : List ChainItem) (item behind : ℕ) (entries : List Entry) (chain n : ℕ) → IsChangedRow items item behind entries → HasCount entries chain n → IsCount items chain item n
 count_by_entry items item behind entries chain n row has =
-    subst (λ (c : ℕ). IsCount items c item n) has.1.1.1.0 (subst (IsCount items has.1.0.chain item) has.1.1.1.1 (row.counts has.0 has.1.0 has.1.1.0))
+    subst (λ (c : ℕ). IsCount items c item n) has.of_chain (subst (IsCount items has.entry.chain item) has.counts (row.counts has.place has.entry has.at))
 
 -- what another row tells, where no entry does
 pub count_from_behind : (items : List ChainItem) (item behind : ℕ) (entries : List Entry) (chain n : ℕ) → AreChained items → IsChangedRow items item behind entries → (HasEntry entries chain → ⊥) → IsCount items chain behind n → IsCount items chain item n
@@ -71,15 +71,15 @@ entries_within items item behind entries given c row all k e at = counts_by_entr
 
 -- an entry is of the chain, or none
 find_entry : (entries : List Entry) (chain : ℕ) → HasEntry entries chain ⊎ (HasEntry entries chain → ⊥)
-find_entry [] chain = inr (λ has. absurd (none has.0 has.1.0 has.1.1.0))
+find_entry [] chain = inr (λ has. absurd (none has.place has.entry has.at))
   where
     none : (k : ℕ) (e : Entry) → slice_get {X = Entry} [] k ≡ Some e → ⊥
     none k e at = absurd cc
 find_entry (e ∷ es) chain = elim (same_or_not e.chain chain) [
-  | inl same ↦ inl (0, (e, (refl, same)))
+  | inl same ↦ inl (record { place = 0; entry = e; at = refl; of_chain = same })
   | inr other ↦ elim (find_entry es chain) [
-    | inl has ↦ inl (suc has.0, has.1)
-    | inr none ↦ inr (λ has. behind e es chain other none has.0 has.1.0 has.1.1.0 has.1.1.1)
+    | inl has ↦ inl (record { place = suc has.place; entry = has.entry; at = has.at; of_chain = has.of_chain })
+    | inr none ↦ inr (λ has. behind e es chain other none has.place has.entry has.at has.of_chain)
   ]
 ]
   where
@@ -88,15 +88,14 @@ find_entry (e ∷ es) chain = elim (same_or_not e.chain chain) [
 
     behind : (e : Entry) (es : List Entry) (chain : ℕ) → (e.chain ≡ chain → ⊥) → (HasEntry es chain → ⊥) → (k : ℕ) (f : Entry) → slice_get (e ∷ es) k ≡ Some f → f.chain ≡ chain → ⊥
     behind e es chain other none zero f at same = let here : e ≡ f = cc in other (ap (λ (g : Entry). g.chain) here ∙ same)
-    behind e es chain other none (suc k) f at same = none (k, (f, (at, same)))
+    behind e es chain other none (suc k) f at same = none (record { place = k; entry = f; at = at; of_chain = same })
 
 all_with_entries : (items : List ChainItem) (item behind : ℕ) (entries : List Entry) (given : List ℕ) → AreChained items → IsChangedRow items item behind entries → AreWithin entries given → CountsAll items behind given → CountsAll items item given
 all_with_entries items item behind entries given c row within all a x at u = elim (find_entry entries x.chain) [
   | inl has ↦
-      let e = has.1.0 in
-      let below = (row.counts has.0 e has.1.1.0).counted a x at (sym has.1.1.1) u in
-      let le = within has.0 e has.1.1.0 in
-      omega (arith, below, le, ap (λ (k : ℕ). get_or given k 0) has.1.1.1)
+      let below = (row.counts has.place has.entry has.at).counted a x at (sym has.of_chain) u in
+      let le = within has.place has.entry has.at in
+      omega (arith, below, le, ap (λ (k : ℕ). get_or given k 0) has.of_chain)
   | inr none ↦
       let r = row.same x.chain none in
       let below = r.1.1.counted a x at refl u in
@@ -119,7 +118,7 @@ not_within items item behind entries given result c row told no_ = (
 count_in_row : (items : List ChainItem) (item : ℕ) (row : Row) → KeepsRow items item row → (chain : ℕ) → (n : ℕ) × IsCount items chain item n
 count_in_row items item (Whole row) kept chain = (get_or row.items chain 0, kept.counts chain)
 count_in_row items item (Changed behind entries) kept chain = elim (find_entry entries.items chain) [
-  | inl has ↦ (has.1.0.count, count_by_entry items item behind entries.items chain has.1.0.count kept (has.0, (has.1.0, (has.1.1.0, (has.1.1.1, refl)))))
+  | inl has ↦ (has.entry.count, count_by_entry items item behind entries.items chain has.entry.count kept (record { place = has.place; entry = has.entry; at = has.at; of_chain = has.of_chain; counts = refl }))
   | inr none ↦ let r = kept.same chain none in (r.0, r.1.1)
 ]
 
@@ -150,10 +149,9 @@ within_by_entries items kept chains item given result keeps low told = (
 
 changed_from : (items : List ChainItem) (x : ChainItem) (behind : ℕ) (row : List ℕ) (kept : Row) → AreChained items → IsNext items x → IsNextRow items x row → length row ≡ number_of_chains items → Contains x.parents behind → IsChangedFrom items behind row kept → KeepsRow (items ++ x ∷ []) (length items) kept
 changed_from items x behind row (Whole other) c next made long parent never = absurd never
-changed_from items x behind row (Changed from entries) c next made long parent is =
-    let before = is.1.0 in
-    subst (λ (b : ℕ). IsChangedRow (items ++ x ∷ []) (length items) b entries.items) (sym is.0)
-    (next_row_changed items x behind row before entries.items c next made long parent (is.1.1.0.long ∙ sym long) is.1.1.0.counts is.1.1.1)
+changed_from items x behind row (Changed from entries) c next made long parent (same, (before, (old, above))) =
+    subst (λ (b : ℕ). IsChangedRow (items ++ x ∷ []) (length items) b entries.items) (sym same)
+    (next_row_changed items x behind row before entries.items c next made long parent (old.long ∙ sym long) old.counts above)
 
 pub kept_as_changed : (items : List ChainItem) (x : ChainItem) (behind : ℕ) (row : List ℕ) (result : Result Row Memory) → AreChained items → IsNext items x → IsNextRow items x row → length row ≡ number_of_chains items → Contains x.parents behind
     → IfOk result (IsChangedFrom items behind row) → IfOk result (KeepsRow (items ++ x ∷ []) (length items))

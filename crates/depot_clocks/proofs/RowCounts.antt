@@ -2,9 +2,10 @@
 use Rattle.std.proofs.Common.{◌≡◌, ℕ, zero, suc, ◌+◌, ◌<◌, ◌≤◌, List, [], ◌∷◌, ◌++◌, length, get_or, max, Some, refl, sym, ap, subst, ◌∙◌, arith, inl, inr, slice_get}
 use Rattle.std.proofs.lemmas.Bool.{cases_lt}
 use Rattle.std.proofs.lemmas.Option.{slice_get_within}
+use Rattle.depot_base.proofs.GeneralLaws.{from_pushed}
 use Rattle.depot_clocks.specs.ChainItems.{ChainItem, Precedes, IsUpTo, chain_length, number_of_chains, IsCount, CountsAll, JoinsUpTo}
 use Rattle.depot_clocks.specs.KeptRows.{AreChained, IsNext}
-use Rattle.depot_clocks.proofs.ItemPaths.{from_pushed, contained_at, contains_at, up_to_low, leads_down, up_to_parent, up_to_more, up_to_less, parent_of_last, last_has_parent}
+use Rattle.depot_clocks.proofs.ItemPaths.{standing, contained_at, contains_at, up_to_low, leads_down, up_to_parent, up_to_more, up_to_less, parent_of_last, last_has_parent}
 use Rattle.depot_clocks.proofs.ChainCounts.{chain_length-more, chain_length-own, chained_next}
 
 -- ---- one count
@@ -20,9 +21,10 @@ count_past items chain item c high = record {
 count_least : (items : List ChainItem) (chain item m n : ℕ) → AreChained items → IsCount items chain item m → IsCount items chain item n → m < n → ⊥
 count_least items chain item m n c first second less =
     let r = c.gapless chain m (omega (arith, less, second.there)) in
-    let up = second.only r.0 r.1.0 r.1.1.0 r.1.1.1.0 (omega (arith, less, r.1.1.1.1)) in
-    let low = first.counted r.0 r.1.0 r.1.1.0 r.1.1.1.0 up in
-    omega (arith, low, r.1.1.1.1)
+    let x = standing items r.0 chain m r.1 in
+    let up = second.only r.0 x.it x.at x.of_chain (omega (arith, less, x.at_place)) in
+    let low = first.counted r.0 x.it x.at x.of_chain up in
+    omega (arith, low, x.at_place)
 
 -- there is one count
 pub one_count : (items : List ChainItem) (chain item m n : ℕ) → AreChained items → IsCount items chain item m → IsCount items chain item n → m ≡ n
@@ -140,8 +142,9 @@ pub counts_by_entry : (items : List ChainItem) (item : ℕ) (row : List ℕ) (ch
 counts_by_entry items item row chain n c count all = elim (cases_lt (get_or row chain 0) n) [
   | inl less ↦
       let r = c.gapless chain (get_or row chain 0) (omega (arith, less, count.there)) in
-      let up = count.only r.0 r.1.0 r.1.1.0 r.1.1.1.0 (omega (arith, less, r.1.1.1.1)) in
-      let low = all r.0 r.1.0 r.1.1.0 up in
-      absurd (omega (arith, low, r.1.1.1.1, ap (λ (k : ℕ). get_or row k 0) r.1.1.1.0))
+      let x = standing items r.0 chain (get_or row chain 0) r.1 in
+      let up = count.only r.0 x.it x.at x.of_chain (omega (arith, less, x.at_place)) in
+      let low = all r.0 x.it x.at up in
+      absurd (omega (arith, low, x.at_place, ap (λ (k : ℕ). get_or row k 0) x.of_chain))
   | inr ge ↦ ge
 ]

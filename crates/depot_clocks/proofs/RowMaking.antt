@@ -8,14 +8,15 @@ use Rattle.std.proofs.lemmas.List.{length-append, append-nil, take_all, drop_all
 use Rattle.std.proofs.lemmas.Option.{slice_get_within}
 use Rattle.depot_lanes.specs.Lanes.{greater_of_each}
 use Rattle.depot_lanes.proofs.LaneLaws.{get_or-greater, length-greater}
+use Rattle.depot_base.proofs.GeneralLaws.{from_pushed, get_last}
 use Rattle.depot_clocks.specs.ChainItems.{ChainItem, IsUpTo, number_of_chains, IsCount, JoinsUpTo, IsJoined}
 use Rattle.depot_clocks.specs.declared.row.Entry.{Entry}
 use Rattle.depot_clocks.specs.declared.row.Row.{Row}
 use Rattle.depot_clocks.specs.declared.row.Row.TheVariants.{Whole, Changed}
 use Rattle.depot_clocks.specs.declared.row.Kept.{Kept}
 use Rattle.depot_clocks.specs.KeptRows.{AreChained, IsNext, IsNextRow, own_entry, HasEntry, AreAbove, IsWholeRow, IsChangedRow, KeepsRow, KeepsItem, KeepsItems}
-use Rattle.depot_clocks.proofs.ItemPaths.{from_pushed, to_pushed, at_pushed, contained_at, up_to_self, up_to_parent, up_to_trans, up_to_more, last_has_parent}
-use Rattle.depot_clocks.proofs.ChainCounts.{number_of_chains-push, number_of_chains-first, number_of_chains-more, starts_next, goes_on, chained_next}
+use Rattle.depot_clocks.proofs.ItemPaths.{contained_at, up_to_self, up_to_parent, up_to_trans, up_to_more, last_has_parent}
+use Rattle.depot_clocks.proofs.ChainCounts.{number_of_chains-push, number_of_chains-first, number_of_chains-more, starts_next, goes_on, stands_more, chained_next}
 use Rattle.depot_clocks.proofs.RowCounts.{count_past, count_more, count_own, joins_one, count_of_parents}
 
 -- a slice that was lent whole and comes back
@@ -160,10 +161,10 @@ keeps_next items x kept k chains keeps next few chain_is place_is row = record {
         let old = keeps.each item j h in
         let low : item < length items = omega (arith, slice_get_within kept item j h, keeps.as_many) in
         record {
-          spot = (old.spot.0, (to_pushed items x item old.spot.0 old.spot.1.0, old.spot.1.1));
+          spot = stands_more items x item j.chain j.place old.spot;
           row = keeps_row_more items x item j.row keeps.chained next low old.row;
         }
-    | inr h ↦ subst (KeepsItem (items ++ x ∷ []) item) h.1 (subst (λ (n : ℕ). KeepsItem (items ++ x ∷ []) n k) (sym (omega (arith, h.0, keeps.as_many))) (record { spot = (x, (at_pushed items x, (sym chain_is, sym place_is))); row = row }))
+    | inr h ↦ subst (KeepsItem (items ++ x ∷ []) item) h.1 (subst (λ (n : ℕ). KeepsItem (items ++ x ∷ []) n k) (sym (omega (arith, h.0, keeps.as_many))) (record { spot = (x, (get_last items x, (sym chain_is, sym place_is))); row = row }))
   ];
   numbered = omega (arith, keeps.numbered, number_of_chains-push items x);
   few = omega (arith, few, length-append items (x ∷ []));

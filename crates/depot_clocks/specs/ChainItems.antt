@@ -64,8 +64,11 @@ pub record IsJoined (items : List ChainItem) (parts row : List ℕ) : Type 0 whe
   pub joins : (chain : ℕ) → chain < length row → JoinsUpTo items parts (length parts) chain (slice_index row chain)
 
 -- the item a is of the chain, and is the other item or precedes it
-abbrev pub IsOfPast : List ChainItem → ℕ → ℕ → ℕ → Type 0
-IsOfPast items chain item a = (x : ChainItem) × ((slice_get items a ≡ Some x) × ((x.chain ≡ chain) × IsUpTo items a item))
+pub record IsOfPast (items : List ChainItem) (chain item a : ℕ) : Type 0 where
+  pub it : ChainItem
+  pub at : slice_get items a ≡ Some it
+  pub of_chain : it.chain ≡ chain
+  pub up_to : IsUpTo items a item
 
 -- a fact holds of n numbers: of these, which are different, and of no others
 pub record IsTrueOf (P : ℕ → Type 0) (n : ℕ) : Type 0 where

@@ -36,12 +36,19 @@ abbrev pub own_entry : List ℕ → ℕ → ℕ → List ℕ
 own_entry row chain place = if place == 0 then row ++ 1 ∷ [] else slice_set row chain (place + 1)
 
 -- one of the entries is of the chain
-abbrev pub HasEntry : List Entry → ℕ → Type 0
-HasEntry entries chain = (k : ℕ) × ((e : Entry) × ((slice_get entries k ≡ Some e) × (e.chain ≡ chain)))
+pub record HasEntry (entries : List Entry) (chain : ℕ) : Type 0 where
+  pub place : ℕ
+  pub entry : Entry
+  pub at : slice_get entries place ≡ Some entry
+  pub of_chain : entry.chain ≡ chain
 
 -- an entry says of the chain that it counts n
-abbrev pub HasCount : List Entry → ℕ → ℕ → Type 0
-HasCount entries chain n = (k : ℕ) × ((e : Entry) × ((slice_get entries k ≡ Some e) × ((e.chain ≡ chain) × (e.count ≡ n))))
+pub record HasCount (entries : List Entry) (chain n : ℕ) : Type 0 where
+  pub place : ℕ
+  pub entry : Entry
+  pub at : slice_get entries place ≡ Some entry
+  pub of_chain : entry.chain ≡ chain
+  pub counts : entry.count ≡ n
 
 -- each of the entries is of a chain below this number
 abbrev pub AreInside : List Entry → ℕ → Type 0

@@ -1,36 +1,32 @@
 -- What is printed of the answers of a node.
 use Rattle.std.proofs.Common.{◌≡◌, ℕ, List, [], ◌∷◌, ◌++◌, map, false, Result, Ok, Err, refl, sym, ap, ◌∙◌}
-use Rattle.std.specs.Prelude.{OnOk}
 use Rattle.std.specs.List.{flat_map}
 use Rattle.std.proofs.lemmas.List.{append-nil}
 use Rattle.depot_base.specs.declared.record.Record.{Record}
 use Rattle.depot_answers.specs.Answers.{name_of_more, spaced, text_of_counts, text_of_refusal, text_of_report}
 use Rattle.depot_gossip.specs.Bundling.{Bundles}
-use Rattle.depot_gossip.specs.declared.error.BundleError.{BundleError}
-use Rattle.depot_gossip.specs.declared.error.BundleError.TheVariants as error
+use Rattle.depot_gossip.specs.declared.gossip_error.BundleError.{BundleError}
+use Rattle.depot_gossip.specs.declared.gossip_error.BundleError.TheVariants as error
 use Rattle.depot_gossip.specs.declared.own_bundle.Bundled.{Bundled}
 use Rattle.depot_model.specs.Bundle.{BundleAnswer, Signs, bundle_answer}
 use Rattle.depot_model.specs.Checks.{Setting}
-use Rattle.depot_model.specs.Feeding.{Feeding, report_of}
+use Rattle.depot_model.specs.Feeding.{Feeding}
 use Rattle.depot_model.specs.World.{Correct}
 use Rattle.depot_model.specs.declared.bundle.Report.{Report}
 use Rattle.depot_world.specs.Deeds.{bundle_by, bundle_with}
-use Rattle.depot_world.specs.Stops.{Deed}
+use Rattle.depot_world.specs.ScheduleStops.{Deed}
 use Rattle.depot_world.specs.Transcript.{ended}
+use Rattle.depot_laws.proofs.RejoinLaw.{report_refused}
 use Rattle.depot_deeds.specs.Printing.{IsRefusalOf, IsToldOf, SettlesBundle}
 use Rattle.depot_deeds.specs.Printing.{fed_lines, lines_of_deed}
 use Rattle.depot_deeds.specs.declared.feeds.Fed.{Fed}
 
 -- ---- a stream
 
-refused_in : (s : Feeding) → (report_of s).refused ≡ s.refused
-unfolding report_of
-refused_in s = refl
-
 pub fed_lines_are : (s : Feeding) (told : Fed) (first : List ℕ) (one two all : List ℕ) → IsToldOf s told → first ≡ 32 ∷ [] → one ≡ first ++ text_of_report s → two ≡ one ++ 10 ∷ [] → all ≡ two ++ flat_map ended (map text_of_refusal told.report.refused)
     → all ≡ fed_lines s
 fed_lines_are s told first one two all t is_first is_one is_two is_all =
-    let refused : told.report.refused ≡ s.refused = sym (ap (λ (r : Report). r.refused) t.report) ∙ refused_in s in
+    let refused : told.report.refused ≡ s.refused = sym (ap (λ (r : Report). r.refused) t.report) ∙ report_refused s in
     rw (is_all, refused, is_two, is_one, is_first) refl
 
 -- ---- a bundle
@@ -89,8 +85,3 @@ refusal_settles error.Stopped old new is = is
 -- an answer is one error
 pub one_error : {X E : Type 0} (r : Result X E) (a b : E) → r ≡ Err a → r ≡ Err b → a ≡ b
 one_error r a b one other = let both : Err a ≡ Err b = sym one ∙ other in cc
-
--- what is so where all went well implies more
-pub on_ok : {T E P Q : Type 0} (r : Result T E) → (P → Q) → OnOk r P → OnOk r Q
-on_ok (Ok x) so p = so p
-on_ok (Err e) so p = tt

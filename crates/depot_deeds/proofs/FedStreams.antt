@@ -1,21 +1,21 @@
 -- A stream that is fed to a node in pieces: what is told of it, and the calls that it makes on the disk.
-use Rattle.std.proofs.Common.{◌≡◌, ◌≢◌, ℕ, Bool, true, false, List, [], ◌++◌, append_assoc, is_some, Option, Some, None, Result, Ok, Err, refl, sym, ap, subst, ◌∙◌, inl, inr}
+use Rattle.std.proofs.Common.{◌≡◌, ◌≢◌, ℕ, Bool, true, false, List, [], ◌++◌, append_assoc, is_some, Some, None, Result, Ok, Err, refl, sym, ap, subst, ◌∙◌, inl, inr}
 use Rattle.std.specs.Prelude.{IfErr, IfOk, IsErrOf}
 use Rattle.std.proofs.lemmas.List.{append-nil}
 use Rattle.depot_base.specs.Calls.{Made}
 use Rattle.depot_base.specs.declared.check.Full.{Full}
 use Rattle.depot_base.specs.declared.record.Record.{Record}
-use Rattle.depot_answers.specs.declared.exchanges.Closing.TheVariants as closing
+use Rattle.depot_answers.specs.declared.exchange_answers.Closing.TheVariants as closing
 use Rattle.depot_gossip.specs.Lasting.{CallsFed, LastsIn}
 use Rattle.depot_gossip.specs.NodeCalls.{says_stopped}
 use Rattle.depot_gossip.specs.Pieces.{AreOf, Feeds, Stream, at_work, stream_of, told_of}
-use Rattle.depot_gossip.specs.declared.error.FeedError.{FeedError}
-use Rattle.depot_gossip.specs.declared.error.FeedError.TheVariants as error
-use Rattle.depot_gossip.proofs.FeedGrowth.{chunk_brings}
+use Rattle.depot_gossip.specs.declared.gossip_error.FeedError.{FeedError}
+use Rattle.depot_gossip.specs.declared.gossip_error.FeedError.TheVariants as error
+use Rattle.depot_gossip.proofs.FeedRecords.{chunk_brings}
 use Rattle.depot_model.proofs.FeedGrowth.{IsGrown}
-use Rattle.depot_gossip.proofs.PieceLaws.{IsUnderWay}
+use Rattle.depot_gossip.proofs.PieceLaws.{IsUnderWay, at_work_again}
 use Rattle.depot_model.specs.Checks.{Setting}
-use Rattle.depot_model.specs.Feeding.{Closing, Feeding, ending_of, fed, report_of}
+use Rattle.depot_model.specs.Feeding.{Feeding, ending_of, fed, report_of}
 use Rattle.depot_model.specs.Replicas.{StopsBy}
 use Rattle.depot_model.specs.Stops.{CallsDisk}
 use Rattle.depot_model.specs.declared.bundle.Report.{Report}
@@ -45,10 +45,6 @@ pub told_well : (here : Setting) (s : Feeding) (bytes : List ℕ) (S : Stream) (
 told_well here s bytes S J report is f = record { report = told_by (fed here s bytes) S report is f.1.stream; closing = f.0 }
 
 -- ---- what was fed
-
--- a feed that is at work is what is kept of it, and the journal
-at_work_again : (x : Feeding) (S : Stream) (J : List Record) → x.closed ≡ None → AreOf x S J → x ≡ at_work S J
-at_work_again x S J none a = ap (λ (o : Option Closing). record x { closed = o }) none ∙ sym (ap (at_work (stream_of x)) a.journal) ∙ ap (λ (T : Stream). at_work T J) (sym a.stream)
 
 -- one piece more
 pub under_way_on : (here there : Setting) (s : Feeding) (bytes rest piece behind : List ℕ) (now : Feeding) (S : Stream) (J : List Record) → there ≡ here → IsUnderWay here s bytes rest now → rest ≡ piece ++ behind → Feeds there now piece (Ok tt) S J

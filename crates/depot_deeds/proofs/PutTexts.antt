@@ -13,12 +13,12 @@ use Rattle.depot_model.specs.Checks.{Setting}
 use Rattle.depot_model.specs.Limits.{Limit, limit_of_put}
 use Rattle.depot_model.specs.Own.{next_own}
 use Rattle.depot_model.specs.World.{Correct}
-use Rattle.depot_node.specs.Putting.{Puts, put_records}
-use Rattle.depot_node.specs.declared.answer.PutDone.{PutDone}
-use Rattle.depot_node.specs.declared.answer.PutError.{PutError}
-use Rattle.depot_node.specs.declared.answer.PutError.TheVariants as refused
+use Rattle.depot_decide.specs.Putting.{Puts, put_records}
+use Rattle.depot_decide.specs.declared.put_answers.PutDone.{PutDone}
+use Rattle.depot_decide.specs.declared.put_answers.PutError.{PutError}
+use Rattle.depot_decide.specs.declared.put_answers.PutError.TheVariants as refused
 use Rattle.depot_world.specs.Deeds.{grown, idle, put_by}
-use Rattle.depot_world.specs.Stops.{Deed}
+use Rattle.depot_world.specs.ScheduleStops.{Deed}
 use Rattle.depot_world.specs.Transcript.{ended}
 use Rattle.depot_deeds.specs.PutPrinting.{IsLimitOf, SettlesPut}
 use Rattle.depot_deeds.specs.Printing.{lines_of_deed}

@@ -3,7 +3,7 @@ use Rattle.std.proofs.Common.{◌≡◌, ℕ, ◌+◌, ◌<◌, List, [], ◌∷
 use Rattle.std.specs.Option.{option_to_list}
 use Rattle.std.specs.Prelude.{slice_get}
 use Rattle.std.proofs.lemmas.Grind.{flat_map-append}
-use Rattle.std.proofs.lemmas.List.{append-nil, map-append, take-append-drop, take_more}
+use Rattle.std.proofs.lemmas.List.{append-nil, map-append, take-append-drop}
 use Rattle.std.proofs.lemmas.Slice.Eq.{bytes_eq-Decides}
 use Rattle.depot_answers.specs.Answers.{spaced, text_of_write}
 use Rattle.depot_base.specs.declared.record.Record.{Record}
@@ -17,10 +17,11 @@ use Rattle.depot_model.specs.Lawful.{IsLawful}
 use Rattle.depot_model.specs.Lists.{IsIn}
 use Rattle.depot_model.specs.Order.{AreLatestIn, Precedes}
 use Rattle.depot_model.specs.World.{Shown, value_under}
+use Rattle.depot_model.proofs.Elements.{one_more}
 use Rattle.depot_model.proofs.LatestLaws.{one_latest_list}
 use Rattle.depot_model.proofs.Members.{in_last, in_left}
 use Rattle.depot_world.specs.Deeds.{shown_of}
-use Rattle.depot_world.specs.Latest.{latest_in}
+use Rattle.depot_world.specs.ShownLatest.{latest_in}
 use Rattle.depot_deeds.specs.Printing.{shown_text}
 use Rattle.depot_world.proofs.LatestWrites.{latest_are_listed}
 
@@ -38,12 +39,6 @@ shown_are here J key items l latest =
 pub value_here : (J : List Record) (key : List ℕ) (u : Update) → Writes key u → value_under J key u ≡ value_of J u
 unfolding value_under value_of
 value_here J key u writes = rw ((bytes_eq-Decides u.key key).1 writes) refl
-
-one_more : (us : List Update) (items : List ℕ) (i item : ℕ) (u : Update) → i < length items → item ≡ get_or items i 0 → slice_get us item ≡ Some u → updates_at us (take (i + 1) items) ≡ updates_at us (take i items) ++ u ∷ []
-one_more us items i item u within is at =
-    let step : updates_at us (item ∷ []) ≡ u ∷ [] = rw at refl in
-    ap (updates_at us) (take_more items i 0 within ∙ ap (λ (n : ℕ). take i items ++ n ∷ []) (sym is))
-    ∙ flat_map-append (λ (place : ℕ). option_to_list (slice_get us place)) (take i items) (item ∷ []) ∙ ap (λ (x : List Update). updates_at us (take i items) ++ x) step
 
 -- one more of them was printed
 pub printed_more : (J : List Record) (us : List Update) (key items : List ℕ) (i item : ℕ) (u : Update) (old new : List ℕ) (value : Option (List ℕ)) → i < length items → item ≡ get_or items i 0 → slice_get us item ≡ Some u → value ≡ value_under J key u

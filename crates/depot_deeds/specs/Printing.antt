@@ -1,17 +1,17 @@
 -- What is printed of what a node does.
 use Rattle.std.specs.Prelude.{◌≡◌, ℕ, List, ◌++◌, map, Bool, true, false, Option, Some, None, Result, Ok, Err, codes}
 use Rattle.std.specs.List.{flat_map}
-use Rattle.depot_gossip.specs.declared.error.BundleError.{BundleError}
-use Rattle.depot_gossip.specs.declared.error.BundleError.TheVariants as bundle_error
-use Rattle.depot_gossip.specs.declared.error.FeedError.{FeedError}
-use Rattle.depot_gossip.specs.declared.error.FeedError.TheVariants as feed_error
+use Rattle.depot_gossip.specs.declared.gossip_error.BundleError.{BundleError}
+use Rattle.depot_gossip.specs.declared.gossip_error.BundleError.TheVariants as bundle_error
+use Rattle.depot_gossip.specs.declared.gossip_error.FeedError.{FeedError}
+use Rattle.depot_gossip.specs.declared.gossip_error.FeedError.TheVariants as feed_error
 use Rattle.depot_gossip.specs.declared.own_bundle.Bundled.{Bundled}
 use Rattle.depot_model.specs.Feeding.{Feeding, report_of}
 use Rattle.depot_model.specs.Limits.{full, spent}
 use Rattle.depot_model.specs.World.{Shown}
 use Rattle.depot_answers.specs.Answers.{numbered, spaced, text_of_limit, text_of_refusal, text_of_report, text_of_write}
 use Rattle.depot_answers.specs.Closings.{closing_of}
-use Rattle.depot_world.specs.Stops.{Deed}
+use Rattle.depot_world.specs.ScheduleStops.{Deed}
 use Rattle.depot_world.specs.Transcript.{ended}
 use Rattle.depot_deeds.specs.declared.feeds.Fed.{Fed}
 use Rattle.depot_deeds.specs.declared.printed.Printed.{Printed}

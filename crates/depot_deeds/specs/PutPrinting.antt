@@ -2,9 +2,9 @@
 use Rattle.std.specs.Prelude.{◌≡◌, ℕ, List, ◌++◌, Result, Err}
 use Rattle.depot_answers.specs.Answers.{text_of_limit}
 use Rattle.depot_model.specs.Limits.{collides, full, spent, tips}
-use Rattle.depot_node.specs.declared.answer.PutDone.{PutDone}
-use Rattle.depot_node.specs.declared.answer.PutError.{PutError}
-use Rattle.depot_node.specs.declared.answer.PutError.TheVariants as put_error
+use Rattle.depot_decide.specs.declared.put_answers.PutDone.{PutDone}
+use Rattle.depot_decide.specs.declared.put_answers.PutError.{PutError}
+use Rattle.depot_decide.specs.declared.put_answers.PutError.TheVariants as put_error
 
 -- a line has grown by the limit that a put met
 abbrev pub IsLimitOf : PutError → List ℕ → List ℕ → Type 0

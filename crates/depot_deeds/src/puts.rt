@@ -6,7 +6,7 @@ ghost use Rattle.depot_base.specs.declared.update.Update.{Update};
 ghost use Rattle.depot_model.specs.Checks.{Setting};
 ghost use Rattle.depot_model.specs.World.{Correct};
 ghost use Rattle.depot_answers.specs.Answers.{spaced, text_of_put};
-ghost use Rattle.depot_node.specs.Putting.{Puts};
+ghost use Rattle.depot_decide.specs.Putting.{Puts};
 ghost use Rattle.depot_world.specs.Deeds.{put_by};
 ghost use Rattle.depot_world.specs.Transcript.{ended};
 ghost use Rattle.depot_deeds.specs.Printing.{IsPrintOf};

@@ -10,10 +10,16 @@ mod chains;
 #[cfg(test)]
 mod contradictions;
 #[cfg(test)]
-mod journals;
+mod fakes;
+#[cfg(test)]
+mod journal_tests;
+#[cfg(test)]
+mod real_adapters;
 #[cfg(test)]
 mod schedules;
 #[cfg(test)]
-mod values;
+mod transfers;
+#[cfg(test)]
+mod value_tests;
 #[cfg(test)]
 mod vouching;

@@ -26,20 +26,20 @@ fn vouch(alloc: Global, vouched: &mut Vouched, bytes: &[u8]) -> Result<(), Memor
     vouched.add(&ids)
 }
 
-#[test]
-fn an_id_stays_vouched(rt: HostRuntime) -> Result<(), Fail> {
-    let mut vouched = Vouched::new(rt.alloc(), 256)?;
-    vouch(rt.alloc(), &mut vouched, &[1, 3])?;
-    vouch(rt.alloc(), &mut vouched, &[3, 4])?;
-    for (byte, known) in [(1, true), (2, false), (3, true), (4, true)] {
-        let told = vouched.is_vouched(&Hash32::new([byte; 32]));
-        assert_eq!(rt; told, known, "{byte}");
-    }
-    Ok(())
+/// Whether the ids of 1, 3 and 4 are vouched for, and that of 2 isn't.
+fn are_vouched(alloc: Global, vouched: &mut Vouched) -> Result<bool, Memory> {
+    vouch(alloc, vouched, &[1, 3])?;
+    vouch(alloc, vouched, &[3, 4])?;
+    Ok(
+        vouched.is_vouched(&Hash32::new([1; 32]))
+            && !vouched.is_vouched(&Hash32::new([2; 32]))
+            && vouched.is_vouched(&Hash32::new([3; 32]))
+            && vouched.is_vouched(&Hash32::new([4; 32])),
+    )
 }
 
 #[test]
-fn a_node_stays_convicted(rt: HostRuntime) -> Result<(), Fail> {
+fn an_id_stays_vouched_and_a_node_convicted(rt: HostRuntime) -> Result<(), Fail> {
     let node = NodeId::new(7).ok_or("a node")?;
     let other = NodeId::new(8).ok_or("a node")?;
     let mut vouched = Vouched::new(rt.alloc(), 256)?;
@@ -48,27 +48,27 @@ fn a_node_stays_convicted(rt: HostRuntime) -> Result<(), Fail> {
     vouched.convict(node);
     assert!(rt; vouched.is_convicted(node));
     assert!(rt; !vouched.is_convicted(other));
+    assert!(rt; are_vouched(rt.alloc(), &mut vouched)?);
     Ok(())
+}
+
+/// Whether ids are kept, and aren't there while only room was found for them.
+fn are_kept(vouched: &mut VouchedIds, some: &Ids) -> Result<bool, Memory> {
+    vouched.reserve(some)?;
+    let is_absent = !vouched.contains(&Hash32::new([2; 32]));
+    vouched.add(some)?;
+    Ok(
+        is_absent
+            && vouched.contains(&Hash32::new([2; 32]))
+            && !vouched.contains(&Hash32::new([4; 32]))
+            && vouched.contains(&Hash32::new([5; 32])),
+    )
 }
 
 #[test]
 fn ids_are_kept(rt: HostRuntime) -> Result<(), Fail> {
     let some = ids(rt.alloc(), &[2, 5])?;
     let mut vouched = VouchedIds::new(rt.alloc());
-    vouched.reserve(&some)?;
-    vouched.add(&some)?;
-    for (byte, known) in [(2, true), (4, false), (5, true)] {
-        let told = vouched.contains(&Hash32::new([byte; 32]));
-        assert_eq!(rt; told, known, "{byte}");
-    }
-    Ok(())
-}
-
-#[test]
-fn room_for_ids_adds_none(rt: HostRuntime) -> Result<(), Fail> {
-    let some = ids(rt.alloc(), &[2, 5])?;
-    let mut vouched = VouchedIds::new(rt.alloc());
-    vouched.reserve(&some)?;
-    assert!(rt; !vouched.contains(&Hash32::new([2; 32])));
+    assert!(rt; are_kept(&mut vouched, &some)?);
     Ok(())
 }

@@ -4,7 +4,10 @@ use depot_answers::{
     Closing, check, collides, counts, faulty_line, full, named, numbered, point, put, record_fault,
     records, refusal, report, roster_error, spent, tips, verdict, write,
 };
-use depot_base::{Bytes, Check, Deps, Full, FullOf, Hash32, Ids, Key, Kind, NodeId, Nodes, Update};
+use depot_base::{
+    Bytes, Check, Deps, Full, FullOf, Hash32, Ids, Key, Kind, LengthError, Memory, NodeId, Nodes,
+    Update,
+};
 use depot_model::{
     Counts, Ending, Half, Hello, HelloLeaf, HelloLeaves, JudgeError, RecordFault, Refusal,
     Refusals, Report, RosterError, Verdict,
@@ -14,7 +17,7 @@ use std::alloc::Global;
 use std::test::Fail;
 
 /// What is answered, and what else is printed with it.
-#[derive(Drop)]
+#[derive(Clone, Copy)]
 enum Answer {
     Check(Check),
     Refusal(Refusal),
@@ -23,10 +26,10 @@ enum Answer {
     Tips(u32),
     Collides,
     Put(u32, u64),
-    Write(Option<&'static [u8]>),
+    Write(NodeId, Option<&'static [u8]>),
     Records(u32),
     RecordFault(RecordFault),
-    Named,
+    Named(NodeId),
     Counts(Counts, bool),
     Report(Ending, Option<Closing>),
     FaultyLine(u32, LineFault),
@@ -36,10 +39,10 @@ enum Answer {
     Numbered(&'static str, u64),
 }
 
-/// The update of node 1 with seq 0 and clock 2.
-fn update(alloc: Global) -> Result<Update, Fail> {
+/// The update of a node with seq 0 and clock 2.
+fn update(alloc: Global, writer: NodeId) -> Result<Update, LengthError> {
     Ok(Update {
-        writer: NodeId::new(1).ok_or("1")?,
+        writer,
         seq: 0,
         clock: 2,
         prev: Hash32::zeros(),
@@ -51,16 +54,29 @@ fn update(alloc: Global) -> Result<Update, Fail> {
     })
 }
 
-/// A hello with a convicted node and two leaves.
-fn hello(alloc: Global) -> Result<Hello, Fail> {
-    let node = NodeId::new(1).ok_or("1")?;
-    let mut convicted = Nodes::new(alloc);
-    convicted.push(NodeId::new(9).ok_or("9")?)?;
+/// Prints a read of it.
+fn print_write(alloc: Global, out: &mut Bytes, writer: NodeId, value: Option<&[u8]>) -> bool {
+    match update(alloc, writer) {
+        Ok(update) => write(alloc, out, &update, value).is_ok(),
+        Err(_) => false,
+    }
+}
+
+/// Two leaves of a node.
+fn two_leaves(alloc: Global, writer: NodeId) -> Result<HelloLeaves, Memory> {
     let mut leaves = HelloLeaves::new(alloc);
     for first in [5, 6] {
         let id = Hash32::new([first; 32]);
-        leaves.push(HelloLeaf { writer: node, id })?;
+        leaves.push(HelloLeaf { writer, id })?;
     }
+    Ok(leaves)
+}
+
+/// A hello with a convicted node and two leaves.
+fn hello(alloc: Global, node: NodeId) -> Result<Hello, Memory> {
+    let leaves = two_leaves(alloc, node)?;
+    let mut convicted = Nodes::new(alloc);
+    convicted.push(node)?;
     Ok(Hello {
         node,
         roster: Hash32::new([4; 32]),
@@ -70,8 +86,16 @@ fn hello(alloc: Global) -> Result<Hello, Fail> {
     })
 }
 
+/// Prints it.
+fn print_hello(alloc: Global, out: &mut Bytes, node: NodeId) -> bool {
+    match hello(alloc, node) {
+        Ok(hello) => named(alloc, out, &hello).is_ok(),
+        Err(_) => false,
+    }
+}
+
 /// The report of a stream of which two frames were new, and one was refused.
-fn report_of(alloc: Global, ending: Ending) -> Result<Report, Fail> {
+fn report_of(alloc: Global, ending: Ending) -> Result<Report, Memory> {
     let mut refused = Refusals::new(alloc);
     refused.push(Refusal {
         frame: 2,
@@ -85,39 +109,48 @@ fn report_of(alloc: Global, ending: Ending) -> Result<Report, Fail> {
     })
 }
 
-/// Prints an answer.
-fn print(alloc: Global, out: &mut Bytes, answer: &Answer) -> Result<(), Fail> {
-    match answer {
-        Answer::Check(failed) => check(alloc, out, failed)?,
-        Answer::Refusal(refused) => refusal(alloc, out, refused)?,
-        Answer::Full(what) => full(alloc, out, what)?,
-        Answer::Spent(count) => spent(alloc, out, *count)?,
-        Answer::Tips(count) => tips(alloc, out, *count)?,
-        Answer::Collides => collides(out)?,
-        Answer::Put(seq, clock) => put(alloc, out, *seq, *clock)?,
-        Answer::Write(value) => write(alloc, out, &update(alloc)?, *value)?,
-        Answer::Records(count) => records(alloc, out, *count)?,
-        Answer::RecordFault(fault) => record_fault(alloc, out, fault)?,
-        Answer::Named => named(alloc, out, &hello(alloc)?)?,
-        Answer::Counts(found, more) => counts(alloc, out, found, *more)?,
-        Answer::Report(ending, closing) => report(
-            alloc,
-            out,
-            &report_of(alloc, *ending)?,
-            *closing,
-        )?,
-        Answer::FaultyLine(number, fault) => faulty_line(alloc, out, *number, *fault)?,
-        Answer::Point(failed) => point(alloc, out, failed)?,
-        Answer::Verdict(found) => verdict(alloc, out, found)?,
-        Answer::RosterError(error) => roster_error(alloc, out, error)?,
-        Answer::Numbered(name, n) => numbered(alloc, out, name, *n)?,
+/// Prints it.
+fn print_report(alloc: Global, out: &mut Bytes, ending: Ending, closing: Option<Closing>) -> bool {
+    match report_of(alloc, ending) {
+        Ok(told) => report(alloc, out, &told, closing).is_ok(),
+        Err(_) => false,
     }
-    Ok(())
+}
+
+/// Prints an answer, where memory is found.
+fn print(alloc: Global, out: &mut Bytes, answer: &Answer) -> bool {
+    match answer {
+        Answer::Check(failed) => check(alloc, out, failed).is_ok(),
+        Answer::Refusal(refused) => refusal(alloc, out, refused).is_ok(),
+        Answer::Full(what) => full(alloc, out, what).is_ok(),
+        Answer::Spent(count) => spent(alloc, out, *count).is_ok(),
+        Answer::Tips(count) => tips(alloc, out, *count).is_ok(),
+        Answer::Collides => collides(out).is_ok(),
+        Answer::Put(seq, clock) => put(alloc, out, *seq, *clock).is_ok(),
+        Answer::Write(writer, value) => print_write(alloc, out, *writer, *value),
+        Answer::Records(count) => records(alloc, out, *count).is_ok(),
+        Answer::RecordFault(fault) => record_fault(alloc, out, fault).is_ok(),
+        Answer::Named(node) => print_hello(alloc, out, *node),
+        Answer::Counts(found, more) => counts(alloc, out, found, *more).is_ok(),
+        Answer::Report(ending, closing) => print_report(alloc, out, *ending, *closing),
+        Answer::FaultyLine(number, fault) => faulty_line(alloc, out, *number, *fault).is_ok(),
+        Answer::Point(failed) => point(alloc, out, failed).is_ok(),
+        Answer::Verdict(found) => verdict(alloc, out, found).is_ok(),
+        Answer::RosterError(error) => roster_error(alloc, out, error).is_ok(),
+        Answer::Numbered(name, n) => numbered(alloc, out, name, *n).is_ok(),
+    }
+}
+
+/// Whether this is the text of an answer.
+fn has_text(alloc: Global, answer: &Answer, text: &str) -> bool {
+    let mut out = Bytes::new(alloc);
+    print(alloc, &mut out, answer) && out.as_slice() == text.as_bytes()
 }
 
 #[test]
 fn each_answer_has_its_text(rt: HostRuntime) -> Result<(), Fail> {
     let node = NodeId::new(9).ok_or("9")?;
+    let one = NodeId::new(1).ok_or("1")?;
     let kind = Kind::SamePrev;
     let hash = Hash32::zeros();
     let what = Full {
@@ -151,16 +184,16 @@ fn each_answer_has_its_text(rt: HostRuntime) -> Result<(), Fail> {
         (Answer::Tips(1025), "Tips 1025"),
         (Answer::Collides, "Collides"),
         (Answer::Put(0, 1), "0/1"),
-        (Answer::Write(Some(b"\x0f\xab")), "1/0/2=0fab"),
-        (Answer::Write(Some(b"")), "1/0/2="),
-        (Answer::Write(None), "1/0/2=?"),
+        (Answer::Write(one, Some(b"\x0f\xab")), "1/0/2=0fab"),
+        (Answer::Write(one, Some(b"")), "1/0/2="),
+        (Answer::Write(one, None), "1/0/2=?"),
         (Answer::Records(2), "records 2"),
         (Answer::RecordFault(RecordFault::Ill(3)), "Ill 3"),
         (
             Answer::RecordFault(RecordFault::Refused(Check::BadSignature(node))),
             "4 BadSignature 9",
         ),
-        (Answer::Named, "convicted 1 leaves 2 wanted 0"),
+        (Answer::Named(node), "convicted 1 leaves 2 wanted 0"),
         (
             Answer::Counts(sent, true),
             "proofs 1 vouchers 2 updates 3 values 4 more",
@@ -194,9 +227,7 @@ fn each_answer_has_its_text(rt: HostRuntime) -> Result<(), Fail> {
         (Answer::Numbered("stopped records", 2), "stopped records 2"),
     ];
     for (answer, text) in &rows {
-        let mut out = Bytes::new(rt.alloc());
-        print(rt.alloc(), &mut out, answer)?;
-        assert!(rt; out.as_slice() == text.as_bytes(), "{text}");
+        assert!(rt; has_text(rt.alloc(), answer, text), "{text}");
     }
     Ok(())
 }

@@ -1,9 +1,10 @@
 //! Loads whose texts were made elsewhere, from the words of docs/FORMATS.md, and summaries of transcripts by hand. A whole load is run by the program.
 
+use depot_base::Memory;
 use depot_load::{loads_are_schedules, make_load, summary};
 use depot_schedule::print_schedule;
 use sha2::{Digest, Sha256};
-use std::test::Fail;
+use std::alloc::Global;
 
 /// Numbers, and the digests of the texts of their loads.
 static LOADS: [(u32, &str); 3] = [
@@ -45,26 +46,43 @@ static SUMMARIES: [(&[u8], &[u8]); 5] = [
     ),
 ];
 
-#[test]
-fn loads_are_those_of_their_numbers(rt: HostRuntime) -> Result<(), Fail> {
-    let alloc = rt.alloc();
-    loads_are_schedules();
-    for (number, right) in LOADS.iter() {
-        let schedule = make_load(alloc, *number)?;
-        let text = print_schedule(alloc, &schedule)?;
-        let mut hasher = Sha256::new();
-        hasher.update(text.as_slice());
-        let digest = hex::encode(alloc, &hasher.finalize())?;
-        assert_eq!(rt; digest.as_str(), *right, "{number}");
+/// Whether this is the digest of a text.
+fn is_digest(alloc: Global, text: &[u8], right: &str) -> bool {
+    match hex::encode(alloc, &Sha256::digest(text)) {
+        Ok(digest) => digest.as_str() == right,
+        Err(_) => false,
     }
-    Ok(())
+}
+
+/// Whether the text of a number's load has this digest.
+fn has_digest(alloc: Global, number: u32, right: &str) -> Result<bool, Memory> {
+    loads_are_schedules();
+    let schedule = make_load(alloc, number)?;
+    let text = print_schedule(alloc, &schedule)?;
+    Ok(is_digest(alloc, text.as_slice(), right))
 }
 
 #[test]
-fn transcripts_are_summed_up(rt: HostRuntime) -> Result<(), Fail> {
-    for (transcript, right) in SUMMARIES.iter() {
-        let line = summary(rt.alloc(), 7, transcript)?;
-        assert_eq!(rt; line.as_slice(), *right);
+fn loads_are_those_of_their_numbers(rt: HostRuntime) {
+    for (number, right) in LOADS.iter() {
+        assert!(rt;
+            has_digest(rt.alloc(), *number, right) == Ok(true),
+            "{number}"
+        );
     }
-    Ok(())
+}
+
+/// Whether this is summed up of a transcript.
+fn is_summed_up(alloc: Global, transcript: &[u8], right: &[u8]) -> bool {
+    match summary(alloc, 7, transcript) {
+        Ok(line) => line.as_slice() == right,
+        Err(_) => false,
+    }
+}
+
+#[test]
+fn transcripts_are_summed_up(rt: HostRuntime) {
+    for (transcript, right) in SUMMARIES.iter() {
+        assert!(rt; is_summed_up(rt.alloc(), transcript, right), "{right:?}");
+    }
 }

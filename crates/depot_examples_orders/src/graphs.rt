@@ -5,7 +5,7 @@ ghost use Rattle.depot_model.specs.Texts.{update_fields, id_of_update};
 ghost use Rattle.depot_model.specs.Order.{IsCausal, prevs};
 
 use depot_base::entry::put_entries;
-use depot_base::{Bytes, Dep, Deps, Hash32, Key, NodeId, Steps, Update};
+use depot_base::{Bytes, Dep, Deps, Hash32, Key, LengthError, Memory, NodeId, Steps, Update};
 use depot_graph::Graph;
 use depot_model::Past;
 use depot_virtual::Spot;
@@ -16,21 +16,23 @@ use std::process::Abort;
 use std::sync::ledger::{Blank, Ledger};
 use std::test::Fail;
 
+/// A node's number.
+pub fn node(number: u16) -> Result<NodeId, Fail> {
+    Ok(NodeId::new(number).ok_or("0 is no node")?)
+}
+
 /// An update of the key `k` with these fields.
-pub fn update(
+fn update(
     alloc: Global,
-    writer: u16,
+    writer: NodeId,
+    seq: u32,
     clock: u64,
     prev: &Hash32,
-    entry: Option<Dep>,
-) -> Result<Update, Fail> {
-    let mut deps = Deps::new(alloc);
-    if let Some(entry) = entry {
-        deps.push(entry)?;
-    }
+    deps: Deps,
+) -> Result<Update, LengthError> {
     Ok(Update {
-        writer: NodeId::new(writer).ok_or("0 is no node")?,
-        seq: 0,
+        writer,
+        seq,
         clock,
         prev: *prev,
         key: Key::new(alloc, b"k")?,
@@ -43,7 +45,7 @@ pub fn update(
 
 /// Writes the fields of an update behind its version and kind, made apart from the crate of the codecs.
 #[tactic(auto, using(depot_base::proofs::Writing::texts), unfolding(depot_model::specs::Texts::update_fields, depot_base::specs::Format::number, depot_base::specs::Format::bytes_of, depot_base::specs::Format::list_of))]
-fn put_fields(out: &mut Bytes, update: &Update) -> Result<(), Fail>
+fn put_fields(out: &mut Bytes, update: &Update) -> Result<(), LengthError>
     ensures { OnOk result (out.new ≡ out.old ++ update_fields.text update.now) }
 {
     out.push_u16(update.writer.number())?;
@@ -51,12 +53,18 @@ fn put_fields(out: &mut Bytes, update: &Update) -> Result<(), Fail>
     out.push_u64(update.clock)?;
     out.push_all(update.prev.bytes())?;
     let key = update.key.bytes();
-    out.push_u8(u8::try_from(key.len())?)?;
+    let Ok(length) = u8::try_from(key.len()) else {
+        return Err(LengthError::Length(key.len()));
+    };
+    out.push_u8(length)?;
     out.push_all(key)?;
     out.push_all(update.value_hash.bytes())?;
     out.push_u32(update.value_len)?;
     let deps = update.deps.as_slice();
-    out.push_u16(u16::try_from(deps.len())?)?;
+    let Ok(count) = u16::try_from(deps.len()) else {
+        return Err(LengthError::Length(deps.len()));
+    };
+    out.push_u16(count)?;
     put_entries(out, deps)?;
     out.push_all(update.history.bytes())?;
     Ok(())
@@ -64,7 +72,7 @@ fn put_fields(out: &mut Bytes, update: &Update) -> Result<(), Fail>
 
 /// The id of an update.
 #[tactic(auto, using(depot_base::proofs::Writing::texts), unfolding(depot_model::specs::Texts::update_body, depot_model::specs::Texts::id_of_update, depot_base::specs::Format::number))]
-fn id_of(alloc: Global, update: &Update) -> Result<Hash32, Fail>
+fn id_of(alloc: Global, update: &Update) -> Result<Hash32, LengthError>
     ensures { IfOk result (λ id. id ≡ id_of_update update.now) }
 {
     let mut body = Bytes::new(alloc);
@@ -118,7 +126,7 @@ fn fits(graph: &Graph, update: &Update, id: &Hash32) -> bool
 }
 
 /// Adds an update that fits, and gives its id.
-pub fn add(alloc: Global, graph: &mut Graph, update: Update) -> Result<Hash32, Fail>
+fn add(alloc: Global, graph: &mut Graph, update: Update) -> Result<Hash32, Fail>
     ensures { OnOk result (length (⟦<Graph as Past>⟧.updates graph.new) ≡ length (⟦<Graph as Past>⟧.updates graph.old) + 1) }
 {
     let id = id_of(alloc, &update)?;
@@ -129,16 +137,50 @@ pub fn add(alloc: Global, graph: &mut Graph, update: Update) -> Result<Hash32, F
     Ok(id)
 }
 
-/// A write of node 2, and two that have it as their prev. The later of the two has the lower clock.
-fn forked(alloc: Global) -> Result<Graph, Fail>
-    ensures { IfOk result (λ graph. length (⟦<Graph as Past>⟧.updates graph) ≡ 3) }
+/// Adds a write of the key `k` with these fields, which fits, and gives its id.
+pub fn write(
+    alloc: Global,
+    graph: &mut Graph,
+    writer: NodeId,
+    seq: u32,
+    clock: u64,
+    prev: &Hash32,
+    deps: Deps,
+) -> Result<Hash32, Fail>
+    ensures { OnOk result (length (⟦<Graph as Past>⟧.updates graph.new) ≡ length (⟦<Graph as Past>⟧.updates graph.old) + 1) }
 {
-    let mut graph = Graph::new(alloc);
-    let zeros = Hash32::zeros();
-    let first = add(alloc, &mut graph, update(alloc, 2, 1, &zeros, None)?)?;
-    add(alloc, &mut graph, update(alloc, 2, 3, &first, None)?)?;
-    add(alloc, &mut graph, update(alloc, 2, 2, &first, None)?)?;
-    Ok(graph)
+    let update = update(alloc, writer, seq, clock, prev, deps)?;
+    add(alloc, graph, update)
+}
+
+/// A write of node 2, and two that have it as their prev. The later of the two has the lower clock.
+fn fork(alloc: Global, graph: &mut Graph) -> Result<(), Fail>
+    ensures { OnOk result (length (⟦<Graph as Past>⟧.updates graph.new) ≡ length (⟦<Graph as Past>⟧.updates graph.old) + 3) }
+{
+    let writer = node(2)?;
+    let first = write(
+        alloc,
+        graph,
+        writer,
+        0,
+        1,
+        &Hash32::zeros(),
+        Deps::new(alloc),
+    )?;
+    write(alloc, graph, writer, 0, 3, &first, Deps::new(alloc))?;
+    write(alloc, graph, writer, 0, 2, &first, Deps::new(alloc))?;
+    Ok(())
+}
+
+/// One entry.
+pub fn one_entry(alloc: Global, writer: NodeId, id: Hash32) -> Result<Deps, Memory> {
+    let mut deps = Deps::new(alloc);
+    deps.push(Dep {
+        writer,
+        clock: 1,
+        id,
+    })?;
+    Ok(deps)
 }
 
 /// Adds a write of node 1 that depends on an item of node 2, and gives its id.
@@ -152,44 +194,25 @@ fn follow(
     requires { item < length (⟦<Graph as Past>⟧.updates graph.old) }
     ensures { OnOk result (length (⟦<Graph as Past>⟧.updates graph.new) ≡ length (⟦<Graph as Past>⟧.updates graph.old) + 1) }
 {
-    let entry = Dep {
-        writer: NodeId::new(2).ok_or("0 is no node")?,
-        clock: 1,
-        id: *graph.id(item),
-    };
-    add(alloc, graph, update(alloc, 1, clock, prev, Some(entry))?)
+    let me = node(1)?;
+    let deps = one_entry(alloc, node(2)?, *graph.id(item))?;
+    write(alloc, graph, me, 0, clock, prev, deps)
 }
 
-/// The two branches, and two writes of node 1: one behind the first branch, and one behind that and the second branch.
-fn joined(alloc: Global) -> Result<Graph, Fail>
-    ensures { IfOk result (λ graph. length (⟦<Graph as Past>⟧.updates graph) ≡ 5) }
+/// Adds two writes of node 1: one behind the first branch, and one behind that and the second branch.
+fn join(alloc: Global, graph: &mut Graph) -> Result<(), Fail>
+    requires { length (⟦<Graph as Past>⟧.updates graph.old) ≡ 3 }
+    ensures { OnOk result (length (⟦<Graph as Past>⟧.updates graph.new) ≡ 5) }
 {
-    let mut graph = forked(alloc)?;
-    let one = follow(alloc, &mut graph, 4, &Hash32::zeros(), 1)?;
-    follow(alloc, &mut graph, 5, &one, 2)?;
-    Ok(graph)
+    let one = follow(alloc, graph, 4, &Hash32::zeros(), 1)?;
+    follow(alloc, graph, 5, &one, 2)?;
+    Ok(())
 }
 
-/// Whether one item precedes another. It takes one step.
-pub fn precedes<L: Ledger>(
-    graph: &Graph,
-    a: u32,
-    b: u32,
-    steps: &mut Steps<L>,
-) -> Result<bool, Fail>
-    ensures { OnOk result (steps.new ≡ steps.old + 1) }
+/// Whether items precede others as they should.
+fn follows_its_past<L: Ledger>(rt: &impl Abort, graph: &Graph, steps: &mut Steps<L>)
+    requires { length (⟦<Graph as Past>⟧.updates graph.now) ≡ 5 }
 {
-    if a >= graph.count() || b >= graph.count() {
-        return Err(Fail::from("no such item"));
-    }
-    Ok(graph.before(a, b, steps))
-}
-
-fn follows_its_past<L: Ledger>(
-    rt: &impl Abort,
-    graph: &Graph,
-    steps: &mut Steps<L>,
-) -> Result<(), Fail> {
     for (a, b, is_before) in [
         (0, 4, true),
         (1, 4, true),
@@ -200,30 +223,28 @@ fn follows_its_past<L: Ledger>(
         (4, 0, false),
         (3, 3, false),
     ] {
-        assert_eq!(rt; precedes(graph, a, b, steps)?, is_before, "{a} {b}");
+        assert!(rt; a < 5);
+        assert!(rt; b < 5);
+        assert!(rt; graph.before(a, b, steps) == is_before, "{a} {b}");
     }
-    Ok(())
-}
-
-/// The row of an item of a graph that has three chains.
-fn row_of(graph: &Graph, item: u32) -> Result<[u32; 3], Fail> {
-    if graph.chain_count() != 3 || item >= graph.count() {
-        return Err(Fail::from("no such item"));
-    }
-    let mut row = [7u32; 3];
-    graph.row_into(item, row.as_mut_slice());
-    Ok(row)
 }
 
 /// Whether a row counts an item of a graph that has three chains, and all that precede it.
-fn is_within(graph: &Graph, item: u32, row: &[u32; 3]) -> Result<bool, Fail> {
-    if graph.chain_count() != 3 || item >= graph.count() {
-        return Err(Fail::from("no such item"));
-    }
-    Ok(graph.within(item, row.as_slice()))
+fn is_within(graph: &Graph, item: u32, row: &[u32; 3]) -> bool {
+    graph.chain_count() == 3 && item < graph.count() && graph.within(item, row.as_slice())
 }
 
-fn has_rows(rt: &impl Abort, graph: &Graph) -> Result<(), Fail>
+/// Whether this is the row of an item of a graph that has three chains.
+fn has_row(graph: &Graph, item: u32, right: &[u32; 3]) -> bool {
+    if graph.chain_count() != 3 || item >= graph.count() {
+        return false;
+    }
+    let mut row = [7u32; 3];
+    graph.row_into(item, row.as_mut_slice());
+    row == *right
+}
+
+fn has_rows(rt: &impl Abort, graph: &Graph)
     requires { length (⟦<Graph as Past>⟧.updates graph.now) ≡ 5 }
 {
     for (item, chain, place, row) in [
@@ -234,56 +255,58 @@ fn has_rows(rt: &impl Abort, graph: &Graph) -> Result<(), Fail>
         (4, 2, 1, [2, 1, 2]),
     ] {
         assert!(rt; item < 5);
-        assert_eq!(rt; graph.spot(item), Spot { chain, place }, "{item}");
-        assert_eq!(rt; row_of(graph, item)?, row, "{item}");
-        assert!(rt; is_within(graph, item, &row)?, "{item}");
+        assert!(rt; graph.spot(item) == Spot { chain, place }, "{item}");
+        assert!(rt; has_row(graph, item, &row), "{item}");
+        assert!(rt; is_within(graph, item, &row), "{item}");
     }
-    assert!(rt; is_within(graph, 3, &[2, 1, 1])?);
-    assert!(rt; !is_within(graph, 4, &[2, 0, 2])?);
-    Ok(())
+    assert!(rt; is_within(graph, 3, &[2, 1, 1]));
+    assert!(rt; !is_within(graph, 4, &[2, 0, 2]));
 }
 
-fn has_three_chains(rt: &impl Abort, graph: &Graph)
+/// Whether the two branches and what joins them are found, with their leaves and children.
+fn is_joined(graph: &Graph) -> bool
     requires { length (⟦<Graph as Past>⟧.updates graph.now) ≡ 5 }
 {
-    assert_eq!(rt; graph.leaves(), [1, 2, 4].as_slice());
-    assert_eq!(rt; graph.children(0), [1, 2].as_slice());
-    assert_eq!(rt; graph.children(3), [4].as_slice());
-    assert!(rt; graph.children(4).is_empty());
-    assert_eq!(rt; graph.chain_count(), 3);
+    graph.leaves() == [1, 2, 4].as_slice()
+        && graph.children(0) == [1, 2].as_slice()
+        && graph.children(3) == [4].as_slice()
+        && graph.children(4).is_empty()
+        && graph.find(graph.id(3)) == Some(3)
+        && graph.find(&Hash32::zeros()).is_none()
+        && graph.update(3).clock == 4
 }
 
-fn finds_its_items(rt: &impl Abort, graph: &Graph)
-    requires { length (⟦<Graph as Past>⟧.updates graph.now) ≡ 5 }
-{
-    assert_eq!(rt; graph.find(graph.id(3)), Some(3));
-    assert_eq!(rt; graph.find(&Hash32::zeros()), None);
-    assert_eq!(rt; graph.update(3).clock, 4);
+/// Whether these are the latest writes of the key `k`, and another one has none.
+pub fn reads(alloc: Global, graph: &Graph, items: &[u32]) -> Result<bool, LengthError> {
+    let key = Key::new(alloc, b"k")?;
+    let other = Key::new(alloc, b"other")?;
+    Ok(graph.latest(&key) == items && graph.latest(&other).is_empty())
 }
 
-fn reads(rt: &impl Abort, alloc: Global, graph: &Graph, items: &[u32]) -> Result<(), Fail> {
-    assert_eq!(rt; graph.latest(&Key::new(alloc, b"k")?), items);
-    assert!(rt; graph.latest(&Key::new(alloc, b"other")?).is_empty());
-    Ok(())
-}
-
-fn forked_and_joined<L: Ledger>(rt: &impl Abort, alloc: Global, blank: Blank) -> Result<(), Fail>
+fn forked_and_joined<L: Ledger>(
+    rt: &impl Abort,
+    alloc: Global,
+    graph: &mut Graph,
+    blank: Blank,
+) -> Result<(), Fail>
+    requires graph { length (⟦<Graph as Past>⟧.updates graph.old) ≡ 0 }
     requires name { blank.name ≡ L.name }
     requires parts { blank.parts ≡ L.parts }
     requires some { 0 < blank.parts }
 {
     let mut steps = Steps::<L>::new(blank);
-    let fork = forked(alloc)?;
-    reads(rt, alloc, &fork, [2, 1].as_slice())?;
-    let graph = joined(alloc)?;
-    reads(rt, alloc, &graph, [4].as_slice())?;
-    has_three_chains(rt, &graph);
-    finds_its_items(rt, &graph);
-    has_rows(rt, &graph)?;
-    follows_its_past(rt, &graph, &mut steps)
+    fork(alloc, graph)?;
+    assert!(rt; reads(alloc, graph, [2, 1].as_slice())?);
+    join(alloc, graph)?;
+    assert!(rt; reads(alloc, graph, [4].as_slice())?);
+    assert!(rt; is_joined(graph));
+    has_rows(rt, graph);
+    follows_its_past(rt, graph, &mut steps);
+    Ok(())
 }
 
 #[test]
 fn a_join_follows_both_branches(rt: HostRuntime) -> Result<(), Fail> {
-    forked_and_joined::<Brand>(&rt, rt.alloc(), Blank::new(1))
+    let mut graph = Graph::new(rt.alloc());
+    forked_and_joined::<Brand>(&rt, rt.alloc(), &mut graph, Blank::new(1))
 }

@@ -1,7 +1,7 @@
 //! Numbers, of which each precedes the greater ones of its own parity.
 ghost use Rattle.std.specs.Prelude.{◌≡◌, ◌<◌, ◌%◌, ◌⊎◌, ℕ};
 
-use depot_base::{Key, Precedes, Steps};
+use depot_base::{Key, Memory, Precedes, Steps};
 use depot_index::KeyIndex;
 use std::alloc::Global;
 use std::marker::Brand;
@@ -45,6 +45,18 @@ impl Precedes for ByParity {
 /// An item that is added, and the latest items of its key then.
 type Written<'a> = (u32, &'a [u32]);
 
+/// Adds an item of a key, and says whether these are its latest items then.
+fn writes<L: Ledger>(
+    index: &mut KeyIndex,
+    key: &Key,
+    item: u32,
+    latest: &[u32],
+    steps: &mut Steps<L>,
+) -> Result<bool, Memory> {
+    index.add(&ByParity, key, item, steps)?;
+    Ok(index.latest(key) == latest)
+}
+
 /// Adds items of a key in turn, and looks at its latest items after each.
 fn write_all<L: Ledger>(
     rt: &impl Abort,
@@ -54,8 +66,7 @@ fn write_all<L: Ledger>(
     steps: &mut Steps<L>,
 ) -> Result<(), Fail> {
     for (item, latest) in items {
-        index.add(&ByParity, key, *item, steps)?;
-        assert_eq!(rt; index.latest(key), *latest, "after {item}");
+        assert!(rt; writes(index, key, *item, latest, steps)?, "after {item}");
     }
     Ok(())
 }

@@ -1,4 +1,4 @@
-//! Examples of orders: lanes of numbers, rows of clocks, the latest items of a key, and graphs of updates.
+//! Examples of orders: lanes of numbers, rows of clocks, the latest items of a key, graphs of updates, and their histories.
 //!
 //! Numbers, chains and updates whose order is known beforehand, and two chains that are too long to be walked, are tried on the
 //! public calls of each of these crates. What is promised of them is proved there; nothing is promised here. The tests stand in a
@@ -7,6 +7,8 @@
 
 #[cfg(test)]
 mod graphs;
+#[cfg(test)]
+mod histories;
 #[cfg(test)]
 mod lanes;
 #[cfg(test)]

@@ -1,8 +1,8 @@
 //! Two long chains, of which the second follows no more than the first item of the first.
-ghost use Rattle.std.specs.Prelude.{◌≡◌, ◌<◌, ◌+◌, OnOk};
+ghost use Rattle.std.specs.Prelude.{◌≡◌, ◌<◌, ◌≤◌, ◌+◌, length};
 
-use crate::graphs::{add, precedes, update};
-use depot_base::{Dep, Hash32, Key, NodeId, Steps};
+use crate::graphs::{node, one_entry, reads, write};
+use depot_base::{Deps, Hash32, NodeId, Steps};
 use depot_graph::Graph;
 use depot_model::Past;
 use std::alloc::Global;
@@ -17,78 +17,70 @@ const LONG: u32 = 50_000;
 /// How many questions are asked.
 const QUESTIONS: u32 = 4_000_000;
 
-/// Adds a chain of a writer behind the others, with clocks from the given one on. Its first update has this entry, if there
-/// is one, and no other has an entry. It gives the id of the first.
+/// Adds a chain of a writer behind the others, with clocks from the given one on. Its first update has these entries, and no
+/// other has one. It gives the id of the first.
 fn grow(
     alloc: Global,
     graph: &mut Graph,
-    writer: u16,
+    writer: NodeId,
     clock: u64,
-    entry: Option<Dep>,
+    deps: Deps,
 ) -> Result<Hash32, Fail>
     requires { clock < 1000000 }
 {
-    let first = add(
-        alloc,
-        graph,
-        update(alloc, writer, clock, &Hash32::zeros(), entry)?,
-    )?;
+    let first = write(alloc, graph, writer, 0, clock, &Hash32::zeros(), deps)?;
     let mut prev = first;
-    for place in 1..LONG {
-        let mut next = update(alloc, writer, clock + u64::from(place), &prev, None)?;
-        next.seq = place;
-        prev = add(alloc, graph, next)?;
+    for seq in 1..LONG {
+        let clock = clock + u64::from(seq);
+        prev = write(alloc, graph, writer, seq, clock, &prev, Deps::new(alloc))?;
     }
     Ok(first)
 }
 
-/// The first chain whole, and then the second, whose clocks are all greater.
-fn two_chains(alloc: Global) -> Result<Graph, Fail> {
-    let mut graph = Graph::new(alloc);
-    let first = grow(alloc, &mut graph, 1, 1, None)?;
-    let entry = Dep {
-        writer: NodeId::new(1).ok_or("0 is no node")?,
-        clock: 1,
-        id: first,
-    };
-    grow(alloc, &mut graph, 2, 100_000, Some(entry))?;
-    Ok(graph)
+/// Adds the first chain whole, and then the second, whose clocks are all greater.
+fn grow_both(alloc: Global, graph: &mut Graph) -> Result<(), Fail> {
+    let one = node(1)?;
+    let first = grow(alloc, graph, one, 1, Deps::new(alloc))?;
+    grow(
+        alloc,
+        graph,
+        node(2)?,
+        100_000,
+        one_entry(alloc, one, first)?,
+    )?;
+    Ok(())
 }
 
 /// Asks whether an item of the first chain precedes the last of the second: so many times, of its items but the first in turn.
 /// It takes a step each time.
-fn ask<L: Ledger>(
-    rt: &impl Abort,
-    graph: &Graph,
-    count: u32,
-    steps: &mut Steps<L>,
-) -> Result<(), Fail>
-    ensures { OnOk result (steps.new ≡ steps.old + count) }
+fn ask<L: Ledger>(rt: &impl Abort, graph: &Graph, count: u32, steps: &mut Steps<L>)
+    requires { 100000 ≤ length (⟦<Graph as Past>⟧.updates graph.now) }
+    ensures { steps.new ≡ steps.old + count }
 {
     for asked in 0..count {
         let item = asked % (LONG - 1) + 1;
-        let is_before = precedes(graph, item, LONG + LONG - 1, steps)?;
+        let is_before = graph.before(item, LONG + LONG - 1, steps);
         assert!(rt; !is_before, "{item} is before the last");
     }
-    Ok(())
 }
 
-fn asked_often<L: Ledger>(rt: &impl Abort, alloc: Global, blank: Blank) -> Result<(), Fail>
+fn asked_often<L: Ledger>(rt: &impl Abort, graph: &Graph, blank: Blank)
     requires name { blank.name ≡ L.name }
     requires parts { blank.parts ≡ L.parts }
     requires some { 0 < blank.parts }
 {
     let mut steps = Steps::<L>::new(blank);
-    let graph = two_chains(alloc)?;
-    let tips = [LONG - 1, LONG + LONG - 1];
-    assert_eq!(rt; graph.count(), LONG + LONG);
-    assert_eq!(rt; graph.chain_count(), 2);
-    assert_eq!(rt; graph.latest(&Key::new(alloc, b"k")?), tips.as_slice());
-    assert!(rt; precedes(&graph, 0, LONG + LONG - 1, &mut steps)?);
-    ask(rt, &graph, QUESTIONS, &mut steps)
+    assert!(rt; graph.count() == LONG + LONG);
+    assert!(rt; graph.chain_count() == 2);
+    assert!(rt; graph.before(0, LONG + LONG - 1, &mut steps));
+    ask(rt, graph, QUESTIONS, &mut steps);
 }
 
 #[test]
 fn long_chains_are_not_walked(rt: HostRuntime) -> Result<(), Fail> {
-    asked_often::<Brand>(&rt, rt.alloc(), Blank::new(1))
+    let mut graph = Graph::new(rt.alloc());
+    grow_both(rt.alloc(), &mut graph)?;
+    assert!(rt; reads(rt.alloc(), &graph, [LONG - 1, LONG + LONG - 1].as_slice())?);
+    asked_often::<Brand>(&rt, &graph, Blank::new(1));
+    Ok(())
 }

@@ -6,10 +6,10 @@
 #![tactic(auto)]
 
 #[cfg(test)]
-mod plain;
+mod plain_tests;
 #[cfg(test)]
 mod rosters;
 #[cfg(test)]
-mod signing;
+mod signing_tests;
 #[cfg(test)]
 mod winternitz;

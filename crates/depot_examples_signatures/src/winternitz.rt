@@ -1,6 +1,6 @@
 //! What no clause says: values that were computed apart from this crate, and that no signature verifies once a part is changed.
 
-use crate::signing::signs_and_verifies;
+use crate::signing_tests::signs_and_verifies;
 use depot_base::{Bytes, Hash32, Memory, PublicKey};
 use depot_model::{Scheme, Signer};
 use depot_winter::{WinterScheme, WinterSigner, digits, smaller_digit};
@@ -40,20 +40,13 @@ fn equal_digits(digit: u8, checksum: [u8; 3]) -> [u8; 67] {
 
 #[test]
 fn digits_of_the_extremes(rt: HostRuntime) {
-    assert_eq!(rt; digits(&Hash32::new([0; 32])), equal_digits(0, [3, 12, 0]));
-    assert_eq!(rt;
-        digits(&Hash32::new([0xff; 32])),
-        equal_digits(15, [0, 0, 0])
-    );
-}
-
-#[test]
-fn the_first_smaller_digit(rt: HostRuntime) {
     let zeros = Hash32::new([0; 32]);
     let ones = Hash32::new([0xff; 32]);
-    assert_eq!(rt; smaller_digit(&zeros, &ones), Some(64));
-    assert_eq!(rt; smaller_digit(&ones, &zeros), Some(0));
-    assert_eq!(rt; smaller_digit(&ones, &ones), None);
+    assert!(rt; digits(&zeros) == equal_digits(0, [3, 12, 0]));
+    assert!(rt; digits(&ones) == equal_digits(15, [0, 0, 0]));
+    assert!(rt; smaller_digit(&zeros, &ones) == Some(64));
+    assert!(rt; smaller_digit(&ones, &zeros) == Some(0));
+    assert!(rt; smaller_digit(&ones, &ones).is_none());
 }
 
 #[test]
@@ -92,26 +85,35 @@ fn key_and_signature(alloc: Global) -> Result<(PublicKey, Bytes), Memory> {
     Ok((signer.key(), signer.sign(1, b"depot")?))
 }
 
-#[test]
-fn no_changed_signature_verifies(rt: HostRuntime) -> Result<(), Fail> {
-    let (key, signature) = key_and_signature(rt.alloc())?;
-    assert!(rt; WinterScheme.verify(&key, 1, b"depot", signature.as_slice()));
-    // the number, the first and the last value, the first and the last sibling
-    for place in [0, 3, 4, 2147, 2148, 2211] {
-        let changed = flipped(rt.alloc(), signature.as_slice(), place)?;
-        assert!(rt;
-            !WinterScheme.verify(&key, 1, b"depot", &changed),
-            "byte {place}"
-        );
+// Whether a signature verifies that is changed at one place.
+fn verifies_flipped(alloc: Global, key: &PublicKey, signature: &[u8], place: usize) -> bool {
+    match flipped(alloc, signature, place) {
+        Ok(changed) => WinterScheme.verify(key, 1, b"depot", &changed),
+        Err(_) => true,
     }
-    Ok(())
+}
+
+// Whether a signature verifies that lacks its last byte.
+fn verifies_cut(key: &PublicKey, signature: &[u8]) -> bool {
+    match signature.split_last() {
+        Some((_, shorter)) => WinterScheme.verify(key, 1, b"depot", shorter),
+        None => true,
+    }
 }
 
 #[test]
-fn no_other_length_verifies(rt: HostRuntime) -> Result<(), Fail> {
+fn no_changed_signature_verifies(rt: HostRuntime) -> Result<(), Fail> {
     let (key, mut signature) = key_and_signature(rt.alloc())?;
-    let shorter = signature.as_slice().get(..2211).ok_or("too short")?;
-    assert!(rt; !WinterScheme.verify(&key, 1, b"depot", shorter));
+    assert!(rt; signature.as_slice().len() == 2212);
+    assert!(rt; WinterScheme.verify(&key, 1, b"depot", signature.as_slice()));
+    // the number, the first and the last value, the first and the last sibling
+    for place in [0, 3, 4, 2147, 2148, 2211] {
+        assert!(rt;
+            !verifies_flipped(rt.alloc(), &key, signature.as_slice(), place),
+            "byte {place}"
+        );
+    }
+    assert!(rt; !verifies_cut(&key, signature.as_slice()));
     signature.push_u8(0)?;
     assert!(rt; !WinterScheme.verify(&key, 1, b"depot", signature.as_slice()));
     Ok(())

@@ -2,7 +2,8 @@
 //! node: they are tried where there is one.
 
 use crate::hex::bytes;
-use crate::texts::{changed, fault};
+use crate::text_tests::{changed, cut_field, fault, is_text};
+use depot_base::Memory;
 use depot_gossip::*;
 use depot_model::Ending;
 use std::alloc::Global;
@@ -17,26 +18,8 @@ const HELLO: &str = "0103 0001 \
     0002 2222222222222222222222222222222222222222222222222222222222222222 \
     2222222222222222222222222222222222222222222222222222222222222223";
 
-/// The offset of the field in which the hello goes wrong that is cut to so many bytes.
-fn cut_field(length: usize) -> u32 {
-    match length {
-        0 => 0,
-        1 => 1,
-        2..=3 => 2,
-        4..=35 => 4,
-        36..=37 => 36,
-        38..=39 => 38,
-        40..=41 => 40,
-        42..=43 => 42,
-        44..=45 => 44,
-        46..=77 => 46,
-        78..=79 => 78,
-        80..=111 => 80,
-        112..=113 => 112,
-        114..=145 => 114,
-        _ => 146,
-    }
-}
+/// Where its fields start.
+static STARTS: [u32; 15] = [0, 1, 2, 4, 36, 38, 40, 42, 44, 46, 78, 80, 112, 114, 146];
 
 /// Another byte at one place, and the offset at which the hello then goes wrong.
 static FAULTS: [(usize, u8, u32); 17] = [
@@ -60,48 +43,54 @@ static FAULTS: [(usize, u8, u32); 17] = [
 ];
 
 /// Whether a hello of node 1 with two leaves is read, and written with the same bytes.
-fn is_kept(alloc: Global, text: &[u8]) -> Result<bool, Fail> {
-    let hello = decode_hello(alloc, text)?;
-    let again = encode_hello(alloc, &hello)?;
-    Ok(hello.node.number() == 1 && hello.leaves.as_slice().len() == 2 && again.as_slice() == text)
-}
-
-#[test]
-fn a_hello_is_read_and_written(rt: HostRuntime) -> Result<(), Fail> {
-    let text = bytes(rt.alloc(), HELLO)?;
-    assert!(rt; is_kept(rt.alloc(), text.as_slice())?);
-    Ok(())
-}
-
-#[test]
-fn a_cut_hello_goes_wrong_at_the_cut_field(rt: HostRuntime) -> Result<(), Fail> {
-    let text = bytes(rt.alloc(), HELLO)?;
-    assert_eq!(rt; text.len(), 178);
-    for n in 0..178 {
-        let cut = text.get(..n).ok_or("a shorter text")?;
-        assert_eq!(rt;
-            fault(decode_hello(rt.alloc(), cut)),
-            Some(cut_field(n)),
-            "{n} bytes"
-        );
+fn is_kept(alloc: Global, text: &[u8]) -> bool {
+    match decode_hello(alloc, text) {
+        Ok(hello) => {
+            hello.node.number() == 1
+                && hello.leaves.as_slice().len() == 2
+                && is_text(encode_hello(alloc, &hello), text)
+        }
+        Err(_) => false,
     }
-    Ok(())
+}
+
+/// The offset at which a text goes wrong as a hello.
+fn told(alloc: Global, text: &[u8]) -> Option<u32> {
+    fault(decode_hello(alloc, text))
+}
+
+/// Whether a hello that is cut to so many bytes goes wrong at the cut field.
+fn tells_cut(alloc: Global, text: &[u8], length: u32) -> bool {
+    match text.get(..length as usize) {
+        Some(cut) => told(alloc, cut) == Some(cut_field(&STARTS, length)),
+        None => false,
+    }
 }
 
 #[test]
-fn a_byte_behind_a_hello_is_told(rt: HostRuntime) -> Result<(), Fail> {
+fn a_hello_is_read_and_written_whole(rt: HostRuntime) -> Result<(), Fail> {
     let mut text = bytes(rt.alloc(), HELLO)?;
+    assert!(rt; text.len() == 178);
+    assert!(rt; is_kept(rt.alloc(), &text));
+    for n in 0..178 {
+        assert!(rt; tells_cut(rt.alloc(), &text, n), "{n} bytes");
+    }
     text.push(0)?;
-    assert_eq!(rt; fault(decode_hello(rt.alloc(), text.as_slice())), Some(178));
+    assert!(rt; told(rt.alloc(), &text) == Some(178));
     Ok(())
+}
+
+/// The offset at which the hello goes wrong, with this byte at this place.
+fn fault_at(alloc: Global, place: usize, byte: u8) -> Result<Option<u32>, Memory> {
+    let text = changed(alloc, HELLO, place, byte)?;
+    Ok(told(alloc, &text))
 }
 
 #[test]
 fn a_faulty_field_of_a_hello_is_told(rt: HostRuntime) -> Result<(), Fail> {
     for (place, byte, at) in FAULTS.iter() {
-        let text = changed(rt.alloc(), HELLO, *place, *byte)?;
-        let told = fault(decode_hello(rt.alloc(), text.as_slice()));
-        assert_eq!(rt; told, Some(*at), "{byte} at {place}");
+        let told = fault_at(rt.alloc(), *place, *byte)?;
+        assert!(rt; told == Some(*at), "{byte} at {place}");
     }
     Ok(())
 }

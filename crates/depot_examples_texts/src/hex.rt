@@ -1,10 +1,10 @@
 //! Texts in hexadecimal digits.
 
+use depot_base::Memory;
 use std::alloc::Global;
-use std::test::Fail;
 
 /// The bytes of a text in hexadecimal digits, two a byte; other characters are skipped.
-pub fn bytes(alloc: Global, hex: &str) -> Result<Vec<u8>, Fail> {
+pub fn bytes(alloc: Global, hex: &str) -> Result<Vec<u8>, Memory> {
     let mut out = Vec::new(alloc);
     let mut high = None;
     for digit in hex.bytes() {

@@ -3,7 +3,7 @@ ghost use Rattle.std.specs.Prelude.{IfOk};
 ghost use Rattle.depot_model.specs.Texts.{IsProof, IsSigned};
 
 use crate::hex::bytes;
-use depot_base::{Bytes, Kind, Proof, Signed};
+use depot_base::{Bytes, Kind, Memory, Proof, Signed};
 use depot_judge::*;
 use depot_sign::{PlainScheme, Roster};
 use depot_update::{DecodeError, decode_signed, encode_proof};
@@ -163,7 +163,7 @@ static KINDS: [(&str, Option<Kind>); 8] = [
 ];
 
 /// The text of a proof with this kind byte and these halves.
-fn proof(alloc: Global, kind: u8, first: &str, second: &str) -> Result<Vec<u8>, Fail> {
+fn proof(alloc: Global, kind: u8, first: &str, second: &str) -> Result<Vec<u8>, Memory> {
     let text = format!(in alloc; "01 {kind:02x} {first} {second}")?;
     bytes(alloc, text.as_str())
 }
@@ -216,7 +216,10 @@ fn a_cut_proof_is_ill_formed(rt: HostRuntime) -> Result<(), Fail> {
 fn signed_of(alloc: Global, text: &[u8]) -> Result<Signed, DecodeError>
     ensures { IfOk result IsSigned }
 {
-    decode_signed(alloc, text)
+    match decode_signed(alloc, text) {
+        Ok(signed) => Ok(signed),
+        Err(error) => Err(error),
+    }
 }
 
 /// A signed statement.

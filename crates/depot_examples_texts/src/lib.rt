@@ -7,12 +7,16 @@
 #![tactic(auto)]
 
 #[cfg(test)]
+mod base_values;
+#[cfg(test)]
 mod hellos;
 #[cfg(test)]
 mod hex;
 #[cfg(test)]
 mod judgements;
 #[cfg(test)]
+mod numbers_and_fields;
+#[cfg(test)]
 mod records;
 #[cfg(test)]
-mod texts;
+mod text_tests;

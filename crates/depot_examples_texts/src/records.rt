@@ -2,8 +2,8 @@
 ghost use Rattle.depot_model.specs.Records.{IsRecord};
 
 use crate::hex::bytes;
-use crate::texts::{PROOF, SIGNED, UPDATE, VOUCHER, changed, fault};
-use depot_base::{Bytes, Memory, Record};
+use crate::text_tests::{PROOF, SIGNED, UPDATE, VOUCHER, changed, fault, is_text};
+use depot_base::{Memory, Record};
 use depot_update::*;
 use std::alloc::Global;
 use std::test::Fail;
@@ -45,114 +45,103 @@ static FAULTS: [(usize, usize, u8, u32); 14] = [
 ];
 
 /// The text of a record, in hexadecimal digits.
-fn digits(alloc: Global, kind: usize) -> Result<String, Fail> {
-    let (tag, body, value) = RECORDS.get(kind).ok_or("a kind")?;
-    Ok(format!(in alloc; "{tag}{body}{value}")?)
+fn digits(alloc: Global, kind: usize) -> Result<String, Memory> {
+    match RECORDS.get(kind) {
+        Some((tag, body, value)) => Ok(format!(in alloc; "{tag}{body}{value}")?),
+        None => Ok(String::new(alloc)),
+    }
 }
 
 /// The text of a record.
-fn record(alloc: Global, kind: usize) -> Result<Vec<u8>, Fail> {
+fn record(alloc: Global, kind: usize) -> Result<Vec<u8>, Memory> {
     let text = digits(alloc, kind)?;
     bytes(alloc, text.as_str())
 }
 
-/// The text of a record, by the encoder of its kind where there is one.
-fn encode_by_kind(alloc: Global, item: &Record) -> Result<Bytes, Memory>
+/// Whether a record is written so by the encoder of its kind, where there is one.
+fn is_written_by_kind(alloc: Global, item: &Record, text: &[u8]) -> bool
     requires { IsRecord item.now }
 {
     match item {
-        Record::OwnPut { update, value } => Ok(encode_own_put(alloc, update, value)?.text),
-        Record::Foreign { signed } => encode_foreign(alloc, signed),
-        Record::Conviction { proof } => encode_conviction(alloc, proof),
-        Record::Held { value } => encode_held(alloc, value),
-        _ => encode_record(alloc, item),
+        Record::OwnPut { update, value } => match encode_own_put(alloc, update, value) {
+            Ok(own) => own.text.as_slice() == text,
+            Err(_) => false,
+        },
+        Record::Foreign { signed } => is_text(encode_foreign(alloc, signed), text),
+        Record::Conviction { proof } => is_text(encode_conviction(alloc, proof), text),
+        Record::Held { value } => is_text(encode_held(alloc, value), text),
+        _ => true,
     }
 }
 
-/// Whether a record is read, and written with the same bytes.
-fn is_kept(alloc: Global, text: &[u8]) -> Result<bool, Fail> {
-    let item = decode_record(alloc, text)?;
-    let again = encode_record(alloc, &item)?;
-    Ok(again.as_slice() == text)
+/// Whether a record is read, and written with the same bytes, also by the encoder of its kind.
+fn is_kept(alloc: Global, text: &[u8]) -> bool {
+    match decode_record(alloc, text) {
+        Ok(item) => {
+            is_text(encode_record(alloc, &item), text) && is_written_by_kind(alloc, &item, text)
+        }
+        Err(_) => false,
+    }
 }
 
 #[test]
 fn a_record_is_read_and_written(rt: HostRuntime) -> Result<(), Fail> {
     for kind in 0..RECORDS.len() {
         let text = record(rt.alloc(), kind)?;
-        assert!(rt; is_kept(rt.alloc(), text.as_slice())?, "{kind}");
+        assert!(rt; is_kept(rt.alloc(), &text), "{kind}");
     }
     Ok(())
 }
 
-/// Whether a record is read, and written with the same bytes by the encoder of its kind.
-fn is_kept_by_kind(alloc: Global, text: &[u8]) -> Result<bool, Fail> {
-    let item = decode_record(alloc, text)?;
-    let again = encode_by_kind(alloc, &item)?;
-    Ok(again.as_slice() == text)
+/// Whether a foreign statement is written from its text.
+fn is_foreign(alloc: Global) -> Result<bool, Memory> {
+    let signed = bytes(alloc, SIGNED)?;
+    let text = record(alloc, 3)?;
+    Ok(is_text(foreign_of_text(alloc, &signed), &text))
+}
+
+/// Whether a conviction is written from its text.
+fn is_conviction(alloc: Global) -> Result<bool, Memory> {
+    let proof = bytes(alloc, PROOF)?;
+    let text = record(alloc, 4)?;
+    Ok(is_text(conviction_of_text(alloc, &proof), &text))
+}
+
+/// Whether the id is read off an own voucher.
+fn has_voucher_id(alloc: Global) -> Result<bool, Memory> {
+    let voucher = record(alloc, 2)?;
+    let id = bytes(alloc, VOUCHER_ID)?;
+    Ok(id_in_own_voucher(&voucher).bytes().as_slice() == id.as_slice())
 }
 
 #[test]
-fn a_record_is_written_by_its_kind(rt: HostRuntime) -> Result<(), Fail> {
-    for kind in 0..RECORDS.len() {
-        let text = record(rt.alloc(), kind)?;
-        assert!(rt; is_kept_by_kind(rt.alloc(), text.as_slice())?, "{kind}");
-    }
+fn a_record_is_written_from_a_text_and_has_its_id(rt: HostRuntime) -> Result<(), Fail> {
+    assert!(rt; is_foreign(rt.alloc())?);
+    assert!(rt; is_conviction(rt.alloc())?);
+    assert!(rt; has_voucher_id(rt.alloc())?);
     Ok(())
 }
 
-#[test]
-fn a_foreign_statement_is_written_from_its_text(rt: HostRuntime) -> Result<(), Fail> {
-    let signed = bytes(rt.alloc(), SIGNED)?;
-    let made = foreign_of_text(rt.alloc(), signed.as_slice())?;
-    assert_eq!(rt; made.as_slice(), record(rt.alloc(), 3)?.as_slice());
-    Ok(())
-}
-
-#[test]
-fn a_conviction_is_written_from_its_text(rt: HostRuntime) -> Result<(), Fail> {
-    let proof = bytes(rt.alloc(), PROOF)?;
-    let made = conviction_of_text(rt.alloc(), proof.as_slice())?;
-    assert_eq!(rt; made.as_slice(), record(rt.alloc(), 4)?.as_slice());
-    Ok(())
-}
-
-#[test]
-fn an_id_is_read_off_an_own_voucher(rt: HostRuntime) -> Result<(), Fail> {
-    let voucher = record(rt.alloc(), 2)?;
-    let id = id_in_own_voucher(voucher.as_slice());
-    assert_eq!(rt;
-        id.bytes().as_slice(),
-        bytes(rt.alloc(), VOUCHER_ID)?.as_slice()
-    );
-    Ok(())
+/// The offset at which a text goes wrong as a record.
+fn told(alloc: Global, text: &[u8]) -> Option<u32> {
+    fault(decode_record(alloc, text))
 }
 
 /// The offset at which a record goes wrong, with this byte at this place.
-fn fault_at(alloc: Global, kind: usize, place: usize, byte: u8) -> Result<Option<u32>, Fail> {
+fn fault_at(alloc: Global, kind: usize, place: usize, byte: u8) -> Result<Option<u32>, Memory> {
     let hex = digits(alloc, kind)?;
     let text = changed(alloc, hex.as_str(), place, byte)?;
-    Ok(fault(decode_record(alloc, text.as_slice())))
+    Ok(told(alloc, &text))
 }
 
 #[test]
 fn a_faulty_field_of_a_record_is_told(rt: HostRuntime) -> Result<(), Fail> {
     for (kind, place, byte, at) in FAULTS.iter() {
         let told = fault_at(rt.alloc(), *kind, *place, *byte)?;
-        assert_eq!(rt; told, Some(*at), "{byte} at {place} of {kind}");
+        assert!(rt; told == Some(*at), "{byte} at {place} of {kind}");
     }
-    Ok(())
-}
-
-#[test]
-fn a_record_of_no_bytes_is_ill_formed(rt: HostRuntime) {
-    assert_eq!(rt; fault(decode_record(rt.alloc(), &[])), Some(0));
-}
-
-#[test]
-fn a_value_that_is_too_long_is_told(rt: HostRuntime) -> Result<(), Fail> {
-    let text = vec![in rt.alloc(); 6; 65_538]?;
-    let told = fault(decode_record(rt.alloc(), text.as_slice()));
-    assert_eq!(rt; told, Some(65_537));
+    let long = vec![in rt.alloc(); 6; 65_538]?;
+    assert!(rt; told(rt.alloc(), &long) == Some(65_537));
+    assert!(rt; told(rt.alloc(), &[]) == Some(0));
     Ok(())
 }

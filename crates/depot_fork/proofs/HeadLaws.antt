@@ -1,13 +1,11 @@
 -- The newest links of marks, with more of them.
-use Rattle.std.proofs.Common.{◌≡◌, ℕ, zero, suc, ◌+◌, ◌<◌, List, [], ◌∷◌, ◌++◌, length, take, get_or, Bool, true, false, cond, eqb, ◌&&◌, Option, Some, None, Result, Ok, Err, OnErr, refl, sym, ap, ◌∙◌, arith, if◌then◌else◌}
+use Rattle.std.proofs.Common.{◌≡◌, ℕ, zero, suc, ◌+◌, ◌<◌, List, [], ◌∷◌, ◌++◌, length, take, get_or, Bool, true, false, cond, eqb, ◌&&◌, Option, Some, None, Result, Ok, Err, OnErr, refl, sym, ap, ◌∙◌, if◌then◌else◌}
 use Rattle.std.specs.BTreeMap.{BTreeMap, get, Updates}
-use Rattle.std.specs.Ordering.{nat_cmp, is_eq, ordering_then}
+use Rattle.std.specs.Ordering.{nat_cmp, is_eq}
 use Rattle.std.specs.Cmp.Lexicographic.{slice_cmp}
-use Rattle.std.specs.declared.cmp.Ordering.{Ordering}
-use Rattle.std.specs.declared.cmp.Ordering.TheVariants.{Less, Equal, Greater}
 use Rattle.std.proofs.lemmas.Grind.{take_at_read}
 use Rattle.std.proofs.lemmas.Map.Text.{is_eq-slice_cmp}
-use Rattle.std.proofs.lemmas.Bool.Decides.{nat_tests}
+use Rattle.depot_base.proofs.GeneralLaws.{is_eq-nat_cmp, is_eq-then}
 use Rattle.depot_fork.specs.declared.marks.Mark.{Mark}
 use Rattle.depot_fork.specs.declared.marks.Mark.TheVariants as marks
 use Rattle.depot_fork.specs.declared.heads.Fresh.{Fresh}
@@ -19,21 +17,13 @@ Settled = BTreeMap Mark ℕ
 
 -- ---- marks
 
-eq_then : (o p : Ordering) → is_eq (ordering_then o p) ≡ (is_eq o && is_eq p)
-eq_then Less p = refl
-eq_then Equal p = refl
-eq_then Greater p = refl
-
-eq_nat : (a b : ℕ) → is_eq (nat_cmp a b) ≡ eqb a b
-eq_nat a b = grind (arith, nat_tests)
-
 -- marks that compare as equal are those that are found equal
 pub cmp_is_same : (m k : Mark) → is_eq (mark_cmp m k) ≡ same_mark m k
-cmp_is_same (marks.Number w n) (marks.Number v l) = eq_then (nat_cmp w v) (nat_cmp n l) ∙ ap (λ (b : Bool). b && is_eq (nat_cmp n l)) (eq_nat w v) ∙ ap (λ (b : Bool). eqb w v && b) (eq_nat n l)
+cmp_is_same (marks.Number w n) (marks.Number v l) = is_eq-then (nat_cmp w v) (nat_cmp n l) ∙ ap (λ (b : Bool). b && is_eq (nat_cmp n l)) (is_eq-nat_cmp w v) ∙ ap (λ (b : Bool). eqb w v && b) (is_eq-nat_cmp n l)
 cmp_is_same (marks.Number w n) (marks.Prev v h) = refl
 cmp_is_same (marks.Number w n) (marks.Id h) = refl
 cmp_is_same (marks.Prev w g) (marks.Number v l) = refl
-cmp_is_same (marks.Prev w g) (marks.Prev v h) = eq_then (nat_cmp w v) (slice_cmp nat_cmp g h) ∙ ap (λ (b : Bool). b && is_eq (slice_cmp nat_cmp g h)) (eq_nat w v) ∙ ap (λ (b : Bool). eqb w v && b) (is_eq-slice_cmp g h)
+cmp_is_same (marks.Prev w g) (marks.Prev v h) = is_eq-then (nat_cmp w v) (slice_cmp nat_cmp g h) ∙ ap (λ (b : Bool). b && is_eq (slice_cmp nat_cmp g h)) (is_eq-nat_cmp w v) ∙ ap (λ (b : Bool). eqb w v && b) (is_eq-slice_cmp g h)
 cmp_is_same (marks.Prev w g) (marks.Id h) = refl
 cmp_is_same (marks.Id g) (marks.Number v l) = refl
 cmp_is_same (marks.Id g) (marks.Prev v h) = refl

@@ -11,7 +11,8 @@ use Rattle.depot_base.specs.declared.statement.Statement.TheVariants as statemen
 use Rattle.depot_base.specs.declared.statement.Signed.{Signed}
 use Rattle.depot_model.specs.Lists.{IsIn}
 use Rattle.depot_model.specs.Texts.{IsStatement, text_of_statement}
-use Rattle.depot_fork.specs.declared.entry.Entry.{Entry}
+use Rattle.depot_model.proofs.BodyLaws.{IsStatement-from_signed}
+use Rattle.depot_fork.specs.declared.kept_entry.Entry.{Entry}
 use Rattle.depot_fork.specs.declared.marks.Mark.{Mark}
 use Rattle.depot_fork.specs.declared.marks.Mark.TheVariants as marks
 use Rattle.depot_fork.specs.declared.table.Table.{Table}
@@ -21,7 +22,7 @@ use Rattle.depot_fork.specs.Keeping.{IsEntry, AreEntries, IsKeeping, is_under}
 use Rattle.depot_fork.specs.Opponents.{has_body_of}
 use Rattle.depot_fork.proofs.KindLaws.{same_from_text}
 use Rattle.depot_fork.proofs.ListedPlaces.{is_next}
-use Rattle.depot_fork.proofs.KeepLaws.{signed_statement, entry_of, met, place_low, number_of, is_number}
+use Rattle.depot_fork.proofs.KeepLaws.{entry_of, met, place_low, number_of, is_number}
 use Rattle.depot_model.proofs.Members.{in_parts}
 
 -- ---- entries
@@ -91,7 +92,7 @@ has_number (statements.Voucher v) id = rw (eq-eqb v.node v.node refl, eq-eqb v.s
 number_of_body : (e : Entry) (s : Statement) → IsEntry e → IsStatement s → has_body_of s e.signed ≡ true → is_under (number_of s) e ≡ true
 number_of_body e s entry fits has =
     let text : text_of_statement e.signed.statement ≡ text_of_statement s = (bytes_eq-Decides (text_of_statement e.signed.statement) (text_of_statement s)).0 has in
-    let same : e.signed.statement ≡ s = same_from_text e.signed.statement s (signed_statement e.signed entry.signed) fits text in
+    let same : e.signed.statement ≡ s = same_from_text e.signed.statement s (IsStatement-from_signed e.signed entry.signed) fits text in
     subst (λ (m : Statement). has_mark e.signed.statement e.id (number_of m) ≡ true) same (has_number e.signed.statement e.id)
 
 -- ---- what `holds` answers

@@ -1,7 +1,6 @@
 -- What is kept, and what is listed of it.
-use Rattle.std.proofs.Common.{◌≡◌, ℕ, ◌+◌, ◌<◌, List, [], ◌∷◌, ◌++◌, length, Bool, true, false, ◌||◌, refl, sym, ap, subst, ◌∙◌, arith, inl, inr, Some, if◌then◌else◌}
+use Rattle.std.proofs.Common.{◌≡◌, ℕ, ◌+◌, ◌<◌, List, [], ◌∷◌, ◌++◌, length, Bool, true, false, ◌||◌, sym, ap, subst, ◌∙◌, arith, inl, inr, Some, if◌then◌else◌}
 use Rattle.std.specs.List.{slice_get}
-use Rattle.depot_base.specs.Format.{inner}
 use Rattle.depot_base.specs.Statement.{writer_of, seq_of}
 use Rattle.depot_base.specs.declared.statement.Statement.{Statement}
 use Rattle.depot_base.specs.declared.statement.Statement.TheVariants as statements
@@ -9,10 +8,11 @@ use Rattle.depot_base.specs.declared.statement.Signed.{Signed}
 use Rattle.depot_base.specs.declared.update.Update.{Update}
 use Rattle.depot_base.specs.declared.voucher.Voucher.{Voucher}
 use Rattle.depot_model.specs.Lists.{IsIn}
-use Rattle.depot_model.specs.Texts.{IsSigned, IsStatement, signed, id_of_statement}
+use Rattle.depot_model.specs.Texts.{IsSigned, signed, id_of_statement}
 use Rattle.depot_model.proofs.Elements.{each_at}
 use Rattle.depot_model.proofs.Members.{all_push}
-use Rattle.depot_fork.specs.declared.entry.Entry.{Entry}
+use Rattle.depot_base.proofs.GeneralLaws.{or_none}
+use Rattle.depot_fork.specs.declared.kept_entry.Entry.{Entry}
 use Rattle.depot_fork.specs.declared.marks.Mark.{Mark}
 use Rattle.depot_fork.specs.declared.marks.Mark.TheVariants as marks
 use Rattle.depot_fork.specs.declared.table.Table.{Table}
@@ -23,11 +23,6 @@ use Rattle.depot_fork.specs.Keeping.{IsEntry, AreEntries, IsKeeping, places_befo
 use Rattle.depot_fork.proofs.ListedPlaces.{one_more_place, is_listed, is_within}
 
 -- ---- signed statements
-
--- the statement of one that fits is one that fits
-pub signed_statement : (s : Signed) → IsSigned s → IsStatement s.statement
-unfolding signed inner
-signed_statement s h = h.1.0.0.0
 
 -- ---- entries
 
@@ -77,11 +72,6 @@ place_low es table mark place keeping known =
     ]
 
 -- ---- the marks of a statement
-
--- a test and no other
-or_none : (a : Bool) → a ≡ (a || false)
-or_none true = refl
-or_none false = refl
 
 -- a place more, by a test that is one of several
 by_one : (b : Bool) (place : ℕ) (ps : List ℕ) → (if b then place ∷ ps else ps) ≡ (if b || false then place ∷ ps else ps)

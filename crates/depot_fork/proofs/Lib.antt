@@ -4,6 +4,6 @@ pub mod LinkLaws
 pub mod MarkLaws
 pub mod ListedPlaces
 pub mod KeepLaws
-pub mod FirstLaws
+pub mod FirstOpponents
 pub mod OpponentLaws
 pub mod HoldLaws

@@ -3,10 +3,11 @@ use Rattle.std.proofs.Common.{◌≡◌, ℕ, zero, suc, ◌<◌, ◌≤◌, Lis
 use Rattle.std.specs.List.{slice_get}
 use Rattle.std.specs.Str.{bytes_eq}
 use Rattle.std.proofs.lemmas.Option.{slice_get_within, slice_get-get_or}
-use Rattle.std.proofs.lemmas.Bool.{and_parts}
+use Rattle.std.proofs.lemmas.Bool.{and_parts, eqb-true}
 use Rattle.std.proofs.lemmas.Bool.Decides.{nat_tests}
 use Rattle.std.proofs.lemmas.Slice.Eq.{bytes_eq-Decides}
-use Rattle.depot_model.proofs.Elements.{get_front, get_last}
+use Rattle.depot_model.proofs.Elements.{get_front}
+use Rattle.depot_base.proofs.GeneralLaws.{get_last}
 use Rattle.depot_fork.specs.declared.marks.Mark.{Mark}
 use Rattle.depot_fork.specs.declared.marks.Mark.TheVariants as marks
 use Rattle.depot_fork.specs.declared.table.Link.{Link}
@@ -14,23 +15,19 @@ use Rattle.depot_fork.specs.Links.{same_mark, LeadsBelow, LeadBack, AreLinked, I
 
 -- ---- marks
 
--- numbers that are found equal are one
-eqb_one : (a b : ℕ) → eqb a b ≡ true → a ≡ b
-eqb_one a b e = grind (arith, nat_tests)
-
 -- marks that are found equal are one
 pub one_mark : (m k : Mark) → same_mark m k ≡ true → m ≡ k
 one_mark (marks.Number w n) (marks.Number v l) e =
     let parts = and_parts (eqb w v) (eqb n l) e in
-    let writers : w ≡ v = eqb_one w v parts.0 in
-    let seqs : n ≡ l = eqb_one n l parts.1 in
+    let writers : w ≡ v = eqb-true w v parts.0 in
+    let seqs : n ≡ l = eqb-true n l parts.1 in
     cc
 one_mark (marks.Number w n) (marks.Prev v h) e = absurd cc
 one_mark (marks.Number w n) (marks.Id h) e = absurd cc
 one_mark (marks.Prev w g) (marks.Number v l) e = absurd cc
 one_mark (marks.Prev w g) (marks.Prev v h) e =
     let parts = and_parts (eqb w v) (bytes_eq g h) e in
-    let writers : w ≡ v = eqb_one w v parts.0 in
+    let writers : w ≡ v = eqb-true w v parts.0 in
     let prevs : g ≡ h = (bytes_eq-Decides g h).0 parts.1 in
     cc
 one_mark (marks.Prev w g) (marks.Id h) e = absurd cc

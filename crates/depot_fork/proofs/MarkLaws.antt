@@ -12,7 +12,9 @@ use Rattle.depot_model.specs.Lists.{when, first}
 use Rattle.depot_model.specs.Texts.{id_of_statement, id_of_update}
 use Rattle.depot_model.specs.Contradictions.{goes_back, is_of_kind, contradicts, kind_of}
 use Rattle.depot_model.specs.Checks.{is_update_with}
-use Rattle.depot_fork.specs.declared.entry.Entry.{Entry}
+use Rattle.std.proofs.Math.Bool.{and-false}
+use Rattle.std.proofs.lemmas.Bool.{or_from}
+use Rattle.depot_fork.specs.declared.kept_entry.Entry.{Entry}
 use Rattle.depot_fork.specs.declared.marks.Mark.TheVariants as marks
 use Rattle.depot_fork.specs.StatementMarks.{has_mark, asked_of}
 use Rattle.depot_fork.specs.Keeping.{IsEntry, is_under}
@@ -24,10 +26,6 @@ use Rattle.depot_fork.proofs.KindLaws.{update_id}
 alone : (a : Bool) → (a || false) ≡ false → a ≡ false
 alone true e = absurd cc
 alone false e = refl
-
--- two tests that fail
-neither : (a b : Bool) → a ≡ false → b ≡ false → (a || b) ≡ false
-neither a b e f = rw (e, f) refl
 
 -- bytes that differ do so both ways
 other_way : (x y : List ℕ) → bytes_eq x y ≡ false → bytes_eq y x ≡ false
@@ -54,26 +52,21 @@ none_of false b n p q number prev back = refl
 none_of true true n p q number prev back = refl
 none_of true false n p q number prev back = rw (number, prev, back) refl
 
--- what only updates can do
-no_update : (w : Bool) → (w && false) ≡ false
-no_update true = refl
-no_update false = refl
-
 -- of one writer, neither goes back
 back_by : (w j back forth : Bool) → back ≡ false → (w && j) ≡ false → (j ≡ false → forth ≡ false) → (w && (back || forth)) ≡ false
 back_by false j back forth no_back e follows = refl
-back_by true j back forth no_back e follows = neither back forth no_back (follows e)
+back_by true j back forth no_back e follows = or_from back forth no_back (follows e)
 
 -- A statement that has none of the marks that another asks for doesn't contradict it.
 pub asked_alone : (a : Statement) (a_id : List ℕ) (b : Statement) (b_id : List ℕ) → a_id ≡ id_of_statement a → b_id ≡ id_of_statement b → AllByRecursion (λ m. has_mark a a_id m ≡ false) (asked_of b b_id) → kind_of a b ≡ None
 unfolding kind_of contradicts is_of_kind has_mark
-asked_alone (statements.Voucher v) a_id (statements.Voucher x) b_id a_is b_is absent = none_of (eqb v.node x.node) _ (eqb v.seq x.seq) false false (alone _ absent.0) (no_update _) (no_update _)
-asked_alone (statements.Voucher v) a_id (statements.Update u) b_id a_is b_is absent = none_of (eqb v.node u.writer) _ (eqb v.seq u.seq) false false (alone _ absent.0) (no_update _) (no_update _)
-asked_alone (statements.Update t) a_id (statements.Voucher v) b_id a_is b_is absent = none_of (eqb t.writer v.node) _ (eqb t.seq v.seq) false false (alone _ absent.0) (no_update _) (no_update _)
-asked_alone (statements.Update t) a_id (statements.Update u) b_id a_is b_is absent =
-    let named : bytes_eq (id_of_update t) u.prev ≡ false = subst (λ (h : List ℕ). bytes_eq h u.prev ≡ false) (a_is ∙ update_id t) (alone _ absent.1.1.0) in
-    let naming : (eqb t.writer u.writer && bytes_eq t.prev (id_of_update u)) ≡ false = subst (λ (h : List ℕ). (eqb t.writer u.writer && bytes_eq t.prev h) ≡ false) (b_is ∙ update_id u) (alone _ absent.1.1.1.0) in
-    none_of (eqb t.writer u.writer) _ (eqb t.seq u.seq) (bytes_eq t.prev u.prev) (goes_back t u || goes_back u t) (alone _ absent.0) (alone _ absent.1.0)
+asked_alone (statements.Voucher v) a_id (statements.Voucher x) b_id a_is b_is absent = none_of (eqb v.node x.node) _ (eqb v.seq x.seq) false false (alone _ absent.0) (and-false _) (and-false _)
+asked_alone (statements.Voucher v) a_id (statements.Update u) b_id a_is b_is absent = none_of (eqb v.node u.writer) _ (eqb v.seq u.seq) false false (alone _ absent.0) (and-false _) (and-false _)
+asked_alone (statements.Update t) a_id (statements.Voucher v) b_id a_is b_is absent = none_of (eqb t.writer v.node) _ (eqb t.seq v.seq) false false (alone _ absent.0) (and-false _) (and-false _)
+asked_alone (statements.Update t) a_id (statements.Update u) b_id a_is b_is (number, (prev, (named_prev, (names_it, rest)))) =
+    let named : bytes_eq (id_of_update t) u.prev ≡ false = subst (λ (h : List ℕ). bytes_eq h u.prev ≡ false) (a_is ∙ update_id t) (alone _ named_prev) in
+    let naming : (eqb t.writer u.writer && bytes_eq t.prev (id_of_update u)) ≡ false = subst (λ (h : List ℕ). (eqb t.writer u.writer && bytes_eq t.prev h) ≡ false) (b_is ∙ update_id u) (alone _ names_it) in
+    none_of (eqb t.writer u.writer) _ (eqb t.seq u.seq) (bytes_eq t.prev u.prev) (goes_back t u || goes_back u t) (alone _ number) (alone _ prev)
     (back_by (eqb t.writer u.writer) (bytes_eq t.prev (id_of_update u)) (goes_back t u) (goes_back u t) (not_back t u named) naming (λ differ. not_back u t (other_way t.prev (id_of_update u) differ)))
 
 -- ---- an update by its id

@@ -18,7 +18,7 @@ use Rattle.depot_model.specs.Contradictions.{kind_of}
 use Rattle.depot_model.specs.Checks.{opponent, is_update_with}
 use Rattle.depot_model.proofs.Members.{in_left, in_right}
 use Rattle.depot_fork.specs.declared.Found.{Found}
-use Rattle.depot_fork.specs.declared.entry.Entry.{Entry}
+use Rattle.depot_fork.specs.declared.kept_entry.Entry.{Entry}
 use Rattle.depot_fork.specs.declared.marks.Mark.{Mark}
 use Rattle.depot_fork.specs.declared.marks.Mark.TheVariants as marks
 use Rattle.depot_fork.specs.declared.table.Table.{Table}
@@ -31,7 +31,7 @@ use Rattle.depot_fork.specs.Opponents.{IsContradiction}
 use Rattle.depot_fork.proofs.MarkLaws.{asked_alone, under_id}
 use Rattle.depot_fork.proofs.ListedPlaces.{last_place, drained}
 use Rattle.depot_fork.proofs.KeepLaws.{entry_of, met, is_number}
-use Rattle.depot_fork.proofs.FirstLaws.{first_of_both}
+use Rattle.depot_fork.proofs.FirstOpponents.{first_of_both}
 
 -- ---- the first that contradicts
 
@@ -170,9 +170,9 @@ same_from h n (e ∷ es) all =
 pub last_found : (es : List Entry) (table : Table) (kept : List Signed) (h : List ℕ) (places : Places) (result : Option ℕ) → IsKeeping es table → map (λ e. e.signed) es ≡ kept → left places ≡ listed table (marks.Id h) →
     (xs : List ℕ) × Drains (YieldsFirst left) places xs × (result ≡ last_or None xs) → result ≡ position (λ s. is_update_with h s.statement) kept
 unfolding places_under
-last_found es table kept h places result keeping seen all ran =
-    let given : ran.0 ≡ places_under (marks.Id h) es = drained left places ran.1.1.0 ran.1.0 ran.0 ran.1.1.1 ran.1.1.2 ∙ all ∙ keeping.listed (marks.Id h) in
-    ran.2
+last_found es table kept h places result keeping seen all (xs, (behind, (at, yielded, ended)), is) =
+    let given : xs ≡ places_under (marks.Id h) es = drained left places at behind xs yielded ended ∙ all ∙ keeping.listed (marks.Id h) in
+    is
     ∙ ap (λ (l : List ℕ). last_or None l) given
     ∙ last_place (is_under (marks.Id h)) es
     ∙ position_from-zero (is_under (marks.Id h)) es

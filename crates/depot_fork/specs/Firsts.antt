@@ -5,7 +5,7 @@ use Rattle.depot_base.specs.declared.statement.Statement.{Statement}
 use Rattle.depot_model.specs.Lists.{IsIn}
 use Rattle.depot_model.specs.Contradictions.{kind_of}
 use Rattle.depot_fork.specs.declared.Found.{Found}
-use Rattle.depot_fork.specs.declared.entry.Entry.{Entry}
+use Rattle.depot_fork.specs.declared.kept_entry.Entry.{Entry}
 
 -- that of the two which was kept first
 abbrev pub earlier_of : Option Found → Option Found → Option Found

@@ -1,7 +1,7 @@
 -- What is kept beside the signed statements.
 use Rattle.std.specs.Prelude.{◌≡◌, ℕ, ◌+◌, List, [], ◌∷◌, Bool, if◌then◌else◌}
 use Rattle.std.specs.List.{AllByRecursion}
-use Rattle.depot_fork.specs.declared.entry.Entry.{Entry}
+use Rattle.depot_fork.specs.declared.kept_entry.Entry.{Entry}
 use Rattle.depot_fork.specs.declared.marks.Mark.{Mark}
 use Rattle.depot_fork.specs.declared.table.Table.{Table}
 use Rattle.depot_fork.specs.StatementMarks.{has_mark}

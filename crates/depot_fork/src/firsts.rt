@@ -6,7 +6,7 @@ ghost use Rattle.depot_fork.specs.Firsts.{IsFirstOf, earlier_of};
 ghost use Rattle.depot_fork.specs.Table.{listed};
 
 use crate::Found;
-use crate::entry::Entry;
+use crate::kept_entry::Entry;
 use crate::marks::Mark;
 use crate::table::Table;
 use depot_base::{Hash32, Statement};

@@ -10,9 +10,9 @@
 //! mark that it asks for, not with all that are kept.
 #![tactic(auto)]
 
-mod entry;
 mod firsts;
 mod heads;
+mod kept_entry;
 mod kinds;
 mod marks;
 mod table;
@@ -28,8 +28,8 @@ ghost use Rattle.depot_fork.specs.StatementMarks.{has_mark};
 ghost use Rattle.depot_fork.specs.Table.{listed, spare_places};
 ghost use Rattle.depot_fork.specs.Opponents.{IsContradiction, has_body_of};
 
-use crate::entry::Entry;
 use crate::firsts::{earlier, first_under};
+use crate::kept_entry::Entry;
 use crate::marks::Mark;
 use crate::table::Table;
 use depot_base::{Hash32, Kind, Memory, Signed, Statement};

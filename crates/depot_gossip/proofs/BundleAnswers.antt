@@ -16,8 +16,8 @@ use Rattle.depot_model.specs.Hello.{hello}
 use Rattle.depot_model.specs.Vouching.{limit_of_vouchers, is_mine_vouched}
 use Rattle.depot_model.specs.Bundle.{Signs, BundleAnswer, bad_hello, other_roster, bundled_within, bundle_of, Parcel, sent_for, sent_foreign, unvouched, answer_to_hello, bundle_answer}
 use Rattle.depot_model.proofs.HelloLaws.{hello_lawful}
-use Rattle.depot_gossip.specs.declared.error.BundleError.{BundleError}
-use Rattle.depot_gossip.specs.declared.error.BundleError.TheVariants as error
+use Rattle.depot_gossip.specs.declared.gossip_error.BundleError.{BundleError}
+use Rattle.depot_gossip.specs.declared.gossip_error.BundleError.TheVariants as error
 use Rattle.depot_gossip.specs.Errors.{from_decoding}
 use Rattle.depot_gossip.specs.Bundling.{IsHeard, Hears, Prepares}
 

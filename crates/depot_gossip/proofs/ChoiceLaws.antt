@@ -26,19 +26,20 @@ use Rattle.depot_model.specs.Contents.{NamedValue, values_named, value_named}
 use Rattle.depot_model.specs.Checks.{Setting}
 use Rattle.depot_model.specs.Lawful.{IsLawful}
 use Rattle.depot_model.specs.Bundle.{Signs, signed_with, signed_by, is_candidate, has_candidate, candidates, records_where, candidate_places, Parcel, values_behind, candidate_parcel, candidate_parcels, wanted_parcel, hashes_of, parcels, sent_foreign}
-use Rattle.depot_model.proofs.Elements.{get_front, get_last}
+use Rattle.depot_model.proofs.Elements.{get_front}
 use Rattle.depot_model.proofs.Members.{among-append, all_at}
 use Rattle.depot_model.proofs.TextLaws.{signed_is_short}
-use Rattle.depot_laws.proofs.Splits.{flat_push, flat_gives, lawful_texts}
+use Rattle.depot_laws.proofs.Splits.{flat_gives, lawful_texts}
 use Rattle.depot_laws.proofs.Observed.{in_place}
 use Rattle.depot_laws.proofs.Causes.{none_or_one}
-use Rattle.depot_laws.proofs.Records.{IsSigned-from_record}
+use Rattle.depot_laws.proofs.LawfulRecords.{IsSigned-from_record}
 use Rattle.depot_laws.proofs.OwnTexts.{own_statement_fits}
 use Rattle.depot_laws.proofs.OwnSteps.{own_writer}
 use Rattle.depot_laws.proofs.ChainLaws.{foreign_writer}
 use Rattle.depot_laws.proofs.HeldValues.{held_as_is, held_is_brought, value_with_is}
 use Rattle.depot_laws.proofs.WantedValues.{value_fits}
 use Rattle.depot_laws.proofs.Candidates.{signed_fits, behind_is}
+use Rattle.depot_base.proofs.GeneralLaws.{get_last, flat_push}
 use Rattle.depot_gossip.specs.declared.sending.Sending.{Sending}
 use Rattle.depot_gossip.specs.Choosing.{IsCutAt, TellsAt, records_at, foreign_ids, hashes_named, HasToo, AreAlike, value_parcels}
 use Rattle.depot_gossip.proofs.FitLaws.{cut_on}

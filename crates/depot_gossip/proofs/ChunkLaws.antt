@@ -1,13 +1,14 @@
 -- A chunk of a stream is fed as one byte is, where nothing in front of its last byte completes a frame.
 use Rattle.std.proofs.Common.{◌≡◌, ℕ, suc, ◌+◌, ◌-◌, ◌<◌, ◌≤◌, List, [], ◌∷◌, ◌++◌, append_assoc, length, take, Bool, true, false, not, cond, ltb, ◌&&◌, ◌||◌, ◌==◌, is_some, refl, ap, ◌∙◌, arith}
 use Rattle.std.specs.Int.{w32, from_be_bytes}
-use Rattle.std.proofs.lemmas.Bool.{cond-false, cond-true, ltb-true, le-ltb, lt-ltb}
+use Rattle.std.proofs.lemmas.Bool.{cond-false, cond-true, ltb-true, le-ltb, lt-ltb, and_left}
 use Rattle.std.proofs.lemmas.List.{length-append}
 use Rattle.depot_model.specs.Checks.{Setting}
 use Rattle.depot_model.specs.Frames.{FrameAt, whole_frame, open_frame, no_frame, is_tag, least_length, most_length, may_be_within, is_no_flag, goes_astray, framed, frame_at}
 use Rattle.depot_model.specs.Feeding.{Feeding, ill_formed, closed_by, fed, fed_byte, fed_at, is_over}
 use Rattle.depot_model.proofs.OpenLaws.{not_astray, still_short, behind_four, cleared, bounds}
 use Rattle.depot_model.proofs.FeedLaws.{fed_in_pieces, frame_alike, one_byte}
+use Rattle.depot_laws.proofs.Feeds.{closed_stays}
 use Rattle.depot_gossip.specs.FrameHeads.{most_frame, missing}
 
 -- ---- an open frame whose head is whole
@@ -65,15 +66,11 @@ not_over true true c p q r = r
 not_over true false c p q r = absurd cc
 not_over false b c p q r = absurd cc
 
-no_end : (b c : Bool) → b ≡ false → (b && c) ≡ false
-no_end true c e = absurd cc
-no_end false c e = refl
-
 -- bytes with a head, and fewer than its length says, are open
 still_framed : (t x y z w : ℕ) (r s : List ℕ) → IsHeaded t x y z w r → (t == 4) ≡ false → length s < worth_of x y z w → frame_at (t ∷ x ∷ y ∷ z ∷ w ∷ s) ≡ open_frame
 unfolding frame_at
 still_framed t x y z w r s h other lt =
-    cond-false (not (is_tag t) || goes_astray t (x ∷ y ∷ z ∷ w ∷ []) s) no_frame _ (not_over (is_tag t) (may_be_within (least_length t) (most_length t) (x ∷ y ∷ z ∷ w ∷ [])) ((t == 4) && is_no_flag s) h.tag h.within (no_end (t == 4) (is_no_flag s) other))
+    cond-false (not (is_tag t) || goes_astray t (x ∷ y ∷ z ∷ w ∷ []) s) no_frame _ (not_over (is_tag t) (may_be_within (least_length t) (most_length t) (x ∷ y ∷ z ∷ w ∷ [])) ((t == 4) && is_no_flag s) h.tag h.within (and_left (t == 4) (is_no_flag s) other))
     ∙ cond-false (ltb (length (x ∷ y ∷ z ∷ w ∷ s)) 4) open_frame _ (le-ltb _ _ (omega arith))
     ∙ cond-true (ltb (length s) (worth_of x y z w)) open_frame _ (lt-ltb _ _ lt)
 
@@ -150,19 +147,13 @@ chunk_is_fed here s c going on told some le = chunk s.begun c told some le where
 
 -- ---- a feed that is closed, or over
 
--- a closed feed takes nothing
-pub closed_takes_nothing : (here : Setting) (s : Feeding) (c : List ℕ) → is_some s.closed ≡ true → fed here s c ≡ s
-unfolding fed fed_byte
-closed_takes_nothing here s [] shut = refl
-closed_takes_nothing here s (x ∷ c) shut = ap (λ (r : Feeding). fed here r c) (cond-true (is_some s.closed) s _ shut) ∙ closed_takes_nothing here s c shut
-
 -- two pieces, where the first closes the feed
 pub closed_before : (here : Setting) (s : Feeding) (a b : List ℕ) → is_some (fed here s a).closed ≡ true → fed here s (a ++ b) ≡ fed here s a
-closed_before here s a b shut = fed_in_pieces here s a b ∙ closed_takes_nothing here (fed here s a) b shut
+closed_before here s a b shut = fed_in_pieces here s a b ∙ closed_stays here (fed here s a) b shut
 
 -- where no frame may begin any more, a byte closes the feed
 pub over_is_fed : (here : Setting) (s : Feeding) (x : ℕ) (c : List ℕ) → is_some s.closed ≡ false → is_over s ≡ true → fed here s (x ∷ c) ≡ closed_by (ill_formed s.start) s
 unfolding fed fed_byte
 over_is_fed here s x c going over =
     ap (λ (r : Feeding). fed here r c) (cond-false (is_some s.closed) s _ going ∙ cond-true (is_over s) (closed_by (ill_formed s.start) s) _ over)
-    ∙ closed_takes_nothing here (closed_by (ill_formed s.start) s) c refl
+    ∙ closed_stays here (closed_by (ill_formed s.start) s) c refl

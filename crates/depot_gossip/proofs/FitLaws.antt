@@ -17,7 +17,7 @@ use Rattle.depot_model.specs.Texts.{id_of_update, text_of_signed}
 use Rattle.depot_model.specs.Journal.{update_in}
 use Rattle.depot_model.specs.Frames.{Frame, text_of_frame}
 use Rattle.depot_model.specs.Bundle.{Signs, Parcel, frames_of, bytes_of_frames, statement_frame, value_frame, fitting, parcels, sent_for, sent_foreign}
-use Rattle.depot_laws.proofs.Splits.{flat_push}
+use Rattle.depot_base.proofs.GeneralLaws.{flat_push}
 use Rattle.depot_gossip.specs.declared.sending.Sending.{Sending}
 use Rattle.depot_gossip.specs.Choosing.{Holds, IsCutAt, Carries, AddsTo, frames_under, parcel_frames, IsShort, HasNoRoom, Adds, HasAddedFound, AddsFound}
 

@@ -4,7 +4,7 @@ use Rattle.std.specs.Prelude.{IsErrOf}
 use Rattle.std.proofs.lemmas.List.{append-nil}
 use Rattle.depot_base.specs.declared.record.Record.{Record}
 use Rattle.depot_base.specs.declared.check.Full.{Full}
-use Rattle.depot_base.proofs.Laws.{IsBytes}
+use Rattle.depot_base.proofs.FormatLaws.{IsBytes}
 use Rattle.depot_model.specs.declared.taken.Taken.{Taken}
 use Rattle.depot_model.specs.declared.taken.TakeError.{TakeError}
 use Rattle.depot_model.specs.declared.taken.TakeError.TheVariants as refused
@@ -21,7 +21,7 @@ use Rattle.depot_laws.proofs.Growing.{grown_is_lawful}
 use Rattle.depot_laws.proofs.LawfulFeeds.{given_has_text}
 use Rattle.depot_gossip.specs.NodeCalls.{Answers, told, says_disk, says_stopped}
 use Rattle.depot_gossip.specs.Lasting.{IsToAppend, LastsIn}
-use Rattle.depot_gossip.proofs.LastingLaws.{all_of, cut_of, to_append, none_in, IsPart}
+use Rattle.depot_gossip.proofs.LastingStreams.{all_of, cut_of, to_append, none_in, IsPart}
 
 -- ---- the journal is lawful with it
 

@@ -21,8 +21,8 @@ use Rattle.depot_model.specs.Journal.{accused, proof_by}
 use Rattle.depot_model.specs.Vouching.{own_voucher_by}
 use Rattle.depot_model.specs.Frames.{Frame, text_of_frame}
 use Rattle.depot_model.specs.Bundle.{Signs, proof_frame, proofs_for, vouchers_for}
-use Rattle.depot_laws.proofs.Splits.{flat_push}
-use Rattle.depot_laws.proofs.BundleSizes.{filter_short, few_told}
+use Rattle.depot_laws.proofs.BundleSizes.{few_told}
+use Rattle.depot_base.proofs.GeneralLaws.{flat_push, filter_short}
 use Rattle.depot_gossip.specs.declared.front.Front.{Front}
 use Rattle.depot_gossip.specs.Choosing.{AreAlike}
 use Rattle.depot_gossip.specs.Fronts.{IsFront, voucher_frame, is_in_front}

@@ -11,8 +11,8 @@ use Rattle.depot_model.specs.Frames.{Frame}
 use Rattle.depot_model.specs.Taking.{Outcome, TakesProof, TakesStatement, TakesValue}
 use Rattle.depot_model.specs.Feeding.{Feeding, take_frame, fed_frame, after_outcome, passed, counted, says_more}
 use Rattle.depot_model.proofs.TakeLaws.{Tells, proof_frame_tells, statement_frame_tells, value_frame_tells}
-use Rattle.depot_gossip.specs.declared.error.FeedError.{FeedError}
-use Rattle.depot_gossip.specs.declared.error.FeedError.TheVariants as error
+use Rattle.depot_gossip.specs.declared.gossip_error.FeedError.{FeedError}
+use Rattle.depot_gossip.specs.declared.gossip_error.FeedError.TheVariants as error
 use Rattle.depot_gossip.specs.declared.tally.Tally.{Tally}
 use Rattle.depot_gossip.specs.Pieces.{at_work}
 use Rattle.depot_gossip.specs.NodeCalls.{stream_by, told, IsTold, Answers, TakesFrame}

@@ -22,13 +22,14 @@ use Rattle.depot_model.specs.Lawful.{IsLawful}
 use Rattle.depot_model.specs.Hello.{named_leaf, record_place, AreLeafPlaces, convicted_nodes, wanted_of, hello_of}
 use Rattle.depot_model.proofs.Orders.{one_of_id}
 use Rattle.depot_laws.proofs.Observed.{in_place}
-use Rattle.depot_laws.proofs.Splits.{flat_gives, flat_push}
+use Rattle.depot_laws.proofs.Splits.{flat_gives}
 use Rattle.depot_model.proofs.RisingUpdates.{from_by_id}
 use Rattle.depot_model.proofs.NamedIds.{has_id_to}
 use Rattle.depot_laws.proofs.Causes.{lawful_is_causal, leaf_is_on}
 use Rattle.sha2.specs.Sha256.{sha256}
 use Rattle.depot_model.proofs.BodyLaws.{body_is_text_of_update}
-use Rattle.depot_laws.proofs.Records.{IsSigned-from_record}
+use Rattle.depot_laws.proofs.LawfulRecords.{IsSigned-from_record}
+use Rattle.depot_base.proofs.GeneralLaws.{flat_push}
 use Rattle.depot_gossip.specs.RecordLeaves.{leaf_list, leaf_in, leaf_at}
 
 -- ---- the text of a place

@@ -3,13 +3,13 @@ pub mod BundleAnswers
 pub mod NodeCallLaws
 pub mod ChoiceLaws
 pub mod ChunkLaws
-pub mod FeedGrowth
+pub mod FeedRecords
 pub mod FitLaws
 pub mod FrameGrowth
 pub mod FrontLaws
 pub mod GivenLaws
 pub mod HashLaws
-pub mod LastingLaws
+pub mod LastingStreams
 pub mod LeafPlaces
 pub mod PieceLaws
 pub mod StreamCalls

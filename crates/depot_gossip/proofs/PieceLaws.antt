@@ -9,8 +9,8 @@ use Rattle.depot_model.specs.Feeding.{Feeding, Closing, ill_formed, out_of_room,
 use Rattle.depot_model.specs.Taking.{answered}
 use Rattle.depot_model.specs.Limits.{IsCutShort}
 use Rattle.depot_model.proofs.FeedLaws.{fed_in_pieces, frame_alike}
-use Rattle.depot_gossip.specs.declared.error.FeedError.{FeedError}
-use Rattle.depot_gossip.specs.declared.error.FeedError.TheVariants as error
+use Rattle.depot_gossip.specs.declared.gossip_error.FeedError.{FeedError}
+use Rattle.depot_gossip.specs.declared.gossip_error.FeedError.TheVariants as error
 use Rattle.depot_gossip.specs.declared.tally.Tally.{Tally}
 use Rattle.depot_gossip.specs.FrameHeads.{missing}
 use Rattle.depot_gossip.specs.Pieces.{Stream, stream_of, at_work, shut, AreOf, Feeds}
@@ -204,7 +204,7 @@ unfolding fed
 under_way_first here s bytes = record { done = []; parts = refl; is = refl }
 
 -- a feed that is at work is what is kept of it, and the journal
-at_work_again : (x : Feeding) (S : Stream) (J : List Record) → x.closed ≡ None → AreOf x S J → x ≡ at_work S J
+pub at_work_again : (x : Feeding) (S : Stream) (J : List Record) → x.closed ≡ None → AreOf x S J → x ≡ at_work S J
 at_work_again x S J none a = ap (λ (o : Option Closing). record x { closed = o }) none ∙ sym (ap (at_work (stream_of x)) a.journal) ∙ ap (λ (T : Stream). at_work T J) (sym a.stream)
 
 -- one chunk more

@@ -15,9 +15,9 @@ use Rattle.depot_model.specs.Frames.{Frame}
 use Rattle.depot_model.specs.Stops.{CallsDisk}
 use Rattle.depot_model.specs.Vouching.{Vouches, new_vouchers, records_of}
 use Rattle.depot_model.proofs.CallsOnDisk.{nothing_called, called_well, calls_alike, calls_longer, calls_joined}
-use Rattle.depot_gossip.specs.declared.error.BundleError.TheVariants as bundle_error
-use Rattle.depot_gossip.specs.declared.error.FeedError.{FeedError}
-use Rattle.depot_gossip.specs.declared.error.FeedError.TheVariants as error
+use Rattle.depot_gossip.specs.declared.gossip_error.BundleError.TheVariants as bundle_error
+use Rattle.depot_gossip.specs.declared.gossip_error.FeedError.{FeedError}
+use Rattle.depot_gossip.specs.declared.gossip_error.FeedError.TheVariants as error
 use Rattle.depot_gossip.specs.declared.own_bundle.Bundled.{Bundled}
 use Rattle.depot_gossip.specs.declared.own_bundle.Prepared.{Prepared}
 use Rattle.depot_gossip.specs.Bundling.{IsPrepared, journaled_for}
@@ -26,7 +26,7 @@ use Rattle.depot_gossip.specs.Errors.{from_vouching}
 use Rattle.depot_gossip.specs.Lasting.{CallsFed, LastsIn, LastsFed}
 use Rattle.depot_gossip.specs.Pieces.{brought_by}
 use Rattle.depot_model.proofs.FeedGrowth.{feed_grows}
-use Rattle.depot_gossip.proofs.FeedGrowth.{taken_brings, chunk_brings}
+use Rattle.depot_gossip.proofs.FeedRecords.{taken_brings, chunk_brings}
 use Rattle.depot_gossip.proofs.PieceLaws.{IsUnderWay}
 use Rattle.depot_gossip.proofs.StreamLaws.{same_fault}
 use Rattle.depot_gossip.proofs.VoucherGrowth.{are_journaled}

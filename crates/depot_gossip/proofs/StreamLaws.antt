@@ -13,13 +13,13 @@ use Rattle.depot_model.specs.Limits.{Limit}
 use Rattle.depot_model.specs.Replicas.{StopsBy, KeepsDisk}
 use Rattle.depot_model.specs.Vouching.{Vouches, new_vouchers, limit_of_vouchers}
 use Rattle.depot_model.specs.Bundle.{Signs, Parcel, frames_of, proof_frame, end_frame, proofs_for, vouchers_for, sent_foreign, sent_for, parcels, unvouched, with_vouchers, bundled_within, bundle_of, bundle_frames, bundle_answer}
-use Rattle.depot_laws.proofs.Splits.{flat_push}
+use Rattle.depot_base.proofs.GeneralLaws.{flat_push}
 use Rattle.depot_gossip.specs.declared.front.Front.{Front}
 use Rattle.depot_gossip.specs.declared.sending.Sending.{Sending}
 use Rattle.depot_gossip.specs.declared.own_bundle.Bundled.{Bundled}
 use Rattle.depot_gossip.specs.declared.own_bundle.Prepared.{Prepared}
-use Rattle.depot_gossip.specs.declared.error.BundleError.{BundleError}
-use Rattle.depot_gossip.specs.declared.error.BundleError.TheVariants as error
+use Rattle.depot_gossip.specs.declared.gossip_error.BundleError.{BundleError}
+use Rattle.depot_gossip.specs.declared.gossip_error.BundleError.TheVariants as error
 use Rattle.depot_gossip.specs.Errors.{from_vouching}
 use Rattle.depot_gossip.specs.Choosing.{Holds}
 use Rattle.depot_gossip.specs.Fronts.{IsFront, IsStream, IsJoined, voucher_frame}

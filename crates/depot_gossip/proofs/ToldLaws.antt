@@ -10,7 +10,6 @@ use Rattle.depot_base.specs.declared.statement.Statement.{Statement}
 use Rattle.depot_base.specs.declared.statement.Statement.TheVariants as statement
 use Rattle.depot_base.specs.declared.statement.Signed.{Signed}
 use Rattle.depot_base.specs.declared.record.Record.{Record}
-use Rattle.depot_base.specs.declared.record.Record.TheVariants.{Birth, OwnPut, OwnVoucher, Foreign, Conviction, Held}
 use Rattle.depot_base.proofs.Combined.{prefix_free}
 use Rattle.depot_model.specs.declared.hello.Hello.{Hello}
 use Rattle.depot_model.specs.Lists.{IsIn, is_among}
@@ -34,6 +33,7 @@ use Rattle.depot_laws.proofs.ChainLaws.{foreign_writer}
 use Rattle.depot_laws.proofs.Contrary.{kept_is_signed}
 use Rattle.depot_laws.proofs.NewVouchers.{new_are_lawful}
 use Rattle.depot_laws.proofs.Parcels.{sent_in_front}
+use Rattle.depot_laws.proofs.Rejoining.{voucher_is_own}
 use Rattle.depot_gossip.specs.ToldStatements.{IsShort, IsSignedOwn}
 use Rattle.depot_gossip.proofs.ApartLaws.{foreign_one}
 
@@ -98,16 +98,6 @@ sent_carries sign J new h f on two =
       | inl told ↦ (let m = from_map statement_frame f g.by.told told in (m.0, (sym m.1.1, told_more sign J new m.0 (told_in_parcels sign J h g.by m.0 x m.1.0))))
       | inr value ↦ (let m = from_map value_frame f g.by.values value in absurd (omega (arith, two, ap (λ (k : Frame). k.tag) m.1.1)))
     ]
-
--- the record of an own voucher
-voucher_is_own : (r : Record) (v : Voucher) → IsIn v (own_voucher_by r) → IsIn (statement.Voucher v) (own_by r)
-voucher_is_own (OwnVoucher w) v (inl same) = inl (ap (λ (y : Voucher). statement.Voucher y) same)
-voucher_is_own (OwnVoucher w) v (inr never) = absurd never
-voucher_is_own (Birth node h) v never = absurd never
-voucher_is_own (OwnPut u value) v never = absurd never
-voucher_is_own (Foreign s) v never = absurd never
-voucher_is_own (Conviction p) v never = absurd never
-voucher_is_own (Held value) v never = absurd never
 
 voucher_carries : (sign : Signs) (K : List Record) (ids : List (List ℕ)) (f : Frame) → IsIn f (map (λ v. statement_frame (signed_with sign (statement.Voucher v))) (vouchers_for K ids)) → Carries sign K f
 voucher_carries sign K ids f on =

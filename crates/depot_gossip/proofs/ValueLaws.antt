@@ -17,7 +17,7 @@ use Rattle.depot_model.specs.Journal.{accepted_by, update_in, held, value_with}
 use Rattle.depot_model.specs.Contents.{values_named}
 use Rattle.depot_model.specs.Bundle.{values_behind}
 use Rattle.depot_model.proofs.BodyLaws.{body_is_text_of_update}
-use Rattle.depot_laws.proofs.Records.{IsSigned-from_record}
+use Rattle.depot_laws.proofs.LawfulRecords.{IsSigned-from_record}
 use Rattle.depot_gossip.specs.Choosing.{foreign_ids}
 
 -- the hash of the body is the id of the update of another

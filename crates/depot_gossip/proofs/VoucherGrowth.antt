@@ -14,7 +14,7 @@ use Rattle.depot_gossip.specs.declared.own_bundle.Prepared.{Prepared}
 use Rattle.depot_gossip.specs.Errors.{from_vouching}
 use Rattle.depot_gossip.specs.Bundling.{IsPrepared, finds_disk, journaled_for}
 use Rattle.depot_gossip.specs.Lasting.{LastsIn}
-use Rattle.depot_gossip.proofs.LastingLaws.{all_of, cut_of, none_in, to_append, lasts_longer, lasts_alike, IsPart}
+use Rattle.depot_gossip.proofs.LastingStreams.{all_of, cut_of, none_in, to_append, lasts_longer, lasts_alike, IsPart}
 use Rattle.depot_gossip.proofs.ToldLaws.{bundle_is_lawful}
 
 -- the journal is lawful with vouchers that meet no limit

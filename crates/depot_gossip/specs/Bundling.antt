@@ -9,8 +9,8 @@ use Rattle.depot_model.specs.Vouching.{records_of, limit_of_vouchers}
 use Rattle.depot_model.specs.Bundle.{Signs, Bundle, BundleAnswer, bundled, bad_hello, other_roster, limited, bytes_of_bundle, with_vouchers, bundle_answer, bundled_within, bundle_of, parcels, sent_for, unvouched}
 use Rattle.depot_gossip.specs.declared.own_bundle.Bundled.{Bundled}
 use Rattle.depot_gossip.specs.declared.own_bundle.Prepared.{Prepared}
-use Rattle.depot_gossip.specs.declared.error.BundleError.{BundleError}
-use Rattle.depot_gossip.specs.declared.error.BundleError.TheVariants as error
+use Rattle.depot_gossip.specs.declared.gossip_error.BundleError.{BundleError}
+use Rattle.depot_gossip.specs.declared.gossip_error.BundleError.TheVariants as error
 use Rattle.depot_gossip.specs.Choosing.{Holds}
 
 -- ---- the answer

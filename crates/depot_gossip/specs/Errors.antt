@@ -3,8 +3,8 @@ use Rattle.depot_base.specs.declared.fault.DecodeError.{DecodeError}
 use Rattle.depot_base.specs.declared.fault.DecodeError.TheVariants as decode
 use Rattle.depot_model.specs.declared.bundle.VoucherError.{VoucherError}
 use Rattle.depot_model.specs.declared.bundle.VoucherError.TheVariants as refused
-use Rattle.depot_gossip.specs.declared.error.BundleError.{BundleError}
-use Rattle.depot_gossip.specs.declared.error.BundleError.TheVariants as error
+use Rattle.depot_gossip.specs.declared.gossip_error.BundleError.{BundleError}
+use Rattle.depot_gossip.specs.declared.gossip_error.BundleError.TheVariants as error
 
 abbrev pub from_decoding : DecodeError → BundleError
 from_decoding decode.Memory = error.Memory

@@ -12,8 +12,8 @@ use Rattle.depot_model.specs.Bundle.{Signs}
 use Rattle.depot_model.specs.Limits.{IsCutShort}
 use Rattle.depot_model.specs.Taking.{Outcome, no_room, answered}
 use Rattle.depot_model.specs.Replicas.{IsSameNode, KeepsDisk}
-use Rattle.depot_gossip.specs.declared.error.FeedError.{FeedError}
-use Rattle.depot_gossip.specs.declared.error.FeedError.TheVariants as error
+use Rattle.depot_gossip.specs.declared.gossip_error.FeedError.{FeedError}
+use Rattle.depot_gossip.specs.declared.gossip_error.FeedError.TheVariants as error
 use Rattle.depot_gossip.specs.declared.tally.Tally.{Tally}
 use Rattle.depot_model.specs.Frames.{Frame}
 use Rattle.depot_model.specs.Feeding.{take_frame, fed_frame, closed_by, out_of_room}

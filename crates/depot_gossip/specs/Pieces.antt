@@ -11,8 +11,8 @@ use Rattle.depot_model.specs.Frames.{Frame, frame_at, whole_frame}
 use Rattle.depot_model.specs.Taking.{answered, appended_by}
 use Rattle.depot_model.specs.Limits.{IsCutShort}
 use Rattle.depot_model.specs.Feeding.{Feeding, ill_formed, out_of_room, is_over, fed, take_frame, ending_by}
-use Rattle.depot_gossip.specs.declared.error.FeedError.{FeedError}
-use Rattle.depot_gossip.specs.declared.error.FeedError.TheVariants as error
+use Rattle.depot_gossip.specs.declared.gossip_error.FeedError.{FeedError}
+use Rattle.depot_gossip.specs.declared.gossip_error.FeedError.TheVariants as error
 
 -- What a feed keeps: all of a feed at work but the journal, which the node has, and why it is closed, which the call told.
 pub record Stream : Type 0 where

@@ -52,11 +52,12 @@ pub(crate) fn value_behind<'n, R: Peer>(
     ensures { option_to_list (option_copied result) ≡ values_behind (R.records node.now) hashes.now.keys (flat_map values_named (accepted_by item.now)) }
 {
     let update = accepted_in(item)?;
-    if has_hash(hashes, &update.value_hash) {
+    let named = update.value_named();
+    if has_hash(hashes, &named.hash) {
         return None;
     }
-    let value = node.held(&update.value_hash)?;
-    if value.len() == update.value_len as usize {
+    let value = node.held(&named.hash)?;
+    if value.len() == named.size as usize {
         Some(value)
     } else {
         None
@@ -72,7 +73,7 @@ pub(crate) fn add_found(
     ensures { OnOk result (HasToo hashes.old.keys (hashes_named item.now (option_copied found.entry)) hashes.new.keys) }
 {
     match (found, accepted_in(item)) {
-        (Some(_), Some(update)) => add_hash(hashes, update.value_hash),
+        (Some(_), Some(update)) => add_hash(hashes, update.value_named().hash),
         _ => Ok(()),
     }
 }

@@ -9,8 +9,8 @@ ghost use Rattle.depot_gossip.specs.Pieces.{Feeds, at_work, no_stream, told_of};
 ghost use Rattle.depot_gossip.specs.NodeCalls.{stream_by, stream_after, IsTally, IsKept, says_disk, says_stopped};
 ghost use Rattle.depot_gossip.specs.Lasting.{CallsFed, LastsIn, LastsFed};
 
-use crate::error::FeedError;
 use crate::frame::{Standing, missing, stands};
+use crate::gossip_error::FeedError;
 use crate::tally::Tally;
 use depot_base::Memory;
 use depot_base::limits::MOST_PAYLOAD;

@@ -82,7 +82,7 @@ impl Front {
         requires few { self.old.proof_count < MOST_RECORDS }
         ensures { (sign : Signs) (K : List Record) (ids : List (List ℕ)) → IsFront sign K hello.now ids self.old → OnOk result (IsFront sign (K ++ Conviction proof.now ∷ []) hello.now ids self.new) }
     {
-        if lists(hello, proof.first.statement.writer()) {
+        if lists(hello, proof.accused()) {
             return Ok(());
         }
         put_frame(&mut self.proofs, 1, text)?;

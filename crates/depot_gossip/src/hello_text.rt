@@ -1,5 +1,5 @@
 //! Texts of hellos.
-ghost use Rattle.std.specs.Prelude.{◌≡◌, ◌<◌, ◌++◌, length, OnOk, IfOk};
+ghost use Rattle.std.specs.Prelude.{◌≡◌, ◌^◌, ◌<◌, ◌++◌, length, OnOk, IfOk};
 ghost use Rattle.std.specs.List.{flat_map};
 ghost use Rattle.std.specs.Int.{w16};
 ghost use Rattle.depot_base.specs.Cursor.{numeral};
@@ -86,7 +86,7 @@ pub fn decode_hello(alloc: Global, text: &[u8]) -> Result<Hello, DecodeError>
 /// Writes entries behind their count.
 #[tactic(auto, using(depot_base::proofs::Writing::texts))]
 fn put_list<E: Entry>(out: &mut Bytes, list: &[E]) -> Result<(), Memory>
-    requires { length list.now < 65536 }
+    requires { length list.now < 2 ^ 16 }
     ensures { OnOk result (out.new ≡ out.old ++ (numeral w16 (length list.now) ++ flat_map E.text list.now)) }
 {
     out.push_u16(list.len() as u16)?;

@@ -13,14 +13,14 @@
 
 mod candidate;
 mod choose;
-mod error;
 mod feed;
 mod frame;
 mod frame_text;
 mod front;
+mod gossip_error;
+mod gossip_laws;
 mod hashes;
 mod hello_text;
-mod laws;
 mod own_bundle;
 mod own_hello;
 mod sending;
@@ -28,13 +28,13 @@ mod tally;
 
 pub use depot_base::DecodeError;
 pub use depot_model::{Counts, Ending, Refusal, Refusals, Report};
-pub use error::{BundleError, FeedError};
 pub use feed::Feed;
 pub use frame_text::put_frame;
-pub use hello_text::{decode_hello, encode_hello};
-pub use laws::{
+pub use gossip_error::{BundleError, FeedError};
+pub use gossip_laws::{
     bundles_tell_own_statements, hellos_are_prefix_free, hellos_are_read_in_one_way,
     pieces_are_one, streams_tell_all,
 };
+pub use hello_text::{decode_hello, encode_hello};
 pub use own_bundle::{Bundled, bundle};
 pub use own_hello::hello;

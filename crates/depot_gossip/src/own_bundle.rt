@@ -10,9 +10,9 @@ ghost use Rattle.depot_gossip.specs.Fronts.{IsJoined, IsStream};
 ghost use Rattle.depot_gossip.specs.Lasting.{LastsIn};
 
 use crate::choose::chosen;
-use crate::error::BundleError;
 use crate::frame_text::put_frame;
 use crate::front::Front;
+use crate::gossip_error::BundleError;
 use crate::hashes::set_of;
 use crate::hello_text::decode_hello;
 use crate::sending::Sending;

@@ -12,7 +12,7 @@ ghost use Rattle.depot_gossip.specs.Pieces.{at_work, no_stream, brought_by};
 ghost use Rattle.depot_gossip.specs.NodeCalls.{stream_by, IsTally, IsKept, says_disk, says_stopped, told, Answers, TakesFrame};
 ghost use Rattle.depot_gossip.specs.Lasting.{LastsIn};
 
-use crate::error::FeedError;
+use crate::gossip_error::FeedError;
 use depot_base::Check;
 use depot_base::limits::MOST_FRAMES;
 use depot_model::{Refusal, Replica, TakeError, Taken};

@@ -10,7 +10,7 @@ use Rattle.std.proofs.lemmas.List.Folds.{position_or_len_push}
 use Rattle.std.proofs.lemmas.List.Sums.{prefix_len-le-length}
 use Rattle.std.proofs.Math.Bool.{or-false}
 use Rattle.std.proofs.lemmas.List.Quantifiers.{position-Some}
-use Rattle.std.proofs.lemmas.Option.{slice_get-get_or}
+use Rattle.std.proofs.lemmas.Option.{slice_get-get_or, same_Some}
 use Rattle.indexmap.specs.IndexMap.{insert_entry}
 use Rattle.depot_base.specs.Zeros.{zeros}
 use Rattle.depot_base.specs.declared.update.Update.{Update}
@@ -19,14 +19,14 @@ use Rattle.depot_model.specs.Texts.{id_of_update}
 use Rattle.depot_model.specs.Order.{parents, prevs, IsCausal}
 use Rattle.depot_model.specs.History.{is_prev_in}
 use Rattle.depot_model.specs.Items.{place_of_id, place_of_prev, places_where}
-use Rattle.depot_model.proofs.Elements.{get_last}
 use Rattle.depot_model.proofs.Members.{in_left, in_last, in_pushed, from_map, among_to, all_among_from}
 use Rattle.depot_model.proofs.Orders.{causal_front, parent_is_there, parents_of_last}
+use Rattle.depot_base.proofs.GeneralLaws.{get_last, any_push}
 use Rattle.depot_graph.specs.Causal.{is_causal}
 use Rattle.depot_graph.specs.Kept.{updates_in, child_lists, leaf_places, prev_places}
 use Rattle.depot_graph.specs.Kin.{is_place, siblings_of, with_siblings}
 use Rattle.depot_graph.proofs.Front.{apart}
-use Rattle.depot_graph.specs.OrderLaws.{some_same, one_place}
+use Rattle.depot_graph.specs.OrderLaws.{one_place}
 use Rattle.depot_graph.proofs.PastLaws.{none_has}
 
 -- ---- the map
@@ -70,7 +70,7 @@ is_it h us k t c at_k (Some p) found =
     let named : id_of_update w ≡ h = (bytes_eq-Decides (id_of_update w) h).0 at.1 in
     elim (cases_order p k) [
       | inl same ↦
-          let one : w ≡ t = some_same w t (sym at_p ∙ (ap (slice_get us) same ∙ at_k)) in
+          let one : w ≡ t = same_Some w t (sym at_p ∙ (ap (slice_get us) same ∙ at_k)) in
           or_left (bytes_eq (id_of_update t) h) false ((bytes_eq-Decides (id_of_update t) h).1 (ap id_of_update (sym one) ∙ named)) ∙ sym (eq-eqb p k same)
       | inr other ↦
           or_from (bytes_eq (id_of_update t) h) false (false_from_ne_true _ (λ e. apart_places us p k w t c at_p at_k (named ∙ sym ((bytes_eq-Decides (id_of_update t) h).0 e)) other)) refl
@@ -107,16 +107,6 @@ last_is_no_prev us u v c on = false_from_ne_true _ (λ e.
     ])
 
 -- ---- tests over a list and one more
-
-any_push : {X : Type 0} (test : X → Bool) (xs : List X) (x : X) → list_any test (xs ++ x ∷ []) ≡ (list_any test xs || test x)
-any_push test [] x = or_false (test x) where
-  or_false : (b : Bool) → (b || false) ≡ b
-  or_false true = refl
-  or_false false = refl
-any_push test (y ∷ ys) x = ap (λ (b : Bool). test y || b) (any_push test ys x) ∙ or_assoc (test y) (list_any test ys) (test x) where
-  or_assoc : (a b c : Bool) → (a || (b || c)) ≡ ((a || b) || c)
-  or_assoc true b c = refl
-  or_assoc false b c = refl
 
 any_none : {X : Type 0} (test : X → Bool) (xs : List X) → ((x : X) → IsIn x xs → test x ≡ false) → list_any test xs ≡ false
 any_none test [] none = refl
@@ -305,7 +295,7 @@ module _ (es new : List (List ℕ × Update)) (k : List ℕ) (u : Update) (last 
   last_is n key v count at =
       let here : n ≡ length es = count ∙ length-map es (λ (e : List ℕ × Update). e.1) in
       let both : Some (key, v) ≡ Some (k, u) = sym at ∙ (ap (λ (xs : List (List ℕ × Update)). slice_get xs n) last ∙ (ap (slice_get (es ++ (k, u) ∷ [])) here ∙ get_last es (k, u))) in
-      ap (λ (e : List ℕ × Update). e.1) (some_same (key, v) (k, u) both)
+      ap (λ (e : List ℕ × Update). e.1) (same_Some (key, v) (k, u) both)
 
   pub ids_kept : keys_of es ≡ map id_of_update (updates_in es) → k ≡ id_of_update u → keys_of new ≡ map id_of_update (updates_in new)
   ids_kept ids key = subst (λ (xs : List (List ℕ × Update)). keys_of xs ≡ map id_of_update (updates_in xs)) (sym last) (keys_then es k u ids key)

@@ -3,7 +3,7 @@ use Rattle.std.proofs.Common.{◌≡◌, ℕ, zero, suc, ◌+◌, ◌<◌, List,
 use Rattle.std.specs.List.{sum_by}
 use Rattle.std.proofs.lemmas.List.{length-append}
 use Rattle.std.proofs.lemmas.List.Sums.{sum_by-cons}
-use Rattle.std.proofs.lemmas.Option.{slice_get_within, slice_get-get_or}
+use Rattle.std.proofs.lemmas.Option.{slice_get_within, slice_get-get_or, same_Some}
 use Rattle.depot_base.specs.declared.update.Update.{Update}
 use Rattle.depot_model.specs.Lists.{IsIn}
 use Rattle.depot_model.specs.Texts.{id_of_update}
@@ -16,9 +16,10 @@ use Rattle.depot_virtual.specs.declared.Spot.{Spot}
 use Rattle.depot_virtual.proofs.Placing.{spot_at}
 use Rattle.depot_virtual.specs.Spots.{chains_of, chain_length as spots_length}
 use Rattle.depot_clocks.specs.ChainItems.{ChainItem, LeadsTo, IsUpTo, IsAt, chain_length, number_of_chains, Precedes as ItemPrecedes}
-use Rattle.depot_clocks.proofs.ItemPaths.{from_pushed, up_to_trans}
+use Rattle.depot_clocks.proofs.ItemPaths.{up_to_trans}
+use Rattle.depot_base.proofs.GeneralLaws.{from_pushed}
 use Rattle.depot_graph.proofs.Front.{apart}
-use Rattle.depot_graph.specs.OrderLaws.{some_same, at_both}
+use Rattle.depot_graph.specs.OrderLaws.{at_both}
 use Rattle.depot_graph.proofs.AddLaws.{is_fresh}
 
 -- the parents of each item are the places of its update's parents
@@ -35,7 +36,7 @@ one_step us t u a b at_a at_b named = record { stops = []; path = record { above
 
 -- what leads from an item to another
 leads_up : (us : List Update) (items : List ChainItem) (steps a b : ℕ) (t u : Update) → AreClocked us items → slice_get us a ≡ Some t → slice_get us b ≡ Some u → LeadsTo items steps b a → (u ≡ t) ⊎ Precedes us t u
-leads_up us items zero a b t u c at_a at_b same = inl (some_same u t (sym at_b ∙ (ap (slice_get us) same ∙ at_a)))
+leads_up us items zero a b t u c at_a at_b same = inl (same_Some u t (sym at_b ∙ (ap (slice_get us) same ∙ at_a)))
 leads_up us items (suc steps) a b t u c at_a at_b l =
     let p = l.0 in
     let x = l.1.0.0 in
@@ -190,6 +191,6 @@ spotted_at items placed item chain place same at = found items item (ap (λ (l :
     none : (k : ℕ) → slice_get {X = Spot} [] k ≡ Some (spot_at chain place) → ⊥
     none k at = cc
   found (x ∷ xs) zero e =
-      let is : spot_at x.chain x.place ≡ spot_at chain place = some_same (spot_at x.chain x.place) (spot_at chain place) e in
+      let is : spot_at x.chain x.place ≡ spot_at chain place = same_Some (spot_at x.chain x.place) (spot_at chain place) e in
       (x, (refl, (ap (λ (s : Spot). s.chain) is, ap (λ (s : Spot). s.place) is)))
   found (x ∷ xs) (suc n) e = found xs n e

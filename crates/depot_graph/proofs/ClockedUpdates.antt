@@ -6,7 +6,7 @@ use Rattle.std.specs.Str.{bytes_eq}
 use Rattle.std.proofs.lemmas.Bool.{cases_order}
 use Rattle.std.proofs.lemmas.List.{map-append}
 use Rattle.std.proofs.lemmas.List.Quantifiers.{position-Some}
-use Rattle.std.proofs.lemmas.Option.{slice_get-get_or}
+use Rattle.std.proofs.lemmas.Option.{slice_get-get_or, same_Some}
 use Rattle.std.proofs.lemmas.Slice.Eq.{bytes_eq-Decides}
 use Rattle.depot_base.specs.Zeros.{zeros}
 use Rattle.depot_base.specs.declared.update.Update.{Update}
@@ -24,7 +24,7 @@ use Rattle.depot_clocks.specs.ChainItems.{ChainItem, IsLinked, chain_length, num
 use Rattle.depot_index.proofs.ItemLists.{IsIn as InList, from_contains, to_contains, all_of_in}
 use Rattle.depot_graph.specs.Kept.{prev_places}
 use Rattle.depot_graph.specs.Clocked.{parent_places, clock_item, clock_items_behind, clock_items}
-use Rattle.depot_graph.specs.OrderLaws.{some_same, one_place}
+use Rattle.depot_graph.specs.OrderLaws.{one_place}
 use Rattle.depot_graph.proofs.PastLaws.{none_has}
 use Rattle.depot_graph.proofs.AddLaws.{prev_places-push}
 use Rattle.depot_graph.proofs.ClockedItems.{AreClocked, AreSpotted, clocked_none, clocked_next, spotted_length, spotted_number, spotted_at, clocked_precedes}
@@ -54,7 +54,7 @@ flat_in f (k ∷ hs) h a (inr on) e = behind (f k) (flat_in f hs h a on e) where
 id_at : (h : List ℕ) (us : List Update) (a : ℕ) (t : Update) → slice_get us a ≡ Some t → place_of_id h us ≡ Some a → id_of_update t ≡ h
 id_at h us a t at e =
     let found = position-Some (λ (u : Update). bytes_eq (id_of_update u) h) us a t e in
-    let is : get_or us a t ≡ t = some_same (get_or us a t) t (sym (slice_get-get_or us a t found.0) ∙ at) in
+    let is : get_or us a t ≡ t = same_Some (get_or us a t) t (sym (slice_get-get_or us a t found.0) ∙ at) in
     ap id_of_update (sym is) ∙ (bytes_eq-Decides (id_of_update (get_or us a t)) h).0 found.1
 
 at_id : (h : List ℕ) (us : List Update) (a : ℕ) (t : Update) → IsCausal [] us → slice_get us a ≡ Some t → id_of_update t ≡ h → (o : Option ℕ) → place_of_id h us ≡ o → o ≡ Some a

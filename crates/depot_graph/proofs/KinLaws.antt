@@ -11,7 +11,8 @@ use Rattle.depot_model.specs.Texts.{id_of_update}
 use Rattle.depot_model.specs.Order.{prevs}
 use Rattle.depot_model.specs.History.{is_prev_in}
 use Rattle.depot_model.specs.Items.{at, place_of_id, places_where, AreDistinct, AreLeaves, children_of, children_by}
-use Rattle.depot_model.proofs.Members.{all_from, chosen_cases, bytes_eq_comm}
+use Rattle.depot_model.proofs.Members.{all_from, chosen_cases}
+use Rattle.depot_base.proofs.GeneralLaws.{bytes_eq_comm}
 use Rattle.depot_graph.specs.Kept.{updates_in, child_lists, leaf_places}
 
 -- ---- ids

@@ -9,16 +9,16 @@ use Rattle.depot_base.specs.declared.update.Update.{Update}
 use Rattle.depot_model.specs.Lists.{IsIn}
 use Rattle.depot_model.specs.Order.{Precedes, IsCausal, AreLatestIn}
 use Rattle.depot_model.specs.Items.{PrecedesAt, updates_at}
-use Rattle.depot_model.proofs.Elements.{at_place, in_at, get_last}
+use Rattle.depot_model.proofs.Elements.{in_at}
 use Rattle.depot_model.proofs.LatestLaws.{one_latest_list}
 use Rattle.depot_model.proofs.Members.{in_left}
 use Rattle.depot_model.proofs.Orders.{causal_front, precedes_wider}
-use Rattle.depot_clocks.proofs.ItemPaths.{from_pushed, to_pushed}
 use Rattle.depot_index.specs.KeyLists.{KeyList, latest_of}
 use Rattle.depot_index.specs.LatestItems.{AreLatestOf, IsNewest, IsLatestWith}
 use Rattle.depot_index.proofs.ItemLists.{IsIn as InList, from_contains, to_contains, in_pushed, last_pushed, to_pushed as in_longer}
 use Rattle.depot_index.proofs.MendedLists.{latest_agree, latest_one}
-use Rattle.depot_graph.specs.Latest.{mended, latest_places}
+use Rattle.depot_base.proofs.GeneralLaws.{at_place, from_pushed, to_pushed, get_last}
+use Rattle.depot_graph.specs.KeptLatest.{mended, latest_places}
 use Rattle.depot_graph.specs.Listing.{ListedAt}
 use Rattle.depot_graph.specs.OrderLaws.{at_both, lists_no_self, lists_on}
 use Rattle.depot_graph.proofs.Front.{precedes_in_front, last_precedes_none}
@@ -89,7 +89,7 @@ precedes_agree us u a b t v c at_a at_b =
     )
 
 listed_agree : (us : List Update) (u : Update) (a b : ℕ) → ListedAt us a b → ListedAt (us ++ u ∷ []) a b
-listed_agree us u a b p = (p.0, (to_pushed us u a p.0 p.1.0, (p.1.1.0, (to_pushed us u b p.1.1.0 p.1.1.1.0, p.1.1.1.1))))
+listed_agree us u a b (t, (at_a, (v, (at_b, listed)))) = (t, (to_pushed us u a t at_a, (v, (to_pushed us u b v at_b, listed))))
 
 -- the item of u is none of those before it and precedes none of them
 is_newest : (key : List ℕ) (us : List Update) (u : Update) (among : List ℕ) → IsCausal [] (us ++ u ∷ []) → AreWriters key us among → IsNewest (PrecedesAt (us ++ u ∷ [])) among (length us)

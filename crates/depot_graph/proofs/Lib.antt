@@ -2,7 +2,7 @@ pub mod Front
 pub mod KinLaws
 pub mod PastLaws
 pub mod RisingLaws
-pub mod LatestLaws
+pub mod GraphLatest
 pub mod PlaceLaws
 pub mod AddLaws
 pub mod ClockedItems

@@ -12,11 +12,12 @@ use Rattle.depot_model.specs.Texts.{id_of_update}
 use Rattle.depot_model.specs.Order.{listed, past, IsCausal, AreLatestIn}
 use Rattle.depot_model.specs.Items.{updates_at}
 use Rattle.depot_model.specs.Journal.{has_id}
-use Rattle.depot_model.proofs.Elements.{get_front, get_last}
+use Rattle.depot_model.proofs.Elements.{get_front}
 use Rattle.depot_model.proofs.Orders.{causal_front}
-use Rattle.depot_graph.specs.Latest.{stands_before, put_place, is_apart, mended, latest_behind, latest_places}
+use Rattle.depot_base.proofs.GeneralLaws.{get_last}
+use Rattle.depot_graph.specs.KeptLatest.{stands_before, put_place, is_apart, mended, latest_behind, latest_places}
 use Rattle.depot_graph.proofs.RisingLaws.{put_listed}
-use Rattle.depot_graph.proofs.LatestLaws.{is_free, others_stay, mended_are_latest}
+use Rattle.depot_graph.proofs.GraphLatest.{is_free, others_stay, mended_are_latest}
 
 -- each place is below n
 abbrev pub AreBelow : ℕ → List ℕ → Type 0

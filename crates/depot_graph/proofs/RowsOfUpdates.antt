@@ -7,7 +7,8 @@ use Rattle.depot_model.specs.Order.{IsCausal}
 use Rattle.depot_virtual.specs.declared.Spot.{Spot}
 use Rattle.depot_virtual.specs.Spots.{spots, chains_of, IsAt as SpotIsAt}
 use Rattle.depot_virtual.proofs.Placing.{all_placed}
-use Rattle.depot_clocks.specs.ChainItems.{ChainItem, IsAt, IsUpTo, IsCount, IsOfPast, IsTrueOf, CountsAll, IsWithin, number_of_chains, JoinsUpTo, IsJoined}
+use Rattle.depot_clocks.specs.ChainItems.{ChainItem, IsUpTo, IsCount, IsOfPast, IsTrueOf, CountsAll, IsWithin, number_of_chains, JoinsUpTo, IsJoined}
+use Rattle.depot_clocks.proofs.ItemPaths.{Standing, standing}
 use Rattle.depot_graph.specs.Clocked.{clock_items}
 use Rattle.depot_graph.specs.Kept.{prev_places}
 use Rattle.depot_graph.specs.UpdateRows.{IsUpToAt, IsOfPastAt, IsCountAt, CountsAllAt, IsWithinAt, IsJoinedRow}
@@ -22,8 +23,8 @@ to_spot us a x c at =
     let f : ChainItem → Spot = λ y. record { chain = y.chain; place = y.place } in
     ap (λ (l : List Spot). slice_get l a) (sym (clock_spotted us c)) ∙ (slice_get-map f (clock_items us) a ∙ ap (option_map f) at)
 
-from_spot : (us : List Update) (a chain place : ℕ) → IsCausal [] us → SpotIsAt (prev_places us) a chain place → IsAt (clock_items us) a chain place
-from_spot us a chain place c at = spotted_at (clock_items us) (spots (prev_places us)) a chain place (clock_spotted us c) at
+from_spot : (us : List Update) (a chain place : ℕ) → IsCausal [] us → SpotIsAt (prev_places us) a chain place → Standing (clock_items us) a chain place
+from_spot us a chain place c at = standing (clock_items us) a chain place (spotted_at (clock_items us) (spots (prev_places us)) a chain place (clock_spotted us c) at)
 
 low_at : (us : List Update) (a : ℕ) (x : ChainItem) → IsCausal [] us → slice_get (clock_items us) a ≡ Some x → a < length us
 low_at us a x c at = let low = slice_get_within (clock_items us) a x at in omega (arith, low, clock_long us c)
@@ -46,12 +47,12 @@ module _ (us : List Update) (c : IsCausal [] us) (item : ℕ) (low : item < leng
     there = omega (arith, k.there, spotted_length (clock_items us) (spots (prev_places us)) chain (clock_spotted us c));
     counted = λ a place at up.
         let x = from_spot us a chain place c at in
-        let low_a = low_at us a x.0 c x.1.0 in
-        let below = k.counted a x.0 x.1.0 x.1.1.0 (up_from us a item c low_a low up) in
-        omega (arith, below, x.1.1.1);
+        let low_a = low_at us a x.it c x.at in
+        let below = k.counted a x.it x.at x.of_chain (up_from us a item c low_a low up) in
+        omega (arith, below, x.at_place);
     only = λ a place at below.
         let x = from_spot us a chain place c at in
-        up_to us a item c (low_at us a x.0 c x.1.0) low (k.only a x.0 x.1.0 x.1.1.0 (omega (arith, below, x.1.1.1)));
+        up_to us a item c (low_at us a x.it c x.at) low (k.only a x.it x.at x.of_chain (omega (arith, below, x.at_place)));
   }
 
   count_from : (chain n : ℕ) → IsCountAt us chain item n → IsCount (clock_items us) chain item n
@@ -66,11 +67,11 @@ module _ (us : List Update) (c : IsCausal [] us) (item : ℕ) (low : item < leng
     numbers = k.numbers;
     all = λ a is.
         let x = from_spot us a chain is.0.0 c is.0.1 in
-        k.all a (x.0, (x.1.0, (x.1.1.0, up_from us a item c (low_at us a x.0 c x.1.0) low is.1)));
+        k.all a (record { it = x.it; at = x.at; of_chain = x.of_chain; up_to = up_from us a item c (low_at us a x.it c x.at) low is.1 });
     only = λ a on.
         let is = k.only a on in
-        let low_a = low_at us a is.0 c is.1.0 in
-        ((is.0.place, subst (λ (d : ℕ). SpotIsAt (prev_places us) a d is.0.place) is.1.1.0 (to_spot us a is.0 c is.1.0)), up_to us a item c low_a low is.1.1.1);
+        let low_a = low_at us a is.it c is.at in
+        ((is.it.place, subst (λ (d : ℕ). SpotIsAt (prev_places us) a d is.it.place) is.of_chain (to_spot us a is.it c is.at)), up_to us a item c low_a low is.up_to);
     apart = k.apart;
     many = k.many;
   }
@@ -93,10 +94,10 @@ module _ (us : List Update) (c : IsCausal [] us) (item : ℕ) (low : item < leng
   within_counts items row told clocked tells = (
     (λ yes_ a chain place at up.
         let x = from_spot us a chain place c at in
-        let up_x = up_from us a item c (low_at us a x.0 c x.1.0) low up in
-        let below : x.0.place < slice_index row x.0.chain = subst (λ (xs : List ChainItem). CountsAll xs item row) clocked (tells.0 yes_) a x.0 x.1.0 up_x in
-        let here : x.0.place < slice_index row chain = subst (λ (d : ℕ). x.0.place < slice_index row d) x.1.1.0 below in
-        omega (arith, here, x.1.1.1)),
+        let up_x = up_from us a item c (low_at us a x.it c x.at) low up in
+        let below : x.it.place < slice_index row x.it.chain = subst (λ (xs : List ChainItem). CountsAll xs item row) clocked (tells.0 yes_) a x.it x.at up_x in
+        let here : x.it.place < slice_index row chain = subst (λ (d : ℕ). x.it.place < slice_index row d) x.of_chain below in
+        omega (arith, here, x.at_place)),
     (λ all. tells.1 (subst (λ (xs : List ChainItem). CountsAll xs item row) (sym clocked) (λ a x at up. all a x.chain x.place (to_spot us a x c at) (up_to us a item c (low_at us a x c at) low up)))),
   )
 
@@ -123,18 +124,19 @@ joined_row_is us items ms row c clocked inside joined =
     let there : (a chain place : ℕ) → SpotIsAt (prev_places us) a chain place → chain < length row = λ a chain place at. let low = (all_placed (prev_places us)).chain a (record { chain = chain; place = place }) at in omega (arith, low, long) in
     record {
       long = long;
+      there = λ chain low. omega (arith, (joins chain low).there, spotted_length (clock_items us) (spots (prev_places us)) chain (clock_spotted us c));
       counted = λ m a chain place on at up.
           let k = place_in ms m on in
           let x = from_spot us a chain place c at in
-          let low_a = low_at us a x.0 c x.1.0 in
+          let low_a = low_at us a x.it c x.at in
           let low_m : slice_index ms k.0 < length us = inside k.0 k.1.0 in
           let up_k : IsUpToAt us a (slice_index ms k.0) = subst (IsUpToAt us a) (sym k.1.1) up in
-          let below = (joins chain (there a chain place at)).counted a x.0 k.0 x.1.0 x.1.1.0 k.1.0 (up_from us a (slice_index ms k.0) c low_a low_m up_k) in
-          omega (arith, below, x.1.1.1);
+          let below = (joins chain (there a chain place at)).counted a x.it k.0 x.at x.of_chain k.1.0 (up_from us a (slice_index ms k.0) c low_a low_m up_k) in
+          omega (arith, below, x.at_place);
       only = λ a chain place at below.
           let x = from_spot us a chain place c at in
-          let k = (joins chain (there a chain place at)).only a x.0 x.1.0 x.1.1.0 (omega (arith, below, x.1.1.1)) in
-          (slice_index ms k.0, (in_place ms k.0 k.1.0, up_to us a (slice_index ms k.0) c (low_at us a x.0 c x.1.0) (inside k.0 k.1.0) k.1.1));
+          let k = (joins chain (there a chain place at)).only a x.it x.at x.of_chain (omega (arith, below, x.at_place)) in
+          (slice_index ms k.0, (in_place ms k.0 k.1.0, up_to us a (slice_index ms k.0) c (low_at us a x.it c x.at) (inside k.0 k.1.0) k.1.1));
     }
 
 -- where memory was found for it

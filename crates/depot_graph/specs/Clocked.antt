@@ -1,18 +1,12 @@
 -- Updates as the items of clocks.
 use Rattle.std.specs.Prelude.{◌≡◌, ℕ, List, [], ◌∷◌, ◌++◌, refl}
 use Rattle.std.specs.Coded.{Coded, Coded-set, code_by, coded×, coded_ℕ, coded_list}
-use Rattle.std.specs.List.{flat_map}
-use Rattle.std.specs.Option.{option_to_list}
 use Rattle.depot_base.specs.declared.update.Update.{Update}
 use Rattle.depot_model.specs.Order.{parents}
-use Rattle.depot_model.specs.Items.{place_of_id, place_of_prev}
+use Rattle.depot_model.specs.Items.{place_of_prev, places_of}
 use Rattle.depot_virtual.specs.Spots.{next_spot, spots}
 use Rattle.depot_clocks.specs.ChainItems.{ChainItem}
 use Rattle.depot_graph.specs.Kept.{prev_places}
-
--- the places of the updates with these ids
-abbrev pub places_of : List Update → List (List ℕ) → List ℕ
-places_of us hs = flat_map (λ h. option_to_list (place_of_id h us)) hs
 
 -- the places of the parents of u
 abbrev pub parent_places : List Update → Update → List ℕ

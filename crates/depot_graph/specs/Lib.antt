@@ -3,7 +3,7 @@ pub mod Change
 pub mod Clocked
 pub mod Kept
 pub mod Kin
-pub mod Latest
+pub mod KeptLatest
 pub mod Listing
 pub mod OrderLaws
 pub mod UpdateRows

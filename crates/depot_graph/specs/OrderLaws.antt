@@ -11,13 +11,12 @@ use Rattle.depot_base.specs.declared.update.Update.{Update}
 use Rattle.depot_model.specs.Texts.{id_of_update}
 use Rattle.depot_model.specs.Order.{IsParent, Precedes, listed, IsCausal}
 use Rattle.depot_model.specs.Items.{PrecedesAt}
-use Rattle.depot_model.proofs.Elements.{at_place, in_at}
+use Rattle.depot_model.proofs.Elements.{in_at, both_at}
 use Rattle.depot_model.proofs.LatestLaws.{rank, listed_one_way}
 use Rattle.depot_model.proofs.Orders.{fresh, leads_trans, precedes_irreflexive}
+use Rattle.depot_base.proofs.GeneralLaws.{at_place}
+use Rattle.std.proofs.lemmas.Option.{same_Some}
 use Rattle.depot_graph.specs.Listing.{ListedAt}
-
-pub some_same : {X : Type 0} (x y : X) → Some x ≡ Some y → x ≡ y
-some_same x y e = cc
 
 -- ---- by paths of parents
 
@@ -25,9 +24,10 @@ some_same x y e = cc
 pub at_both : (us : List Update) (a b : ℕ) (t u : Update) → slice_get us a ≡ Some t → slice_get us b ≡ Some u → (PrecedesAt us a b → Precedes us t u) × (Precedes us t u → PrecedesAt us a b)
 at_both us a b t u at_a at_b = (
   (λ p.
-      let first : p.0 ≡ t = some_same _ _ (sym p.1.0 ∙ at_a) in
-      let second : p.1.1.0 ≡ u = some_same _ _ (sym p.1.1.1.0 ∙ at_b) in
-      subst (λ (x : Update). Precedes us x u) first (subst (Precedes us p.0) second p.1.1.1.1)),
+      let both = both_at us a b (Precedes us) p in
+      let first : both.first ≡ t = same_Some _ _ (sym both.at_first ∙ at_a) in
+      let second : both.second ≡ u = same_Some _ _ (sym both.at_second ∙ at_b) in
+      subst (λ (x : Update). Precedes us x u) first (subst (Precedes us both.first) second both.holds)),
   (λ p. (t, (at_a, (u, (at_b, p))))),
 )
 
@@ -36,8 +36,10 @@ precedes_no_self us a c p = precedes_irreflexive [] us p.0 c ((at_both us a a p.
 
 pub precedes_on : (us : List Update) (a b d : ℕ) → PrecedesAt us a b → PrecedesAt us b d → PrecedesAt us a d
 precedes_on us a b d p q =
-    let first = (at_both us a b p.0 q.0 p.1.0 q.1.0).0 p in
-    (p.0, (p.1.0, (q.1.1.0, (q.1.1.1.0, leads_trans (IsParent us) p.0 q.0 q.1.1.0 first q.1.1.1.1))))
+    let before = both_at us a b (Precedes us) p in
+    let behind = both_at us b d (Precedes us) q in
+    let first = (at_both us a b before.first behind.first before.at_first behind.at_first).0 p in
+    (before.first, (before.at_first, (behind.second, (behind.at_second, leads_trans (IsParent us) before.first behind.first behind.second first behind.holds))))
 
 -- ---- the listed order of updates
 
@@ -70,7 +72,7 @@ unfolding IsCausal
 one_place_behind ids [] k p t w c at_k at_p e lt = absurd cc
 one_place_behind ids (x ∷ xs) zero zero t w c at_k at_p e lt = omega (arith, lt)
 one_place_behind ids (x ∷ xs) (suc k) zero t w c at_k at_p e lt = omega (arith, lt)
-one_place_behind ids (x ∷ xs) zero (suc p) t w c at_k at_p e lt = fresh (id_of_update x ∷ ids) xs w c.1.1 (in_at xs p w at_p) (inl (ap id_of_update (some_same x t at_k) ∙ e))
+one_place_behind ids (x ∷ xs) zero (suc p) t w c at_k at_p e lt = fresh (id_of_update x ∷ ids) xs w c.1.1 (in_at xs p w at_p) (inl (ap id_of_update (same_Some x t at_k) ∙ e))
 one_place_behind ids (x ∷ xs) (suc k) (suc p) t w c at_k at_p e lt = one_place_behind (id_of_update x ∷ ids) xs k p t w c.1.1 at_k at_p e (omega (arith, lt))
 
 pub one_place : (us : List Update) (k p : ℕ) (t w : Update) → IsCausal [] us → slice_get us k ≡ Some t → slice_get us p ≡ Some w → id_of_update t ≡ id_of_update w → k < p → ⊥
@@ -78,20 +80,26 @@ one_place us k p t w c at_k at_p e lt = one_place_behind [] us k p t w c at_k at
 
 -- ---- as they are listed
 
+abbrev ListedBefore : Update → Update → Type 0
+ListedBefore t u = is_lt (listed t u) ≡ true
+
 -- the same of the listed order
 pub listed_both : (us : List Update) (a b : ℕ) (t u : Update) → slice_get us a ≡ Some t → slice_get us b ≡ Some u → ListedAt us a b → is_lt (listed t u) ≡ true
 listed_both us a b t u at_a at_b p =
-    let first : p.0 ≡ t = some_same _ _ (sym p.1.0 ∙ at_a) in
-    let second : p.1.1.0 ≡ u = some_same _ _ (sym p.1.1.1.0 ∙ at_b) in
-    subst (λ (x : Update). is_lt (listed x u) ≡ true) first (subst (λ (x : Update). is_lt (listed p.0 x) ≡ true) second p.1.1.1.1)
+    let both = both_at us a b ListedBefore p in
+    let first : both.first ≡ t = same_Some _ _ (sym both.at_first ∙ at_a) in
+    let second : both.second ≡ u = same_Some _ _ (sym both.at_second ∙ at_b) in
+    subst (λ (x : Update). ListedBefore x u) first (subst (ListedBefore both.first) second both.holds)
 
 pub lists_no_self : (us : List Update) (a : ℕ) → ListedAt us a a → ⊥
 lists_no_self us a p = let before = listed_both us a a p.0 p.0 p.1.0 p.1.0 p in listed_one_way p.0 p.0 before before
 
 pub lists_on : (us : List Update) (a b d : ℕ) → ListedAt us a b → ListedAt us b d → ListedAt us a d
 lists_on us a b d p q =
-    let first = listed_both us a b p.0 q.0 p.1.0 q.1.0 p in
-    (p.0, (p.1.0, (q.1.1.0, (q.1.1.1.0, listed_trans p.0 q.0 q.1.1.0 first q.1.1.1.1))))
+    let before = both_at us a b ListedBefore p in
+    let behind = both_at us b d ListedBefore q in
+    let first = listed_both us a b before.first behind.first before.at_first behind.at_first p in
+    (before.first, (before.at_first, (behind.second, (behind.at_second, listed_trans before.first behind.first behind.second first behind.holds))))
 
 -- of two places one is listed before the other, since no id stands at both
 lists_either : (b : Bool) (us : List Update) (x y : ℕ) (t u : Update) → is_lt (listed t u) ≡ b → slice_get us x ≡ Some t → slice_get us y ≡ Some u → (id_of_update u ≡ id_of_update t → ⊥) → ListedAt us x y ⊎ ListedAt us y x

@@ -28,8 +28,9 @@ CountsAllAt us item row = (a chain place : ℕ) → IsAt (prev_places us) a chai
 abbrev pub IsWithinAt : List Update → ℕ → List ℕ → Type 0
 IsWithinAt us item row = (chain n : ℕ) → IsCountAt us chain item n → n ≤ slice_index row chain
 
--- an entry for each chain: it counts an item of the chain exactly where that is one of these or precedes one
+-- an entry for each chain: how many of its items are one of these or precede one, which are its first
 pub record IsJoinedRow (us : List Update) (items row : List ℕ) : Type 0 where
   pub long : length row ≡ number_of_chains (prev_places us)
+  pub there : (chain : ℕ) → chain < length row → slice_index row chain ≤ chain_length (spots (prev_places us)) chain
   pub counted : (m a chain place : ℕ) → IsIn m items → IsAt (prev_places us) a chain place → IsUpToAt us a m → place < slice_index row chain
   pub only : (a chain place : ℕ) → IsAt (prev_places us) a chain place → place < slice_index row chain → (m : ℕ) × (IsIn m items × IsUpToAt us a m)

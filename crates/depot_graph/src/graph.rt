@@ -5,6 +5,7 @@ ghost use Rattle.std.specs.Map.{keys_of};
 ghost use Rattle.std.specs.Option.{ForSome, option_to_list};
 ghost use Rattle.std.specs.HashMap.{spare};
 ghost use Rattle.depot_base.specs.declared.update.Update.{Update};
+ghost use Rattle.depot_model.specs.Contents.{key_written};
 ghost use Rattle.depot_model.specs.Order.{IsCausal, AreLatestIn};
 ghost use Rattle.depot_model.specs.Texts.{id_of_update};
 ghost use Rattle.depot_model.specs.Items.{place_of_prev, updates_at};
@@ -16,12 +17,12 @@ ghost use Rattle.depot_graph.specs.Change.{IsChangeBy};
 ghost use Rattle.depot_graph.specs.Clocked.{parent_places, clock_items, are_items-prop};
 ghost use Rattle.depot_graph.specs.Kin.{is_place, siblings_of, with_siblings};
 ghost use Rattle.depot_graph.specs.Kept.{updates_in, child_lists, leaf_places, prev_places};
-ghost use Rattle.depot_graph.specs.Latest.{latest_places};
+ghost use Rattle.depot_graph.specs.KeptLatest.{latest_places};
 ghost use Rattle.depot_graph.specs.UpdateRows.{IsOfPastAt, IsCountAt, IsWithinAt, CountsAllAt, IsJoinedRow};
 
 use crate::change::Change;
 use crate::item::item_at;
-use crate::order::Order;
+use crate::listed_order::Order;
 use depot_base::{Hash32, Key, Memory, Precedes, Steps, Update};
 use depot_clocks::Clocks;
 use depot_index::KeyIndex;
@@ -62,7 +63,7 @@ pub struct Graph {
 
 impl Graph {
     /// No updates. It takes no memory.
-    #[tactic(auto, unfolding(crate::specs::Clocked::clock_items_behind, crate::specs::Latest::latest_behind, depot_model::specs::Items::places_where))]
+    #[tactic(auto, unfolding(crate::specs::Clocked::clock_items_behind, crate::specs::KeptLatest::latest_behind, depot_model::specs::Items::places_where))]
     pub fn new(alloc: Global) -> Graph
         ensures { ⟦<Graph as Past>⟧.updates result ≡ [] }
     {
@@ -94,10 +95,10 @@ impl Graph {
         ensures ok { IfOk result (λ item. item ≡ length (⟦<Graph as Past>⟧.updates self.old)) }
         ensures added { OnOk result (⟦<Graph as Past>⟧.updates self.new ≡ ⟦<Graph as Past>⟧.updates self.old ++ update ∷ []) }
         ensures err { OnErr result (⟦<Graph as Past>⟧.updates self.new ≡ ⟦<Graph as Past>⟧.updates self.old) }
-        ensures cost { (latest : List Update) → AreLatestIn update.key (⟦<Graph as Past>⟧.updates self.old) latest → steps.new ≤ steps.old + length latest }
+        ensures cost { (latest : List Update) → AreLatestIn (key_written update) (⟦<Graph as Past>⟧.updates self.old) latest → steps.new ≤ steps.old + length latest }
     {
         let number = self.count();
-        self.reserve(&update.key)?;
+        self.reserve(update.key_written())?;
         let change = self.change_by(&update)?;
         self.commit(update, id, change, steps)?;
         Ok(number)
@@ -307,11 +308,11 @@ impl Graph {
         requires change { IsChangeBy update (updates_in self.old.items.entries) change }
         requires items { 0 < spare self.old.items }
         requires children { vec_len self.old.children < vec_capacity self.old.children }
-        requires latest { 0 < room_of update.key self.old.latest }
+        requires latest { 0 < room_of (key_written update) self.old.latest }
         requires chains { 0 < self.old.chains.room }
         ensures added { OnOk result (updates_in self.new.items.entries ≡ updates_in self.old.items.entries ++ update ∷ []) }
         ensures err { OnErr result (updates_in self.new.items.entries ≡ updates_in self.old.items.entries) }
-        ensures cost { steps.new ≤ steps.old + length (latest_of update.key self.old.latest) }
+        ensures cost { steps.new ≤ steps.old + length (latest_of (key_written update) self.old.latest) }
     {
         let number = self.count();
         let Change {

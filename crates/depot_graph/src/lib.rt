@@ -21,6 +21,6 @@
 mod change;
 mod graph;
 mod item;
-mod order;
+mod listed_order;
 
 pub use graph::Graph;

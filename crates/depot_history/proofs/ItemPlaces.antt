@@ -1,17 +1,17 @@
 -- Updates by their places in a list.
 use Rattle.std.proofs.Common.{◌≡◌, ℕ, zero, suc, ◌+◌, ◌<◌, nat_lt, subst, Bool, true, false, cond, not, List, [], ◌∷◌, length, get_or, Some, None, refl, sym, ap, ◌∙◌, arith, inl, inr}
 use Rattle.std.specs.Prelude.{slice_get, position}
-use Rattle.std.specs.List.{position_or_len}
+use Rattle.std.specs.List.{AllByRecursion, position_or_len}
 use Rattle.std.specs.Str.{bytes_eq}
 use Rattle.std.proofs.lemmas.Bool.{lt-ltb, ltb-true, ltb-false}
-use Rattle.std.proofs.lemmas.Option.{slice_get-get_or}
+use Rattle.std.proofs.lemmas.Option.{slice_get-get_or, slice_get_within}
 use Rattle.std.proofs.lemmas.List.Quantifiers.{position-Some}
 use Rattle.std.proofs.lemmas.Slice.Eq.{bytes_eq-Decides}
 use Rattle.depot_base.specs.declared.update.Update.{Update}
 use Rattle.depot_model.specs.Lists.{IsIn}
 use Rattle.depot_model.specs.Texts.{id_of_update}
 use Rattle.depot_model.specs.Order.{IsCausal}
-use Rattle.depot_model.specs.Items.{place_of_id}
+use Rattle.depot_model.specs.Items.{place_of_id, AreItemsOf}
 use Rattle.depot_model.proofs.Elements.{in_at}
 use Rattle.depot_model.proofs.Orders.{fresh, causal_behind}
 
@@ -65,12 +65,6 @@ own_place us n t c at =
     let f = has_place (id_of_update t) us (position_or_len (λ u. bytes_eq (id_of_update u) (id_of_update t)) us) place in
     place ∙ ap (λ (k : ℕ). Some k) (one_place [] us (position_or_len (λ u. bytes_eq (id_of_update u) (id_of_update t)) us) n f.0 t c f.1.0 at f.1.1)
 
--- one of the list stands somewhere
-pub its_place : (us : List Update) (t : Update) → IsIn t us → (n : ℕ) × (slice_get us n ≡ Some t)
-its_place [] t never = absurd never
-its_place (x ∷ xs) t (inl here) = (0, ap (λ (u : Update). Some u) here)
-its_place (x ∷ xs) t (inr there) = let p = its_place xs t there in (suc p.0, p.1)
-
 -- ---- lists by index
 
 -- one of a list is what some index gives
@@ -85,3 +79,14 @@ below_more P i below here j lt = by_test (nat_lt j i) refl where
   by_test : (b : Bool) → nat_lt j i ≡ b → P j
   by_test true is = below j (ltb-true j i is)
   by_test false is = let same : i ≡ j = omega (arith, lt, ltb-false j i is) in subst P same here
+
+-- places are places of the list
+pub places_within : (us : List Update) (hs : List (List ℕ)) (ns : List ℕ) → AreItemsOf us hs ns → AllByRecursion (λ n. n < length us) ns
+places_within us [] [] e = tt
+places_within us [] (n ∷ ns) e = absurd cc
+places_within us (h ∷ hs) [] e = absurd cc
+places_within us (h ∷ hs) (n ∷ ns) e =
+    let place : place_of_id h us ≡ Some n = cc in
+    let rest : AreItemsOf us hs ns = cc in
+    let p = has_place h us n place in
+    (slice_get_within us n p.0 p.1.0, places_within us hs ns rest)

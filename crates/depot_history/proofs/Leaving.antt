@@ -17,18 +17,19 @@ use Rattle.depot_model.specs.History.{leaves_of, by_id, leaf_text, history_text,
 use Rattle.depot_model.specs.Items.{at, place_of_id, place_of_prev, PrecedesAt, AreLeaves, updates_at}
 use Rattle.depot_model.specs.Journal.{has_id, named, prev_of}
 use Rattle.depot_model.specs.Own.{precedes_named, next_entries}
-use Rattle.depot_model.proofs.Elements.{in_at}
+use Rattle.depot_model.proofs.Elements.{in_at, both_at}
 use Rattle.depot_model.proofs.Members.{in_left, in_right, in_pushed, all_push, from_filter, in_filter}
 use Rattle.depot_model.proofs.NamedIds.{named_is, named_some, has_id_from, has_id_to}
 use Rattle.depot_model.proofs.Orders.{one_of_id}
 use Rattle.depot_model.proofs.Pasts.{past_in, past_of_listed}
 use Rattle.depot_model.proofs.RisingLists.{HaveSame}
 use Rattle.depot_model.proofs.RisingUpdates.{AreApart, apart_from_causal, apart_filter, same_by_id}
+use Rattle.depot_graph.proofs.ClockedItems.{place_of}
 use Rattle.depot_history.specs.Closure.{closure_of}
-use Rattle.depot_history.specs.Leaves.{row_of, leaf_in, standing, IsUnseen}
+use Rattle.depot_history.specs.PastLeaves.{row_of, leaf_in, standing, IsUnseen}
 use Rattle.depot_history.specs.declared.leaf.Leaf.{Leaf}
-use Rattle.depot_history.proofs.ItemPlaces.{has_place, own_place, its_place}
-use Rattle.depot_history.proofs.Chains.{leaves_stand}
+use Rattle.depot_history.proofs.ItemPlaces.{has_place, own_place}
+use Rattle.depot_history.proofs.ChainLeaves.{leaves_stand}
 use Rattle.depot_history.proofs.Reaching.{reached_apart}
 use Rattle.depot_history.proofs.Sorting.{of_place, at_its_place, standing_is, is_standing, standing_apart}
 
@@ -67,7 +68,7 @@ named_before us h t n c at e = by_name (named us h) refl e where
   by_name None is never = absurd cc
   by_name (Some u) is told =
       let found = named_is us h u is in
-      let p = its_place us u found.0 in
+      let p = place_of us u found.0 in
       let w = has_id_to (past u us) (id_of_update t) told in
       let same : w.0 ≡ t = one_of_id [] us w.0 t c (past_in u us w.0 w.1.0) (in_at us n t at) w.1.1 in
       let before = (past_of_listed us u t c found.0).0 (subst (λ (x : Update). IsIn x (past u us)) same w.1.0) in
@@ -77,9 +78,10 @@ before_named : (us : List Update) (h : List ℕ) (t : Update) (n p : ℕ) → Is
 before_named us h t n p c at place before =
     let u = has_place h us p place in
     let u_in = in_at us p u.0 u.1.0 in
-    let first : before.0 ≡ t = let both : Some before.0 ≡ Some t = sym before.1.0 ∙ at in cc in
-    let second : before.1.1.0 ≡ u.0 = let both : Some before.1.1.0 ≡ Some u.0 = sym before.1.1.1.0 ∙ u.1.0 in cc in
-    let path = subst (λ (x : Update). Precedes us x u.0) first (subst (Precedes us before.0) second before.1.1.1.1) in
+    let two = both_at us n p (Precedes us) before in
+    let first : two.first ≡ t = let both : Some two.first ≡ Some t = sym two.at_first ∙ at in cc in
+    let second : two.second ≡ u.0 = let both : Some two.second ≡ Some u.0 = sym two.at_second ∙ u.1.0 in cc in
+    let path = subst (λ (x : Update). Precedes us x u.0) first (subst (Precedes us two.first) second two.holds) in
     let on = (past_of_listed us u.0 t c u_in).1 path in
     ap (λ (o : Option Update). option_map_or (λ p. has_id (past p us) (id_of_update t)) o false) (named_some [] us h u.0 c u_in u.1.1) ∙ has_id_from (past u.0 us) (id_of_update t) t on refl
 
@@ -178,7 +180,7 @@ unseen_same us items me last unseen i lt u not_here =
 
 item_of : (us : List Update) (t : Update) → IsCausal [] us → IsIn t us → slice_get us (leaf_in us t).item ≡ Some t
 item_of us t c on =
-    let p = its_place us t on in
+    let p = place_of us t on in
     let item : (leaf_in us t).item ≡ p.0 = ap (λ (o : Option ℕ). unwrap_or o 0) (own_place us p.0 t c p.1) in
     ap (slice_get us) item ∙ p.1
 

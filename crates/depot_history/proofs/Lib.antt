@@ -1,6 +1,6 @@
-pub mod Rows
+pub mod HistoryRows
 pub mod ItemPlaces
-pub mod Chains
+pub mod ChainLeaves
 pub mod Sorting
 pub mod Leaving
 pub mod Reaching

@@ -1,16 +1,14 @@
 -- Leaves in order by writer and id, one put in after the other.
-use Rattle.std.proofs.Common.{◌≡◌, ℕ, ◌+◌, ◌<◌, Bool, true, false, cond, List, [], ◌∷◌, ◌++◌, length, map, take, get_or, Option, Some, None, add-one, unwrap_or, refl, sym, ap, subst, ◌∙◌, inl, inr}
+use Rattle.std.proofs.Common.{◌≡◌, ℕ, ◌+◌, ◌<◌, Bool, true, false, cond, List, [], ◌∷◌, ◌++◌, length, map, take, get_or, Option, Some, None, unwrap_or, refl, sym, ap, subst, ◌∙◌, inl, inr}
 use Rattle.std.specs.Prelude.{slice_get}
-use Rattle.std.specs.List.{filter, flat_map}
+use Rattle.std.specs.List.{filter}
 use Rattle.std.specs.Option.{option_to_list}
 use Rattle.std.specs.declared.cmp.Ordering.{Ordering}
 use Rattle.std.specs.declared.cmp.Ordering.TheVariants.{Less, Equal, Greater}
 use Rattle.std.specs.Ordering.{nat_cmp, is_lt, is_eq, ordering_then, ordering_reverse, match_ordering}
 use Rattle.std.specs.Cmp.Lexicographic.{slice_cmp, nat_list_cmp_total}
 use Rattle.std.specs.BTreeSet.{insert_key}
-use Rattle.std.proofs.Math.Seq.{take-suc}
 use Rattle.std.proofs.lemmas.Cmp.{nat_cmp_total}
-use Rattle.std.proofs.lemmas.Grind.{flat_map-append}
 use Rattle.std.proofs.lemmas.Map.Text.{is_eq-slice_cmp}
 use Rattle.std.proofs.lemmas.Slice.Eq.{bytes_eq-Decides}
 use Rattle.depot_base.specs.declared.update.Update.{Update}
@@ -19,13 +17,13 @@ use Rattle.depot_model.specs.Texts.{id_of_update}
 use Rattle.depot_model.specs.Order.{IsCausal}
 use Rattle.depot_model.specs.History.{is_lower, put_by_id, by_id}
 use Rattle.depot_model.specs.Items.{at, place_of_id, updates_at}
-use Rattle.depot_model.proofs.Elements.{in_at}
+use Rattle.depot_model.proofs.Elements.{in_at, one_more}
 use Rattle.depot_model.proofs.Members.{in_parts, in_left, in_right, in_map, from_map, from_filter, in_filter, among_from, among_to, all_at, all_from}
 use Rattle.depot_model.proofs.Orders.{one_of_id}
 use Rattle.depot_model.proofs.RisingLists.{HaveSame}
 use Rattle.depot_model.proofs.RisingUpdates.{AreApart, apart_from_causal, apart_filter, Rises, rises_by_id, from_by_id, in_by_id, same_by_id}
 use Rattle.depot_history.specs.declared.leaf.Leaf.{Leaf}
-use Rattle.depot_history.specs.Leaves.{leaf_in, standing}
+use Rattle.depot_history.specs.PastLeaves.{leaf_in, standing}
 use Rattle.depot_history.proofs.ItemPlaces.{own_place}
 use Rattle.depot_history.proofs.Reaching.{of_places, at_places}
 
@@ -34,7 +32,7 @@ abbrev pub leaf_cmp : Leaf → Leaf → Ordering
 leaf_cmp a b = ordering_then (nat_cmp a.writer b.writer) (ordering_then (slice_cmp nat_cmp a.id b.id) (ordering_then (nat_cmp a.clock b.clock) (nat_cmp a.item b.item)))
 
 -- which of the two stands first
-decided : {X : Type 0} (p q rest : Ordering) (before same behind : X) → (q ≡ Equal → ⊥)
+pub decided : {X : Type 0} (p q rest : Ordering) (before same behind : X) → (q ≡ Equal → ⊥)
     → match_ordering (ordering_then (ordering_reverse p) (ordering_then (ordering_reverse q) rest)) before same behind ≡ cond (is_lt (ordering_then p q)) behind before
 decided Less q rest before same behind apart = refl
 decided Greater q rest before same behind apart = refl
@@ -42,7 +40,7 @@ decided Equal Less rest before same behind apart = refl
 decided Equal Greater rest before same behind apart = refl
 decided Equal Equal rest before same behind apart = absurd (apart refl)
 
-equal_ids : (a b : List ℕ) → slice_cmp nat_cmp a b ≡ Equal → a ≡ b
+pub equal_ids : (a b : List ℕ) → slice_cmp nat_cmp a b ≡ Equal → a ≡ b
 equal_ids a b e = (bytes_eq-Decides a b).0 (sym (is_eq-slice_cmp a b) ∙ ap is_eq e)
 
 -- a leaf is put in where its update is
@@ -164,13 +162,6 @@ sort_begins us keys none = none ∙ ap (λ (ts : List Update). map (leaf_in us) 
   none_stands : (ts : List Update) → filter (λ (u : Update). is_among (id_of_update u) []) ts ≡ []
   none_stands [] = refl
   none_stands (t ∷ ts) = none_stands ts
-
--- the updates at one place more
-one_more : (us : List Update) (places : List ℕ) (i n : ℕ) (t : Update) → i < length places → n ≡ get_or places i 0 → slice_get us n ≡ Some t → updates_at us (take (i + 1) places) ≡ updates_at us (take i places) ++ t ∷ []
-one_more us places i n t lt is at_n =
-    let f : ℕ → List Update = λ place. option_to_list (slice_get us place) in
-    let longer : take (i + 1) places ≡ take i places ++ n ∷ [] = rw add-one (take-suc places i 0 lt ∙ ap (λ (k : ℕ). take i places ++ k ∷ []) (sym is)) in
-    ap (flat_map f) longer ∙ flat_map-append f (take i places) (n ∷ []) ∙ ap (λ (o : Option Update). updates_at us (take i places) ++ (option_to_list o ++ [])) at_n
 
 -- the members then, where t stood before and where it didn't
 more_same : (us : List Update) (front more : List ℕ) (t : Update) → IsCausal [] us → updates_at us more ≡ updates_at us front ++ t ∷ [] → IsIn t (standing us front) → HaveSame (standing us front) (standing us more)

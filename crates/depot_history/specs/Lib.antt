@@ -1,3 +1,3 @@
 pub mod Closure
-pub mod Chains
-pub mod Leaves
+pub mod PastChains
+pub mod PastLeaves

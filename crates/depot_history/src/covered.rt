@@ -5,7 +5,7 @@ ghost use Rattle.depot_model.specs.Lists.{IsIn};
 ghost use Rattle.depot_virtual.specs.Spots.{number_of_chains};
 ghost use Rattle.depot_graph.specs.Kept.{prev_places};
 ghost use Rattle.depot_graph.specs.UpdateRows.{IsJoinedRow};
-ghost use Rattle.depot_history.specs.Chains.{IsCovered};
+ghost use Rattle.depot_history.specs.PastChains.{IsCovered};
 
 use depot_base::Steps;
 use depot_graph::Graph;

@@ -7,11 +7,11 @@ ghost use Rattle.depot_model.specs.Items.{at, place_of_prev, updates_at};
 ghost use Rattle.depot_model.specs.Lists.{IsIn};
 ghost use Rattle.depot_model.specs.Own.{next_entries};
 ghost use Rattle.depot_history.specs.Closure.{closure_of};
-ghost use Rattle.depot_history.specs.Leaves.{leaf_in, standing, IsUnseen};
+ghost use Rattle.depot_history.specs.PastLeaves.{leaf_in, standing, IsUnseen};
 
-use crate::chain::leaves_of_past;
 use crate::covered::precedes;
 use crate::leaf::{Leaf, Leaves, hash_of_rows, items_of};
+use crate::past_chain::leaves_of_past;
 use depot_base::{Hash32, Items, Memory, NodeId};
 use depot_graph::Graph;
 use depot_model::Past;

@@ -2,7 +2,7 @@
 ghost use Rattle.std.specs.Prelude.{◌≡◌, IfOk, map};
 ghost use Rattle.std.specs.List.{flat_map};
 ghost use Rattle.sha2.specs.Sha256.{sha256};
-ghost use Rattle.depot_history.specs.Leaves.{row_of};
+ghost use Rattle.depot_history.specs.PastLeaves.{row_of};
 
 use byteorder::{BigEndian, ByteOrder};
 use depot_base::{Hash32, Items, Memory, NodeId};
@@ -21,10 +21,10 @@ pub struct Leaf {
 }
 
 impl Leaf {
-    ghost use Rattle.depot_history.specs.Leaves.{row_of};
+    ghost use Rattle.depot_history.specs.PastLeaves.{row_of};
 
     /// Its row of the history text, 42 bytes: writer, clock, id.
-    #[tactic(auto, using(crate::proofs::Rows::row_laws), unfolding(depot_base::specs::Cursor::numeral))]
+    #[tactic(auto, using(crate::proofs::HistoryRows::row_laws), unfolding(depot_base::specs::Cursor::numeral))]
     fn row(&self) -> [u8; 42]
         ensures { result ≡ row_of self.now }
     {

@@ -7,13 +7,11 @@
 //! Nothing here asks whether an update may be accepted, or takes one.
 #![tactic(auto)]
 
-mod chain;
 mod covered;
 mod history;
-mod laws;
+mod history_laws;
 mod leaf;
-#[cfg(test)]
-mod tests;
+mod past_chain;
 
 pub use history::{changed_leaves, history_hash, summary};
-pub use laws::{closure_is_what_precedes, closure_of_parents_is_past};
+pub use history_laws::{closure_is_what_precedes, closure_of_parents_is_past};

@@ -47,37 +47,37 @@ last_pushed (y ∷ ys) item = inr (last_pushed ys item)
 
 pub kept_more : (P : ℕ → Type 0) (items kept : List ℕ) (a : ℕ) → AreKept P items kept → P a → AreKept P (items ++ a ∷ []) (kept ++ a ∷ [])
 kept_more P [] kept a none holds = inl ([], (holds, (ap (λ (l : List ℕ). l ++ a ∷ []) none, refl)))
-kept_more P (b ∷ items) kept a (inl k) holds = inl (k.0 ++ a ∷ [], (k.1.0, (ap (λ (l : List ℕ). l ++ a ∷ []) k.1.1.0, kept_more P items k.0 a k.1.1.1 holds)))
+kept_more P (b ∷ items) kept a (inl (rest, (on, (is, k)))) holds = inl (rest ++ a ∷ [], (on, (ap (λ (l : List ℕ). l ++ a ∷ []) is, kept_more P items rest a k holds)))
 kept_more P (b ∷ items) kept a (inr k) holds = inr (k.0, kept_more P items kept a k.1 holds)
 
 pub kept_same : (P : ℕ → Type 0) (items kept : List ℕ) (a : ℕ) → AreKept P items kept → (P a → ⊥) → AreKept P (items ++ a ∷ []) kept
 kept_same P [] kept a none fails = inr (fails, none)
-kept_same P (b ∷ items) kept a (inl k) fails = inl (k.0, (k.1.0, (k.1.1.0, kept_same P items k.0 a k.1.1.1 fails)))
+kept_same P (b ∷ items) kept a (inl (rest, (on, (is, k)))) fails = inl (rest, (on, (is, kept_same P items rest a k fails)))
 kept_same P (b ∷ items) kept a (inr k) fails = inr (k.0, kept_same P items kept a k.1 fails)
 
 pub kept_in : (P : ℕ → Type 0) (items kept : List ℕ) (x : ℕ) → AreKept P items kept → IsIn x items → P x → IsIn x kept
 kept_in P [] kept x k never holds = absurd never
-kept_in P (b ∷ items) kept x (inl k) (inl here) holds = subst (IsIn x) (sym k.1.1.0) (inl here)
-kept_in P (b ∷ items) kept x (inl k) (inr there) holds = subst (IsIn x) (sym k.1.1.0) (inr (kept_in P items k.0 x k.1.1.1 there holds))
+kept_in P (b ∷ items) kept x (inl (rest, (on, (is, k)))) (inl here) holds = subst (IsIn x) (sym is) (inl here)
+kept_in P (b ∷ items) kept x (inl (rest, (on, (is, k)))) (inr there) holds = subst (IsIn x) (sym is) (inr (kept_in P items rest x k there holds))
 kept_in P (b ∷ items) kept x (inr k) (inl here) holds = absurd (k.0 (subst P (sym here) holds))
 kept_in P (b ∷ items) kept x (inr k) (inr there) holds = kept_in P items kept x k.1 there holds
 
 pub in_kept : (P : ℕ → Type 0) (items kept : List ℕ) (x : ℕ) → AreKept P items kept → IsIn x kept → IsIn x items × P x
 in_kept P [] kept x none on = absurd (let never : IsIn x [] = subst (IsIn x) none on in never)
-in_kept P (b ∷ items) kept x (inl k) on = elim (subst (IsIn x) k.1.1.0 on) [
-  | inl here ↦ (inl here, subst P here k.1.0)
-  | inr there ↦ let r = in_kept P items k.0 x k.1.1.1 there in (inr r.0, r.1)
+in_kept P (b ∷ items) kept x (inl (rest, (holds, (is, k)))) on = elim (subst (IsIn x) is on) [
+  | inl here ↦ (inl here, subst P here holds)
+  | inr there ↦ let r = in_kept P items rest x k there in (inr r.0, r.1)
 ]
 in_kept P (b ∷ items) kept x (inr k) on = let r = in_kept P items kept x k.1 on in (inr r.0, r.1)
 
 all_kept : (P Q : ℕ → Type 0) (items kept : List ℕ) → AreKept P items kept → AllByRecursion Q items → AllByRecursion Q kept
 all_kept P Q [] kept none all = subst (AllByRecursion Q) (sym none) tt
-all_kept P Q (b ∷ items) kept (inl k) all = subst (AllByRecursion Q) (sym k.1.1.0) (all.0, all_kept P Q items k.0 k.1.1.1 all.1)
+all_kept P Q (b ∷ items) kept (inl (rest, (on, (is, k)))) all = subst (AllByRecursion Q) (sym is) (all.0, all_kept P Q items rest k all.1)
 all_kept P Q (b ∷ items) kept (inr k) all = all_kept P Q items kept k.1 all.1
 
 pub kept_rises : (P : ℕ → Type 0) (listed : ℕ → ℕ → Type 0) (items kept : List ℕ) → AreKept P items kept → RisesBy listed items → RisesBy listed kept
 kept_rises P listed [] kept none rises = subst (RisesBy listed) (sym none) tt
-kept_rises P listed (b ∷ items) kept (inl k) rises = subst (RisesBy listed) (sym k.1.1.0) (all_kept P (listed b) items k.0 k.1.1.1 rises.0, kept_rises P listed items k.0 k.1.1.1 rises.1)
+kept_rises P listed (b ∷ items) kept (inl (rest, (on, (is, k)))) rises = subst (RisesBy listed) (sym is) (all_kept P (listed b) items rest k rises.0, kept_rises P listed items rest k rises.1)
 kept_rises P listed (b ∷ items) kept (inr k) rises = kept_rises P listed items kept k.1 rises.1
 
 -- ---- one more that is put in

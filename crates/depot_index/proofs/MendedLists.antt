@@ -39,18 +39,15 @@ mended_rises precedes listed item old kept place o other k p rises =
 
 -- where a list has the latest of some items, the mended one has the latest of these and of the new one
 pub latest_mended : (precedes listed : ℕ → ℕ → Type 0) (item : ℕ) (among old new : List ℕ) → Orders precedes listed item old → IsMended precedes listed item old new → IsNewest precedes among item → AreLatestOf precedes listed among old → AreLatestOf precedes listed (among ++ item ∷ []) new
-latest_mended precedes listed item among old new o m newest latest =
-    let kept = m.0 in
-    let place = m.1.0 in
-    let k = m.1.1.0 in
+latest_mended precedes listed item among old new o (kept, (place, (k, (is_place, is)))) newest latest =
     let made : List ℕ = take place kept ++ item ∷ drop place kept in
     let P = IsApart precedes item in
     let known : (a : ℕ) → IsIn a old → Contains among a = λ a on. (latest.only a (to_contains old a on)).0 in
-    subst (AreLatestOf precedes listed (among ++ item ∷ [])) (sym m.1.1.1.1) (record {
-      all = λ a is. to_contains made a (elim (in_pushed among item a (from_contains (among ++ item ∷ []) a is.0)) [
+    subst (AreLatestOf precedes listed (among ++ item ∷ [])) (sym is) (record {
+      all = λ a last. to_contains made a (elim (in_pushed among item a (from_contains (among ++ item ∷ []) a last.0)) [
         | inl on ↦
-            let still : IsLatestOf precedes among a = (to_contains among a on, λ b b_in. is.1 b (to_contains (among ++ item ∷ []) b (to_pushed among item b (from_contains among b b_in)))) in
-            let apart : P a = is.1 item (to_contains (among ++ item ∷ []) item (last_pushed among item)) in
+            let still : IsLatestOf precedes among a = (to_contains among a on, λ b b_in. last.1 b (to_contains (among ++ item ∷ []) b (to_pushed among item b (from_contains among b b_in)))) in
+            let apart : P a = last.1 item (to_contains (among ++ item ∷ []) item (last_pushed among item)) in
             in_put kept place item a (kept_in P old kept a k (from_contains old a (latest.all a still)) apart)
         | inr here ↦ subst (λ (b : ℕ). IsIn b made) here (item_put kept place item)
       ]);
@@ -72,7 +69,7 @@ latest_mended precedes listed item among old new o m newest latest =
           ],
         )
       ];
-      rising = mended_rises precedes listed item old kept place o (λ a on. (newest a (known a on)).0) k m.1.1.1.0 latest.rising;
+      rising = mended_rises precedes listed item old kept place o (λ a on. (newest a (known a on)).0) k is_place latest.rising;
     })
 
 -- the latest of no items

@@ -4,8 +4,8 @@ use Rattle.std.proofs.lemmas.List.{take_all}
 use Rattle.depot_base.specs.declared.limits.TheConstants.{MOST_RECORDS}
 use Rattle.depot_base.specs.Disk.{Elapses, LeavesOnly, Only, Within}
 use Rattle.depot_base.specs.File.{AreWithinLimits, HasFront, HasRoom, IsCutShort, IsFileOf, StandsFor, blocks, framed}
-use Rattle.depot_journal.specs.Steps.{FailsAt, StandsBetween, StandsTo}
-use Rattle.depot_journal.specs.View.{IsReserved}
+use Rattle.depot_journal.specs.WriteSteps.{FailsAt, StandsBetween, StandsTo}
+use Rattle.depot_journal.specs.JournalView.{IsReserved}
 use Rattle.depot_base.proofs.CallLaws.{framed_long}
 use Rattle.depot_journal.proofs.Moments.{started, goes_on, joined, weaker}
 use Rattle.depot_base.proofs.Blocks.{blocks-append}

@@ -4,7 +4,7 @@ use Rattle.std.proofs.lemmas.List.{drop_all, take_more}
 use Rattle.depot_base.specs.Disk.{IsWritten, Only}
 use Rattle.depot_base.specs.File.{AreWithinLimits, IsCutShort, IsDamagedAt, IsFileOf, StandsFor}
 use Rattle.depot_journal.specs.Stable.{HasAllOf, IsStarted, LeavesAll}
-use Rattle.depot_journal.specs.Steps.{StandsTo}
+use Rattle.depot_journal.specs.WriteSteps.{StandsTo}
 use Rattle.depot_journal.proofs.OneList.{not_damaged, one_list}
 use Rattle.depot_journal.proofs.Walk.{stands_of}
 

@@ -4,8 +4,8 @@ use Rattle.std.proofs.lemmas.Bool.{cases_eq}
 use Rattle.std.proofs.lemmas.List.{take_at, drop_at, drop_more}
 use Rattle.depot_base.specs.Disk.{IsWritten, IsTorn}
 use Rattle.depot_base.specs.File.{blocks, framed, closed_block}
-use Rattle.depot_journal.specs.Steps.{StandsTo, IsBeforeOrAfter}
-use Rattle.depot_journal.proofs.Blocks.{blocks_push}
+use Rattle.depot_journal.specs.WriteSteps.{StandsTo, IsBeforeOrAfter}
+use Rattle.depot_journal.proofs.RecordBlocks.{blocks_push}
 
 closed_front : (bodies : List (List ℕ)) (gate : ℕ) (rest : List ℕ) (end : ℕ) → end ≡ length (blocks bodies) → take (end + 1) (blocks bodies ++ gate ∷ rest) ≡ blocks bodies ++ gate ∷ []
 closed_front bodies gate rest end at = ap (take (end + 1)) (sym (append_assoc (blocks bodies) (gate ∷ []) rest)) ∙ take_at (blocks bodies ++ gate ∷ []) rest (end + 1) (omega (arith, at, length-append (blocks bodies) (gate ∷ [])))

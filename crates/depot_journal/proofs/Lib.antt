@@ -1,10 +1,10 @@
 pub mod Appends
 pub mod AtRest
-pub mod Blocks
+pub mod RecordBlocks
 pub mod Crash
-pub mod Examples
+pub mod FileExamples
 pub mod Mirrors
 pub mod Moments
 pub mod OneList
-pub mod Parsing
+pub mod FileParsing
 pub mod Walk

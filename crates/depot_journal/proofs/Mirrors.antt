@@ -10,7 +10,7 @@ use Rattle.depot_journal.specs.declared.span.Span.{Span}
 use Rattle.depot_base.specs.File.{blocks, closed_block, framed}
 use Rattle.depot_journal.specs.Mirrored.{EndWithin, IsMirror, bodies_at, cut}
 use Rattle.depot_base.proofs.CallLaws.{framed_long, numeral_long}
-use Rattle.depot_journal.proofs.Blocks.{blocks_push}
+use Rattle.depot_journal.proofs.RecordBlocks.{blocks_push}
 
 -- bytes that are added behind change no span before
 pub cut_grown : (bytes more : List ℕ) (s : Span) → s.start ≤ s.end → s.end ≤ length bytes → cut (bytes ++ more) s ≡ cut bytes s

@@ -6,7 +6,7 @@ use Rattle.depot_base.specs.Cursor.{numeral}
 use Rattle.depot_base.proofs.Numbers.{wide32}
 use Rattle.depot_base.specs.File.{AreWithinLimits, IsDamagedAt, IsFileOf, StandsFor, blocks, framed}
 use Rattle.depot_base.proofs.CallLaws.{framed_long, numeral_long}
-use Rattle.depot_journal.proofs.Blocks.{blocks_push}
+use Rattle.depot_journal.proofs.RecordBlocks.{blocks_push}
 use Rattle.depot_base.proofs.Blocks.{blocks-append}
 
 -- ---- what a text begins with

@@ -3,8 +3,8 @@ use Rattle.std.proofs.Common.{◌≡◌, ◌<◌, ◌≤◌, ◌⊎◌, inl, inr
 use Rattle.std.proofs.lemmas.List.{take_more}
 use Rattle.depot_base.specs.File.{StandsFor, blocks}
 use Rattle.depot_base.proofs.Blocks.{blocks-append}
-use Rattle.depot_journal.specs.Steps.{IsBeforeOrAfter, StandsBetween, StandsTo}
-use Rattle.depot_journal.proofs.Blocks.{one_longer}
+use Rattle.depot_journal.specs.WriteSteps.{IsBeforeOrAfter, StandsBetween, StandsTo}
+use Rattle.depot_journal.proofs.RecordBlocks.{one_longer}
 
 -- the gate behind the records so far
 pub gate_behind : (bytes bytes' : List ℕ) (old at front : List (List ℕ)) → bytes ≡ blocks old → bytes' ≡ blocks at → at ≡ old ++ front → length bytes' ≡ length bytes + length (blocks front)

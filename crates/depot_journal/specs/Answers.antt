@@ -1,9 +1,9 @@
 -- What a journal answers.
 use Rattle.std.specs.Prelude.{ℕ, List, Result, Ok, Err}
-use Rattle.depot_journal.specs.declared.error.JournalError.{JournalError}
-use Rattle.depot_journal.specs.declared.error.JournalError.TheVariants as journal_error
-use Rattle.depot_journal.specs.declared.error.AppendError.{AppendError}
-use Rattle.depot_journal.specs.declared.error.AppendError.TheVariants as refused
+use Rattle.depot_journal.specs.declared.journal_error.JournalError.{JournalError}
+use Rattle.depot_journal.specs.declared.journal_error.JournalError.TheVariants as journal_error
+use Rattle.depot_journal.specs.declared.journal_error.AppendError.{AppendError}
+use Rattle.depot_journal.specs.declared.journal_error.AppendError.TheVariants as refused
 use Rattle.depot_base.specs.File.{HasRoom, IsDamagedAt, PassesLimit}
 
 -- Full comes exactly where these records, of so many bytes with their gates and lengths, would pass a limit, and names the first such

@@ -1,5 +1,5 @@
 pub mod Answers
 pub mod Mirrored
 pub mod Stable
-pub mod Steps
-pub mod View
+pub mod WriteSteps
+pub mod JournalView

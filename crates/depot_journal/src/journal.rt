@@ -4,14 +4,14 @@ ghost use Rattle.depot_base.specs.Calls.{FailsAmong, calls_to_append_all, calls_
 ghost use Rattle.depot_base.specs.Faults.{HasCause};
 ghost use Rattle.depot_base.specs.Disk.{Elapses, LeavesOnly, Only, Within};
 ghost use Rattle.depot_base.specs.File.{AreWithinLimits, HasFront, HasRoom, IsCutShort, IsFileOf, PassesLimit, StartLeaves, blocks};
-ghost use Rattle.depot_journal.specs.View.{Covers};
+ghost use Rattle.depot_journal.specs.JournalView.{Covers};
 ghost use Rattle.depot_journal.specs.Answers.{IsDamage, KeepsLimits, SaysDamaged, UnlessDisk};
 ghost use Rattle.depot_journal.specs.Stable.{IsStarted, LeavesAll};
 
-use crate::error::{AppendError, JournalError};
+use crate::journal_error::{AppendError, JournalError};
+use crate::journal_room::{Room, bytes_of, find_room, room_for};
+use crate::journal_start::{Found, start_on};
 use crate::mirror::{Mirror, append_each};
-use crate::room::{Room, bytes_of, find_room, room_for};
-use crate::start::{Found, start_on};
 use depot_base::{Bytes, Full, Memory};
 use depot_outside::{Back, Disk};
 use std::alloc::Global;
@@ -32,11 +32,11 @@ pub struct Journal<D: Disk> {
 impl<D: Disk> Model for Journal<D> {
     ghost use Rattle.std.specs.Prelude.{◌≡◌, IsTrue, false, length, vec_len, vec_capacity};
     ghost use Rattle.depot_base.specs.Disk.{Only};
-    ghost use Rattle.depot_journal.specs.View.{IsReserved, View, view_code};
+    ghost use Rattle.depot_journal.specs.JournalView.{IsReserved, View, view_code};
     ghost use Rattle.depot_base.specs.File.{AreWithinLimits};
     ghost use Rattle.depot_journal.specs.Mirrored.{IsMirror, bodies_at};
     ghost use Rattle.depot_journal.specs.Stable.{LeavesAll};
-    ghost use Rattle.depot_journal.specs.Steps.{StandsTo};
+    ghost use Rattle.depot_journal.specs.WriteSteps.{StandsTo};
 
     ghost Value = { View D };
 

@@ -13,19 +13,19 @@
 //! What the records mean is no matter here, and no record is ever changed or taken back.
 #![tactic(auto)]
 
-mod error;
+mod file_parse;
 mod journal;
-mod laws;
+mod journal_error;
+mod journal_laws;
+mod journal_room;
+mod journal_start;
 mod mirror;
-mod parse;
-mod room;
 mod span;
-mod start;
 mod write;
 
-pub use error::{AppendError, JournalError};
 pub use journal::Journal;
-pub use laws::{
+pub use journal_error::{AppendError, JournalError};
+pub use journal_laws::{
     damage_has_one_place, files_have_one_list, good_files_are_undamaged, standing_records_are_read,
     what_a_stop_leaves_is_read,
 };

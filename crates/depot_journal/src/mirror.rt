@@ -5,7 +5,7 @@ ghost use Rattle.depot_base.specs.Faults.{HasCause};
 ghost use Rattle.depot_base.specs.Disk.{LeavesOnly, Only};
 ghost use Rattle.depot_base.specs.File.{blocks, closed_block};
 ghost use Rattle.depot_journal.specs.Mirrored.{IsMirror, bodies_at};
-ghost use Rattle.depot_journal.specs.Steps.{FailsAt, IsBeforeOrAfter, StandsBetween, StandsTo};
+ghost use Rattle.depot_journal.specs.WriteSteps.{FailsAt, IsBeforeOrAfter, StandsBetween, StandsTo};
 
 use crate::span::Span;
 use crate::write::append_on;

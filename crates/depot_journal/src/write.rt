@@ -4,7 +4,7 @@ ghost use Rattle.depot_base.specs.Calls.{FailsAmong, calls_to_append, made, sync
 ghost use Rattle.depot_base.specs.Faults.{HasCause};
 ghost use Rattle.depot_base.specs.Disk.{IsTorn, IsWritten, LeavesOnly, Only};
 ghost use Rattle.depot_base.specs.File.{closed_block};
-ghost use Rattle.depot_journal.specs.Steps.{IsBeforeOrAfter, StandsTo};
+ghost use Rattle.depot_journal.specs.WriteSteps.{IsBeforeOrAfter, StandsTo};
 
 use depot_outside::{Disk, Failed};
 

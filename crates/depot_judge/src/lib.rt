@@ -11,9 +11,9 @@
 
 mod contradiction;
 mod judging;
-mod making;
+mod proof_making;
 
 pub use contradiction::{contradicts, kind_of};
 pub use depot_model::{Half, JudgeError, Verdict};
 pub use judging::{first_failed_point, judge, judge_proof};
-pub use making::make_proof;
+pub use proof_making::make_proof;

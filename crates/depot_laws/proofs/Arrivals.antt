@@ -27,17 +27,18 @@ use Rattle.depot_model.specs.World.{Correct, World, setting_of, hashed_texts, wr
 use Rattle.depot_model.proofs.Members.{in_left, in_right, in_last, any_to}
 use Rattle.depot_model.proofs.TextLaws.{statement_lawful}
 use Rattle.depot_model.proofs.BodyLaws.{IsStatement-from_signed}
+use Rattle.depot_model.proofs.DueLaws.{no_fork_vouched, no_fork_alone}
 use Rattle.depot_laws.proofs.Splits.{given_by, given_too, flat_gives, flat_left}
 use Rattle.depot_model.proofs.NamedIds.{has_id_to}
 use Rattle.depot_laws.proofs.Taken.{AllNone, none_from_passes}
 use Rattle.depot_laws.proofs.Contrary.{kept_is_signed, accused_is, opponent_is}
-use Rattle.depot_laws.proofs.Growing.{front_of, Convicts, front_cases, added_is, not_forked, not_refused}
+use Rattle.depot_laws.proofs.Growing.{front_of, Convicts, front_cases, added_is, not_refused}
 use Rattle.depot_laws.proofs.OwnSteps.{own_writer}
 use Rattle.depot_laws.proofs.OwnTexts.{own_statement_fits}
 use Rattle.depot_laws.proofs.Worlds.{value_hashed}
 use Rattle.depot_laws.proofs.HeldValues.{held_is_brought}
 use Rattle.depot_laws.proofs.Meetings.{Meeting, sender_lawful, still_told, sender_write, reader_write, one_of_writes}
-use Rattle.depot_laws.proofs.Joining.{HasJoined, MayJoin, IsStep, step_by, outcome, quiet_forked, own_has_no_opponent, foreign_joins, IsVoucherOf, voucher_passes, voucher_added}
+use Rattle.depot_laws.proofs.Joining.{HasJoined, MayJoin, IsStep, step_by, outcome, own_has_no_opponent, foreign_joins, IsVoucherOf, voucher_passes, voucher_added}
 
 -- ---- vouched ids
 
@@ -127,8 +128,8 @@ module _ (W : World) (a v : Correct) (K : List Record) (m : Meeting W a v K) whe
 
   update_forked : (C : List Record) (s : Signed) (u : Update) → HasJoined W a v K m C → Comes C s u → forked C (statement.Update u) ≡ None
   update_forked C s u j c = elim c.source [
-    | inl mine ↦ quiet_forked C (statement.Update u) (own_has_no_opponent W a v K m C (statement.Update u) j mine)
-    | inr other ↦ not_forked C (statement.Update u) other.0
+    | inl mine ↦ no_fork_alone C (statement.Update u) (own_has_no_opponent W a v K m C (statement.Update u) j mine)
+    | inr other ↦ no_fork_vouched C (statement.Update u) other.0
   ]
 
   unconvicted : (C : List Record) (u : Update) → is_convicted C u.writer ≡ false → refused_as_convicted C (statement.Update u) ≡ None

@@ -13,7 +13,7 @@ use Rattle.depot_model.specs.Roster.{has_node}
 use Rattle.depot_model.specs.Checks.{Setting}
 use Rattle.depot_model.specs.Lawful.{IsAllowed, IsLawful}
 use Rattle.depot_laws.proofs.Rosters.{node_fits}
-use Rattle.depot_laws.proofs.Limits.{room_from_within}
+use Rattle.depot_laws.proofs.JournalLimits.{room_from_within}
 use Rattle.depot_laws.proofs.Splits.{lawful_none, lawful_push}
 
 -- a birth has a text

@@ -1,9 +1,8 @@
 -- No bundle has more frames than a stream may have.
-use Rattle.std.proofs.Common.{◌≡◌, ℕ, suc, ◌+◌, ◌≤◌, ◌==◌, List, [], ◌∷◌, ◌++◌, map, length, Bool, true, false, not, cond, refl, sym, ap, ◌∙◌, arith, length-append}
+use Rattle.std.proofs.Common.{◌≡◌, ℕ, ◌+◌, ◌≤◌, ◌==◌, List, [], ◌∷◌, ◌++◌, map, length, Bool, true, false, not, cond, refl, sym, ap, ◌∙◌, arith, length-append}
 use Rattle.std.specs.List.{filter, flat_map}
 use Rattle.std.proofs.lemmas.Grind.{flat_map-append}
 use Rattle.std.proofs.lemmas.List.{length-map}
-use Rattle.std.proofs.lemmas.List.Sums.{sum_by-append}
 use Rattle.depot_base.specs.declared.limits.TheConstants.{MOST_FRAMES}
 use Rattle.depot_base.specs.declared.proof.Proof.{Proof}
 use Rattle.depot_base.specs.declared.record.Record.{Record}
@@ -21,19 +20,12 @@ use Rattle.depot_model.specs.Journal.{accepted, accepted_by, proof_by, update_in
 use Rattle.depot_model.specs.Lawful.{IsLawful}
 use Rattle.depot_model.specs.Texts.{id_of_update}
 use Rattle.depot_model.specs.Vouching.{own_voucher_by, own_vouchers, is_mine_vouched, new_vouchers}
-use Rattle.depot_model.proofs.BundleLaws.{count_of, fitting_is_longest}
+use Rattle.depot_model.proofs.BundleLaws.{count_of, fitting_is_longest, count_more}
+use Rattle.depot_base.proofs.GeneralLaws.{filter_short}
 use Rattle.depot_laws.specs.Rejoin.{updates_of}
 use Rattle.depot_laws.proofs.Groups.{vouchers_few}
 use Rattle.depot_laws.proofs.OwnTexts.{lawful_is_short}
 use Rattle.depot_laws.proofs.Parcels.{sent_in_front, candidates_for, told_of_parcels, same_with, own_with}
-
--- what is left of a list is no longer
-pub filter_short : {X : Type 0} (test : X → Bool) (xs : List X) → length (filter test xs) ≤ length xs
-filter_short test [] = omega arith
-filter_short test (x ∷ xs) = by_test (test x) (filter_short test xs) where
-  by_test : (b : Bool) → length (filter test xs) ≤ length xs → length (cond b (x ∷ filter test xs) (filter test xs)) ≤ suc (length xs)
-  by_test true short = omega (arith, short)
-  by_test false short = omega (arith, short)
 
 one_told : (r : Record) → length (proof_by r) + length (own_voucher_by r) + length (accepted_by r) ≤ 1
 one_told (Birth node h) = omega arith
@@ -53,9 +45,6 @@ few_told (r ∷ K) =
     let one = one_told r in
     let more = few_told K in
     omega (arith, length-append (proof_by r) (flat_map proof_by K), length-append (own_voucher_by r) (own_vouchers K), length-append (accepted_by r) (accepted K))
-
-count_more : (x : Parcel) (xs : List Parcel) → count_of (x ∷ xs) ≡ length (frames_of x) + count_of xs
-count_more x xs = sum_by-append (λ y. length (frames_of y)) (x ∷ []) xs ∙ omega arith
 
 -- the frames of parcels, counted
 pub frames_count : (xs : List Parcel) → length (flat_map frames_of xs) ≡ count_of xs

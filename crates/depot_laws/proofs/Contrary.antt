@@ -26,7 +26,7 @@ use Rattle.depot_model.proofs.ContradictionLaws.{same_writer}
 use Rattle.depot_model.proofs.JudgementLaws.{IsGood-proof_of}
 use Rattle.depot_laws.proofs.Splits.{given_by}
 use Rattle.depot_laws.proofs.Taken.{new_is}
-use Rattle.depot_laws.proofs.Records.{IsSigned-from_record}
+use Rattle.depot_laws.proofs.LawfulRecords.{IsSigned-from_record}
 
 -- ---- opponents
 

@@ -25,7 +25,7 @@ use Rattle.depot_laws.proofs.Splits.{silent, accepted_push}
 use Rattle.depot_laws.proofs.Taken.{new_is}
 use Rattle.depot_laws.proofs.Causes.{leaf_is_on, own_joins, content_of_new, taken_joins, lawful_is_causal}
 use Rattle.depot_laws.proofs.Prevs.{prev_writer, content_prev, put_prev}
-use Rattle.depot_laws.proofs.Leaves.{others_count, own_count}
+use Rattle.depot_laws.proofs.LeafCounts.{others_count, own_count}
 
 -- ---- bytes
 
@@ -67,7 +67,7 @@ taken_count here J s u l is e =
 
 -- ---- an own update
 
-next_writer : (me : ℕ) (J : List Record) (key value : List ℕ) → (next_own me J key value).writer ≡ me
+pub next_writer : (me : ℕ) (J : List Record) (key value : List ℕ) → (next_own me J key value).writer ≡ me
 unfolding next_own
 next_writer me J key value = refl
 

@@ -36,7 +36,7 @@ kept_value true v w xs ys on = inl on
 kept_value false v w xs ys on = inr on
 
 -- the first values are some of the values
-from_first : (hashes vs : List (List ℕ)) (w : List ℕ) → IsIn w (first_values hashes vs) → IsIn w vs
+pub from_first : (hashes vs : List (List ℕ)) (w : List ℕ) → IsIn w (first_values hashes vs) → IsIn w vs
 unfolding first_values
 from_first hashes [] w never = never
 from_first hashes (v ∷ vs) w on = elim (kept_value (is_among (sha256 v) hashes) v w (first_values hashes vs) (first_values (hashes ++ sha256 v ∷ []) vs) on) [
@@ -111,7 +111,7 @@ unfolding next_own
 put_value_hash me J u value next = ap (λ (x : Update). x.value_hash) next
 
 -- a statement of another that is kept stands in the world
-kept_in_world : (W : World) (c : Correct) (s : Signed) → IsIn c W.nodes → IsIn s (foreign c.journal) → IsIn s (signed_met W)
+pub kept_in_world : (W : World) (c : Correct) (s : Signed) → IsIn c W.nodes → IsIn s (foreign c.journal) → IsIn s (signed_met W)
 kept_in_world W c s c_on on =
     let g = given_by foreign_by s c.journal on in
     let told : IsIn s (signed_in g.by) = subst (λ (r : Record). IsIn s (signed_in r)) (sym (foreign_is s g.by g.given)) (inl refl) in

@@ -15,6 +15,7 @@ use Rattle.depot_model.specs.Frames.{Frame, text_of_frame, IsFrame}
 use Rattle.depot_model.specs.Feeding.{says_more, given_by, take_frame, out_of_room, Feeding, closed_by, passed, counted, after_outcome, fed_frame, is_over, fed_byte, fed}
 use Rattle.depot_model.specs.Taking.{Outcome, no_room, answered, outcome_within, outcome_of}
 use Rattle.depot_model.proofs.FeedLaws.{fed_in_pieces, frame_is_taken}
+use Rattle.std.proofs.lemmas.Bool.{cond-false}
 use Rattle.depot_laws.specs.Streams.{fed_pieces, fed_frames, StaysOpen}
 use Rattle.depot_laws.proofs.Joining.{IsTaken}
 use Rattle.depot_laws.proofs.PlainFrames.{IsPlainFrame}
@@ -62,13 +63,9 @@ closed_stays here s (b ∷ bytes) e = ap (λ (t : Feeding). fed here t bytes) (c
 
 -- ---- a frame that isn't End
 
-chosen_no : {X : Type 0} (b : Bool) (x y : X) → b ≡ false → cond b x y ≡ y
-chosen_no true x y e = absurd cc
-chosen_no false x y e = refl
-
 not_end : (here : Setting) (n : ℕ) (f : Frame) (s : Feeding) → (f.tag == 4) ≡ false → fed_frame here n f s ≡ after_outcome n s (outcome_of here s.journal (given_by f))
 unfolding fed_frame take_frame
-not_end here n f s e = chosen_no (f.tag == 4) _ _ e
+not_end here n f s e = cond-false (f.tag == 4) _ _ e
 
 -- What a feed is that goes on: it isn't closed, no End frame came, no bytes stand open, and so many frames were taken.
 pub record GoesOnWith (s : Feeding) (frames : ℕ) : Type 0 where

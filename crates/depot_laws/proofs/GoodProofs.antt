@@ -11,11 +11,12 @@ use Rattle.depot_model.specs.Judgement.{first_failed_point}
 use Rattle.depot_model.specs.Journal.{accused, is_convicted}
 use Rattle.depot_model.specs.Checks.{Setting, given_proof, proof_checks, first_failed_check, is_known, answer_to}
 use Rattle.depot_model.specs.Lawful.{IsAllowed, is_empty}
-use Rattle.depot_model.proofs.FirstLaws.{each_is_none, when-none, mapped-none}
+use Rattle.depot_model.proofs.FirstLaws.{each_is_none, when-none}
+use Rattle.depot_base.proofs.GeneralLaws.{mapped-none}
 use Rattle.depot_laws.specs.Verdicts.{IsVerdict}
 use Rattle.depot_laws.proofs.Taken.{AllNone, new_from_answer}
 use Rattle.depot_laws.proofs.Contrary.{checks_of_good}
-use Rattle.depot_laws.proofs.Records.{IsRecord-Conviction, IsProof-from_record}
+use Rattle.depot_laws.proofs.LawfulRecords.{IsRecord-Conviction, IsProof-from_record}
 
 -- no point of the judge fails, and the accused is another node
 pub record IsGoodAt (here : Setting) (p : Proof) : Type 0 where

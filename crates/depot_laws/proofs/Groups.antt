@@ -179,7 +179,7 @@ numbered_keep me n (x ∷ xs) h g = elim g.on [
 pub vouchers_keep : (me n size : ℕ) (ids : List (List ℕ)) (h : List ℕ) → IsIn h ids → HasVoucher h (numbered me n (groups_of size ids))
 vouchers_keep me n size ids h on = numbered_keep me n (groups_of size ids) h (groups_keep size h ids on)
 
-numbered_count : (me n : ℕ) (gs : List (List (List ℕ))) → length (numbered me n gs) ≡ length gs
+pub numbered_count : (me n : ℕ) (gs : List (List (List ℕ))) → length (numbered me n gs) ≡ length gs
 numbered_count me n [] = refl
 numbered_count me n (g ∷ gs) = omega (arith, numbered_count me (suc n) gs)
 

@@ -1,7 +1,7 @@
 -- What a lawful journal grows by leaves it lawful.
 use Rattle.std.proofs.Common.{◌≡◌, ℕ, Bool, true, false, not, cond, List, [], ◌∷◌, ◌++◌, Option, Some, None, Result, Ok, Err, refl, sym, ap, subst, ◌∙◌, append_assoc, inl, inr, ◌⊎◌}
 use Rattle.std.specs.List.{flat_map}
-use Rattle.std.proofs.lemmas.Bool.{or_right, and_right, not_from_true}
+use Rattle.std.proofs.lemmas.Bool.{and_right, not_from_true}
 use Rattle.std.proofs.lemmas.List.{append-nil}
 use Rattle.depot_base.specs.Statement.{writer_of}
 use Rattle.depot_base.specs.declared.statement.Statement.{Statement}
@@ -24,12 +24,13 @@ use Rattle.depot_model.specs.Room.{full_by, HasRoom}
 use Rattle.depot_model.specs.Lawful.{IsLawful, is_empty}
 use Rattle.depot_model.proofs.JudgementLaws.{IsProof-proof_of}
 use Rattle.depot_model.proofs.Members.{in_last}
+use Rattle.depot_model.proofs.DueLaws.{none_due, no_fork_vouched}
 use Rattle.depot_laws.specs.Given.{HasText}
 pub use Rattle.depot_laws.proofs.Splits.{silent}
 use Rattle.depot_laws.proofs.Splits.{flat_gives, lawful_push}
 use Rattle.depot_laws.proofs.Convictions.{convicts_accused}
-use Rattle.depot_laws.proofs.Limits.{room_front, room_behind}
-use Rattle.depot_laws.proofs.Records.{IsRecord-Foreign, IsRecord-Conviction, IsRecord-Held}
+use Rattle.depot_laws.proofs.JournalLimits.{room_front, room_behind}
+use Rattle.depot_laws.proofs.LawfulRecords.{IsRecord-Foreign, IsRecord-Conviction, IsRecord-Held}
 use Rattle.depot_laws.proofs.Taken.{AllNone, new_is, is_new}
 use Rattle.depot_laws.proofs.LateChecks.{refused_late}
 use Rattle.depot_laws.proofs.Contrary.{IsOpponent, opponent_is, named_opponent_is, IsGenuine, new_is_genuine, kept_is_signed, kept_is_genuine, accused_is, made_passes}
@@ -54,7 +55,7 @@ content_same J p (statement.Voucher v) all = tt
 
 -- ---- one more record
 
-nonempty_more : (J : List Record) (r : Record) → is_empty (J ++ r ∷ []) ≡ false
+pub nonempty_more : (J : List Record) (r : Record) → is_empty (J ++ r ∷ []) ≡ false
 nonempty_more [] r = refl
 nonempty_more (j ∷ J) r = refl
 
@@ -152,10 +153,6 @@ pub added_is : (J : List Record) (s : Signed) → added J (given_statement s) �
 unfolding added
 added_is J s = refl
 
-pub not_forked : (J : List Record) (s : Statement) → is_vouched J s ≡ true → forked J s ≡ None
-unfolding forked
-not_forked J s e = rw (or_right (is_convicted J (writer_of s)) (is_vouched J s) e) refl
-
 pub not_refused : (J : List Record) (s : Statement) → is_vouched J s ≡ true → refused_as_convicted J s ≡ None
 unfolding refused_as_convicted is_vouched
 not_refused J (statement.Update u) e = rw (and_right (is_convicted J u.writer) (not (is_vouched J (statement.Update u))) (not_from_true (is_vouched J (statement.Update u)) e)) refl
@@ -172,16 +169,11 @@ still_new here J p s vouched e =
         other = n.passes.other;
         signed = n.passes.signed;
         content = content_same J p s.statement n.passes.content;
-        forked = not_forked (J ++ Conviction p ∷ []) s.statement vouched_still;
+        forked = no_fork_vouched (J ++ Conviction p ∷ []) s.statement vouched_still;
         convicted = not_refused (J ++ Conviction p ∷ []) s.statement vouched_still;
       };
       new = kept_same J p s.statement ∙ n.new;
     })
-
-none_due : (J : List Record) (s : Signed) (o : Option (Signed × Kind)) → is_convicted J (writer_of s.statement) ≡ true → due J s o ≡ []
-unfolding due
-none_due J s None e = refl
-none_due J s (Some by) e = rw e refl
 
 cond_same : (b : Bool) (x : List Record) → x ≡ [] → cond b x [] ≡ []
 cond_same true x e = e

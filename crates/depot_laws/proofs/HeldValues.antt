@@ -10,18 +10,20 @@ use Rattle.depot_base.specs.declared.record.Record.{Record}
 use Rattle.depot_model.specs.Lists.{IsIn, is_among, when}
 use Rattle.depot_model.specs.Journal.{first_values, held, value_by, value_with, held_as}
 use Rattle.depot_model.specs.Contents.{NamedValue}
-use Rattle.depot_model.proofs.Members.{among-append, bytes_eq_comm}
+use Rattle.depot_model.proofs.Members.{among-append}
+use Rattle.depot_base.proofs.GeneralLaws.{bytes_eq_comm}
+use Rattle.depot_laws.proofs.Exact.{from_first}
 
 -- ---- the first value of each hash
 
-other_hash : (h k : List ℕ) (hashes : List (List ℕ)) → is_among h hashes ≡ false → is_among k hashes ≡ true → bytes_eq k h ≡ false
+pub other_hash : (h k : List ℕ) (hashes : List (List ℕ)) → is_among h hashes ≡ false → is_among k hashes ≡ true → bytes_eq k h ≡ false
 other_hash h k hashes none there = false_from_ne_true (bytes_eq k h) (λ e. both_ways (is_among h hashes) none (subst (λ (x : List ℕ). is_among x hashes ≡ true) ((bytes_eq-Decides k h).0 e) there))
 
-still_none : (h k : List ℕ) (hashes : List (List ℕ)) → is_among h hashes ≡ false → bytes_eq k h ≡ false → is_among h (hashes ++ k ∷ []) ≡ false
+pub still_none : (h k : List ℕ) (hashes : List (List ℕ)) → is_among h hashes ≡ false → bytes_eq k h ≡ false → is_among h (hashes ++ k ∷ []) ≡ false
 still_none h k hashes none other = among-append h hashes (k ∷ []) ∙ or_from _ _ none (or_from _ _ (bytes_eq_comm h k ∙ other) refl)
 
 -- the values that are left out are none that a hash has first
-value_with_first : (h : List ℕ) (hashes vs : List (List ℕ)) → is_among h hashes ≡ false → value_with h (first_values hashes vs) ≡ value_with h vs
+pub value_with_first : (h : List ℕ) (hashes vs : List (List ℕ)) → is_among h hashes ≡ false → value_with h (first_values hashes vs) ≡ value_with h vs
 unfolding first_values
 value_with_first h hashes [] none = refl
 value_with_first h hashes (v ∷ vs) none = step (is_among (sha256 v) hashes) refl (bytes_eq (sha256 v) h) refl (value_with_first h hashes vs none) (value_with_first h (hashes ++ sha256 v ∷ []) vs) where
@@ -36,16 +38,6 @@ value_with_first h hashes (v ∷ vs) none = step (is_among (sha256 v) hashes) re
 -- the value of a hash is the first that a record brings
 pub held_is : (h : List ℕ) (J : List Record) → value_with h (held J) ≡ value_with h (flat_map value_by J)
 held_is h J = value_with_first h [] (flat_map value_by J) refl
-
-first_cases : (b : Bool) (v w : List ℕ) (xs ys vs : List (List ℕ)) → (IsIn v xs → IsIn v vs) → (IsIn v ys → IsIn v vs) → IsIn v (cond b xs (w ∷ ys)) → IsIn v (w ∷ vs)
-first_cases true v w xs ys vs p q on = inr (p on)
-first_cases false v w xs ys vs p q (inl here) = inl here
-first_cases false v w xs ys vs p q (inr there) = inr (q there)
-
-from_first : (hashes vs : List (List ℕ)) (v : List ℕ) → IsIn v (first_values hashes vs) → IsIn v vs
-unfolding first_values
-from_first hashes [] v never = never
-from_first hashes (w ∷ vs) v on = first_cases (is_among (sha256 w) hashes) v w (first_values hashes vs) (first_values (hashes ++ sha256 w ∷ []) vs) vs (from_first hashes vs v) (from_first (hashes ++ sha256 w ∷ []) vs v) on
 
 -- a held value is one that a record brings
 pub held_is_brought : (J : List Record) (v : List ℕ) → IsIn v (held J) → IsIn v (flat_map value_by J)

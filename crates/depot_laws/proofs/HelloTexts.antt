@@ -1,5 +1,5 @@
 -- The hello of a lawful journal has a text.
-use Rattle.std.proofs.Common.{◌≡◌, ℕ, zero, suc, ◌≤◌, ltb, List, [], ◌∷◌, ◌++◌, map, take, length, Bool, true, false, not, cond, Option, Some, refl, ap, subst, ◌∙◌, inl, inr, arith}
+use Rattle.std.proofs.Common.{◌≡◌, ℕ, zero, suc, ◌≤◌, ltb, List, [], ◌∷◌, ◌++◌, map, take, length, Bool, true, false, not, cond, Option, Some, refl, subst, inl, inr, arith}
 use Rattle.std.specs.List.{AllByRecursion, filter, flat_map}
 use Rattle.std.specs.Int.{w8, w16}
 use Rattle.std.proofs.lemmas.List.{length-map}
@@ -12,17 +12,19 @@ use Rattle.depot_base.specs.declared.record.Record.{Record}
 use Rattle.depot_base.proofs.Numbers.{number_within}
 use Rattle.depot_model.specs.declared.hello.HelloLeaf.{HelloLeaf}
 use Rattle.depot_model.specs.Lists.{IsIn}
-use Rattle.depot_model.specs.Texts.{update_fields, update_body, roster, IsRoster, IsUpdate, hash_of_roster}
-use Rattle.depot_model.specs.History.{leaves_of, put_by_id, by_id, is_lower}
+use Rattle.depot_model.specs.Texts.{roster, IsRoster, IsUpdate, hash_of_roster}
+use Rattle.depot_model.specs.History.{leaves_of, by_id, is_lower}
 use Rattle.depot_model.specs.Journal.{accepted, is_convicted, holds}
 use Rattle.depot_model.specs.Checks.{Setting}
 use Rattle.depot_model.specs.Contents.{NamedValue, values_named}
 use Rattle.depot_model.specs.Lawful.{IsLawful, is_empty}
 use Rattle.depot_model.specs.Hello.{hello_leaf, hello_leaf_rises, hello, IsHello, named_leaf, convicted_nodes, lacking, hello_of}
+use Rattle.depot_model.proofs.FieldFacts.{update_facts, roster_facts}
 use Rattle.depot_model.proofs.Members.{all_at, all_from, from_map, from_filter}
 use Rattle.depot_model.proofs.RisingLists.{RisesBy}
+use Rattle.depot_base.proofs.GeneralLaws.{filter_short}
 use Rattle.depot_laws.proofs.Splits.{given_by}
-use Rattle.depot_model.proofs.RisingUpdates.{from_by_id, apart_from_causal, apart_filter, rises_by_id}
+use Rattle.depot_model.proofs.RisingUpdates.{from_by_id, apart_from_causal, apart_filter, rises_by_id, by_id_length}
 use Rattle.depot_laws.proofs.Rosters.{entries_fit}
 use Rattle.depot_laws.proofs.Births.{roster_hash_is_digest, digest_from_length}
 use Rattle.depot_laws.proofs.Causes.{leaf_is_on, lawful_is_causal}
@@ -30,7 +32,6 @@ use Rattle.depot_laws.proofs.Sorted.{then_lower}
 use Rattle.depot_laws.proofs.OwnTexts.{me_fits, accepted_fit, writer_fits, id_is_digest}
 use Rattle.depot_laws.proofs.Groups.{from_rising}
 use Rattle.depot_laws.proofs.RisingBytes.{rising_rises, last_pushed, rising_follow, digests_follow}
-use Rattle.depot_laws.proofs.BundleSizes.{filter_short}
 use Rattle.depot_laws.proofs.FewLeaves.{few_leaves}
 use Rattle.depot_laws.proofs.Worlds.{giver_in}
 
@@ -83,8 +84,7 @@ record IsListed (listed : List RosterEntry) : Type 0 where
   pub few : length listed ≤ 256
 
 roster_is : (listed : List RosterEntry) → IsRoster listed → IsListed listed
-unfolding roster list_of
-roster_is listed fits = record { follows = fits.1.1.1.0.0; few = (number_within w16 1 256 (length listed) fits.1.1.0).1 }
+roster_is listed fits = let facts = roster_facts listed fits in record { follows = facts.follows; few = (number_within w16 1 256 (length listed) facts.count).1 }
 
 node_in_range : (e : RosterEntry) → roster_entry.fits e → node_number.fits e.node
 unfolding roster_entry
@@ -131,24 +131,10 @@ leaves_follow here J l =
     rising_follow hello_leaf hello_leaf_rises leaf_before (λ x y e. e) [] (map named_leaf (by_id leaves)) (named_rise (by_id leaves) (rises_by_id leaves (apart_filter _ us (apart_from_causal [] us (lawful_is_causal here J l))))) (λ x on. refl)
     (λ x on. let t = from_map named_leaf x (by_id leaves) on in subst (λ (k : HelloLeaf). hello_leaf.fits k) t.1.1 (leaf_fits t.0 (accepted_fit here J t.0 l (leaf_is_on us t.0 (from_by_id t.0 leaves t.1.0)))))
 
-put_length : (t : Update) (us : List Update) → length (put_by_id t us) ≡ suc (length us)
-unfolding put_by_id
-put_length t [] = refl
-put_length t (u ∷ us) = by_test (is_lower u t) (put_length t us) where
-  by_test : (b : Bool) → length (put_by_id t us) ≡ suc (length us) → length (cond b (u ∷ put_by_id t us) (t ∷ u ∷ us)) ≡ suc (suc (length us))
-  by_test true rest = ap suc rest
-  by_test false rest = refl
-
-by_id_length : (us : List Update) → length (by_id us) ≡ length us
-unfolding by_id
-by_id_length [] = refl
-by_id_length (t ∷ ts) = put_length t (by_id ts) ∙ ap suc (by_id_length ts)
-
 -- ---- wanted values
 
 value_hash_fits : (u : Update) → IsUpdate u → digest.fits u.value_hash
-unfolding update_body update_fields
-value_hash_fits u fits = fits.1.1.1.1.1.1.1.1.0
+value_hash_fits u fits = (update_facts u fits).value_hash
 
 -- the values that an update names have digests as their hashes
 named_fits : (u : Update) (n : NamedValue) → IsUpdate u → IsIn n (values_named u) → digest.fits n.hash
@@ -175,7 +161,7 @@ take_few (suc n) (x ∷ xs) = let rest = take_few n xs in omega (arith, rest)
 
 -- ---- the hello
 
-byte_fits : (n : ℕ) → n ≤ 255 → (number w8 n n).fits n
+pub byte_fits : (n : ℕ) → n ≤ 255 → (number w8 n n).fits n
 unfolding number
 byte_fits n few = (omega arith, omega arith)
 

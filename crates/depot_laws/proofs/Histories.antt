@@ -7,9 +7,10 @@ use Rattle.depot_model.specs.Lists.{IsIn, is_among}
 use Rattle.depot_model.specs.Texts.{id_of_update}
 use Rattle.depot_model.specs.Order.{prevs}
 use Rattle.depot_model.specs.History.{is_prev_in, leaves_of, by_id, leaf_text, history_text, history_hash}
-use Rattle.depot_model.proofs.Members.{any_from, any_to, same_test, from_filter, in_filter}
+use Rattle.depot_model.proofs.Members.{any_from, any_to, from_filter, in_filter}
 use Rattle.depot_model.proofs.RisingLists.{HaveSame}
 use Rattle.depot_model.proofs.RisingUpdates.{AreApart, apart_filter, same_by_id}
+use Rattle.depot_base.proofs.GeneralLaws.{same_test}
 
 turned : (us vs : List Update) → HaveSame us vs → HaveSame vs us
 turned us vs same = record { to = same.back; back = same.to }

@@ -1,5 +1,5 @@
 -- What stays while the reader takes a bundle, and one step for each sort of frame.
-use Rattle.std.proofs.Common.{◌≡◌, ℕ, List, [], ◌∷◌, ◌++◌, Bool, true, false, cond, eqb, Option, Some, None, Result, Ok, Err, refl, sym, ap, subst, ◌∙◌, inl, inr, ◌⊎◌, flat_map}
+use Rattle.std.proofs.Common.{◌≡◌, ℕ, List, [], ◌∷◌, ◌++◌, Bool, true, false, eqb, Option, Some, None, Result, Ok, Err, refl, sym, ap, subst, ◌∙◌, inl, inr, ◌⊎◌, flat_map}
 use Rattle.std.proofs.lemmas.List.{append-nil}
 use Rattle.std.proofs.lemmas.Grind.{flat_map-append}
 use Rattle.std.proofs.lemmas.Bool.{eqb-true, both_ways, false_from_ne_true, cases_Bool}
@@ -20,12 +20,13 @@ use Rattle.depot_model.specs.Texts.{IsSigned, IsProof}
 use Rattle.depot_model.specs.Roster.{has_node, is_signed}
 use Rattle.depot_model.specs.Contradictions.{contradicts}
 use Rattle.depot_model.specs.Journal.{accepted, accepted_by, own, own_by, foreign, foreign_by, update_in, proof_by, value_by, accused, is_convicted, is_vouched}
-use Rattle.depot_model.specs.Checks.{Setting, Given, given_statement, given_proof, content_of, opponent, forked_by, forked, refused_as_convicted, first_failed_check, is_known, answer_by, answer_to, added, growth}
+use Rattle.depot_model.specs.Checks.{Setting, Given, given_statement, given_proof, content_of, opponent, forked, refused_as_convicted, first_failed_check, is_known, answer_by, answer_to, added, growth}
 use Rattle.depot_model.specs.Room.{full_by}
 use Rattle.depot_model.specs.Lawful.{IsLawful, is_empty}
 use Rattle.depot_model.specs.World.{Correct, World, setting_of, hashed_texts}
 use Rattle.depot_model.proofs.Members.{in_left, in_parts}
 use Rattle.depot_model.proofs.ContradictionLaws.{same_writer}
+use Rattle.depot_model.proofs.DueLaws.{no_fork_alone}
 use Rattle.depot_laws.specs.Given.{HasText}
 use Rattle.depot_laws.proofs.Taken.{AllNone, none_from_passes}
 use Rattle.depot_laws.proofs.Convictions.{convicted_by, convicts_accused}
@@ -70,16 +71,6 @@ without_opponent fs s quiet = by_option (opponent fs s) refl where
   by_option : (o : Option (Signed × Kind)) → opponent fs s ≡ o → opponent fs s ≡ None
   by_option None is = is
   by_option (Some by) is = let o = opponent_is fs s by is in absurd (quiet by.0 o.on by.1 o.contradict)
-
-unforked : (blocked : Bool) (s : Statement) (o : Option (Signed × Kind)) → o ≡ None → cond blocked None (forked_by s o) ≡ None
-unforked true s o e = refl
-unforked false s None e = refl
-unforked false s (Some by) e = absurd cc
-
--- and forks nothing
-pub quiet_forked : (J : List Record) (s : Statement) → opponent (foreign J) s ≡ None → forked J s ≡ None
-unfolding forked
-quiet_forked J s e = unforked _ s (opponent (foreign J) s) e
 
 module _ (W : World) (a v : Correct) (K : List Record) (m : Meeting W a v K) where
   -- ---- what stays
@@ -205,7 +196,7 @@ module _ (W : World) (a v : Correct) (K : List Record) (m : Meeting W a v K) whe
         other = false_from_ne_true _ (λ e. m.distinct (sym (eqb-true _ _ e) ∙ writer));
         signed = t.verified;
         content = subst (λ (x : Statement). AllNone (content_of C x)) (sym t.is) tt;
-        forked = subst (λ (x : Statement). forked C x ≡ None) (sym t.is) (quiet_forked C (statement.Voucher w) (own_has_no_opponent C (statement.Voucher w) j t.on));
+        forked = subst (λ (x : Statement). forked C x ≡ None) (sym t.is) (no_fork_alone C (statement.Voucher w) (own_has_no_opponent C (statement.Voucher w) j t.on));
         convicted = subst (λ (x : Statement). refused_as_convicted C x ≡ None) (sym t.is) (not_convicted C w (subst (λ (n : ℕ). is_convicted C n ≡ false) (sym node) j.spares));
       })
 

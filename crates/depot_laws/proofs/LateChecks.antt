@@ -1,5 +1,5 @@
 -- Statements that are refused by a check behind those of the writer and the signature.
-use Rattle.std.proofs.Common.{◌≡◌, Bool, true, false, not, ◌&&◌, eqb, List, [], ◌∷◌, ◌++◌, Option, Some, Err, refl, sym, subst}
+use Rattle.std.proofs.Common.{◌≡◌, Bool, true, false, not, eqb, List, [], ◌∷◌, ◌++◌, Option, Some, Err, refl, sym, subst}
 use Rattle.depot_base.specs.Statement.{writer_of}
 use Rattle.depot_base.specs.declared.statement.Signed.{Signed}
 use Rattle.depot_base.specs.declared.record.Record.{Record}
@@ -9,6 +9,7 @@ use Rattle.depot_model.specs.Lists.{when, first}
 use Rattle.depot_model.specs.Texts.{id_of_statement}
 use Rattle.depot_model.specs.Roster.{has_node, is_signed}
 use Rattle.depot_model.specs.Checks.{Setting, given_statement, forked, refused_as_convicted, content_of, statement_checks, first_failed_check, is_kept, is_known, answer_to}
+use Rattle.depot_base.proofs.GeneralLaws.{second_fails}
 use Rattle.depot_laws.proofs.Tests.{holds_from_not}
 use Rattle.depot_laws.proofs.Taken.{refused_from_answer}
 use Rattle.depot_laws.proofs.Contrary.{IsGenuine}
@@ -50,10 +51,6 @@ late_check here J s c late e =
     let three = skipped (not (is_signed here.verifies here.listed s)) (check.BadSignature (writer_of s.statement)) c rest (λ h. h) late two.1 in
     record { genuine = record { known = holds_from_not _ one.0; other = two.0; signed = holds_from_not _ three.0 }; first_failed = three.1 }
 
-not_kept : (known kept : Bool) → known ≡ true → (known && kept) ≡ false → kept ≡ false
-not_kept true kept k e = e
-not_kept false kept k e = absurd cc
-
 pub refused_late : (here : Setting) (J : List Record) (s : Signed) (c : Check) → IsLate c → answer_to here J (given_statement s) ≡ Err c → IsRefusedLate here J s c
 unfolding answer_to first_failed_check is_known
 refused_late here J s c late e =
@@ -61,6 +58,6 @@ refused_late here J s c late e =
     let l = late_check here J s c late r.1 in
     record {
       genuine = l.genuine;
-      new = not_kept (has_node here.listed (writer_of s.statement)) (is_kept J s.statement) l.genuine.known r.0;
+      new = second_fails (has_node here.listed (writer_of s.statement)) (is_kept J s.statement) l.genuine.known r.0;
       first_failed = l.first_failed;
     }

@@ -8,7 +8,7 @@ use Rattle.depot_base.specs.Sized.{IsValue}
 use Rattle.depot_base.specs.declared.record.Record.{Record}
 use Rattle.depot_base.specs.declared.check.Check.{Check}
 use Rattle.depot_base.specs.declared.check.Full.{Full}
-use Rattle.depot_base.proofs.Laws.{IsBytes, IsBytes-drop, IsBytes-take, bind_ok, ok_is}
+use Rattle.depot_base.proofs.FormatLaws.{IsBytes, IsBytes-drop, IsBytes-take, bind_ok, ok_is}
 use Rattle.depot_base.proofs.ClosedLaws.{LawfulClosed, closing_lawful, rest_lawful}
 use Rattle.depot_model.specs.declared.taken.Taken.{Taken}
 use Rattle.depot_model.specs.declared.taken.Taken.TheVariants.{New, Known}
@@ -59,7 +59,7 @@ record IsGood (here : Setting) (J : List Record) : Type 0 where
   pub lawful : IsLawful here J
   pub some : is_empty J ≡ false
 
-counted_journal : (n : ℕ) (answer : Result Taken Check) (new : List Record) (s : Feeding) → (passed n (counted answer new s)).journal ≡ s.journal ++ new
+pub counted_journal : (n : ℕ) (answer : Result Taken Check) (new : List Record) (s : Feeding) → (passed n (counted answer new s)).journal ≡ s.journal ++ new
 counted_journal n (Ok New) new s = refl
 counted_journal n (Ok Known) new s = refl
 counted_journal n (Err c) new s = refl

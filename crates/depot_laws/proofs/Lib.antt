@@ -1,8 +1,8 @@
 pub mod Splits
 pub mod Tests
 pub mod Rosters
-pub mod Records
-pub mod Limits
+pub mod LawfulRecords
+pub mod JournalLimits
 pub mod Births
 pub mod Taken
 pub mod Causes
@@ -16,7 +16,7 @@ pub mod OwnSteps
 pub mod Prevs
 pub mod Sorted
 pub mod OwnTexts
-pub mod Leaves
+pub mod LeafCounts
 pub mod Counts
 pub mod OwnAgree
 pub mod ContraryConvict
@@ -29,7 +29,7 @@ pub mod Paths
 pub mod Worlds
 pub mod Observed
 pub mod Traces
-pub mod Lines
+pub mod TraceLines
 pub mod Once
 pub mod Exact
 pub mod NoVerdicts

@@ -18,14 +18,13 @@ use Rattle.depot_model.specs.Order.{parents, past}
 use Rattle.depot_model.specs.History.{leaves_of, by_id}
 use Rattle.depot_model.specs.Journal.{accepted, accepted_by, own, foreign, foreign_by, proof_by, accused, has_id, is_convicted}
 use Rattle.depot_model.specs.Lawful.{IsLawful}
-use Rattle.depot_model.specs.Contents.{halves}
 use Rattle.depot_model.specs.Hello.{named_leaf, hello_of}
 use Rattle.depot_model.specs.Bundle.{is_covered, has_candidate, candidates}
-use Rattle.depot_model.specs.World.{Correct, World, setting_of, signed_in, signed_met, IsWorld, IsAuthentic, IsCollisionFree, writes_of}
+use Rattle.depot_model.specs.World.{Correct, World, setting_of, IsWorld, IsAuthentic, IsCollisionFree, writes_of}
 use Rattle.depot_model.proofs.Members.{in_left, from_map, any_from, any_to, among_to, in_filter}
 use Rattle.depot_model.proofs.Pasts.{past_in}
 use Rattle.depot_laws.specs.Rejoin.{hello_at}
-use Rattle.depot_laws.proofs.Splits.{given_by, given_too, flat_left, flat_gives, none_splits, lawful_front}
+use Rattle.depot_laws.proofs.Splits.{given_by, flat_left, flat_gives, none_splits, lawful_front}
 use Rattle.depot_model.proofs.RisingUpdates.{from_by_id}
 use Rattle.depot_model.proofs.NamedIds.{has_id_to}
 use Rattle.depot_laws.proofs.Causes.{own_in_accepted, leaf_is_on, record_joins, lawful_is_causal}
@@ -36,6 +35,7 @@ use Rattle.depot_laws.proofs.SamePasts.{past_over, own_parent}
 use Rattle.depot_laws.proofs.Worlds.{giver_in, write_from, journal_lawful, one_write}
 use Rattle.depot_laws.proofs.NoVerdicts.{convicts_none}
 use Rattle.depot_laws.proofs.Parcels.{is_candidate_for, candidates_for}
+use Rattle.depot_laws.proofs.Exact.{kept_in_world}
 
 -- The reader a and the sender v of an authentic world without collisions. The sender's journal began with these records.
 pub record Meeting (W : World) (a v : Correct) (K : List Record) : Type 0 where
@@ -81,13 +81,6 @@ left_at {X} test (y ∷ ys) done x more e = by_test (test y) refl e (left_at tes
 
 -- ---- the two journals
 
-half_or_whole : (J : List Record) (s : Signed) → IsIn s (foreign J) → IsIn s (flat_map signed_in J)
-half_or_whole J s on = let g = given_by foreign_by s J on in given_too foreign_by signed_in s s J g (in_left s (foreign_by g.by) (flat_map halves (proof_by g.by)) g.given)
-
--- a statement of another that a node keeps was met in the world
-kept_is_met : (W : World) (c : Correct) (s : Signed) → IsIn c W.nodes → IsIn s (foreign c.journal) → IsIn s (signed_met W)
-kept_is_met W c s c_on on = in_left s (flat_map (λ (d : Correct). flat_map signed_in d.journal) W.nodes) (flat_map halves W.judged) (flat_gives (λ (d : Correct). flat_map signed_in d.journal) s c W.nodes c_on (half_or_whole c.journal s on))
-
 module _ (W : World) (a v : Correct) (K : List Record) (m : Meeting W a v K) where
   -- the sender's journal was lawful
   pub sender_lawful : IsLawful (setting_of W v) K
@@ -121,10 +114,10 @@ module _ (W : World) (a v : Correct) (K : List Record) (m : Meeting W a v K) whe
 
   -- what the one has of the other is the other's own
   pub reader_authentic : (s : Signed) → IsIn s (foreign a.journal) → writer_of s.statement ≡ v.node → IsIn s.statement (own v.journal)
-  reader_authentic s on writer = m.authentic.made s v (kept_is_met W a s m.reader on) m.sender writer
+  reader_authentic s on writer = m.authentic.made s v (kept_in_world W a s m.reader on) m.sender writer
 
   pub sender_authentic : (s : Signed) → IsIn s (foreign K) → writer_of s.statement ≡ a.node → IsIn s.statement (own a.journal)
-  sender_authentic s on writer = m.authentic.made s a (kept_is_met W v s m.sender (still_told foreign_by s on)) m.reader writer
+  sender_authentic s on writer = m.authentic.made s a (kept_in_world W v s m.sender (still_told foreign_by s on)) m.reader writer
 
   -- ---- what isn't sent
 

@@ -23,13 +23,16 @@ use Rattle.depot_model.specs.Room.{takes_update, full_by, HasRoom}
 use Rattle.depot_model.specs.Limits.{full, spent, spent_by}
 use Rattle.depot_model.specs.Vouching.{is_foreign, rising, groups_of, numbered, new_vouchers, records_of, limit_of_new, limit_of_vouchers}
 use Rattle.depot_model.specs.Lawful.{IsAllowed, IsLawful, is_empty}
-use Rattle.depot_model.proofs.FirstLaws.{each_is_none, when-none, mapped-none}
+use Rattle.depot_model.proofs.FirstLaws.{each_is_none, when-none}
 use Rattle.depot_model.proofs.Members.{any_to, all_at, all_from}
-use Rattle.depot_laws.proofs.Splits.{silent, flat_push, lawful_push}
-use Rattle.depot_laws.proofs.Limits.{within_from_room, room_from_within, bytes_front}
+use Rattle.depot_base.proofs.GeneralLaws.{mapped-none, flat_push}
+use Rattle.depot_laws.proofs.Splits.{silent, lawful_push}
+use Rattle.depot_laws.proofs.JournalLimits.{within_from_room, room_from_within, bytes_front}
 use Rattle.depot_laws.proofs.OwnTexts.{lawful_is_short, lawful_is_light, few_own, me_fits, id_is_digest}
 use Rattle.depot_laws.proofs.Groups.{IsSized, groups_sized, from_groups, from_rising}
 use Rattle.depot_laws.proofs.RisingBytes.{rising_rises, rising_short, rising_some, digests_follow}
+use Rattle.depot_laws.proofs.Growing.{nonempty_more}
+use Rattle.depot_laws.proofs.HelloTexts.{byte_fits}
 
 -- ---- ids
 
@@ -45,10 +48,6 @@ voucher_tag : (number w8 1 6).fits 3
 unfolding number
 voucher_tag = (omega arith, omega arith)
 
-ones_8 : (n : ℕ) → n ≤ 255 → (number w8 n n).fits n
-unfolding number
-ones_8 n few = (omega arith, omega arith)
-
 seq_fits : (n : ℕ) → n ≤ 4294967295 → (number w32 0 4294967295).fits n
 unfolding number
 seq_fits n few = (omega arith, few)
@@ -63,7 +62,7 @@ unfolding record_text tagged voucher_body voucher_fields list_of
 voucher_fits me n g node seq sized fit =
     let follow = digests_follow (rising g) (rising_rises g) (λ x on. fit x (from_rising x g on)) in
     let count : (number w16 1 256).fits (length (rising g)) = count_fits (length (rising g)) (rising_some g sized.some) (omega (arith, rising_short g, sized.most)) in
-    (voucher_tag, (ones_8 1 (omega arith), (ones_8 2 (omega arith), (node, (seq_fits n seq, (count, ((follow, refl), refl)))))))
+    (voucher_tag, (byte_fits 1 (omega arith), (byte_fits 2 (omega arith), (node, (seq_fits n seq, (count, ((follow, refl), refl)))))))
 
 -- ---- one after the other
 
@@ -73,7 +72,7 @@ record HasRoomForAll (here : Setting) (J : List Record) (vs : List Voucher) : Ty
   pub bytes : journal_bytes (J ++ records_of vs) ≤ 2 ^ 30
   pub leaves : length (own J) + length vs ≤ leaf_count here.listed here.me
 
-takes_none : (vs : List Voucher) → flat_map takes_update (records_of vs) ≡ []
+pub takes_none : (vs : List Voucher) → flat_map takes_update (records_of vs) ≡ []
 takes_none [] = refl
 takes_none (v ∷ vs) = takes_none vs
 
@@ -97,10 +96,6 @@ others_have_room here J v vs r =
 AreVouchable : ℕ → List Update → List (List (List ℕ)) → Type 0
 AreVouchable me us gs = AllByRecursion (λ g. IsSized 256 g × ((h : List ℕ) → IsIn h g → is_foreign me us h ≡ true)) gs
 
-some_more : (J : List Record) (r : Record) → is_empty (J ++ r ∷ []) ≡ false
-some_more [] r = refl
-some_more (j ∷ J) r = refl
-
 numbered_lawful : (here : Setting) (J : List Record) (n : ℕ) (gs : List (List (List ℕ))) → IsLawful here J → is_empty J ≡ false → n ≡ length (own J) → AreVouchable here.me (accepted J) gs → HasRoomForAll here J (numbered here.me n gs) → IsLawful here (J ++ records_of (numbered here.me n gs))
 unfolding AreVouchable
 numbered_lawful here J n [] l some seq each room = subst (λ (K : List Record). IsLawful here K) (sym (append-nil J)) l
@@ -115,7 +110,7 @@ numbered_lawful here J n (g ∷ gs) l some seq each room =
     } in
     let K = J ++ OwnVoucher v ∷ [] in
     let same : accepted K ≡ accepted J = silent accepted_by J (OwnVoucher v) refl in
-    let more = numbered_lawful here K (suc n) gs (lawful_push here J (OwnVoucher v) l allowed) (some_more J (OwnVoucher v)) (omega (arith, seq, ap length (flat_push own_by J (OwnVoucher v)), length-append (own J) (own_by (OwnVoucher v))))
+    let more = numbered_lawful here K (suc n) gs (lawful_push here J (OwnVoucher v) l allowed) (nonempty_more J (OwnVoucher v)) (omega (arith, seq, ap length (flat_push own_by J (OwnVoucher v)), length-append (own J) (own_by (OwnVoucher v))))
     (subst (λ (us : List Update). AreVouchable here.me us gs) (sym same) each.1) (others_have_room here J v (numbered here.me (suc n) gs) room) in
     subst (λ (x : List Record). IsLawful here x) (append_assoc J (OwnVoucher v ∷ []) (records_of (numbered here.me (suc n) gs))) more
 

@@ -12,18 +12,17 @@ use Rattle.depot_model.specs.declared.taken.Taken.TheVariants.{New}
 use Rattle.depot_model.specs.Lists.{IsIn}
 use Rattle.depot_model.specs.Contradictions.{contradicts}
 use Rattle.depot_model.specs.Roster.{Verifies}
-use Rattle.depot_model.specs.Judgement.{points, first_failed_point}
+use Rattle.depot_model.specs.Judgement.{first_failed_point}
 use Rattle.depot_model.specs.Journal.{accused, proof_by}
 use Rattle.depot_model.specs.Checks.{Setting, given_proof, answer_to}
 use Rattle.depot_model.specs.Lawful.{MayFollow}
-use Rattle.depot_model.proofs.FirstLaws.{each_is_none, when-none}
+use Rattle.depot_model.proofs.JudgementLaws.{passes}
 use Rattle.depot_model.proofs.Members.{in_left, in_right, in_parts}
 use Rattle.depot_model.proofs.ContradictionLaws.{same_writer}
 use Rattle.depot_model.specs.Contents.{halves}
 use Rattle.depot_model.specs.World.{Correct, World, setting_of, signed_in, signed_met, IsWorld, IsAuthentic}
 use Rattle.depot_model.specs.Causality.{ConvictsNoCorrectNode}
 use Rattle.depot_laws.proofs.Splits.{given_by, given_too, flat_gives}
-use Rattle.depot_laws.proofs.Tests.{holds_from_not}
 use Rattle.depot_laws.proofs.GoodProofs.{new_is_good}
 use Rattle.depot_laws.proofs.OwnAgree.{own_agree}
 use Rattle.depot_laws.proofs.Worlds.{giver_in, journal_lawful}
@@ -35,8 +34,7 @@ Shows p = contradicts p.kind p.first.statement p.second.statement ≡ true
 
 -- where no point fails, the halves contradict each other
 judged_shows : (verifies : Verifies) (r : List RosterEntry) (p : Proof) → first_failed_point verifies r p ≡ None → Shows p
-unfolding points
-judged_shows verifies r p good = let each = each_is_none (points verifies r p) good in holds_from_not _ (when-none _ _ each.1.1.1.1.1.1.1.0)
+judged_shows verifies r p good = (passes verifies r p good).contradict
 
 -- and so where a node takes it
 taken_shows : (here : Setting) (J : List Record) (p : Proof) → answer_to here J (given_proof p) ≡ Ok New → Shows p

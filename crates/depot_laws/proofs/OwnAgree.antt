@@ -23,7 +23,8 @@ use Rattle.depot_model.specs.Lawful.{MayPut, MayVouch, MayFollow, IsLawful}
 use Rattle.depot_model.proofs.Members.{among_to}
 use Rattle.depot_model.proofs.ContradictionLaws.{contradicts_comm, other_body}
 use Rattle.depot_model.specs.Chains.{IsEarlierStep}
-use Rattle.depot_laws.proofs.Splits.{flat_push, flat_cases, lawful_from_end}
+use Rattle.depot_base.proofs.GeneralLaws.{flat_push}
+use Rattle.depot_laws.proofs.Splits.{flat_cases, lawful_from_end}
 use Rattle.depot_model.proofs.NamedIds.{has_id_from}
 use Rattle.depot_laws.proofs.Causes.{own_in_accepted, prevs_is}
 use Rattle.depot_laws.proofs.OwnSteps.{own_seq, below_next}

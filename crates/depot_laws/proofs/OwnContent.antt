@@ -18,7 +18,8 @@ use Rattle.depot_model.specs.Lawful.{IsLawful}
 use Rattle.depot_model.proofs.Members.{in_left, in_right, in_parts, in_pushed, in_map, from_map}
 use Rattle.depot_model.proofs.Orders.{one_of_id, precedes_irreflexive, leads_one}
 use Rattle.depot_model.specs.Chains.{IsEarlierStep}
-use Rattle.depot_laws.proofs.Tests.{all_both, first-none}
+use Rattle.depot_base.proofs.GeneralLaws.{all_both}
+use Rattle.depot_laws.proofs.Tests.{first-none}
 use Rattle.depot_model.proofs.NamedIds.{named_some, has_id_from}
 use Rattle.depot_laws.proofs.Taken.{AllNone}
 use Rattle.depot_laws.proofs.Causes.{prevs_is, entry_is_leaf, leaf_is_on, lawful_is_causal, put_is_causal}

@@ -14,7 +14,8 @@ use Rattle.depot_model.specs.Checks.{Setting}
 use Rattle.depot_model.specs.Own.{next_own}
 use Rattle.depot_model.specs.Lawful.{MayFollow, IsLawful}
 use Rattle.depot_model.specs.Chains.{IsEarlierStep}
-use Rattle.depot_laws.proofs.Splits.{given_by, flat_push, flat_cases, lawful_from_end}
+use Rattle.depot_base.proofs.GeneralLaws.{flat_push}
+use Rattle.depot_laws.proofs.Splits.{given_by, flat_cases, lawful_from_end}
 use Rattle.depot_laws.proofs.Causes.{own_in_accepted}
 use Rattle.depot_laws.proofs.Clocks.{clock_below}
 

@@ -23,14 +23,16 @@ use Rattle.depot_model.specs.Own.{entry_of, precedes_named, next_entries, next_o
 use Rattle.depot_model.specs.Checks.{Setting}
 use Rattle.depot_model.specs.Room.{full_by}
 use Rattle.depot_model.specs.Lawful.{IsAllowed, IsLawful, is_birth, is_empty}
+use Rattle.depot_model.proofs.FieldFacts.{update_facts}
 use Rattle.depot_model.proofs.BodyLaws.{IsUpdate-from_statement, IsStatement-from_update, IsStatement-from_signed}
 use Rattle.depot_model.proofs.TextLaws.{update_body_lawful}
+use Rattle.depot_model.proofs.RecordLaws.{update_of_own_put}
 use Rattle.depot_laws.proofs.Splits.{given_by, lawful_push, lawful_from_end}
 use Rattle.depot_laws.proofs.Tests.{fails_from_not}
 use Rattle.depot_model.proofs.Members.{from_filter}
 use Rattle.depot_model.proofs.RisingUpdates.{from_by_id, AreApart, apart_from_causal, apart_filter, rises_by_id}
-use Rattle.depot_laws.proofs.Limits.{within_from_room}
-use Rattle.depot_laws.proofs.Records.{IsSigned-from_record, IsStatement-from_own_voucher}
+use Rattle.depot_laws.proofs.JournalLimits.{within_from_room}
+use Rattle.depot_laws.proofs.LawfulRecords.{IsSigned-from_record, IsStatement-from_own_voucher}
 use Rattle.depot_laws.proofs.Causes.{last_own_cases, update_in_is, leaf_is_on, lawful_is_causal}
 use Rattle.depot_laws.proofs.Clocks.{clocks_within}
 use Rattle.depot_laws.proofs.Sorted.{entries_follow}
@@ -76,13 +78,9 @@ me_fits here (r ∷ J) l some = let allowed = l.each [] r J refl in birth_node h
 
 -- ---- accepted updates
 
-pub put_is_update : (u : Update) (value : List ℕ) → IsRecord (OwnPut u value) → IsUpdate u
-unfolding record_text tagged own_put inner
-put_is_update u value fits = fits.1.1.0.0
-
 accepted_is_update : (r : Record) (u : Update) → IsRecord r → IsIn u (accepted_by r) → IsUpdate u
 accepted_is_update (Birth node h) u fits never = absurd never
-accepted_is_update (OwnPut w value) u fits (inl same) = subst (λ (x : Update). IsUpdate x) same (put_is_update w value fits)
+accepted_is_update (OwnPut w value) u fits (inl same) = subst (λ (x : Update). IsUpdate x) same (update_of_own_put w value fits)
 accepted_is_update (OwnPut w value) u fits (inr never) = absurd never
 accepted_is_update (OwnVoucher v) u fits never = absurd never
 accepted_is_update (Foreign s) u fits on = IsUpdate-from_statement u (subst (λ (x : Statement). IsStatement x) (update_in_is s.statement u on) (IsStatement-from_signed s (IsSigned-from_record s fits)))
@@ -94,7 +92,7 @@ pub accepted_fit : (here : Setting) (J : List Record) (u : Update) → IsLawful 
 accepted_fit here J u l on = let g = given_by accepted_by u J on in accepted_is_update g.by u (l.each g.before g.by g.after g.is).text g.given
 
 own_is_statement : (r : Record) (s : Statement) → IsRecord r → IsIn s (own_by r) → IsStatement s
-own_is_statement (OwnPut u value) s fits (inl same) = subst (λ (x : Statement). IsStatement x) same (IsStatement-from_update u (put_is_update u value fits))
+own_is_statement (OwnPut u value) s fits (inl same) = subst (λ (x : Statement). IsStatement x) same (IsStatement-from_update u (update_of_own_put u value fits))
 own_is_statement (OwnPut u value) s fits (inr never) = absurd never
 own_is_statement (OwnVoucher v) s fits (inl same) = subst (λ (x : Statement). IsStatement x) same (IsStatement-from_own_voucher v fits)
 own_is_statement (OwnVoucher v) s fits (inr never) = absurd never
@@ -108,12 +106,11 @@ pub own_statement_fits : (here : Setting) (J : List Record) (s : Statement) → 
 own_statement_fits here J s l on = let g = given_by own_by s J on in own_is_statement g.by s (l.each g.before g.by g.after g.is).text g.given
 
 pub writer_fits : (u : Update) → IsUpdate u → node_number.fits u.writer
-unfolding update_body update_fields
-writer_fits u fits = fits.1.1.0
+writer_fits u fits = (update_facts u fits).writer
 
 clock_fits : (u : Update) → IsUpdate u → (number w64 0 18446744073709551615).fits u.clock
-unfolding update_body update_fields number
-clock_fits u fits = let c = number_within w64 1 18446744073709551615 u.clock fits.1.1.1.1.0 in (omega arith, c.1)
+unfolding number
+clock_fits u fits = let c = number_within w64 1 18446744073709551615 u.clock (update_facts u fits).clock in (omega arith, c.1)
 
 -- ---- entries
 

@@ -97,7 +97,7 @@ done_ends : (s : Feeding) (J : List Record) (refused : List Refusal) → IsDone 
 unfolding report_of ending_of
 done_ends s J refused d = chosen_open s.closed (ending_by s.ended s.begun) d.open_still ∙ ap (λ (o : Option Bool). ending_by o s.begun) d.ended
 
-report_refused : (s : Feeding) → (report_of s).refused ≡ s.refused
+pub report_refused : (s : Feeding) → (report_of s).refused ≡ s.refused
 unfolding report_of
 report_refused s = refl
 

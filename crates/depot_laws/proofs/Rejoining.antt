@@ -17,7 +17,7 @@ use Rattle.depot_model.specs.Bundle.{Signs, signed_with, Parcel, wanted_parcel, 
 use Rattle.depot_model.specs.World.{Correct, World, setting_of}
 use Rattle.depot_laws.specs.Rejoin.{IsWellSigned}
 use Rattle.depot_laws.proofs.Splits.{given_by, given_too, flat_gives}
-use Rattle.depot_laws.proofs.Records.{IsProof-from_record}
+use Rattle.depot_laws.proofs.LawfulRecords.{IsProof-from_record}
 use Rattle.depot_laws.proofs.GoodProofs.{IsGoodAt, new_is_good}
 use Rattle.depot_laws.proofs.OwnTexts.{own_statement_fits}
 use Rattle.depot_laws.proofs.Worlds.{giver_in, value_hashed}
@@ -94,7 +94,7 @@ conviction_is p (OwnVoucher v) never = absurd never
 conviction_is p (Foreign s) never = absurd never
 conviction_is p (Held value) never = absurd never
 
-voucher_is_own : (r : Record) (w : Voucher) → IsIn w (own_voucher_by r) → IsIn (statement.Voucher w) (own_by r)
+pub voucher_is_own : (r : Record) (w : Voucher) → IsIn w (own_voucher_by r) → IsIn (statement.Voucher w) (own_by r)
 voucher_is_own (OwnVoucher y) w (inl same) = inl (ap (λ (z : Voucher). statement.Voucher z) same)
 voucher_is_own (OwnVoucher y) w (inr never) = absurd never
 voucher_is_own (Birth node h) w never = absurd never

@@ -3,13 +3,14 @@ use Rattle.std.proofs.Common.{◌≡◌, ℕ, ◌≤◌, Bool, true, eqb, List, 
 use Rattle.std.specs.List.{AllByRecursion}
 use Rattle.std.specs.Int.{w8}
 use Rattle.std.proofs.lemmas.Bool.{eqb-true}
-use Rattle.depot_base.specs.Format.{Format, Follows, list_of}
+use Rattle.depot_base.specs.Format.{Format, Follows}
 use Rattle.depot_base.specs.Parts.{node_number, roster_entry, roster_entry_rises}
 use Rattle.depot_base.specs.declared.key.PublicKey.{PublicKey}
 use Rattle.depot_base.specs.declared.key.RosterEntry.{RosterEntry}
 use Rattle.depot_base.proofs.Numbers.{number_within}
-use Rattle.depot_model.specs.Texts.{roster, IsRoster}
+use Rattle.depot_model.specs.Texts.{IsRoster}
 use Rattle.depot_model.specs.Roster.{key_of, has_node}
+use Rattle.depot_model.proofs.FieldFacts.{roster_facts}
 use Rattle.depot_model.proofs.NamedIds.{named_cases}
 
 -- each entry of a list fits
@@ -18,8 +19,7 @@ follows_fit entry may_follow front [] follows = tt
 follows_fit entry may_follow front (e ∷ es) follows = (follows.0, follows_fit entry may_follow (front ++ e ∷ []) es follows.2)
 
 pub entries_fit : (listed : List RosterEntry) → IsRoster listed → AllByRecursion roster_entry.fits listed
-unfolding roster list_of
-entries_fit listed fits = follows_fit roster_entry roster_entry_rises [] listed fits.1.1.1.0.0
+entries_fit listed fits = follows_fit roster_entry roster_entry_rises [] listed (roster_facts listed fits).follows
 
 -- the number of a node and the height of its key are in their ranges
 pub record IsListed (n : ℕ) (key : PublicKey) : Type 0 where

@@ -22,9 +22,10 @@ use Rattle.depot_model.specs.Bundle.{Signs, signed_with, signed_by, has_candidat
 use Rattle.depot_model.specs.Hello.{hello_of}
 use Rattle.depot_model.specs.World.{Correct, World, setting_of}
 use Rattle.depot_model.proofs.Members.{in_right, in_parts, from_map, any_from, any_to, among_from, from_filter}
+use Rattle.depot_base.proofs.GeneralLaws.{flat_push, all_both}
 use Rattle.depot_laws.specs.Rejoin.{hello_at, IsWellSigned}
-use Rattle.depot_laws.proofs.Splits.{given_by, flat_push, flat_left, flat_gives}
-use Rattle.depot_laws.proofs.Tests.{all_both, fails_from_not}
+use Rattle.depot_laws.proofs.Splits.{given_by, flat_left, flat_gives}
+use Rattle.depot_laws.proofs.Tests.{fails_from_not}
 use Rattle.depot_laws.proofs.Taken.{AllNone, HasId}
 use Rattle.depot_laws.proofs.Causes.{lawful_is_causal}
 use Rattle.depot_laws.proofs.Contrary.{kept_is_signed, kept_is_genuine}

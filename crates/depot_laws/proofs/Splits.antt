@@ -10,12 +10,9 @@ use Rattle.depot_model.specs.Journal.{accepted_by, accepted}
 use Rattle.depot_model.specs.Checks.{Setting}
 use Rattle.depot_model.specs.Lawful.{IsAllowed, IsLawful}
 use Rattle.depot_model.proofs.Members.{in_left, in_right, in_parts}
+use Rattle.depot_base.proofs.GeneralLaws.{flat_push}
 
 -- ---- what each gives
-
--- what one more gives stands behind what the others give
-pub flat_push : {R X : Type 0} (f : R → List X) (rs : List R) (r : R) → flat_map f (rs ++ r ∷ []) ≡ flat_map f rs ++ f r
-flat_push f rs r = flat_map-append f rs (r ∷ []) ∙ ap (λ (ys : List _). flat_map f rs ++ ys) (append-nil (f r))
 
 -- a reading that tells nothing of one more
 pub silent : {R X : Type 0} (f : R → List X) (rs : List R) (r : R) → f r ≡ [] → flat_map f (rs ++ r ∷ []) ≡ flat_map f rs

@@ -17,7 +17,8 @@ use Rattle.depot_model.specs.Journal.{named}
 use Rattle.depot_model.specs.Checks.{Setting, given_statement, sight, lost, missing, wrong_dep, backward, clock_low, clock_far, bad_history, content_checks, content_of, forked, refused_as_convicted, statement_checks, first_failed_check, is_kept, is_known, answer_by, answer_to}
 use Rattle.depot_model.proofs.FirstLaws.{each_is_none, when-none}
 use Rattle.depot_model.proofs.Members.{in_left, in_right, in_parts, in_map, from_map, all_at}
-use Rattle.depot_laws.proofs.Tests.{holds_from_not, all_left, all_right, all_both, first-none}
+use Rattle.depot_base.proofs.GeneralLaws.{all_both}
+use Rattle.depot_laws.proofs.Tests.{holds_from_not, all_left, all_right, first-none}
 use Rattle.depot_model.proofs.NamedIds.{named_is}
 
 -- a list in which each is none
@@ -53,20 +54,22 @@ pub record Passes (here : Setting) (J : List Record) (s : Signed) : Type 0 where
   pub forked : forked J s.statement ≡ None
   pub convicted : refused_as_convicted J s.statement ≡ None
 
--- where no check fails, each passes
-pub passes_from_none : (here : Setting) (J : List Record) (s : Signed) → first (statement_checks here J s) ≡ None → Passes here J s
+each_passes : (here : Setting) (J : List Record) (s : Signed) → AllNone (statement_checks here J s) → Passes here J s
 unfolding statement_checks
-passes_from_none here J s e =
-    let each = each_is_none (statement_checks here J s) e in
-    let late = all_right (λ (o : Option Check). o ≡ None) (content_of J s.statement) (forked J s.statement ∷ refused_as_convicted J s.statement ∷ []) each.1.1.1 in
+each_passes here J s (known, (other, (signed, behind))) =
+    let late = all_right (λ (o : Option Check). o ≡ None) (content_of J s.statement) (forked J s.statement ∷ refused_as_convicted J s.statement ∷ []) behind in
     record {
-      known = holds_from_not _ (when-none _ _ each.0);
-      other = when-none _ _ each.1.0;
-      signed = holds_from_not _ (when-none _ _ each.1.1.0);
-      content = all_left (λ (o : Option Check). o ≡ None) (content_of J s.statement) (forked J s.statement ∷ refused_as_convicted J s.statement ∷ []) each.1.1.1;
+      known = holds_from_not _ (when-none _ _ known);
+      other = when-none _ _ other;
+      signed = holds_from_not _ (when-none _ _ signed);
+      content = all_left (λ (o : Option Check). o ≡ None) (content_of J s.statement) (forked J s.statement ∷ refused_as_convicted J s.statement ∷ []) behind;
       forked = late.0;
       convicted = late.1.0;
     }
+
+-- where no check fails, each passes
+pub passes_from_none : (here : Setting) (J : List Record) (s : Signed) → first (statement_checks here J s) ≡ None → Passes here J s
+passes_from_none here J s e = each_passes here J s (each_is_none (statement_checks here J s) e)
 
 -- and the other way
 pub none_from_passes : (here : Setting) (J : List Record) (s : Signed) → Passes here J s → first (statement_checks here J s) ≡ None
@@ -113,7 +116,7 @@ pub record HasContent (us : List Update) (u : Update) : Type 0 where
 
 pub content_is : (us : List Update) (u : Update) → AllNone (content_checks u (sight us u)) → HasContent us u
 unfolding content_checks
-content_is us u all = record { missing = all.0; wrong_dep = all.1.0; backward = all.1.1.0; clock_low = all.1.1.1.0; clock_far = all.1.1.1.1.0; history = all.1.1.1.1.1.0 }
+content_is us u (missing, (wrong_dep, (backward, (clock_low, (clock_far, (history, end)))))) = record { missing = missing; wrong_dep = wrong_dep; backward = backward; clock_low = clock_low; clock_far = clock_far; history = history }
 
 found : (h : List ℕ) (o : Option Update) → lost h o ≡ None → (t : Update) × (o ≡ Some t)
 found h None e = absurd cc

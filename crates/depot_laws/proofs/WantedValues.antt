@@ -1,33 +1,30 @@
 -- Which values are wanted: each value of a lawful journal is named by an update that it accepted.
-use Rattle.std.proofs.Common.{◌≡◌, ℕ, ◌≤◌, ◌==◌, List, ◌∷◌, ◌++◌, length, true, ◌&&◌, Ok, refl, sym, ap, subst, ◌∙◌, inl, inr, arith}
+use Rattle.std.proofs.Common.{◌≡◌, ℕ, ◌==◌, List, ◌∷◌, ◌++◌, length, true, ◌&&◌, Ok, refl, sym, ap, subst, ◌∙◌, inl, inr, arith}
 use Rattle.std.specs.List.{flat_map}
-use Rattle.std.specs.Int.{w32}
 use Rattle.std.specs.Str.{bytes_eq}
 use Rattle.std.proofs.lemmas.Slice.Eq.{bytes_eq-Decides}
 use Rattle.std.proofs.lemmas.Bool.{eq-eqb, and_from}
 use Rattle.sha2.specs.Sha256.{sha256}
-use Rattle.depot_base.specs.Format.{bytes_of, inner}
 use Rattle.depot_base.specs.Sized.{IsValue}
 use Rattle.depot_base.specs.declared.update.Update.{Update}
 use Rattle.depot_base.specs.declared.record.Record.{Record}
 use Rattle.depot_base.specs.declared.record.Record.TheVariants.{Birth, OwnPut, OwnVoucher, Foreign, Conviction, Held}
-use Rattle.depot_base.proofs.Numbers.{number_within}
 use Rattle.depot_model.specs.declared.taken.Taken.TheVariants.{New}
 use Rattle.depot_model.specs.Lists.{IsIn}
-use Rattle.depot_model.specs.Texts.{update_fields, update_body, IsUpdate}
-use Rattle.depot_model.specs.Records.{own_put, tagged, record_text, IsRecord}
+use Rattle.depot_model.specs.Records.{IsRecord}
 use Rattle.depot_model.specs.Journal.{accepted, accepted_by, value_by, is_wanted}
 use Rattle.depot_model.specs.Contents.{NamedValue, values_named, names_value}
 use Rattle.depot_model.specs.Own.{next_own}
 use Rattle.depot_model.specs.Checks.{Setting, given_value, first_failed_check, is_known, answer_to}
 use Rattle.depot_model.specs.Lawful.{MayFollow, IsLawful}
+use Rattle.depot_model.proofs.FieldFacts.{own_put_facts}
 use Rattle.depot_model.proofs.FirstLaws.{when-none}
 use Rattle.depot_model.proofs.Members.{any_from, any_to}
+use Rattle.depot_model.proofs.RecordLaws.{short_value, update_of_own_put}
 use Rattle.depot_laws.proofs.Splits.{given_by, flat_left, flat_gives, lawful_texts}
 use Rattle.depot_laws.proofs.Tests.{holds_from_not}
 use Rattle.depot_laws.proofs.Taken.{new_from_answer}
-use Rattle.depot_laws.proofs.Records.{IsValue-from_record}
-use Rattle.depot_laws.proofs.OwnTexts.{put_is_update}
+use Rattle.depot_laws.proofs.LawfulRecords.{IsValue-from_record}
 use Rattle.depot_laws.proofs.Worlds.{in_split, giver_in}
 
 -- more updates want no less
@@ -80,16 +77,8 @@ value_is_wanted here J x l on = let g = given_by value_by x J on in brings_wante
 
 -- ---- their sizes
 
-value_len_fits : (u : Update) → IsUpdate u → u.value_len ≤ 65536
-unfolding update_body update_fields
-value_len_fits u fits = (number_within w32 0 65536 u.value_len fits.1.1.1.1.1.1.1.1.1.0).1
-
-put_value_long : (u : Update) (value : List ℕ) → IsRecord (OwnPut u value) → length value ≡ u.value_len
-unfolding record_text tagged own_put inner bytes_of
-put_value_long u value fits = fits.1.1.1.0
-
 brings_value : (r : Record) (x : List ℕ) → IsRecord r → IsIn x (value_by r) → IsValue x
-brings_value (OwnPut u value) x fits (inl same) = subst (λ (y : List ℕ). IsValue y) same (omega (arith, put_value_long u value fits, value_len_fits u (put_is_update u value fits)))
+brings_value (OwnPut u value) x fits (inl same) = subst (λ (y : List ℕ). IsValue y) same (omega (arith, (own_put_facts u value fits).long, short_value u (update_of_own_put u value fits)))
 brings_value (OwnPut u value) x fits (inr never) = absurd never
 brings_value (Held value) x fits (inl same) = subst (λ (y : List ℕ). IsValue y) same (IsValue-from_record value fits)
 brings_value (Held value) x fits (inr never) = absurd never

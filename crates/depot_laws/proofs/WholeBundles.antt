@@ -20,9 +20,9 @@ use Rattle.depot_model.specs.Frames.{Frame}
 use Rattle.depot_model.specs.Bundle.{Signs, signed_with, candidate_parcels, wanted_parcel, hashes_of, parcels, statement_frame, value_frame, proof_frame, frames_of, sent_foreign, proofs_for, vouchers_for}
 use Rattle.depot_model.specs.World.{Correct, World, setting_of}
 use Rattle.depot_model.proofs.Members.{in_left, in_right, in_map, any_from, among_from, from_filter, in_filter}
+use Rattle.depot_base.proofs.GeneralLaws.{all_both}
 use Rattle.depot_laws.specs.Rejoin.{hello_at, IsWellSigned}
 use Rattle.depot_laws.proofs.Splits.{flat_left}
-use Rattle.depot_laws.proofs.Tests.{all_both}
 use Rattle.depot_laws.proofs.WantedValues.{wanted_over, value_is_wanted, value_fits}
 use Rattle.depot_laws.proofs.Groups.{HasVoucher}
 use Rattle.depot_laws.proofs.Parcels.{candidates_for, is_candidate_for, in_candidates, told_of_parcels, id_is_sent}

@@ -12,7 +12,7 @@
 
 mod causality;
 mod gossip;
-mod growth;
+mod growth_laws;
 mod journals;
 mod verdicts;
 
@@ -23,7 +23,7 @@ pub use gossip::{
     bundles_are_closed, bundles_fit_a_stream, feeds_keep_journals_lawful, feeds_take_frames,
     hellos_have_a_text, rejoin_law,
 };
-pub use growth::{
+pub use growth_laws::{
     a_birth_is_lawful, clocks_are_bounded, growth_keeps_journals_lawful,
     lawful_journals_are_causal, lawful_journals_go_by_records, leaves_are_few, own_puts_are_lawful,
     own_puts_have_a_text, own_vouchers_are_lawful, rooms,

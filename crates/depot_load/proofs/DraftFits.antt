@@ -9,7 +9,7 @@ use Rattle.depot_schedule.specs.declared.verb.Made.TheVariants as made
 use Rattle.depot_schedule.specs.Spelling.{is_letter}
 use Rattle.depot_schedule.specs.Vocabulary.{label_made, named_by}
 use Rattle.depot_schedule.specs.Schedules.{FitsEvent, FitEvents}
-use Rattle.depot_load.specs.declared.draft.Draft.{Draft}
+use Rattle.depot_load.specs.declared.load_draft.Draft.{Draft}
 use Rattle.depot_load.specs.Loads.{number_at, drawn, draw, value_of, label_of, round_hello, round_bundle, round_update, faulty_node, some_node, some_key, other_than, with_event, put_round, get_round, given, bundled, exchange_round, update_round, faulty_round, round_by, round, giver, taker, schedule_with}
 use Rattle.depot_load.proofs.Fresh.{rank, IsFree, free-from, free-more, free-made, made-now, made-before}
 use Rattle.depot_load.proofs.EventFits.{fits-more, IsCorrect, IsSize, put-fits, get-fits, restart-fits, hello-fits, bundle-fits, give-fits, update-fits}

@@ -1,11 +1,11 @@
 pub mod DraftFits
 pub mod Draws
 pub mod EventFits
-pub mod Examples
+pub mod LoadExamples
 pub mod Fresh
-pub mod Kept
+pub mod KeptLoads
 pub mod LoadFits
-pub mod Steps
+pub mod DrawSteps
 pub mod Sums
 pub mod Updates
 pub mod WordLaws

@@ -4,12 +4,12 @@ use Rattle.std.proofs.lemmas.Nat.{mod_below}
 use Rattle.depot_schedule.specs.declared.event.Event.TheVariants.{Get, Hello, Give}
 use Rattle.depot_schedule.specs.declared.verb.Made.TheVariants as made
 use Rattle.depot_schedule.specs.Schedules.{FitMembers, IsSchedule, before_members}
-use Rattle.depot_load.specs.declared.draft.Draft.{Draft}
+use Rattle.depot_load.specs.declared.load_draft.Draft.{Draft}
 use Rattle.depot_load.specs.Loads.{begun, bundled, drafted, exchange, farewell, giver, greet, key_of, last_bundle, last_hello, load_of, members, read, round, schedule_with, steps, taker, with_event}
 use Rattle.depot_load.proofs.Fresh.{free-none}
 use Rattle.depot_load.proofs.EventFits.{IsCorrect, get-fits, hello-fits}
 use Rattle.depot_load.proofs.DraftFits.{IsGood, IsBeforeRound, good-still, good-more, good-made, good-bundled, good-give, good-round, other-correct}
-use Rattle.depot_load.proofs.Steps.{steps-keep}
+use Rattle.depot_load.proofs.DrawSteps.{steps-keep}
 
 -- ---- the end
 

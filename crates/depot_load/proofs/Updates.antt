@@ -1,6 +1,6 @@
 -- How many updates a load's faulty node signs: at most one a round.
 use Rattle.std.proofs.Common.{ℕ, ◌+◌, ◌≤◌, Bool, true, false, cond, ltb, eqb, List, arith}
-use Rattle.depot_load.specs.declared.draft.Draft.{Draft}
+use Rattle.depot_load.specs.declared.load_draft.Draft.{Draft}
 use Rattle.depot_load.specs.Loads.{drawn, draw, some_node, other_than, round_hello, round_bundle, bundled, given, exchange_round, round}
 
 either : (b : Bool) (x y : Draft) (n : ℕ) → x.updates ≤ n → y.updates ≤ n → (cond b x y).updates ≤ n

@@ -11,7 +11,7 @@ use Rattle.depot_schedule.specs.declared.event.Event.{Event}
 use Rattle.depot_schedule.specs.declared.event.Event.TheVariants.{Put, Get, Hello, Bundle, Give, Restart, Update}
 use Rattle.depot_schedule.specs.declared.event.HistoryWord.TheVariants.{Right}
 use Rattle.depot_schedule.specs.declared.schedule.Schedule.{Schedule}
-use Rattle.depot_load.specs.declared.draft.Draft.{Draft}
+use Rattle.depot_load.specs.declared.load_draft.Draft.{Draft}
 
 -- ---- drawing numbers
 

@@ -5,11 +5,11 @@ use Rattle.std.specs.Str.{bytes_eq}
 use Rattle.depot_model.specs.Lists.{when}
 use Rattle.depot_answers.specs.Answers.{numbered, spaced}
 use Rattle.depot_world.specs.Transcript.{ended}
-use Rattle.depot_load.specs.declared.telling.Told.{Told}
-use Rattle.depot_load.specs.declared.telling.Told.TheVariants.{Put, Read, Report, Hello, Other}
-use Rattle.depot_load.specs.declared.totals.Count.{Count}
-use Rattle.depot_load.specs.declared.totals.Count.TheVariants as count
-use Rattle.depot_load.specs.Telling.{tolds_of}
+use Rattle.depot_load.specs.declared.load_telling.Told.{Told}
+use Rattle.depot_load.specs.declared.load_telling.Told.TheVariants.{Put, Read, Report, Hello, Other}
+use Rattle.depot_load.specs.declared.load_totals.Count.{Count}
+use Rattle.depot_load.specs.declared.load_totals.Count.TheVariants as count
+use Rattle.depot_load.specs.LoadTelling.{tolds_of}
 
 -- the last n of a list, or all where they are fewer
 abbrev pub last_of : {A : Type 0} → ℕ → List A → List A

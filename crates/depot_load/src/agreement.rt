@@ -4,7 +4,7 @@ ghost use Rattle.std.specs.List.{filter_map, list_all};
 ghost use Rattle.std.specs.Str.{bytes_eq};
 ghost use Rattle.depot_load.specs.Summaries.{agree, agree_on, agrees, are_same, writes_under};
 
-use crate::telling::Told;
+use crate::load_telling::Told;
 use depot_base::Memory;
 use std::alloc::Global;
 
@@ -28,7 +28,7 @@ fn writes_under<'a>(told: &'a Told, key: &[u8]) -> Option<&'a [u8]>
 }
 
 /// The same of each read of this key.
-#[tactic(auto, using(crate::proofs::Kept::kept))]
+#[tactic(auto, using(crate::proofs::KeptLoads::kept))]
 fn all_writes<'a>(alloc: Global, tolds: &'a [Told], key: &[u8]) -> Result<Vec<&'a [u8]>, Memory>
     ensures { IfOk result (λ list. map (λ writes. writes.now) list.items ≡ filter_map (writes_under key.now) tolds.now) }
 {
@@ -50,7 +50,7 @@ fn all_are(texts: &[&[u8]], text: &[u8]) -> bool
 }
 
 /// Whether these texts are the same.
-#[tactic(auto, using(crate::proofs::Kept::kept))]
+#[tactic(auto, using(crate::proofs::KeptLoads::kept))]
 fn are_same(texts: &[&[u8]]) -> bool
     ensures { result ≡ are_same (map (λ text. text.now) texts.now) }
 {
@@ -61,7 +61,7 @@ fn are_same(texts: &[&[u8]]) -> bool
 }
 
 /// Whether the last five reads of this key show the same writes.
-#[tactic(auto, using(crate::proofs::Kept::kept))]
+#[tactic(auto, using(crate::proofs::KeptLoads::kept))]
 fn agree_on(alloc: Global, tolds: &[Told], key: &[u8]) -> Result<bool, Memory>
     ensures { IfOk result (λ yes. yes ≡ agree_on key.now tolds.now) }
 {

@@ -2,9 +2,9 @@
 ghost use Rattle.std.specs.Prelude.{◌≡◌, ◌<◌, OnOk};
 ghost use Rattle.depot_load.specs.Loads.{exchange, greet, read};
 
-use crate::draft::Draft;
+use crate::load_draft::Draft;
 use crate::rounds::{bundle, give, other_than};
-use crate::words::{key, label, node};
+use crate::word_pairs::{key, label, node};
 use depot_base::Memory;
 use depot_schedule::Event;
 use std::alloc::Global;

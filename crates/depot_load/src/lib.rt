@@ -11,17 +11,17 @@
 
 mod agreement;
 mod closing;
-mod draft;
-mod laws;
+mod load_draft;
+mod load_laws;
+mod load_run;
+mod load_telling;
+mod load_totals;
 mod making;
 mod rounds;
-mod running;
 mod summing;
-mod telling;
-mod totals;
-mod words;
+mod word_pairs;
 
-pub use laws::loads_are_schedules;
+pub use load_laws::loads_are_schedules;
+pub use load_run::load;
 pub use making::make_load;
-pub use running::load;
 pub use summing::summary;

@@ -3,9 +3,9 @@ ghost use Rattle.std.specs.Prelude.{◌≡◌, ◌<◌, ◌++◌, ◌∷◌, [],
 ghost use Rattle.depot_load.specs.Loads.{begun, drafted, exchange, greet, load_of, member, members, read, round, steps};
 
 use crate::closing::{exchange, greet, read};
-use crate::draft::Draft;
+use crate::load_draft::Draft;
 use crate::rounds::{FAULTY, round};
-use crate::words::node;
+use crate::word_pairs::node;
 use depot_base::{Memory, Sequence};
 use depot_schedule::{Member, Members, Schedule};
 use std::alloc::Global;
@@ -14,7 +14,7 @@ use std::alloc::Global;
 const ROUNDS: u32 = 2000;
 
 /// Its rounds.
-#[tactic(auto, using(crate::proofs::Steps::counting, crate::proofs::Updates::updates_round))]
+#[tactic(auto, using(crate::proofs::DrawSteps::counting, crate::proofs::Updates::updates_round))]
 fn all_rounds(alloc: Global, number: u32) -> Result<Draft, Memory>
     ensures { IfOk result (λ draft. draft ≡ steps round 2000 (begun number)) }
 {
@@ -26,7 +26,7 @@ fn all_rounds(alloc: Global, number: u32) -> Result<Draft, Memory>
 }
 
 /// Each node takes a bundle of each other, twice over.
-#[tactic(auto, using(crate::proofs::Steps::counting))]
+#[tactic(auto, using(crate::proofs::DrawSteps::counting))]
 fn all_exchanges(alloc: Global, draft: &mut Draft) -> Result<(), Memory>
     ensures { OnOk result (draft.new ≡ steps exchange 40 draft.old) }
 {
@@ -37,7 +37,7 @@ fn all_exchanges(alloc: Global, draft: &mut Draft) -> Result<(), Memory>
 }
 
 /// Each key is read by each node.
-#[tactic(auto, using(crate::proofs::Steps::counting))]
+#[tactic(auto, using(crate::proofs::DrawSteps::counting))]
 fn all_reads(alloc: Global, draft: &mut Draft) -> Result<(), Memory>
     ensures { OnOk result (draft.new ≡ steps read 200 draft.old) }
 {
@@ -48,7 +48,7 @@ fn all_reads(alloc: Global, draft: &mut Draft) -> Result<(), Memory>
 }
 
 /// Each node says hello.
-#[tactic(auto, using(crate::proofs::Steps::counting))]
+#[tactic(auto, using(crate::proofs::DrawSteps::counting))]
 fn all_hellos(alloc: Global, draft: &mut Draft) -> Result<(), Memory>
     ensures { OnOk result (draft.new ≡ steps greet 5 draft.old) }
 {

@@ -4,8 +4,8 @@ ghost use Rattle.depot_answers.specs.Answers.{numbered, spaced};
 ghost use Rattle.depot_load.specs.Summaries.{agreement_text, name_of_agreement, reports_text, summary_line, summary_of};
 
 use crate::agreement::agree;
-use crate::telling::{Told, tolds_of};
-use crate::totals::{Count, convicted_last, puts, total};
+use crate::load_telling::{Told, tolds_of};
+use crate::load_totals::{Count, convicted_last, puts, total};
 use depot_answers::numbered;
 use depot_base::{Bytes, Memory};
 use depot_schedule::lines::word;

@@ -1,12 +1,13 @@
 -- What the ranges of a text say of its parts.
 use Rattle.std.proofs.Common.{◌≡◌, refl, ap, ◌∙◌, arith}
-use Rattle.depot_base.specs.Format.{number, inner}
+use Rattle.depot_base.specs.Format.{number}
 use Rattle.depot_base.specs.declared.update.Update.{Update}
 use Rattle.depot_base.specs.declared.statement.Statement.{Statement}
 use Rattle.depot_base.specs.declared.statement.Statement.TheVariants as statements
 use Rattle.depot_base.specs.declared.statement.Signed.{Signed}
 use Rattle.depot_base.specs.declared.proof.Proof.{Proof}
-use Rattle.depot_model.specs.Texts.{statement, update_body, signed, proof, IsUpdate, IsStatement, IsSigned, IsProof, text_of_update, text_of_statement}
+use Rattle.depot_model.specs.Texts.{statement, update_body, IsUpdate, IsStatement, IsSigned, IsProof, text_of_update, text_of_statement}
+use Rattle.depot_model.proofs.FieldFacts.{signed_facts, proof_facts}
 
 -- an update has the same body as the statement that it is
 pub text_of_statement-Update : (u : Update) → text_of_statement (statements.Update u) ≡ text_of_update u
@@ -24,22 +25,18 @@ IsStatement-from_update u fits = (fits.0, ((omega arith, omega arith), fits.1.1)
 
 -- the body of a signed statement is the text of its statement
 pub body_is_text : (s : Signed) → IsSigned s → s.body ≡ text_of_statement s.statement
-unfolding signed inner
-body_is_text s fits = fits.1.0.1
+body_is_text s fits = (signed_facts s fits).body
 
 -- and its statement is in its ranges
 pub IsStatement-from_signed : (s : Signed) → IsSigned s → IsStatement s.statement
-unfolding signed inner
-IsStatement-from_signed s fits = fits.1.0.0.0
+IsStatement-from_signed s fits = (signed_facts s fits).statement
 
 -- the halves of a proof are in their ranges
 pub first_is_signed : (p : Proof) → IsProof p → IsSigned p.first
-unfolding proof
-first_is_signed p fits = fits.1.1.0
+first_is_signed p fits = (proof_facts p fits).first
 
 pub second_is_signed : (p : Proof) → IsProof p → IsSigned p.second
-unfolding proof
-second_is_signed p fits = fits.1.1.1.0
+second_is_signed p fits = (proof_facts p fits).second
 
 -- where it is an update, its body is the update's
 pub body_is_text_of_update : (s : Signed) (u : Update) → IsSigned s → s.statement ≡ statements.Update u → s.body ≡ text_of_update u

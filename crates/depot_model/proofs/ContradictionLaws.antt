@@ -1,34 +1,25 @@
 -- Contradictions are mutual, and the proof that is made of one is good.
-use Rattle.std.proofs.Common.{◌≡◌, ℕ, Bool, true, false, not, ◌&&◌, eqb, List, Decides, refl, sym, ◌∙◌, arith}
+use Rattle.std.proofs.Common.{◌≡◌, ℕ, true, false, eqb, List, refl, sym, ◌∙◌}
 use Rattle.std.specs.Str.{bytes_eq}
 use Rattle.std.specs.declared.cmp.Ordering.{Ordering}
 use Rattle.std.specs.declared.cmp.Ordering.TheVariants.{Less, Equal, Greater}
 use Rattle.std.specs.Ordering.{nat_cmp, is_lt, is_eq, ordering_reverse}
 use Rattle.std.specs.Cmp.Lexicographic.{slice_cmp}
 use Rattle.std.proofs.Math.Bool.{or_comm}
-use Rattle.std.proofs.lemmas.Bool.Decides.{same_from_decides, nat_tests}
 use Rattle.std.proofs.lemmas.Cmp.{nat_list_cmp_total}
 use Rattle.std.proofs.lemmas.Map.Text.{is_eq-slice_cmp}
-use Rattle.std.proofs.lemmas.Slice.Eq.{bytes_eq-Decides}
 use Rattle.depot_base.specs.Parts.{is_below}
 use Rattle.depot_base.specs.Statement.{writer_of, seq_of}
 use Rattle.depot_base.specs.declared.statement.Statement.{Statement}
 use Rattle.depot_base.specs.declared.statement.Statement.TheVariants as statement
 use Rattle.depot_base.specs.declared.proof.Kind.{Kind}
 use Rattle.depot_base.specs.declared.proof.Kind.TheVariants.{SameNumber, SamePrev, Backward}
+use Rattle.std.proofs.lemmas.Bool.{and_parts, not-true}
+use Rattle.depot_base.proofs.GeneralLaws.{eqb_comm, bytes_eq_comm}
 use Rattle.depot_model.specs.Texts.{text_of_statement}
 use Rattle.depot_model.specs.Contradictions.{goes_back, is_of_kind, contradicts}
 
 -- ---- mutual
-
-bytes_eq_comm : (a b : List ℕ) → bytes_eq a b ≡ bytes_eq b a
-bytes_eq_comm a b =
-    let d = bytes_eq-Decides b a in
-    let back : Decides (bytes_eq b a) (a ≡ b) = (λ e. sym (d.0 e), λ e. d.1 (sym e)) in
-    same_from_decides _ _ (bytes_eq-Decides a b) back
-
-eqb_comm : (a b : ℕ) → eqb a b ≡ eqb b a
-eqb_comm a b = grind (arith, nat_tests)
 
 is_of_kind_comm : (k : Kind) (a b : Statement) → is_of_kind k a b ≡ is_of_kind k b a
 unfolding is_of_kind
@@ -49,23 +40,15 @@ contradicts_comm k a b = rw (eqb_comm (writer_of a) (writer_of b), bytes_eq_comm
 
 -- ---- what a contradiction says
 
-both : (a b : Bool) → (a && b) ≡ true → (a ≡ true) × (b ≡ true)
-both true b e = (refl, e)
-both false b e = absurd cc
-
-negated : (b : Bool) → not b ≡ true → b ≡ false
-negated true e = absurd cc
-negated false e = refl
-
 -- the writers are one
 pub same_writer : (k : Kind) (a b : Statement) → contradicts k a b ≡ true → eqb (writer_of a) (writer_of b) ≡ true
 unfolding contradicts
-same_writer k a b e = (both _ _ (both _ (is_of_kind k a b) e).0).0
+same_writer k a b e = (and_parts _ _ (and_parts _ (is_of_kind k a b) e).0).0
 
 -- the bodies differ
 pub other_body : (k : Kind) (a b : Statement) → contradicts k a b ≡ true → bytes_eq (text_of_statement a) (text_of_statement b) ≡ false
 unfolding contradicts
-other_body k a b e = negated _ (both (eqb (writer_of a) (writer_of b)) _ (both _ (is_of_kind k a b) e).0).1
+other_body k a b e = not-true _ (and_parts (eqb (writer_of a) (writer_of b)) _ (and_parts _ (is_of_kind k a b) e).0).1
 
 -- ---- smaller bodies
 

@@ -1,15 +1,13 @@
 -- Elements of a list by their places, from 0.
-use Rattle.std.proofs.Common.{◌≡◌, ℕ, zero, suc, ◌+◌, ◌<◌, List, [], ◌∷◌, ◌++◌, length, map, drop, get_or, Some, refl, ap, subst, ◌∙◌, arith, add-one, inl, inr}
-use Rattle.std.specs.List.{slice_get, AllByRecursion}
-use Rattle.std.proofs.Math.Seq.{drop-cons}
+use Rattle.std.proofs.Common.{◌≡◌, ℕ, zero, suc, ◌+◌, ◌<◌, List, [], ◌∷◌, ◌++◌, length, map, take, drop, get_or, Option, Some, refl, sym, ap, subst, ◌∙◌, arith, add-one, inl, inr}
+use Rattle.std.specs.List.{slice_get, AllByRecursion, flat_map}
+use Rattle.std.specs.Option.{option_to_list}
+use Rattle.std.proofs.Math.Seq.{drop-cons, take-suc}
+use Rattle.std.proofs.lemmas.Grind.{flat_map-append}
 use Rattle.std.proofs.lemmas.Option.{slice_get_within, get_or_from_slice_get}
+use Rattle.depot_base.specs.declared.update.Update.{Update}
 use Rattle.depot_model.specs.Lists.{IsIn}
-
--- there is an element at each place of a list
-pub at_place : {X : Type 0} (xs : List X) (n : ℕ) → n < length xs → (x : X) × (slice_get xs n ≡ Some x)
-at_place [] n lt = absurd (omega arith)
-at_place (x ∷ xs) zero lt = (x, refl)
-at_place (x ∷ xs) (suc n) lt = at_place xs n (omega arith)
+use Rattle.depot_model.specs.Items.{at, updates_at}
 
 -- what stands at a place is one of the list
 pub in_at : {X : Type 0} (xs : List X) (n : ℕ) (x : X) → slice_get xs n ≡ Some x → IsIn x xs
@@ -29,11 +27,6 @@ get_front [] ys n lt = absurd (omega arith)
 get_front (x ∷ xs) ys zero lt = refl
 get_front (x ∷ xs) ys (suc n) lt = get_front xs ys n (omega arith)
 
--- what was put behind all stands last
-pub get_last : {X : Type 0} (xs : List X) (x : X) → slice_get (xs ++ x ∷ []) (length xs) ≡ Some x
-get_last [] x = refl
-get_last (y ∷ ys) x = get_last ys x
-
 -- what stands at a place of a mapped list
 pub mapped_at : {X Y : Type 0} (f : X → Y) (xs : List X) (n : ℕ) (x : X) (d : Y) → slice_get xs n ≡ Some x → get_or (map f xs) n d ≡ f x
 mapped_at f [] n x d at = absurd cc
@@ -46,3 +39,21 @@ from_place {X = X} xs n x at =
     let lt = slice_get_within xs n x at in
     let same = get_or_from_slice_get xs n x x at in
     rw add-one (drop-cons xs n x lt ∙ ap (λ (y : X). y ∷ drop (suc n) xs) same)
+
+-- two updates stand at these places, and this holds of them
+pub record BothAt (us : List Update) (a b : ℕ) (P : Update → Update → Type 0) : Type 0 where
+  pub first : Update
+  pub at_first : slice_get us a ≡ Some first
+  pub second : Update
+  pub at_second : slice_get us b ≡ Some second
+  pub holds : P first second
+
+pub both_at : (us : List Update) (a b : ℕ) (P : Update → Update → Type 0) → at us a (λ t. at us b (λ u. P t u)) → BothAt us a b P
+both_at us a b P (t, (at_t, (u, (at_u, holds)))) = record { first = t; at_first = at_t; second = u; at_second = at_u; holds = holds }
+
+-- the updates at one place more
+pub one_more : (us : List Update) (places : List ℕ) (i n : ℕ) (t : Update) → i < length places → n ≡ get_or places i 0 → slice_get us n ≡ Some t → updates_at us (take (i + 1) places) ≡ updates_at us (take i places) ++ t ∷ []
+one_more us places i n t lt is at_n =
+    let f : ℕ → List Update = λ place. option_to_list (slice_get us place) in
+    let longer : take (i + 1) places ≡ take i places ++ n ∷ [] = rw add-one (take-suc places i 0 lt ∙ ap (λ (k : ℕ). take i places ++ k ∷ []) (sym is)) in
+    ap (flat_map f) longer ∙ flat_map-append f (take i places) (n ∷ []) ∙ ap (λ (o : Option Update). updates_at us (take i places) ++ (option_to_list o ++ [])) at_n

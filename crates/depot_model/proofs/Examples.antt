@@ -14,6 +14,7 @@ use Rattle.depot_base.specs.Cursor.{numeral}
 use Rattle.depot_base.specs.Format.{number, bytes_of, list_of}
 use Rattle.depot_base.specs.Zeros.{zeros}
 use Rattle.depot_base.specs.declared.update.Update.{Update}
+use Rattle.depot_base.proofs.GeneralLaws.{same_bytes as same}
 use Rattle.depot_model.specs.Lists.{IsIn, is_among}
 use Rattle.depot_model.specs.Texts.{IsUpdate, update_fields, update_body, text_of_update, id_of_update}
 use Rattle.depot_model.specs.Order.{IsPath, IsParent, Precedes, parents, is_named, past, IsCausal, listed, IsLatest, AreLatestIn}
@@ -47,9 +48,6 @@ record Differ : Type 0 where
 
 apart : (a b : List ℕ) → (a ≡ b → ⊥) → bytes_eq a b ≡ false
 apart a b ne = false_from_ne_true (bytes_eq a b) (λ e. ne ((bytes_eq-Decides a b).0 e))
-
-same : (a : List ℕ) → bytes_eq a a ≡ true
-same a = (bytes_eq-Decides a a).1 refl
 
 -- ---- parents
 
@@ -116,7 +114,7 @@ not_causal d c = all_at (λ h. IsIn h []) (parents both) (id_of_update one) c.0 
 -- an update twice
 not_twice : IsCausal [] (one ∷ one ∷ []) → ⊥
 unfolding IsCausal
-not_twice c = c.1.1.1.0 (inl refl)
+not_twice (parents_one, (new_one, (parents_again, (new_again, rest)))) = new_again (inl refl)
 
 -- ---- latest writes
 

@@ -1,6 +1,7 @@
 -- A stream may be fed in pieces, however it is cut; and the bytes of a frame are fed by taking that frame.
 use Rattle.std.proofs.Common.{◌≡◌, ℕ, ◌<◌, List, [], ◌∷◌, ◌++◌, append_assoc, length, Bool, true, false, cond, ◌==◌, is_some, Some, Ok, Err, refl, sym, ap, subst, ◌∙◌, arith}
 use Rattle.std.proofs.lemmas.List.{append-nil}
+use Rattle.std.proofs.lemmas.Bool.{cond-false}
 use Rattle.depot_model.specs.declared.taken.Taken.TheVariants.{New, Known}
 use Rattle.depot_model.specs.Checks.{Setting}
 use Rattle.depot_model.specs.Frames.{Frame, text_of_frame, IsFrame, whole_frame, open_frame, frame_at}
@@ -15,10 +16,6 @@ fed_in_pieces here s [] b = refl
 fed_in_pieces here s (x ∷ a) b = fed_in_pieces here (fed_byte here s x) a b
 
 -- ---- a frame, byte by byte
-
-chosen_no : {X : Type 0} (b : Bool) (x y : X) → b ≡ false → cond b x y ≡ y
-chosen_no true x y e = absurd cc
-chosen_no false x y e = refl
 
 -- what becomes of a frame doesn't hang on the bytes that stand open
 outcome_alike : (n : ℕ) (s : Feeding) (p : List ℕ) (o : Outcome) → after_outcome n (record s { begun = p }) o ≡ after_outcome n s o
@@ -37,7 +34,7 @@ frame_alike here n f s p = by_test (f.tag == 4) where
 -- a byte for a feed that is neither closed nor over
 pub one_byte : (here : Setting) (s : Feeding) (x : ℕ) → is_some s.closed ≡ false → is_over s ≡ false → fed_byte here s x ≡ fed_at here s (s.begun ++ x ∷ []) (frame_at (s.begun ++ x ∷ []))
 unfolding fed_byte
-one_byte here s x going on = chosen_no (is_some s.closed) s _ going ∙ chosen_no (is_over s) _ _ on
+one_byte here s x going on = cond-false (is_some s.closed) s _ going ∙ cond-false (is_over s) _ _ on
 
 -- The bytes of a frame take the frame, with the last of them and not before.
 pub frame_is_taken : (here : Setting) (s : Feeding) (f : Frame) → IsFrame f → s.begun ≡ [] → is_some s.closed ≡ false → is_over s ≡ false → fed here s (text_of_frame f) ≡ fed_frame here (length (text_of_frame f)) f s

@@ -1,7 +1,6 @@
 -- What the first of a list of options says of each of them.
 use Rattle.std.proofs.Common.{◌≡◌, Bool, true, false, List, [], ◌∷◌, Option, Some, None, refl}
 use Rattle.std.specs.List.{AllByRecursion}
-use Rattle.std.specs.Option.{option_map}
 use Rattle.depot_model.specs.Lists.{when, first}
 
 -- where there is no first, each is none
@@ -25,8 +24,3 @@ when-none false x e = refl
 pub when-some : {X : Type 0} (test : Bool) (x y : X) → when test x ≡ Some y → x ≡ y
 when-some true x y e = cc
 when-some false x y e = absurd cc
-
--- where what f gives isn't there, nothing is
-pub mapped-none : {X Y : Type 0} (f : X → Y) (o : Option X) → option_map f o ≡ None → o ≡ None
-mapped-none f None e = refl
-mapped-none f (Some x) e = absurd cc

@@ -1,10 +1,10 @@
 -- What a judgement says, and that a proof which is made of a contradiction is good.
-use Rattle.std.proofs.Common.{◌≡◌, ℕ, Bool, true, false, not, cond, List, Option, Some, None, IfOk, Err, refl, sym, ap, subst, ◌∙◌, arith}
+use Rattle.std.proofs.Common.{◌≡◌, ℕ, Bool, true, false, cond, List, Option, Some, None, IfOk, Err, refl, sym, ap, subst, ◌∙◌, arith}
 use Rattle.std.specs.List.{AllByRecursion}
 use Rattle.std.specs.Option.{option_map_or}
 use Rattle.std.specs.Int.{w8}
 use Rattle.std.specs.Str.{bytes_eq}
-use Rattle.std.proofs.lemmas.Bool.{eqb-true}
+use Rattle.std.proofs.lemmas.Bool.{eqb-true, not-false}
 use Rattle.depot_base.specs.Format.{number, constant}
 use Rattle.depot_base.specs.Parts.{is_below}
 use Rattle.depot_base.specs.Statement.{writer_of, seq_of}
@@ -43,10 +43,6 @@ has_node_from_is_signed verifies r s e = let k = key_from_is_signed verifies r s
 
 -- ---- points
 
-positive : (b : Bool) → not b ≡ false → b ≡ true
-positive true e = refl
-positive false e = absurd cc
-
 -- no point fails where each holds
 pub no_point_fails : (verifies : Verifies) (r : List RosterEntry) (p : Proof)
     → is_signed verifies r p.first ≡ true → is_signed verifies r p.second ≡ true
@@ -83,22 +79,23 @@ judged verifies r text p point.WrongOrder shown failed = (p, (shown, failed))
 judged verifies r text p (point.NotContradictory k) shown failed = (p, (shown, failed))
 
 -- what a proof that fails no point says of its halves
-record Passes (verifies : Verifies) (r : List RosterEntry) (p : Proof) : Type 0 where
+pub record Passes (verifies : Verifies) (r : List RosterEntry) (p : Proof) : Type 0 where
   pub first_signed : is_signed verifies r p.first ≡ true
   pub second_signed : is_signed verifies r p.second ≡ true
   pub one_writer : writer_of p.first.statement ≡ writer_of p.second.statement
   pub contradict : contradicts p.kind p.first.statement p.second.statement ≡ true
 
-passes : (verifies : Verifies) (r : List RosterEntry) (p : Proof) → first_failed_point verifies r p ≡ None → Passes verifies r p
+each_passes : (verifies : Verifies) (r : List RosterEntry) (p : Proof) → AllByRecursion (λ (o : Option JudgeError). o ≡ None) (points verifies r p) → Passes verifies r p
 unfolding points
-passes verifies r p passed =
-    let each : AllByRecursion (λ (o : Option JudgeError). o ≡ None) (points verifies r p) = each_is_none (points verifies r p) passed in
-    record {
-      first_signed = positive _ (when-none _ _ each.1.1.0);
-      second_signed = positive _ (when-none _ _ each.1.1.1.0);
-      one_writer = eqb-true _ _ (positive _ (when-none _ _ each.1.1.1.1.0));
-      contradict = positive _ (when-none _ _ each.1.1.1.1.1.1.1.0);
-    }
+each_passes verifies r p (first_known, (second_known, (first_signed, (second_signed, (one_writer, (differ, (below, (contradict, end)))))))) = record {
+  first_signed = not-false _ (when-none _ _ first_signed);
+  second_signed = not-false _ (when-none _ _ second_signed);
+  one_writer = eqb-true _ _ (not-false _ (when-none _ _ one_writer));
+  contradict = not-false _ (when-none _ _ contradict);
+}
+
+pub passes : (verifies : Verifies) (r : List RosterEntry) (p : Proof) → first_failed_point verifies r p ≡ None → Passes verifies r p
+passes verifies r p passed = each_passes verifies r p (each_is_none (points verifies r p) passed)
 
 one_key : (r : List RosterEntry) (m n : ℕ) (k l : PublicKey) → m ≡ n → key_of r m ≡ Some k → key_of r n ≡ Some l → l ≡ k
 one_key r m n k l same at_m at_n = cc
@@ -143,13 +140,13 @@ proof_of_is_in_order k a b fits_a fits_b contradict =
     (λ below. record { first_fits = fits_a; second_fits = fits_b; below = below; contradict = contradict })
     (λ above. record { first_fits = fits_b; second_fits = fits_a; below = below_or_above a.body b.body above differ; contradict = contradicts_comm k b.statement a.statement ∙ contradict })
 
-kind_fits : (k : Kind) → (number w8 1 3).fits (number_of_kind k)
+pub kind_fits : (k : Kind) → (number w8 1 3).fits (number_of_kind k)
 unfolding number
 kind_fits SameNumber = (omega arith, omega arith)
 kind_fits SamePrev = (omega arith, omega arith)
 kind_fits Backward = (omega arith, omega arith)
 
-kind_back : (k : Kind) → k ≡ kind_of_number (number_of_kind k)
+pub kind_back : (k : Kind) → k ≡ kind_of_number (number_of_kind k)
 kind_back SameNumber = refl
 kind_back SamePrev = refl
 kind_back Backward = refl

@@ -64,7 +64,7 @@ abbrev first_byte : List ℕ → ℕ
 first_byte [] = 0
 first_byte (b ∷ bytes) = b
 
-birth_is_allowed : IsAllowed here [] (Birth 1 (hash_of_roster members))
+pub birth_is_allowed : IsAllowed here [] (Birth 1 (hash_of_roster members))
 unfolding sha256 first_words schedule rounds compress hash_after digest_bytes rest_of numeral bytes_of inner list_of number dep roster_entry added answer_to content_checks due first_failed_check forked growth is_known named_opponent opponent proof_checks points refused_as_convicted sight statement_checks contradicts is_of_kind kind_of proof_of by_id history_hash history_text leaves_of put_by_id first_values has_id holds_hash is_convicted is_vouched is_wanted named prev_of past leaf_count next_entries next_own precedes_named birth own_put record_text tagged foreign_leaves full_with is_signed key_of hash_of_roster id_of_statement id_of_update proof roster signed statement update_body update_fields voucher_body voucher_fields
 birth_is_allowed = record { first = refl; text = search rules; may = (refl, refl); room = refl }
 

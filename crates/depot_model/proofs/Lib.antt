@@ -1,4 +1,5 @@
 pub mod TextLaws
+pub mod FieldFacts
 pub mod BodyLaws
 pub mod FirstLaws
 pub mod ContradictionLaws
@@ -7,6 +8,7 @@ pub mod Members
 pub mod Orders
 pub mod Pasts
 pub mod RisingLists
+pub mod RisingIds
 pub mod RisingUpdates
 pub mod NamedIds
 pub mod LatestLaws
@@ -28,6 +30,8 @@ pub mod FrameLaws
 pub mod OpenLaws
 pub mod BundleLaws
 pub mod TakeLaws
+pub mod TreeNodes
+pub mod DueLaws
 pub mod WholeWorld
 pub mod Elements
 pub mod Cast
@@ -46,3 +50,4 @@ pub mod LawfulExamples
 pub mod TakingExamples
 pub mod SchemeExamples
 pub mod CallsOnDisk
+pub mod NodeCallExamples

@@ -2,13 +2,14 @@
 use Rattle.std.proofs.Common.{◌≡◌, ℕ, ◌+◌, ◌<◌, ◌≤◌, List, [], ◌∷◌, length, Bool, true, false, ◌||◌, Option, Some, None, option_map, nat_lt, ◌∙◌, refl, sym, ap, arith}
 use Rattle.std.specs.Str.{bytes_eq}
 use Rattle.std.proofs.lemmas.Slice.Eq.{bytes_eq-Decides}
-use Rattle.std.proofs.lemmas.Bool.{le-ltb, lt-ltb}
+use Rattle.std.proofs.lemmas.Bool.{le-ltb, lt-ltb, or_parts}
 use Rattle.std.proofs.lemmas.Bool.Decides.{nat_tests}
 use Rattle.depot_base.specs.Zeros.{zeros}
 use Rattle.depot_base.specs.declared.check.Full.{Full}
 use Rattle.depot_base.specs.declared.update.Update.{Update}
 use Rattle.depot_base.specs.declared.record.Record.{Record}
 use Rattle.depot_base.specs.declared.record.Record.TheVariants.{OwnPut}
+use Rattle.depot_base.proofs.GeneralLaws.{mapped-none}
 use Rattle.depot_model.specs.Lists.{when, first}
 use Rattle.depot_model.specs.Texts.{id_of_update}
 use Rattle.depot_model.specs.Journal.{accepted, own, has_id}
@@ -16,17 +17,13 @@ use Rattle.depot_model.specs.Checks.{Setting}
 use Rattle.depot_model.specs.Own.{next_own, IsFresh, leaf_count}
 use Rattle.depot_model.specs.Lawful.{MayPut}
 use Rattle.depot_model.specs.Room.{full_by}
-use Rattle.depot_model.proofs.FirstLaws.{when-none, mapped-none}
+use Rattle.depot_model.proofs.FirstLaws.{when-none}
 use Rattle.depot_model.specs.Limits.{spent, tips, collides, full, spent_by, tips_of, collides_by, limit_of_own, limit_of_put}
 
 -- where the first of some is none, none of them is there
 front_none : {X : Type 0} (o : Option X) (os : List (Option X)) → first (o ∷ os) ≡ None → (o ≡ None) × (first os ≡ None)
 front_none None os e = (refl, e)
 front_none (Some x) os e = absurd cc
-
-neither : (a b : Bool) → (a || b) ≡ false → (a ≡ false) × (b ≡ false)
-neither true b e = absurd cc
-neither false b e = (refl, e)
 
 -- what no limit means
 pub record IsUnlimited (here : Setting) (J : List Record) (u : Update) (new : List Record) : Type 0 where
@@ -44,7 +41,7 @@ unlimited_from here J u new e =
     let d = front_none (option_map full (full_by here.me J new)) [] c.1 in
     let few = when-none (nat_lt (leaf_count here.listed here.me) (length (own J) + 1)) (spent (length (own J))) a.0 in
     let narrow = when-none (nat_lt 1024 (length u.deps)) (tips (length u.deps)) b.0 in
-    let new_id = neither (bytes_eq (id_of_update u) zeros) (has_id (accepted J) (id_of_update u)) (when-none (bytes_eq (id_of_update u) zeros || has_id (accepted J) (id_of_update u)) (collides (id_of_update u)) c.0) in
+    let new_id = or_parts (bytes_eq (id_of_update u) zeros) (has_id (accepted J) (id_of_update u)) (when-none (bytes_eq (id_of_update u) zeros || has_id (accepted J) (id_of_update u)) (collides (id_of_update u)) c.0) in
     record {
       leaf = grind (arith, nat_tests, few);
       tips = grind (arith, nat_tests, narrow);

@@ -6,9 +6,10 @@ use Rattle.std.proofs.lemmas.List.{take_at, drop_at, length-append, append-nil}
 use Rattle.depot_base.specs.Cursor.{numeral}
 use Rattle.depot_base.specs.Format.{whole}
 use Rattle.depot_base.specs.declared.update.Update.{Update}
-use Rattle.depot_base.proofs.Laws.{cursor, not_err, err_is}
+use Rattle.depot_base.proofs.FormatLaws.{cursor, not_err, err_is}
 use Rattle.depot_base.proofs.Combined.{whole_again, whole_stops, prefix_free}
 use Rattle.depot_base.proofs.Numbers.{wide32}
+use Rattle.depot_base.proofs.CallLaws.{numeral_long}
 use Rattle.depot_model.specs.Lists.{IsIn, is_among}
 use Rattle.depot_model.specs.Texts.{IsUpdate, text_of_update, id_of_update, update_body}
 use Rattle.depot_model.specs.Order.{parents, IsCausal}
@@ -26,10 +27,6 @@ pub record AddsFrontOf (bytes : List ℕ) (u : Update) (rest : List ℕ) : Type 
 -- the length that stands in front
 abbrev pub told : List ℕ → ℕ
 told bytes = from_be_bytes w32 (take 4 bytes)
-
-pub length-numeral : (n : ℕ) → length (numeral w32 n) ≡ 4
-unfolding numeral
-length-numeral n = wide32.len n
 
 pub told-numeral : (n : ℕ) → n < 2 ^ 32 → from_be_bytes w32 (numeral w32 n) ≡ n
 unfolding numeral
@@ -49,7 +46,7 @@ pub record Front (bytes : List ℕ) (u : Update) (rest : List ℕ) : Type 0 wher
 pub front : (bytes : List ℕ) (u : Update) (rest : List ℕ) → AddsFrontOf bytes u rest → Front bytes u rest
 front bytes u rest b =
     let n : ℕ = length (text_of_update u) in
-    let four = length-numeral n in
+    let four = numeral_long n in
     let short = text_is_short u b.fits in
     let count : told bytes ≡ n = ap (λ (x : List ℕ). from_be_bytes w32 (take 4 x)) b.is ∙ ap (from_be_bytes w32) (take_at (numeral w32 n) (text_of_update u ++ rest) 4 four) ∙ told-numeral n (omega arith) in
     let behind : drop 4 bytes ≡ text_of_update u ++ rest = ap (drop 4) b.is ∙ drop_at (numeral w32 n) (text_of_update u ++ rest) 4 four in

@@ -104,16 +104,6 @@ pub all_among_from : (hs ids : List (List ℕ)) → AllByRecursion (λ h. IsIn h
 all_among_from [] ids all = refl
 all_among_from (h ∷ hs) ids all = and_from (is_among h ids) _ (among_from h ids all.0) (all_among_from hs ids all.1)
 
--- two tests that pass at the same time are one
-pub same_test : (a b : Bool) → (a ≡ true → b ≡ true) → (b ≡ true → a ≡ true) → a ≡ b
-same_test true b p q = sym (p refl)
-same_test false true p q = q refl
-same_test false false p q = refl
-
--- ids are compared in either order
-pub bytes_eq_comm : (a b : List ℕ) → bytes_eq a b ≡ bytes_eq b a
-bytes_eq_comm a b = same_test (bytes_eq a b) (bytes_eq b a) (λ e. (bytes_eq-Decides b a).1 (sym ((bytes_eq-Decides a b).0 e))) (λ e. (bytes_eq-Decides a b).1 (sym ((bytes_eq-Decides b a).0 e)))
-
 -- one of both is one of the first or of the second
 pub among-append : (h : List ℕ) (xs ys : List (List ℕ)) → is_among h (xs ++ ys) ≡ (is_among h xs || is_among h ys)
 among-append h [] ys = refl

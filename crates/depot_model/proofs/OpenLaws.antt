@@ -1,12 +1,12 @@
 -- Bytes that are told to be open can go on to a frame: so that there is no frame is told at the first byte that decides it.
 use Rattle.std.proofs.Common.{◌≡◌, ℕ, zero, suc, ◌-◌, ◌<◌, ◌≤◌, List, [], ◌∷◌, ◌++◌, append_assoc, length, take, drop, replicate, Bool, true, false, not, cond, ltb, leb, ◌&&◌, ◌||◌, ◌==◌, get_or, refl, sym, ap, subst, ◌∙◌, arith, inl}
 use Rattle.std.specs.Int.{w32, from_be_bytes}
-use Rattle.std.proofs.lemmas.Bool.{ltb-true, le-ltb, leb-true}
+use Rattle.std.proofs.lemmas.Bool.{ltb-true, le-ltb, leb-true, and_parts}
 use Rattle.std.proofs.lemmas.Bool.Decides.{nat_tests}
 use Rattle.std.proofs.lemmas.List.{length-append, length-replicate}
 use Rattle.std.proofs.lemmas.Nat.{be_bytes_4}
 use Rattle.depot_base.specs.Cursor.{numeral}
-use Rattle.depot_base.proofs.Laws.{IsBytes}
+use Rattle.depot_base.proofs.FormatLaws.{IsBytes}
 use Rattle.depot_model.specs.Frames.{Frame, text_of_frame, IsFrame, FrameAt, whole_frame, open_frame, no_frame, is_tag, least_length, most_length, may_be_within, is_no_flag, goes_astray, framed, frame_at}
 use Rattle.depot_model.proofs.FrameLaws.{worth}
 
@@ -68,10 +68,6 @@ end_goes_on = record { frame = record { tag = 4; payload = 0 ∷ [] }; good = en
 
 -- ---- what the tests say
 
-both : (a b : Bool) → (a && b) ≡ true → (a ≡ true) × (b ≡ true)
-both true b e = (refl, e)
-both false b e = absurd cc
-
 pub cleared : (a b : Bool) → (not a || b) ≡ false → (a ≡ true) × (b ≡ false)
 cleared true b e = (refl, e)
 cleared false b e = absurd cc
@@ -99,7 +95,7 @@ IsWithin : ℕ → ℕ → List ℕ → Type 0
 IsWithin low high l = may_be_within low high (take 4 l) ≡ true
 
 pub bounds : (a b c d : ℕ) → (leb a b && leb c d) ≡ true → (a ≤ b) × (c ≤ d)
-bounds a b c d e = let p = both (leb a b) (leb c d) e in (leb-true _ _ p.0, leb-true _ _ p.1)
+bounds a b c d e = let p = and_parts (leb a b) (leb c d) e in (leb-true _ _ p.0, leb-true _ _ p.1)
 
 zeros_small : AreSmall 0 0 0 0
 zeros_small = record { first = omega arith; second = omega arith; third = omega arith; fourth = omega arith }

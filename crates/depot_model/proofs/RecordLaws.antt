@@ -12,14 +12,16 @@ use Rattle.depot_base.specs.declared.statement.Statement.TheVariants as statemen
 use Rattle.depot_base.specs.declared.proof.Proof.{Proof}
 use Rattle.depot_base.specs.declared.record.Record.{Record}
 use Rattle.depot_base.specs.declared.record.Record.TheVariants.{Birth, OwnPut, OwnVoucher, Foreign, Conviction, Held}
-use Rattle.depot_base.proofs.Laws.{weaken}
+use Rattle.depot_base.proofs.FormatLaws.{weaken}
 use Rattle.depot_base.proofs.Numbers.{number_within}
 use Rattle.depot_base.proofs.Combined.{bytes_lawful, inner_lawful, inner_count, made_lawful, field_lawful}
 use Rattle.depot_base.proofs.PartLaws.{u8_lawful, u32_lawful, node_lawful, digest_lawful}
 use Rattle.depot_base.proofs.ClosedLaws.{LawfulClosed, closing_lawful, rest_lawful, before_lawful, closed_variant_lawful, closed_choose_lawful, weaken_closed}
-use Rattle.depot_model.specs.Texts.{update_fields, update_body, voucher_body, statement, signed, proof, IsUpdate, text_of_update, text_of_statement}
+use Rattle.depot_base.proofs.CallLaws.{numeral_long}
+use Rattle.depot_model.specs.Texts.{update_body, voucher_body, statement, signed, proof, IsUpdate, text_of_update, text_of_statement}
 use Rattle.depot_model.specs.Records.{as_birth, as_own_put, as_own_voucher, as_foreign, as_conviction, as_held, birth, own_put, tag_of, tagged, record_text, IsRecord, text_of_record}
-use Rattle.depot_model.proofs.LogLaws.{length-numeral, told-numeral}
+use Rattle.depot_model.proofs.FieldFacts.{update_facts, own_put_facts}
+use Rattle.depot_model.proofs.LogLaws.{told-numeral}
 use Rattle.depot_model.proofs.TextLaws.{update_is_short, update_body_lawful, voucher_body_lawful, signed_lawful, proof_lawful}
 
 -- ---- what stands behind a tag
@@ -32,9 +34,8 @@ birth_lawful = closing_lawful _ 34
     made_lawful _)
 
 -- the value that an update names has at most 65,536 bytes
-short_value : (u : Update) → IsUpdate u → u.value_len ≤ 65536
-unfolding update_body update_fields
-short_value u fits = let r = number_within w32 0 65536 u.value_len fits.1.1.1.1.1.1.1.1.1.0 in omega arith
+pub short_value : (u : Update) → IsUpdate u → u.value_len ≤ 65536
+short_value u fits = (number_within w32 0 65536 u.value_len (update_facts u fits).value_len).1
 
 own_put_lawful : LawfulClosed own_put 108922
 unfolding own_put inner
@@ -128,8 +129,7 @@ record_text_lawful =
 
 -- its update fits
 pub update_of_own_put : (u : Update) (value : List ℕ) → IsRecord (OwnPut u value) → IsUpdate u
-unfolding record_text tagged own_put inner
-update_of_own_put u value fits = fits.1.1.0.0
+update_of_own_put u value fits = (own_put_facts u value fits).update
 
 -- the tag, the length of the body, the body and the value
 pub own_put_text : (u : Update) (value : List ℕ) → text_of_record (OwnPut u value) ≡ 2 ∷ (numeral w32 (length (text_of_update u)) ++ (text_of_update u ++ value))
@@ -140,7 +140,7 @@ own_put_text u value = rw (append-nil value) refl
 pub length_in_own_put : (text : List ℕ) (u : Update) (value : List ℕ) → IsRecord (OwnPut u value) → text ≡ text_of_record (OwnPut u value) → from_be_bytes w32 (take 4 (drop 1 text)) ≡ length (text_of_update u)
 length_in_own_put text u value fits is =
     let n = length (text_of_update u) in
-    let written : take 4 (drop 1 text) ≡ numeral w32 n = ap (λ (l : List ℕ). take 4 (drop 1 l)) (is ∙ own_put_text u value) ∙ take_at (numeral w32 n) (text_of_update u ++ value) 4 (length-numeral n) in
+    let written : take 4 (drop 1 text) ≡ numeral w32 n = ap (λ (l : List ℕ). take 4 (drop 1 l)) (is ∙ own_put_text u value) ∙ take_at (numeral w32 n) (text_of_update u ++ value) 4 (numeral_long n) in
     ap (from_be_bytes w32) written ∙ told-numeral n (omega (arith, update_is_short u (update_of_own_put u value fits)))
 
 -- so the body is found behind it
@@ -150,14 +150,14 @@ body_in_own_put text u value fits is =
     let body = text_of_update u in
     let n = length body in
     let count : from_be_bytes w32 (take 4 (drop 1 text)) ≡ n = length_in_own_put text u value fits is in
-    let behind : drop 5 text ≡ body ++ value = ap (λ (l : List ℕ). drop 5 l) (is ∙ own_put_text u value) ∙ drop_at (numeral w32 n) (body ++ value) 4 (length-numeral n) in
+    let behind : drop 5 text ≡ body ++ value = ap (λ (l : List ℕ). drop 5 l) (is ∙ own_put_text u value) ∙ drop_at (numeral w32 n) (body ++ value) 4 (numeral_long n) in
     ap (λ (k : ℕ). take k (drop 5 text)) count ∙ ap (λ (l : List ℕ). take n l) behind ∙ take_at body value n refl
 
 -- an own update's record is long enough
 pub long_own_put : (text : List ℕ) (u : Update) (value : List ℕ) → text ≡ text_of_record (OwnPut u value) → length text ≡ 5 + length (text_of_update u) + length value
 long_own_put text u value is =
     let n = length (text_of_update u) in
-    omega (arith, ap length (is ∙ own_put_text u value), length-append (numeral w32 n) (text_of_update u ++ value), length-append (text_of_update u) value, length-numeral n)
+    omega (arith, ap length (is ∙ own_put_text u value), length-append (numeral w32 n) (text_of_update u ++ value), length-append (text_of_update u) value, numeral_long n)
 
 -- an own voucher's record is a tag, and then its body
 pub own_voucher_text : (v : Voucher) → text_of_record (OwnVoucher v) ≡ 3 ∷ text_of_statement (statements.Voucher v)

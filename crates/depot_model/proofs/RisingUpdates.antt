@@ -1,15 +1,14 @@
 -- Updates in rising order of (writer, id): what is put in order has the same members, and two such lists with the same members are one.
-use Rattle.std.proofs.Common.{◌≡◌, ℕ, Bool, true, false, cond, List, [], ◌∷◌, refl, sym, ap, subst, inl, inr, ◌⊎◌}
+use Rattle.std.proofs.Common.{◌≡◌, ℕ, suc, Bool, true, false, cond, List, [], ◌∷◌, length, refl, sym, ap, subst, ◌∙◌, inl, inr, ◌⊎◌}
 use Rattle.std.specs.List.{AllByRecursion, filter}
 use Rattle.std.specs.Str.{bytes_eq}
 use Rattle.std.specs.Ordering.{nat_cmp, is_lt}
 use Rattle.std.specs.Cmp.Lexicographic.{slice_cmp}
-use Rattle.std.specs.declared.cmp.Ordering.{Ordering}
-use Rattle.std.specs.declared.cmp.Ordering.TheVariants.{Less, Equal, Greater}
 use Rattle.std.proofs.lemmas.Cmp.{nat_list_cmp_total}
 use Rattle.std.proofs.lemmas.Bool.{false_from_ne_true}
 use Rattle.std.proofs.lemmas.Slice.Eq.{bytes_eq-Decides}
 use Rattle.depot_base.specs.declared.update.Update.{Update}
+use Rattle.depot_base.proofs.GeneralLaws.{less_is}
 use Rattle.depot_model.specs.Lists.{IsIn}
 use Rattle.depot_model.specs.Texts.{id_of_update}
 use Rattle.depot_model.specs.Order.{IsCausal}
@@ -57,11 +56,6 @@ in_by_id x (u ∷ us) (inl here) = in_put_by_id u x (by_id us) (inl here)
 in_by_id x (u ∷ us) (inr there) = in_put_by_id u x (by_id us) (inr (in_by_id x us there))
 
 -- ---- one lower than another
-
-less_is : (o : Ordering) → is_lt o ≡ true → o ≡ Less
-less_is Less e = refl
-less_is Equal e = absurd cc
-less_is Greater e = absurd cc
 
 pub lower_trans : (t u v : Update) → is_lower t u ≡ true → is_lower u v ≡ true → is_lower t v ≡ true
 lower_trans t u v one two = ap is_lt (nat_list_cmp_total.trans (t.writer ∷ id_of_update t) (u.writer ∷ id_of_update u) (v.writer ∷ id_of_update v) (less_is _ one) (less_is _ two))
@@ -132,3 +126,17 @@ same_by_id us vs apart_u apart_v same = one_rising is_lower (by_id us) (by_id vs
   to = λ t on. in_by_id t vs (same.to t (from_by_id t us on));
   back = λ t on. in_by_id t us (same.back t (from_by_id t vs on));
 })
+
+-- what is put in order has as many members
+pub put_length : (t : Update) (us : List Update) → length (put_by_id t us) ≡ suc (length us)
+unfolding put_by_id
+put_length t [] = refl
+put_length t (u ∷ us) = by_test (is_lower u t) (put_length t us) where
+  by_test : (b : Bool) → length (put_by_id t us) ≡ suc (length us) → length (cond b (u ∷ put_by_id t us) (t ∷ u ∷ us)) ≡ suc (suc (length us))
+  by_test true rest = ap suc rest
+  by_test false rest = refl
+
+pub by_id_length : (us : List Update) → length (by_id us) ≡ length us
+unfolding by_id
+by_id_length [] = refl
+by_id_length (t ∷ ts) = put_length t (by_id ts) ∙ ap suc (by_id_length ts)

@@ -66,13 +66,20 @@ without_room here J x full is = ap (λ (o : Option Full). outcome_within o (answ
 -- what is answered to a text is what the outcome for it tells
 pub takes_tells : {V : Type 0} (f : Closed V) (m : ℕ) → LawfulClosed f m → (give : V → Given) (here : Setting) (J : List Record) (text : List ℕ) (result : Result Taken TakeError) (then : List Record)
     → Takes f give here J text result then → Tells (outcome_of here J (read_by f give text)) J result then
-takes_tells f m l give here J text (Ok taken) then t = record { new = growth here J (give t.0); is = ap (outcome_of here J) (gives_value f m l give text t.0 t.1.0 t.1.1.0) ∙ with_room here J (give t.0) (Ok taken) t.1.1.1.is t.1.1.1.room; grown = t.1.1.1.grown }
+takes_tells f m l give here J text (Ok taken) then (v, (fits, (is, told))) =
+    record { new = growth here J (give v); is = ap (outcome_of here J) (gives_value f m l give text v fits is) ∙ with_room here J (give v) (Ok taken) told.is told.room; grown = told.grown }
 takes_tells f m l give here J text (Err refused.Memory) then t = t
-takes_tells f m l give here J text (Err refused.Disk) then t = record { answer = answer_to here J (give t.0); new = growth here J (give t.0); is = ap (outcome_of here J) (gives_value f m l give text t.0 t.1.0 t.1.1.0) ∙ with_room here J (give t.0) (answer_to here J (give t.0)) refl t.1.1.1.room; cut = t.1.1.1.cut }
+takes_tells f m l give here J text (Err refused.Disk) then (v, (fits, (is, broken))) = record {
+  answer = answer_to here J (give v);
+  new = growth here J (give v);
+  is = ap (outcome_of here J) (gives_value f m l give text v fits is) ∙ with_room here J (give v) (answer_to here J (give v)) refl broken.room;
+  cut = broken.cut;
+}
 takes_tells f m l give here J text (Err refused.Stopped) then t = t
-takes_tells f m l give here J text (Err (refused.Full full)) then t = (ap (outcome_of here J) (gives_value f m l give text t.0 t.1.0 t.1.1.0) ∙ without_room here J (give t.0) full t.1.1.1.is, t.1.1.1.same)
+takes_tells f m l give here J text (Err (refused.Full full)) then (v, (fits, (is, none))) = (ap (outcome_of here J) (gives_value f m l give text v fits is) ∙ without_room here J (give v) full none.is, none.same)
 takes_tells f m l give here J text (Err (refused.Refused (check.IllFormed at))) then t = record { new = []; is = ap (outcome_of here J) (gives_fault f m l give text at t.0); grown = t.1 ∙ sym (append-nil J) }
-takes_tells f m l give here J text (Err (refused.Refused c)) then t = record { new = growth here J (give t.0); is = ap (outcome_of here J) (gives_value f m l give text t.0 t.1.0 t.1.1.0) ∙ with_room here J (give t.0) (Err c) t.1.1.1.is t.1.1.1.room; grown = t.1.1.1.grown }
+takes_tells f m l give here J text (Err (refused.Refused c)) then (v, (fits, (is, told))) =
+    record { new = growth here J (give v); is = ap (outcome_of here J) (gives_value f m l give text v fits is) ∙ with_room here J (give v) (Err c) told.is told.room; grown = told.grown }
 
 -- ---- the three sorts of frames
 

@@ -10,10 +10,10 @@ use Rattle.depot_base.specs.declared.statement.Statement.{Statement}
 use Rattle.depot_base.specs.declared.statement.Statement.TheVariants as statements
 use Rattle.depot_base.specs.declared.statement.Signed.{Signed}
 use Rattle.depot_base.specs.declared.proof.Proof.{Proof}
-use Rattle.depot_base.proofs.Laws.{Lawful, weaken}
+use Rattle.depot_base.proofs.FormatLaws.{Lawful, weaken}
 use Rattle.depot_base.proofs.Numbers.{one_number, number_within}
 use Rattle.depot_base.proofs.Combined.{bytes_lawful, bytes_count, inner_count, made_lawful, field_lawful, variant_lawful, kept_lawful, choose_lawful}
-use Rattle.depot_base.proofs.Lists.{list_lawful, list_count}
+use Rattle.depot_base.proofs.EntryLists.{list_lawful, list_count}
 use Rattle.depot_base.proofs.PartLaws.{u8_lawful, u16_lawful, u32_lawful, u64_lawful, constant_lawful, node_lawful, digest_lawful, digests_lawful, deps_lawful, roster_entry_lawful}
 use Rattle.depot_model.specs.Texts.{update_fields, voucher_fields, update_body, voucher_body, kind_byte_of, as_update, as_voucher, statement, signed, number_of_kind, kind_of_number, proof, roster}
 

@@ -25,13 +25,19 @@ coded_bytes = coded_list coded_ℕ
 pub coded_dep : Coded Dep
 coded_dep = code_by (ℕ × (ℕ × List ℕ)) (coded× coded_ℕ (coded× coded_ℕ coded_bytes)) (λ d. (d.writer, (d.clock, d.id))) (λ p. record { writer = p.0; clock = p.1.0; id = p.1.1 }) (λ d. refl)
 
+abbrev UpdateParts : Type 0
+UpdateParts = ℕ × (ℕ × (ℕ × (List ℕ × (List ℕ × (List ℕ × (ℕ × (List Dep × List ℕ)))))))
+
+abbrev update_of : UpdateParts → Update
+update_of (writer, (seq, (clock, (prev, (key, (value_hash, (value_len, (deps, history)))))))) =
+    record { writer = writer; seq = seq; clock = clock; prev = prev; key = key; value_hash = value_hash; value_len = value_len; deps = deps; history = history }
+
 pub coded_update : Coded Update
 coded_update =
-    code_by (ℕ × (ℕ × (ℕ × (List ℕ × (List ℕ × (List ℕ × (ℕ × (List Dep × List ℕ))))))))
+    code_by UpdateParts
     (coded× coded_ℕ (coded× coded_ℕ (coded× coded_ℕ (coded× coded_bytes (coded× coded_bytes (coded× coded_bytes (coded× coded_ℕ (coded× (coded_list coded_dep) coded_bytes))))))))
     (λ u. (u.writer, (u.seq, (u.clock, (u.prev, (u.key, (u.value_hash, (u.value_len, (u.deps, u.history)))))))))
-    (λ p. record { writer = p.0; seq = p.1.0; clock = p.1.1.0; prev = p.1.1.1.0; key = p.1.1.1.1.0; value_hash = p.1.1.1.1.1.0; value_len = p.1.1.1.1.1.1.0; deps = p.1.1.1.1.1.1.1.0; history = p.1.1.1.1.1.1.1.1 })
-    (λ u. refl)
+    update_of (λ u. refl)
 
 pub coded_voucher : Coded Voucher
 coded_voucher = code_by (ℕ × (ℕ × List (List ℕ))) (coded× coded_ℕ (coded× coded_ℕ (coded_list coded_bytes))) (λ v. (v.node, (v.seq, v.ids))) (λ p. record { node = p.0; seq = p.1.0; ids = p.1.1 }) (λ v. refl)

@@ -1,10 +1,11 @@
 -- What an update writes, and what a proof shows. What is read of an update's writes, and of what a proof shows, is said by these
 -- words; their texts, the making of them and the judge's points stand in modules of their own. An update of several keys, or
--- another kind of proof, is a change here.
+-- another kind of proof, is a change here, and in the calls of the same names in `depot_base`, which say the same.
 use Rattle.std.specs.Prelude.{◌≡◌, ℕ, List, [], ◌∷◌, length, Bool, ◌&&◌, ◌==◌, Option, Some, IfSome}
 use Rattle.std.specs.Str.{bytes_eq}
 use Rattle.sha2.specs.Sha256.{sha256}
 use Rattle.depot_base.specs.Statement.{writer_of}
+pub use Rattle.depot_base.specs.declared.update.NamedValue.{NamedValue}
 use Rattle.depot_base.specs.declared.update.Update.{Update}
 use Rattle.depot_base.specs.declared.statement.Signed.{Signed}
 use Rattle.depot_base.specs.declared.proof.Proof.{Proof}
@@ -13,11 +14,6 @@ use Rattle.depot_base.specs.declared.record.Record.TheVariants.{OwnPut}
 use Rattle.depot_model.specs.Lists.{when}
 
 -- ---- the keys and values of an update
-
--- a value as an update names it: its hash and its length
-pub record NamedValue : Type 0 where
-  pub hash : List ℕ
-  pub size : ℕ
 
 -- the key that an update writes
 abbrev pub key_written : Update → List ℕ

@@ -1,5 +1,5 @@
 -- Updates by their places in a list, from 0.
-use Rattle.std.specs.Prelude.{◌≡◌, ℕ, ◌+◌, List, [], ◌∷◌, Bool, not, Option, Some, None, slice_get, position, if◌then◌else◌}
+use Rattle.std.specs.Prelude.{◌≡◌, ℕ, ◌+◌, List, [], ◌∷◌, map, Bool, not, Option, Some, None, slice_get, position, if◌then◌else◌}
 use Rattle.std.specs.List.{AllByRecursion, flat_map}
 use Rattle.std.specs.Option.{option_to_list}
 use Rattle.std.specs.Str.{bytes_eq}
@@ -25,6 +25,14 @@ place_of_id h us = position (λ u. bytes_eq (id_of_update u) h) us
 -- the place of the update that a prev names: 32 zero bytes name nothing
 abbrev pub place_of_prev : List ℕ → List Update → Option ℕ
 place_of_prev h us = if bytes_eq h zeros then None else place_of_id h us
+
+-- the places of the updates with these ids, in their order; an id that no update has names none
+abbrev pub places_of : List Update → List (List ℕ) → List ℕ
+places_of us ids = flat_map (λ id. option_to_list (place_of_id id us)) ids
+
+-- some update has each of these ids, and these are their places
+abbrev pub AreItemsOf : List Update → List (List ℕ) → List ℕ → Type 0
+AreItemsOf us ids items = map (λ id. place_of_id id us) ids ≡ map (λ item. Some item) items
 
 -- the update at place a precedes the one at place b
 abbrev pub PrecedesAt : List Update → ℕ → ℕ → Type 0

@@ -8,8 +8,8 @@ use Rattle.depot_model.specs.declared.judgement.Half.{Half}
 use Rattle.depot_model.specs.declared.judgement.Half.TheVariants.{First, Second}
 use Rattle.depot_model.specs.declared.judgement.JudgeError.{JudgeError}
 use Rattle.depot_model.specs.declared.judgement.JudgeError.TheVariants as point
-use Rattle.depot_model.specs.declared.roster.RosterError.{RosterError}
-use Rattle.depot_model.specs.declared.roster.RosterError.TheVariants as fault
+use Rattle.depot_model.specs.declared.roster_format.RosterError.{RosterError}
+use Rattle.depot_model.specs.declared.roster_format.RosterError.TheVariants as fault
 
 abbrev pub name_of_kind : Kind → List ℕ
 name_of_kind SameNumber = codes "SameNumber"

@@ -1,5 +1,5 @@
 -- Why a text is no roster's, and what the parser of a roster answers.
-use Rattle.std.specs.Prelude.{◌≡◌, ℕ, ◌<◌, ◌≤◌, ◌⊎◌, List, [], ◌∷◌, ◌++◌, length, Result, Ok, Err}
+use Rattle.std.specs.Prelude.{◌≡◌, ℕ, ◌^◌, ◌<◌, ◌≤◌, ◌⊎◌, List, [], ◌∷◌, ◌++◌, length, Result, Ok, Err}
 use Rattle.std.specs.Int.{w16}
 use Rattle.std.specs.List.{flat_map}
 use Rattle.depot_base.specs.Cursor.{numeral}
@@ -7,15 +7,15 @@ use Rattle.depot_base.specs.Format.{Follows, FirstFault}
 use Rattle.depot_base.specs.Parts.{roster_entry, roster_entry_rises}
 use Rattle.depot_base.specs.declared.limits.TheConstants.{MOST_NODES}
 use Rattle.depot_base.specs.declared.key.RosterEntry.{RosterEntry}
-use Rattle.depot_model.specs.declared.roster.RosterError.{RosterError}
-use Rattle.depot_model.specs.declared.roster.RosterError.TheVariants as error
+use Rattle.depot_model.specs.declared.roster_format.RosterError.{RosterError}
+use Rattle.depot_model.specs.declared.roster_format.RosterError.TheVariants as error
 use Rattle.depot_model.specs.Texts.{IsRoster, text_of_roster, roster}
 
 -- the version and the kind are a roster's, and a count over 256 stands behind them
 pub record HasGreatCount (text : List ℕ) (count : ℕ) : Type 0 where
   pub rest : List ℕ
   pub parts : text ≡ 1 ∷ 4 ∷ (numeral w16 count ++ rest)
-  pub fits : count < 65536
+  pub fits : count < 2 ^ 16
   pub great : MOST_NODES < count
 
 -- Good entries stand in front, fewer than are counted, and behind them a whole entry with good fields, which names the node of the last of them.

@@ -13,31 +13,31 @@
 #![tactic(auto)]
 
 mod bundle;
-mod hash;
+mod hashing;
 mod hello;
 mod judgement;
-mod log;
-mod order;
+mod log_laws;
+mod order_laws;
 mod past;
 mod peer;
 mod record_fault;
 mod replica;
-mod roster;
+mod roster_format;
 mod signature;
 mod taken;
 mod taking;
 
 pub use bundle::{Counts, Ending, Refusal, Refusals, Report, VoucherError};
-pub use hash::hash_of;
+pub use hashing::hash_of;
 pub use hello::{Hello, HelloLeaf, HelloLeaves};
 pub use judgement::{Half, JudgeError, Verdict};
-pub use log::{firsts_keep_parents_before_children, logs_are_read_in_one_way};
-pub use order::{latest_writes_are_one_list, past_is_what_precedes};
+pub use log_laws::{firsts_keep_parents_before_children, logs_are_read_in_one_way};
+pub use order_laws::{latest_writes_are_one_list, past_is_what_precedes};
 pub use past::Past;
 pub use peer::Peer;
 pub use record_fault::RecordFault;
 pub use replica::Replica;
-pub use roster::RosterError;
+pub use roster_format::RosterError;
 pub use signature::{Scheme, Signer};
 pub use taken::{TakeError, Taken};
 pub use taking::texts_have_one_answer;

@@ -10,9 +10,10 @@ use Rattle.depot_model.specs.Roster.{Verifies}
 use Rattle.depot_laws.proofs.Splits.{lawful_none, lawful_push}
 use Rattle.depot_store.specs.Holdings.{Holding, standing, with_records}
 use Rattle.depot_node.specs.Starting.{AreTextsOf}
-use Rattle.depot_node.specs.Reading.{IsReadFrom, IsReadOn, IsNextWrong, AreWrong}
-use Rattle.depot_node.specs.declared.answer.StartError.{StartError}
-use Rattle.depot_node.specs.declared.answer.StartError.TheVariants as stopped
+use Rattle.depot_decide.specs.ReadRecords.{IsReadFrom}
+use Rattle.depot_node.specs.StartReading.{IsReadOn, IsNextWrong, AreWrong}
+use Rattle.depot_node.specs.declared.start_error.StartError.{StartError}
+use Rattle.depot_node.specs.declared.start_error.StartError.TheVariants as stopped
 
 -- ---- one record
 

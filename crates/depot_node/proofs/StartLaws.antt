@@ -18,9 +18,9 @@ use Rattle.depot_model.specs.Texts.{hash_of_roster}
 use Rattle.depot_store.specs.RecordTexts.{records_of}
 use Rattle.depot_store.proofs.RecordTextLaws.{records_of_texts}
 use Rattle.depot_node.specs.Starting.{BeginWithBirth, HaveFaultAt, IsNotStarted, IsStartedFrom, LeavesFile, started}
-use Rattle.depot_node.specs.declared.answer.StartError.{StartError}
-use Rattle.depot_node.specs.declared.answer.StartError.TheVariants as refused
-use Rattle.depot_node.proofs.RecordFaultLaws.{one_record, no_fault}
+use Rattle.depot_node.specs.declared.start_error.StartError.{StartError}
+use Rattle.depot_node.specs.declared.start_error.StartError.TheVariants as refused
+use Rattle.depot_decide.proofs.RecordFaultLaws.{one_record, no_fault}
 
 -- ---- births
 

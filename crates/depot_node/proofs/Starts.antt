@@ -9,10 +9,10 @@ use Rattle.depot_base.specs.declared.record.Record.{Record}
 use Rattle.depot_base.specs.declared.record.Record.TheVariants.{Birth}
 use Rattle.depot_model.specs.Checks.{Setting}
 use Rattle.depot_model.specs.Records.{IsRecord, text_of_record}
-use Rattle.depot_node.specs.Reading.{AreOther, AreWrong, IsOtherBirth}
+use Rattle.depot_node.specs.StartReading.{AreOther, AreWrong, IsOtherBirth}
 use Rattle.depot_node.specs.Starting.{AreTextsOf, AreNotRead, AreOwn, BeginWithBirth, IsDiskFault, IsStartedFrom, LeavesBetween, LeavesFile, LeavesNew, started}
-use Rattle.depot_node.specs.declared.answer.StartError.{StartError}
-use Rattle.depot_node.specs.declared.answer.StartError.TheVariants as refused
+use Rattle.depot_node.specs.declared.start_error.StartError.{StartError}
+use Rattle.depot_node.specs.declared.start_error.StartError.TheVariants as refused
 
 -- ---- what a stop may leave
 

@@ -12,7 +12,7 @@ use Rattle.depot_model.specs.Room.{full_by}
 use Rattle.depot_model.specs.Stops.{Lasts, LeavesAll}
 use Rattle.depot_model.specs.Taking.{Form, TakesAs, growth_of_text}
 use Rattle.depot_model.proofs.TakeLaws.{one_answer}
-use Rattle.depot_node.specs.Deciding.{IsCarriedOut}
+use Rattle.depot_decide.specs.Deciding.{IsCarriedOut}
 use Rattle.depot_node.proofs.LastingCalls.{idle_lasts}
 
 -- Where this is decided of a text, whatever comes of it is what a node answers to the text.

@@ -1,7 +1,3 @@
-pub mod Putting
-pub mod Deciding
 pub mod Starting
-pub mod Reading
+pub mod StartReading
 pub mod Keyed
-pub mod Telling
-pub mod PlannedVouchers

@@ -5,37 +5,29 @@
 //! it as it is, but where a fork or a step back convicts its writer. Reads go over the accepted updates of the journal.
 //!
 //! `Replica` is what others see of a node and give it, with its laws: the journal is lawful and has its birth record, and the
-//! roster has the node. A node is started from the journal on a disk, whose records are checked one by one (`reading`, `record_check`), and gives the disk back.
+//! roster has the node. `Peer` is what it tells them, by `depot_tell`. A node is started from the journal on a disk, whose records
+//! are checked one by one (`start_reading`), and gives the disk back.
 //!
-//! What is put or taken is decided over the `Store` of `depot_store` as it stands, which appends nothing (`put`, `statement`,
-//! `proof`, `value`), and then carried out by one call, `Store::commit`, by which alone the journal grows once it is started;
-//! `take` does the one and then the other, `start` has the starts, and `node` puts them together. So are the node's own vouchers
-//! for what it took from others (`vouch`). Once the disk failed a node is stopped.
+//! What is put or taken is decided by `depot_decide` over the `Store` of `depot_store` as it stands, and then carried out by one
+//! call, `Store::commit`, by which alone the journal grows once it is started: so are puts (`put`), what others give (`take`), and
+//! the node's own vouchers for what it took (`vouch`). `start` has the starts, and `node` puts all together. Once the disk failed a
+//! node is stopped.
 //!
-//! What others are told of a journal is read off the store: whom the node convicted and what values it lacks (`tell`), the
-//! leaves (`leaf_places`), the updates that a reader lacks (`candidates`), and their signed statements (`signed_text`).
+//! No check and no limit is decided here, and nothing is sent.
 #![tactic(auto)]
 
-mod answer;
-mod candidates;
-mod decision;
-mod laws;
-mod leaf_places;
 mod node;
-mod peer;
-mod proof;
+mod node_laws;
+mod node_peer;
 mod put;
-mod reading;
-mod record_check;
-mod signed_text;
 mod start;
-mod statement;
+mod start_error;
+mod start_reading;
 mod take;
-mod tell;
-mod value;
 mod vouch;
 
-pub use answer::{PutDone, PutError, StartError};
+pub use depot_decide::{PutDone, PutError};
 pub use depot_model::{TakeError, Taken};
-pub use laws::lawful_files_start;
 pub use node::Node;
+pub use node_laws::lawful_files_start;
+pub use start_error::StartError;

@@ -14,12 +14,12 @@ ghost use Rattle.depot_model.specs.Texts.{IsRoster};
 ghost use Rattle.depot_model.specs.Items.{updates_at};
 ghost use Rattle.depot_store.specs.Holdings.{standing};
 ghost use Rattle.depot_node.specs.Keyed.{HasKey-prop, AllRead-prop};
-ghost use Rattle.depot_node.specs.Putting.{Puts, put_records};
+ghost use Rattle.depot_decide.specs.Putting.{Puts, put_records};
 
-use crate::answer::{PutDone, PutError};
 use crate::put::put;
 use crate::take::{take_proof, take_statement, take_value};
 use depot_base::{Hash32, Key, NodeId, Update, Value};
+use depot_decide::{PutDone, PutError};
 use depot_model::{Past, Replica, Scheme, Signer, TakeError, Taken};
 use depot_outside::Disk;
 use depot_store::Store;
@@ -97,8 +97,9 @@ impl<D: Disk, S: Scheme, G: Signer<Of = S>> Node<D, S, G> {
         ensures { (u : Update) → slice_get (accepted (⟦<Node<D, S, G> as Replica>⟧.records self.now)) item ≡ Some u → option_copied result ≡ value_of (⟦<Node<D, S, G> as Replica>⟧.records self.now) u }
     {
         let update = self.update(item);
-        match self.store.value(&update.value_hash) {
-            Some(value) if value.len() == update.value_len as usize => Some(value),
+        let named = update.value_named();
+        match self.store.value(&named.hash) {
+            Some(value) if value.len() == named.size as usize => Some(value),
             _ => None,
         }
     }

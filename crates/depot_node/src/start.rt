@@ -8,14 +8,14 @@ ghost use Rattle.depot_model.specs.Lawful.{IsLawful};
 ghost use Rattle.depot_model.specs.Records.{text_of_record};
 ghost use Rattle.depot_model.specs.Roster.{has_node, key_of};
 ghost use Rattle.depot_model.specs.Stops.{LeavesAll};
-ghost use Rattle.depot_accept.specs.View.{IsStateOf, setting};
+ghost use Rattle.depot_accept.specs.StateView.{IsStateOf, setting};
 ghost use Rattle.depot_store.specs.Holdings.{standing, IsWhole};
 ghost use Rattle.depot_node.specs.Starting.{IsDiskFault, IsKeyFault, IsNotStarted, IsStartedFrom, LeavesBetween, LeavesFile, LeavesNew, StartLeaves, calls_to_start_node, of_journal, started};
-ghost use Rattle.depot_node.specs.declared.answer.StartError.TheVariants as start_error;
+ghost use Rattle.depot_node.specs.declared.start_error.StartError.TheVariants as start_error;
 
-use crate::answer::StartError;
 use crate::node::Node;
-use crate::reading::fill;
+use crate::start_error::StartError;
+use crate::start_reading::fill;
 use depot_accept::State;
 use depot_base::NodeId;
 use depot_journal::{Journal, JournalError};

@@ -1,26 +1,20 @@
-//! The vouchers that a node makes for what it took from others: they are decided over the journal as it stands, and then carried
-//! out.
-ghost use Rattle.std.specs.Prelude.{◌≡◌, ◌≢◌, ◌<◌, ◌+◌, ◌^◌, [], length, true, false, not, nat_lt, IfOk, IfErr, IsErrOf};
+//! The vouchers that a node makes for what it took from others: what is decided of them is carried out.
+ghost use Rattle.std.specs.Prelude.{◌≡◌, ◌≢◌, [], true, false, IfErr, IsErrOf};
 ghost use Rattle.std.specs.List.{AllByRecursion};
-ghost use Rattle.depot_base.specs.declared.limits.TheConstants.{MOST_IDS};
 ghost use Rattle.depot_model.specs.Journal.{accepted, is_foreign};
 ghost use Rattle.depot_model.specs.Lawful.{IsLawful, is_empty};
 ghost use Rattle.depot_model.specs.Lists.{AreApart};
-ghost use Rattle.depot_model.specs.Own.{leaf_count};
 ghost use Rattle.depot_model.specs.Replicas.{StopsBy, KeepsDisk};
 ghost use Rattle.depot_model.specs.Stops.{CallsDisk, Lasts};
-ghost use Rattle.depot_model.specs.Vouching.{Vouches, groups_of, is_mine_vouched, new_vouchers, numbered, records_of, rising};
+ghost use Rattle.depot_model.specs.Vouching.{Vouches, is_mine_vouched, new_vouchers, records_of};
 ghost use Rattle.depot_store.specs.Holdings.{standing};
-ghost use Rattle.depot_node.specs.PlannedVouchers.{ArePlanned, AreRefused};
 
-use crate::put::has_leaf;
-use depot_base::limits::MOST_IDS;
-use depot_base::{Hash32, Ids, Memory, NodeId, Voucher};
+use depot_base::Ids;
+use depot_decide::decide_vouchers;
 use depot_model::{Scheme, VoucherError};
 use depot_outside::Disk;
-use depot_store::{CommitError, Growth, Store};
+use depot_store::{CommitError, Store};
 use std::alloc::Global;
-use std::collections::BTreeSet;
 
 /// Vouches for accepted updates of others that the node hasn't vouched for, and keeps the journal lawful: one own voucher for each
 /// 256 ids in the order given. All are appended or none. `Spent` comes exactly where the vouchers would pass the leaves of the
@@ -59,67 +53,4 @@ pub fn own_vouchers<D: Disk, S: Scheme>(
         Err(CommitError::Disk) => Err(VoucherError::Disk),
         Err(CommitError::Full(full)) => Err(VoucherError::Full(full)),
     }
-}
-
-/// What is decided of ids that the node is to vouch for: the vouchers, unless too few leaves are left to sign them.
-fn decide_vouchers<D: Disk, S: Scheme>(
-    alloc: Global,
-    store: &Store<D, S>,
-    ids: &[Hash32],
-) -> Result<Growth, VoucherError>
-    requires runs { store.now.stopped ≡ false }
-    requires lawful { IsLawful (standing S.verifies store.now) store.now.records }
-    requires some { is_empty store.now.records ≡ false }
-    requires apart { AreApart ids.now }
-    requires foreign { AllByRecursion (λ h. is_foreign store.now.me (accepted store.now.records) h ≡ true) ids.now }
-    ensures planned { IfOk result (ArePlanned (standing S.verifies store.now) store.now.records ids.now) }
-    ensures refused { IfErr result (AreRefused (standing S.verifies store.now) store.now.records ids.now) }
-{
-    let own = store.totals().own;
-    let count = ids.len().div_ceil(MOST_IDS as usize) as u32;
-    if !has_leaves(store, own + count) {
-        return Err(VoucherError::Spent(own));
-    }
-    let vouchers = vouchers_for(alloc, store.state().me(), own, ids)?;
-    let growth = Growth::vouchers(alloc, vouchers)?;
-    Ok(growth)
-}
-
-/// Whether the node's tree has so many leaves.
-fn has_leaves<D: Disk, S: Scheme>(store: &Store<D, S>, count: u32) -> bool
-    ensures { result ≡ not (nat_lt (leaf_count store.now.listed store.now.me) count) }
-{
-    count == 0 || has_leaf(store, count - 1)
-}
-
-/// The vouchers of a node for these ids, one for each 256 in the order given, the seqs from `seq` on.
-fn vouchers_for(
-    alloc: Global,
-    node: NodeId,
-    seq: u32,
-    ids: &[Hash32],
-) -> Result<Vec<Voucher>, Memory>
-    requires { seq + length ids.now < 2 ^ 32 }
-    ensures { IfOk result (λ vouchers. vouchers.items ≡ numbered node seq (groups_of MOST_IDS ids.now)) }
-{
-    let mut vouchers = Vec::new(alloc);
-    let mut seq = seq;
-    for group in ids.chunks(MOST_IDS as usize) {
-        let ids = rising(alloc, group)?;
-        vouchers.push(Voucher { node, seq, ids })?;
-        seq += 1;
-    }
-    Ok(vouchers)
-}
-
-/// These ids in rising order, each once.
-fn rising(alloc: Global, ids: &[Hash32]) -> Result<Ids, Memory>
-    ensures { IfOk result (λ sorted. sorted ≡ rising ids.now) }
-{
-    let mut sorted = BTreeSet::new(alloc);
-    for place in (0..ids.len()).rev() {
-        sorted.insert(ids[place])?;
-    }
-    let sorted: Vec<Hash32> = sorted.iter().copied().collect(alloc)?;
-    Ok(Ids::from_vec(sorted))
 }

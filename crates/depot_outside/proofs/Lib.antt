@@ -1,6 +1,6 @@
 pub mod Blank
-pub mod Examples
+pub mod StopExamples
 pub mod Undone
-pub mod Writing
+pub mod PieceWriting
 pub mod Written
 pub mod Calling

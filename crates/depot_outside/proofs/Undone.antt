@@ -4,6 +4,7 @@ use Rattle.std.proofs.lemmas.List.{drop-drop, drop_all, drop_at, length-drop, le
 use Rattle.std.proofs.lemmas.Bool.{cases_lt}
 use Rattle.std.proofs.lemmas.Grind.{common_steps}
 use Rattle.depot_base.specs.Disk.{IsWritten}
+use Rattle.std.proofs.Math.Seq.{take-append_seam}
 use Rattle.depot_outside.specs.Images.{LeadTo, Moment, Written}
 use Rattle.depot_outside.specs.StopImages.{Range, blanked, left_by, ranges}
 use Rattle.depot_outside.specs.Undo.{AreInside, AreLogged, CanUndo, Fits, before, left_of, undone, written}
@@ -103,9 +104,6 @@ before_written old new piece at inside put =
     let more : List ℕ = take (length piece) (drop at old) in
     ap (λ (l : List ℕ). l ++ more ++ drop (at + length more) (take (length old) new)) torn.before ∙ ap (λ (l : List ℕ). take at old ++ more ++ l) (behind_written old new piece at inside put) ∙ whole old at (length piece)
 
-kept_front : (kept more : List ℕ) → take (length kept) (kept ++ more) ≡ kept
-kept_front kept more = grind (arith, common_steps)
-
 kept_rest : (kept more : List ℕ) → drop (length kept) (kept ++ more) ≡ more
 kept_rest kept more = grind (arith, common_steps)
 
@@ -127,7 +125,7 @@ logged_more writes log old new piece kept at inside put all =
     let back : before (replaced at piece old kept) (kept ++ take (length piece) (drop at old)) new ≡ old =
     ap (λ (l : List ℕ). take at new ++ l ++ drop (at + length l) (take (length old) new)) (kept_rest kept (take (length piece) (drop at old))) ∙ before_written old new piece at inside put in (
       record { fits = fits_written old new piece kept at inside put; at = refl; count = refl; is_before = back },
-      subst (λ (l : List ℕ). AreLogged writes log l old) (sym (kept_front kept (take (length piece) (drop at old)))) all,
+      subst (λ (l : List ℕ). AreLogged writes log l old) (sym (take-append_seam kept (take (length piece) (drop at old)))) all,
     )
 
 -- the same, as the log notes it before the write

@@ -1,7 +1,7 @@
 -- What calls on the outside do.
 use Rattle.std.specs.Prelude.{◌≡◌, ℕ, List, ◌++◌, take, Result, Ok, Err}
-use Rattle.depot_outside.specs.declared.error.OutError.{OutError}
-use Rattle.depot_outside.specs.declared.error.OutError.TheVariants as error
+use Rattle.depot_outside.specs.declared.outside_error.OutError.{OutError}
+use Rattle.depot_outside.specs.declared.outside_error.OutError.TheVariants as error
 
 -- All of the piece was added, or a front of it where the sink failed, or nothing where memory ran out.
 abbrev pub Writes : List ℕ → List ℕ → List ℕ → Result (Unit {0}) OutError → Type 0

@@ -14,30 +14,28 @@
 
 mod calls;
 mod disk;
-mod error;
+mod disk_history;
 mod faults;
-mod history;
 mod loads;
 mod mem_disk;
 mod mem_file;
 mod mem_shelf;
 mod mem_sink;
+mod outside_error;
 mod real_disk;
 mod real_shelf;
 mod real_sink;
 mod shelf;
 mod sink;
 mod stops;
-#[cfg(test)]
-mod tests;
-mod transfer;
+pub mod transfer;
 mod undo;
 
 pub use disk::{Back, Disk};
-pub use error::{Failed, OutError};
 pub use mem_disk::MemDisk;
 pub use mem_shelf::MemShelf;
 pub use mem_sink::MemSink;
+pub use outside_error::{Failed, OutError};
 pub use real_disk::RealDisk;
 pub use real_shelf::RealShelf;
 pub use real_sink::RealSink;

@@ -5,7 +5,7 @@ ghost use Rattle.depot_outside.specs.Images.{LeadTo, LeadTo-prop, after_sync, af
 ghost use Rattle.depot_outside.specs.StopImages.{left_by, overwritten};
 ghost use Rattle.depot_outside.specs.Undo.{AreLogged, AreLogged-prop, spare_bytes, spare_writes};
 
-use crate::history::History;
+use crate::disk_history::History;
 use crate::stops::Image;
 use crate::undo::UndoLog;
 use depot_base::{Bytes, Memory};

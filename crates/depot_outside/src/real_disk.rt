@@ -4,11 +4,11 @@ ghost use Rattle.std.proofs.Common.{rules};
 ghost use Rattle.depot_base.specs.Faults.{HasCause};
 
 use crate::faults::Faults;
-use crate::transfer::{fill, write_whole};
+use crate::transfer::write_whole;
 use crate::{Disk, Failed};
 use depot_base::Memory;
 use std::fs::{OpenFile, OpenOptions};
-use std::io::{self, ErrorKind, Seek, SeekFrom};
+use std::io::{self, ErrorKind, Read, Seek, SeekFrom};
 use std::rt::Files;
 
 /// The name of the journal's file in the current folder.
@@ -71,7 +71,7 @@ fn read_piece<R: Files>(
 ) -> io::Result<()> {
     let file = reach(rt, file)?;
     file.seek(SeekFrom::Start(at))?;
-    fill(file, into)
+    file.read_exact(into)
 }
 
 /// Writes all of the bytes at an offset. A write that takes nothing is a fault.

@@ -20,8 +20,8 @@ use Rattle.depot_world.specs.Suite.{Suite, Stage, entry_of, is_entry_before, ros
 use Rattle.depot_world.proofs.InsertionLaws.{from_order}
 use Rattle.depot_world.proofs.ScheduleRosters.{stage_has_members}
 use Rattle.depot_replay.specs.Acting.{AreSeated, IsSeated, View}
-use Rattle.depot_replay.specs.Casting.{AreSigners, Hand, IsSet, MayHappen, hand_of, hands_of}
-use Rattle.depot_replay.proofs.CastLaws.{hand_at}
+use Rattle.depot_stage.specs.Casting.{AreSigners, Hand, IsSet, MayHappen, hand_of, hands_of}
+use Rattle.depot_stage.proofs.CastLaws.{hand_at}
 use Rattle.depot_replay.proofs.PlayedEvents.{on_at}
 
 -- ---- keys

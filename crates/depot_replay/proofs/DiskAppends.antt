@@ -8,9 +8,9 @@ use Rattle.depot_outside.specs.Stopping.{State, Leads, done_before_stop, done_by
 use Rattle.depot_outside.specs.declared.stops.Image.{Image}
 use Rattle.depot_outside.specs.declared.stops.Image.TheVariants as image
 use Rattle.depot_world.specs.Run.{Armed}
-use Rattle.depot_world.specs.Stops.{standing_after}
+use Rattle.depot_world.specs.ScheduleStops.{standing_after}
 use Rattle.depot_replay.specs.Disks.{IsAtRest, StoppedAppending, number_of}
-use Rattle.depot_replay.proofs.Disks.{FailsIn, Gone, StoppedIn, failed_on, fails_in, led_on}
+use Rattle.depot_replay.proofs.DiskLaws.{FailsIn, Gone, StoppedIn, failed_on, fails_in, led_on}
 use Rattle.depot_replay.proofs.DiskFiles.{StandsTo, appended, block_left, gate_left, opened_in, stands_for, stands_to}
 use Rattle.depot_replay.proofs.DiskStops.{StopsAt, stopped_at, stops_later, stops_now}
 

@@ -7,7 +7,7 @@ use Rattle.depot_outside.specs.Images.{Moment, synced_as, written_at}
 use Rattle.depot_outside.specs.Stopping.{IsOutcome, Leads, State, after_call, done_before_stop, done_by}
 use Rattle.depot_outside.specs.declared.stops.Image.{Image}
 use Rattle.depot_outside.specs.declared.stops.Image.TheVariants as image
-use Rattle.depot_world.specs.Stops.{standing_after}
+use Rattle.depot_world.specs.ScheduleStops.{standing_after}
 use Rattle.depot_replay.specs.Disks.{IsAtRest, armed_of}
 
 -- how many records of two stand, by the call in which the stop comes, and the image

@@ -1,10 +1,9 @@
 -- The file of a journal while a record is appended, and what a stop leaves of it.
 use Rattle.std.proofs.Common.{◌≡◌, ◌≢◌, ◌≤◌, ◌<◌, ℕ, ◌+◌, List, [], ◌∷◌, ◌++◌, length, length-append, take, drop, refl, sym, ap, subst, ◌∙◌, arith, append_assoc, append-nil}
 use Rattle.std.proofs.lemmas.List.{take_at, take-append-drop}
-use Rattle.std.proofs.lemmas.Grind.{common_steps}
 use Rattle.depot_base.specs.Disk.{IsWritten}
 use Rattle.depot_base.specs.File.{StandsFor, blocks, closed_block, framed}
-use Rattle.depot_base.proofs.CallLaws.{framed_long}
+use Rattle.depot_journal.proofs.RecordBlocks.{blocks_push, one_longer, opened}
 use Rattle.depot_outside.specs.Images.{synced_as, written_at}
 use Rattle.depot_outside.specs.StopImages.{blank, left_by, overwritten}
 use Rattle.depot_outside.specs.declared.stops.Image.{Image}
@@ -59,20 +58,6 @@ block_left image.Blanked file block bodies end s =
 
 -- ---- a record that is appended
 
-blocks_push : (bodies : List (List ℕ)) (body : List ℕ) → blocks (bodies ++ body ∷ []) ≡ blocks bodies ++ (1 ∷ framed body)
-blocks_push [] body = ap (λ (x : List ℕ). 1 ∷ x) (append-nil (framed body))
-blocks_push (b ∷ bodies) body = ap (λ (x : List ℕ). 1 ∷ (framed b ++ x)) (blocks_push bodies body) ∙ ap (λ (x : List ℕ). 1 ∷ x) (sym (append_assoc (framed b) (blocks bodies) (1 ∷ framed body)))
-
-one_longer : (end : ℕ) (body : List ℕ) (bodies : List (List ℕ)) → end ≡ length (blocks bodies) → end + (5 + length body) ≡ length (blocks (bodies ++ body ∷ []))
-one_longer end body bodies at = omega (arith, ap length (blocks_push bodies body), length-append (blocks bodies) (1 ∷ framed body), framed_long body)
-
--- the file with a block behind the closed gate, and then with the gate opened
-opened : (s0 s1 s2 block : List ℕ) (gate : ℕ) → gate < length s0 → IsWritten s0 (gate + 1) block s1 → IsWritten s1 gate (1 ∷ []) s2 → s2 ≡ take gate s0 ++ (1 ∷ (block ++ drop (gate + 1 + length block) s0))
-opened s0 s1 s2 block gate h w1 w2 =
-    let front : take gate s1 ≡ take gate s0 = ap (take gate) w1 ∙ grind (arith, common_steps) in
-    let behind : drop (gate + 1) s1 ≡ block ++ drop (gate + 1 + length block) s0 = ap (drop (gate + 1)) w1 ∙ grind (arith, common_steps) in
-    w2 ∙ append_assoc (take gate s1) (1 ∷ []) (drop (gate + 1) s1) ∙ ap (λ (x : List ℕ). x ++ (1 ∷ drop (gate + 1) s1)) front ∙ ap (λ (x : List ℕ). take gate s0 ++ (1 ∷ x)) behind
-
 up_to_gate : (file : List ℕ) (bodies : List (List ℕ)) (end : ℕ) → StandsTo file bodies end → take end file ≡ blocks bodies
 up_to_gate file bodies end s = ap (take end) s.parts ∙ take_at (blocks bodies) (s.gate ∷ s.rest) end (sym s.place)
 
@@ -88,7 +73,7 @@ appended s0 s1 s2 body bodies end s w1 w2 =
       closed = omega arith;
       parts = all ∙ ap (λ (x : List ℕ). x ++ (1 ∷ (closed_block body ++ more))) (up_to_gate s0 bodies end s) ∙ ap (λ (x : List ℕ). blocks bodies ++ (1 ∷ x)) (append_assoc (framed body) (0 ∷ []) more)
           ∙ sym (append_assoc (blocks bodies) (1 ∷ framed body) (0 ∷ more)) ∙ ap (λ (x : List ℕ). x ++ 0 ∷ more) (sym (blocks_push bodies body));
-      place = one_longer end body bodies s.place;
+      place = one_longer end body bodies (bodies ++ body ∷ []) s.place refl;
     }
 
 -- ---- what a stop leaves while the gate is opened

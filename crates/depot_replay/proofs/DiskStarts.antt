@@ -10,7 +10,7 @@ use Rattle.depot_outside.specs.Stopping.{State, Leads, done_before_stop, done_by
 use Rattle.depot_outside.specs.declared.stops.Image.{Image}
 use Rattle.depot_outside.specs.declared.stops.Image.TheVariants as image
 use Rattle.depot_replay.specs.Disks.{IsAtRest, StoppedReading, armed_of}
-use Rattle.depot_replay.proofs.Disks.{FailsIn, Gone, StoppedIn, failed_on, fails_in, led_on}
+use Rattle.depot_replay.proofs.DiskLaws.{FailsIn, Gone, StoppedIn, failed_on, fails_in, led_on}
 use Rattle.depot_replay.proofs.DiskAppends.{appends_rest, synced_rest}
 use Rattle.depot_replay.proofs.DiskStops.{StopsAt, none_waits_after, stopped_at, stops_later, stops_now}
 

@@ -6,7 +6,7 @@ use Rattle.depot_outside.specs.declared.stops.Image.{Image}
 use Rattle.depot_outside.specs.declared.stops.Stop.{Stop}
 use Rattle.depot_world.specs.Run.{Armed}
 use Rattle.depot_replay.specs.Disks.{IsAtRest, Stopped, armed_of}
-use Rattle.depot_replay.proofs.Disks.{ComesIn, FailsIn, Gone, StoppedIn, comes_later, comes_now, failed_on, fails_in, led_on, some_is, still_none, waits_a_call}
+use Rattle.depot_replay.proofs.DiskLaws.{ComesIn, FailsIn, Gone, StoppedIn, comes_later, comes_now, failed_on, fails_in, led_on, some_is, still_none, waits_a_call}
 
 -- ---- calls of which none fails
 

@@ -14,7 +14,7 @@ use Rattle.depot_base.specs.declared.statement.Statement.TheVariants as statemen
 use Rattle.depot_base.specs.declared.update.Dep.{Dep}
 use Rattle.depot_base.specs.declared.update.Update.{Update}
 use Rattle.depot_model.specs.Bundle.{Signs}
-use Rattle.depot_model.specs.History.{by_id, history_hash, is_lower, put_by_id}
+use Rattle.depot_model.specs.History.{by_id, history_hash}
 use Rattle.depot_model.specs.Journal.{has_id}
 use Rattle.depot_model.specs.Lists.{IsIn, is_among}
 use Rattle.depot_model.specs.Log.{firsts, firsts_behind}
@@ -25,10 +25,9 @@ use Rattle.depot_model.specs.Vouching.{rising}
 use Rattle.depot_model.proofs.Members.{all_from, among-append, among_from, any_from, from_map, in_last}
 use Rattle.depot_laws.proofs.NewVouchers.{voucher_fits}
 use Rattle.depot_laws.proofs.OwnTexts.{entry_fits, id_is_digest, value_is_digest}
-use Rattle.depot_laws.proofs.Records.{IsStatement-from_own_voucher}
+use Rattle.depot_laws.proofs.LawfulRecords.{IsStatement-from_own_voucher}
 use Rattle.depot_laws.proofs.Sorted.{entries_follow}
-use Rattle.depot_model.proofs.RisingUpdates.{AreApart, rises_by_id, from_by_id}
-use Rattle.depot_laws.proofs.Tests.{all_both}
+use Rattle.depot_model.proofs.RisingUpdates.{AreApart, rises_by_id, from_by_id, by_id_length as long_by_id}
 use Rattle.depot_schedule.specs.EventLines.{update, voucher}
 use Rattle.depot_schedule.specs.Language.{or_empty}
 use Rattle.depot_schedule.specs.Vocabulary.{FitsHistory, references}
@@ -37,11 +36,12 @@ use Rattle.depot_schedule.specs.declared.event.HistoryWord.{HistoryWord}
 use Rattle.depot_schedule.specs.declared.event.HistoryWord.TheVariants as history_word
 use Rattle.depot_schedule.specs.declared.event.Ref.{Ref}
 use Rattle.depot_world.specs.Run.{Run, referred}
-use Rattle.depot_world.specs.Signing.{all_referred, drafted, entries_of, history_by, prev_of, updated, with_history}
+use Rattle.depot_world.specs.FaultySigning.{all_referred, drafted, entries_of, history_by, prev_of, updated, with_history}
 use Rattle.depot_world.proofs.EventFacts.{events_bring_bytes}
+use Rattle.depot_base.proofs.GeneralLaws.{all_both}
 use Rattle.depot_replay.specs.Drafts.{MaySign, MayVouchFor}
-use Rattle.depot_replay.specs.Seen.{HasSeenParents}
-use Rattle.depot_replay.proofs.NamedUpdates.{AreNamedWell, IsNamed, as_many, each_is}
+use Rattle.depot_stage.specs.Seen.{HasSeenParents}
+use Rattle.depot_replay.proofs.LabelledUpdates.{AreNamedWell, IsNamed, as_many, each_is}
 
 -- ---- updates without those that stand earlier
 
@@ -88,19 +88,6 @@ short_firsts ids (x ∷ us) = choice (is_among (id_of_update x) ids) (short_firs
   choice : (b : Bool) → length (firsts_behind ids us) ≤ length us → length (firsts_behind (ids ++ id_of_update x ∷ []) us) ≤ length us → length (cond b (firsts_behind ids us) (x ∷ firsts_behind (ids ++ id_of_update x ∷ []) us)) ≤ length (x ∷ us)
   choice true same more = omega (arith, same)
   choice false same more = omega (arith, more)
-
-long_put : (t : Update) (us : List Update) → length (put_by_id t us) ≡ length (t ∷ us)
-unfolding put_by_id
-long_put t [] = refl
-long_put t (u ∷ us) = choice (is_lower u t) (long_put t us) where
-  choice : (b : Bool) → length (put_by_id t us) ≡ length (t ∷ us) → length (cond b (u ∷ put_by_id t us) (t ∷ u ∷ us)) ≡ length (t ∷ u ∷ us)
-  choice true rest = omega (arith, rest)
-  choice false rest = refl
-
-long_by_id : (us : List Update) → length (by_id us) ≡ length us
-unfolding by_id
-long_by_id [] = refl
-long_by_id (u ∷ us) = let rest = long_by_id us in omega (arith, long_put u (by_id us))
 
 -- ---- its entries
 

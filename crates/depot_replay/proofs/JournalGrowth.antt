@@ -4,7 +4,7 @@ use Rattle.depot_model.specs.Bundle.{Signs}
 use Rattle.depot_model.specs.Checks.{Setting}
 use Rattle.depot_world.specs.Deeds.{put_by, get_by, hello_by, bundle_by, give_by, restart_by}
 use Rattle.depot_world.specs.Run.{Armed, Station}
-use Rattle.depot_world.specs.Stops.{Deed, Went, standing_after, left_of, stopped_with, went_armed, went_by, went}
+use Rattle.depot_world.specs.ScheduleStops.{Deed, Went, standing_after, left_of, stopped_with, went_armed, went_by, went}
 use Rattle.depot_model.proofs.FeedGrowth.{IsGrown}
 use Rattle.depot_world.proofs.DeedGrowth as deeds
 

@@ -1,6 +1,7 @@
 -- What events that only make a label give it.
-use Rattle.std.proofs.Common.{◌≡◌, ℕ, ◌<◌, ◌^◌, Bool, true, false, not, ◌&&◌, ◌||◌, eqb, ltb, List, [], ◌∷◌, ◌++◌, Vec, map, Option, Some, None, option_map, refl, sym, ap, subst, ◌∙◌, arith}
+use Rattle.std.proofs.Common.{◌≡◌, ℕ, ◌<◌, ◌^◌, Bool, true, false, not, ◌&&◌, ◌||◌, eqb, ltb, List, [], ◌∷◌, ◌++◌, Vec, map, Option, Some, None, option_and_then, option_map, cond, refl, sym, ap, subst, ◌∙◌, inl, inr, arith}
 use Rattle.std.specs.Prelude.{IfSome}
+use Rattle.std.specs.Str.{bytes_eq}
 use Rattle.std.specs.declared.alloc.Global.{Global}
 use Rattle.std.proofs.lemmas.List.{append-nil}
 use Rattle.std.proofs.lemmas.Bool.Decides.{nat_tests}
@@ -11,6 +12,7 @@ use Rattle.depot_base.specs.declared.statement.Statement.{Statement}
 use Rattle.depot_base.specs.declared.statement.Statement.TheVariants as statement
 use Rattle.depot_graph.specs.Kept.{updates_in}
 use Rattle.depot_model.specs.Journal.{update_in}
+use Rattle.depot_model.specs.Lists.{IsIn}
 use Rattle.depot_model.specs.Bundle.{Signs, proof_frame}
 use Rattle.depot_model.specs.Frames.{text_of_frame}
 use Rattle.depot_model.specs.Lines.{name_of_kind}
@@ -25,20 +27,19 @@ use Rattle.depot_schedule.specs.declared.event.HistoryWord.{HistoryWord}
 use Rattle.depot_schedule.specs.declared.event.Ref.{Ref}
 use Rattle.depot_schedule.specs.declared.member.Member.{Member}
 use Rattle.depot_schedule.specs.declared.schedule.Schedule.{Schedule}
-use Rattle.depot_world.specs.Run.{Made, Run, signed_of}
-use Rattle.depot_world.specs.Signing.{Text, all_of, all_referred, no_reference, proof_by, proof_text, voucher_text, vouched_text}
+use Rattle.depot_world.specs.Run.{Made, Run, made_in, signed_of}
+use Rattle.depot_world.specs.FaultySigning.{Text, all_of, all_referred, no_reference, proof_by, proof_text, voucher_text, vouched_text}
 use Rattle.depot_world.specs.Suite.{Stage}
 use Rattle.depot_world.specs.Transcript.{done, done_by_text}
 use Rattle.depot_replay.specs.Acting.{AreSeated, View}
-use Rattle.depot_replay.specs.Casting.{MayHappen}
+use Rattle.depot_stage.specs.Casting.{MayHappen}
 use Rattle.depot_replay.specs.Doing.{HasDone, is_text, text_by}
-use Rattle.depot_replay.specs.Labels.{AreLabels}
+use Rattle.depot_stage.specs.Labels.{AreLabels}
 use Rattle.depot_replay.specs.Playing.{IsAtPlay, IsRemembered, WereSeen}
-use Rattle.depot_replay.specs.Texts.{IsText}
+use Rattle.depot_stage.specs.StageTexts.{IsText}
 use Rattle.depot_replay.specs.declared.play.Play.{Play}
-use Rattle.depot_replay.specs.declared.seen.Seen.{Seen}
-use Rattle.depot_replay.specs.declared.texts.Text as made_text
-use Rattle.depot_replay.proofs.Referred.{is_made}
+use Rattle.depot_stage.specs.declared.seen.Seen.{Seen}
+use Rattle.depot_stage.specs.declared.texts.Text as made_text
 use Rattle.depot_replay.proofs.RememberedRuns.{IsKept, label_remembers, none_is_kept}
 
 -- ---- who signs
@@ -119,6 +120,20 @@ no_first run kind a b none = ap (λ (x : Option Signed). halves kind x (signed_o
 pub no_second : (run : Run) (kind : Kind) (a b : List ℕ) (s : Signed) → Some s ≡ signed_of run a → None ≡ signed_of run b → no_reference ≡ proof_text run kind a b
 unfolding halves
 no_second run kind a b s one none = ap (λ (x : Option Signed). halves kind x None) one ∙ ap (halves kind (signed_of run a)) none ∙ proof_by_halves run kind a b
+
+-- a signed statement was made under a label
+record IsMade (ms : List Made) (s : Signed) : Type 0 where
+  made : Made
+  on : IsIn made ms
+  is : made.signed ≡ Some s
+
+is_made : (ms : List Made) (label : List ℕ) (s : Signed) → option_and_then (λ (m : Made). m.signed) (made_in ms label) ≡ Some s → IsMade ms s
+unfolding made_in
+is_made [] label s e = absurd cc
+is_made (m ∷ ms) label s e = by_test (bytes_eq m.label label) (is_made ms label s) e where
+  by_test : (b : Bool) → (option_and_then (λ (x : Made). x.signed) (made_in ms label) ≡ Some s → IsMade ms s) → option_and_then (λ (x : Made). x.signed) (cond b (Some m) (made_in ms label)) ≡ Some s → IsMade (m ∷ ms) s
+  by_test true rest is = record { made = m; on = inl refl; is = is }
+  by_test false rest is = let r = rest is in record { made = r.made; on = inr r.on; is = r.is }
 
 -- the signed statement of a label has a text
 pub signed_fits : (run : Run) (label : List ℕ) (s : Signed) → IsRemembered run → Some s ≡ signed_of run label → IsSigned s

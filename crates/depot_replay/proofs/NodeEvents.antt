@@ -16,24 +16,24 @@ use Rattle.depot_schedule.specs.declared.event.Event.TheVariants as event
 use Rattle.depot_schedule.specs.EventLines.{node_of}
 use Rattle.depot_world.specs.Deeds.{put_by, get_by, hello_by, bundle_by, give_by, restart_by}
 use Rattle.depot_world.specs.Run.{Made, Run, Station, bytes_of, station_in, put_station, seen_with, with_station}
-use Rattle.depot_world.specs.Stops.{Deed, Went, went}
+use Rattle.depot_world.specs.ScheduleStops.{Deed, Went, went}
 use Rattle.depot_world.specs.Suite.{Stage, stands_on, signs_on}
 use Rattle.depot_world.specs.Transcript.{Done, armed_at, by_node, done, done_by_node}
 use Rattle.depot_model.proofs.FeedGrowth.{IsGrown, grown_none}
 use Rattle.depot_world.proofs.GoodRuns.{found_is}
 use Rattle.depot_replay.specs.Acting.{View, AreSeated, CameTo, IsSeated, lines_behind}
-use Rattle.depot_replay.specs.Doing.{HasDone, HasLeft, deed_of, is_deed, label_by, labels_with, lines_from_arrow}
-use Rattle.depot_replay.specs.Labels.{AreLabels}
+use Rattle.depot_replay.specs.Doing.{HasDone, HasLeft, deed_of, is_deed, lines_from_arrow}
+use Rattle.depot_stage.specs.Labels.{AreLabels, label_by, labels_with}
 use Rattle.depot_replay.specs.Playing.{IsAt, IsAtPlay, IsRemembered, WereSeen}
 use Rattle.depot_replay.specs.declared.away.Away.{Away}
-use Rattle.depot_replay.specs.declared.labels.Given.{Given}
-use Rattle.depot_replay.specs.declared.labels.Labels.{Labels}
+use Rattle.depot_stage.specs.declared.label_table.Given.{Given}
+use Rattle.depot_stage.specs.declared.label_table.Labels.{Labels}
 use Rattle.depot_replay.specs.declared.play.Play.{Play}
-use Rattle.depot_replay.specs.declared.seen.Seen.{Seen}
+use Rattle.depot_stage.specs.declared.seen.Seen.{Seen}
 use Rattle.depot_replay.proofs.JournalGrowth.{put_grows, get_grows, hello_grows, bundle_grows, give_grows, restart_grows}
 use Rattle.depot_replay.proofs.NewUpdates.{accepted_front}
 use Rattle.depot_replay.proofs.RememberedRuns.{same_node, station_remembers, label_remembers, none_is_kept}
-use Rattle.depot_replay.proofs.PlaceLaws.{seat_at, no_seat}
+use Rattle.depot_replay.proofs.SeatPlaces.{seat_at, no_seat}
 
 -- ---- what an event does at its node
 

@@ -1,5 +1,5 @@
 -- The own updates of a node: those of its accepted updates that it wrote.
-use Rattle.std.proofs.Common.{◌≡◌, ℕ, suc, ◌+◌, ◌==◌, List, [], ◌∷◌, ◌++◌, take, drop, Bool, true, false, Option, Some, None, refl, sym, ap, ◌∙◌}
+use Rattle.std.proofs.Common.{◌≡◌, ℕ, suc, ◌+◌, ◌==◌, List, [], ◌∷◌, ◌++◌, take, drop, Bool, true, false, Some, refl, sym, ap, ◌∙◌}
 use Rattle.std.specs.List.{filter, flat_map}
 use Rattle.std.specs.Prelude.{slice_get}
 use Rattle.std.proofs.Math.Seq.{drop-cons}
@@ -14,13 +14,14 @@ use Rattle.depot_base.specs.declared.record.Record.TheVariants.{Birth, OwnPut, O
 use Rattle.depot_base.specs.declared.statement.Statement.{Statement}
 use Rattle.depot_base.specs.declared.statement.Statement.TheVariants as statement
 use Rattle.depot_base.specs.declared.update.Update.{Update}
-use Rattle.depot_laws.proofs.Splits.{flat_push, lawful_from_end}
+use Rattle.depot_laws.proofs.Splits.{lawful_from_end}
 use Rattle.depot_laws.proofs.Taken.{new_is}
 use Rattle.depot_model.specs.Checks.{Setting}
 use Rattle.depot_model.specs.Journal.{accepted, accepted_by, own, own_by, update_in}
 use Rattle.depot_model.specs.Lawful.{IsLawful, MayFollow}
-use Rattle.depot_model.specs.Own.{next_own}
 use Rattle.depot_world.specs.Run.{first_update, own_update}
+use Rattle.depot_base.proofs.GeneralLaws.{flat_push}
+use Rattle.depot_laws.proofs.Counts.{next_writer}
 
 -- ---- which they are
 
@@ -40,10 +41,6 @@ fails test u is = rw is refl
 of_statement : (me : ℕ) (s : Statement) → (writer_of s == me) ≡ false → [] ≡ filter (is_by me) (update_in s)
 of_statement me (statement.Update u) other = sym (fails (is_by me) u other)
 of_statement me (statement.Voucher v) other = refl
-
-next_writer : (me : ℕ) (J : List Record) (key value : List ℕ) → (next_own me J key value).writer ≡ me
-unfolding next_own
-next_writer me J key value = refl
 
 -- those of a record that may follow
 of_record : (here : Setting) (J : List Record) (r : Record) → MayFollow here J r → flat_map update_in (own_by r) ≡ filter (is_by here.me) (accepted_by r)

@@ -1,5 +1,5 @@
 -- Runs that remember what was seen, and how one station, one label or one update more leaves them so.
-use Rattle.std.proofs.Common.{◌≡◌, ◌-◌, ℕ, Bool, true, false, eqb, leb, cond, List, [], ◌∷◌, map, Option, Some, None, refl, sym, ap, subst, ◌∙◌, inl, inr}
+use Rattle.std.proofs.Common.{◌≡◌, ◌-◌, ℕ, Bool, true, false, eqb, leb, cond, List, [], ◌∷◌, map, Option, Some, None, refl, ap, subst, ◌∙◌, inl, inr}
 use Rattle.std.specs.Prelude.{filter}
 use Rattle.std.proofs.lemmas.Bool.{eq-eqb, both_ways}
 use Rattle.depot_base.specs.declared.proof.Proof.{Proof}
@@ -10,13 +10,10 @@ use Rattle.depot_model.specs.Lists.{IsIn}
 use Rattle.depot_model.specs.Order.{parents, IsCausal}
 use Rattle.depot_model.specs.Texts.{IsSigned}
 use Rattle.depot_model.proofs.Members.{from_map, in_pushed}
-use Rattle.depot_laws.proofs.Causes.{lawful_is_causal}
 use Rattle.depot_schedule.specs.declared.member.Member.{Member}
-use Rattle.depot_world.specs.Run.{Armed, Station, Made, Run, born, run_of, station_in, put_station, seen_with, with_label, with_station}
-use Rattle.depot_world.specs.Stops.{Deed, Went, left_of, stopped_with, went_armed, went_by, went}
-use Rattle.depot_world.specs.Suite.{Stage, stands_on}
-use Rattle.depot_world.specs.Transcript.{Done, done_by_node, by_node}
-use Rattle.depot_world.proofs.GoodRuns.{IsGoodRun, found_is}
+use Rattle.depot_world.specs.Run.{Armed, Station, Made, Run, born, run_of, put_station, seen_with, with_label, with_station}
+use Rattle.depot_world.specs.ScheduleStops.{Deed, Went, left_of, stopped_with, went_armed, went_by, went}
+use Rattle.depot_world.specs.Suite.{Stage}
 use Rattle.depot_replay.specs.Playing.{WereSeen, IsRemembered}
 use Rattle.depot_replay.proofs.Remembered.{IdsWereSeen, were_stay_seen, all_are_seen, causal_come, stays_causal}
 
@@ -111,27 +108,6 @@ same_node s d = by_stop s.armed where
   by_stop : (o : Option Armed) → (elim o as (λ x. Went) [ None ↦ went_by s None d | Some a ↦ went_armed s d a ]).station.correct.node ≡ s.correct.node
   by_stop None = refl
   by_stop (Some a) = by_call a (leb a.call d.calls)
-
-went_remembers : (stage : Stage) (run : Run) (node : ℕ) (s : Station) (w : Went) (label : Option (List ℕ)) → station_in run.stations node ≡ Some s → w.station.correct.node ≡ s.correct.node
-    → IsGoodRun stage (done_by_node run label w).run → IsRemembered run → IsRemembered (done_by_node run label w).run
-unfolding with_station
-went_remembers stage run node s w None is same good r =
-    let on = in_place w.station s run.stations (found_is run.stations node s is).on (sym same) in
-    station_remembers run w.station r (lawful_is_causal (stands_on stage w.station.correct.node) w.station.correct.journal (good.stations w.station on).lawful)
-went_remembers stage run node s w (Some label) is same good r =
-    let on = in_place w.station s run.stations (found_is run.stations node s is).on (sym same) in
-    let r_then = station_remembers run w.station r (lawful_is_causal (stands_on stage w.station.correct.node) w.station.correct.journal (good.stations w.station on).lawful) in
-    label_remembers (with_station run w.station) label w.bytes None r_then (none_is_kept (with_station run w.station).seen)
-
--- an event of a node, where the run after it makes a world
-pub node_remembers : (stage : Stage) (run : Run) (node : ℕ) (label : Option (List ℕ)) (deed : Station → Deed) → IsGoodRun stage (by_node run node label deed).run → IsRemembered run → IsRemembered (by_node run node label deed).run
-unfolding by_node
-node_remembers stage run node label deed good r = by_station (station_in run.stations node) refl good where
-  by_station : (o : Option Station) → station_in run.stations node ≡ o
-      → IsGoodRun stage (elim o as (λ x. Done) [ None ↦ record { answer = []; behind = []; run = run } | Some s ↦ done_by_node run label (went s (deed s)) ]).run
-      → IsRemembered (elim o as (λ x. Done) [ None ↦ record { answer = []; behind = []; run = run } | Some s ↦ done_by_node run label (went s (deed s)) ]).run
-  by_station None none after = r
-  by_station (Some s) is after = went_remembers stage run node s (went s (deed s)) label is (same_node s (deed s)) after r
 
 -- ---- before the first event
 

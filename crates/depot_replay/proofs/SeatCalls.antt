@@ -7,18 +7,17 @@ use Rattle.depot_base.specs.Calls.{Made, made, FailsAmong}
 use Rattle.depot_base.specs.Format.{whole}
 use Rattle.depot_base.specs.declared.record.Record.{Record}
 use Rattle.depot_gossip.specs.Bundling.{Bundles, journaled_for}
-use Rattle.depot_gossip.specs.Lasting.{CallsFed}
-use Rattle.depot_gossip.specs.declared.error.BundleError.{BundleError}
-use Rattle.depot_gossip.specs.declared.error.BundleError.TheVariants as error
-use Rattle.depot_gossip.specs.declared.error.FeedError.{FeedError}
-use Rattle.depot_gossip.specs.declared.error.FeedError.TheVariants as feed_error
+use Rattle.depot_gossip.specs.declared.gossip_error.BundleError.{BundleError}
+use Rattle.depot_gossip.specs.declared.gossip_error.BundleError.TheVariants as error
+use Rattle.depot_gossip.specs.declared.gossip_error.FeedError.{FeedError}
+use Rattle.depot_gossip.specs.declared.gossip_error.FeedError.TheVariants as feed_error
 use Rattle.depot_gossip.specs.declared.own_bundle.Bundled.{Bundled}
 use Rattle.depot_laws.proofs.LawfulFeeds.{feed_keeps}
 use Rattle.depot_laws.proofs.NewVouchers.{new_are_lawful}
 use Rattle.depot_laws.specs.Streams.{AreBytes}
 use Rattle.depot_model.specs.Bundle.{Bundle, BundleAnswer, Signs, answer_to_hello, bad_hello, bundle_answer, bundle_of, bundled, bundled_within, limited, other_roster, sent_for, unvouched}
 use Rattle.depot_model.specs.Checks.{Setting}
-use Rattle.depot_model.specs.Feeding.{Feeding, feed_of, feeding_from}
+use Rattle.depot_model.specs.Feeding.{feed_of, feeding_from}
 use Rattle.depot_model.specs.Hello.{hello}
 use Rattle.depot_model.specs.Lawful.{IsLawful, is_empty}
 use Rattle.depot_model.specs.Limits.{Limit}
@@ -29,9 +28,9 @@ use Rattle.depot_model.specs.Vouching.{limit_of_vouchers, records_of}
 use Rattle.depot_model.specs.World.{Correct}
 use Rattle.depot_model.specs.declared.hello.Hello.{Hello}
 use Rattle.depot_outside.specs.Stopping.{State, Leads}
-use Rattle.depot_world.specs.Deeds.{bundle_by, bundle_with, fed_by, give_by}
+use Rattle.depot_world.specs.Deeds.{bundle_by, bundle_with, give_by}
 use Rattle.depot_world.specs.Run.{Station}
-use Rattle.depot_world.specs.Stops.{Deed}
+use Rattle.depot_world.specs.ScheduleStops.{Deed}
 use Rattle.depot_world.specs.Suite.{Stage, signs_on, stands_on}
 use Rattle.depot_world.proofs.ByteBundles.{unvouched_are_foreign}
 use Rattle.depot_replay.specs.Acting.{IsSeated, View}

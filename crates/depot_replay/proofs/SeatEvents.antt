@@ -1,5 +1,5 @@
 -- What an event of a seated node came to: it went as it goes, or a stop fell into it.
-use Rattle.std.proofs.Common.{◌≡◌, ◌≤◌, ℕ, ◌+◌, ◌-◌, ◌*◌, List, [], ◌∷◌, ◌++◌, append_assoc, length, length-append, map, take, drop, Bool, true, false, Option, None, Some, refl, sym, ap, subst, ◌∙◌, arith}
+use Rattle.std.proofs.Common.{◌≡◌, ℕ, ◌+◌, ◌-◌, ◌*◌, List, [], ◌∷◌, ◌++◌, append_assoc, length, length-append, take, drop, false, Option, None, Some, refl, sym, ap, subst, ◌∙◌, arith}
 use Rattle.std.proofs.Math.Seq.{drop-append_seam}
 use Rattle.std.proofs.lemmas.List.{append-nil, take-append-drop}
 use Rattle.depot_base.specs.Calls.{Call, made}
@@ -12,11 +12,11 @@ use Rattle.depot_model.specs.Stops.{calls_to_record}
 use Rattle.depot_base.specs.declared.key.RosterEntry.{RosterEntry}
 use Rattle.depot_outside.specs.Stopping.{State, Leads}
 use Rattle.depot_world.specs.Run.{Armed, Station}
-use Rattle.depot_world.specs.Stops.{Deed, Went, left_of, standing_after, stopped_with, went, went_by}
+use Rattle.depot_world.specs.ScheduleStops.{Deed, Went, left_of, standing_after, went}
 use Rattle.depot_world.specs.Suite.{Stage}
 use Rattle.depot_replay.specs.Acting.{CameTo, IsSeated, View}
 use Rattle.depot_replay.specs.Disks.{Stopped, armed_of}
-use Rattle.depot_replay.specs.Printing.{EndsAs}
+use Rattle.depot_replay.specs.PrintedRuns.{EndsAs}
 use Rattle.depot_replay.specs.SeatFacts.{lawful_there}
 use Rattle.depot_deeds.specs.declared.printed.Printed.{Printed}
 use Rattle.depot_deeds.specs.Printing.{lines_of_deed}

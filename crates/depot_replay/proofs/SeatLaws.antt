@@ -1,6 +1,5 @@
 -- What a call on a node makes of its disk and its journal, and a stop that falls into it.
-use Rattle.std.proofs.Common.{◌≡◌, ◌≤◌, ◌<◌, ℕ, suc, ◌+◌, ◌-◌, ◌*◌, List, [], ◌∷◌, ◌++◌, length, length-append, map, take, drop, nat_le, get_or, Bool, true, false, Option, None, Some, refl, sym, ap, subst, ◌∙◌, inl, inr, arith}
-use Rattle.std.specs.Prelude.{slice_get}
+use Rattle.std.proofs.Common.{◌≡◌, ◌≤◌, ◌<◌, ℕ, suc, ◌+◌, ◌-◌, ◌*◌, List, [], ◌∷◌, ◌++◌, length, length-append, map, take, drop, nat_le, get_or, false, Option, None, Some, refl, sym, ap, subst, ◌∙◌, inl, inr, arith}
 use Rattle.std.proofs.Math.Seq.{drop-cons}
 use Rattle.std.proofs.lemmas.Bool.{le-leb, lt-leb}
 use Rattle.std.proofs.lemmas.List.{append-nil, length-map, map-append, take-map, take_at, take-append-drop}
@@ -15,15 +14,14 @@ use Rattle.depot_model.specs.Lawful.{IsLawful, is_empty}
 use Rattle.depot_model.specs.Records.{journal_bytes, text_of_record}
 use Rattle.depot_model.specs.Stops.{HasAll, HasRecords, calls_to_record}
 use Rattle.depot_laws.proofs.OwnTexts.{lawful_is_light, lawful_is_short}
-use Rattle.depot_laws.proofs.Splits.{lawful_front}
 use Rattle.depot_outside.specs.Stopping.{State, Leads}
 use Rattle.depot_world.specs.Run.{Armed, Station}
-use Rattle.depot_world.specs.Stops.{Deed, Went, left_of, standing_after, stopped_with, went, went_armed, went_by}
-use Rattle.depot_replay.specs.Disks.{IsAtRest, Stopped, armed_of}
+use Rattle.depot_world.specs.ScheduleStops.{Deed, left_of, standing_after, stopped_with, went, went_by}
+use Rattle.depot_replay.specs.Disks.{Stopped, armed_of}
 use Rattle.depot_replay.specs.Seats.{IsKeptOn, StandIn}
 use Rattle.depot_replay.proofs.DiskAppends.{appends_rest, appends_stand, stopped_appending}
 use Rattle.depot_replay.proofs.DiskStops.{comes_after, nearer_after, none_waits_after}
-use Rattle.depot_replay.proofs.Disks.{some_is}
+use Rattle.depot_replay.proofs.DiskLaws.{some_is}
 
 -- ---- the file of a journal
 

@@ -1,21 +1,21 @@
 -- Events of a seated node that append nothing: reads, hellos, and starts.
-use Rattle.std.proofs.Common.{◌≡◌, ◌≤◌, ℕ, zero, suc, take, ◌-◌, ◌*◌, List, [], ◌∷◌, ◌++◌, length, Option, Some, None, Result, Ok, Err, refl, sym, ap, subst, ◌∙◌, arith}
-use Rattle.std.specs.Prelude.{IfErr, IfOk, codes}
+use Rattle.std.proofs.Common.{◌≡◌, ℕ, zero, suc, take, ◌-◌, ◌*◌, List, [], ◌++◌, length, None, Result, Ok, Err, refl, sym, ap, ◌∙◌, arith}
+use Rattle.std.specs.Prelude.{IfErr, codes}
 use Rattle.std.proofs.Math.Seq.{drop-length}
 use Rattle.std.proofs.lemmas.List.{append-nil}
 use Rattle.depot_answers.specs.Answers.{numbered, spaced, text_of_named}
-use Rattle.depot_base.specs.Calls.{Call, Made, made, FailsAmong, calls_to_start}
+use Rattle.depot_base.specs.Calls.{Call, Made, made, FailsAmong}
 use Rattle.depot_base.specs.declared.record.Record.{Record}
 use Rattle.depot_model.specs.Checks.{Setting}
 use Rattle.depot_model.specs.Hello.{hello_of, text_of_hello}
 use Rattle.depot_outside.specs.Stopping.{State, Leads}
 use Rattle.depot_world.specs.Deeds.{get_by, hello_by, restart_by, shown_of}
 use Rattle.depot_world.specs.Run.{Armed, Station}
-use Rattle.depot_world.specs.Stops.{Deed, left_of, standing_after, went}
+use Rattle.depot_world.specs.ScheduleStops.{Deed, left_of, standing_after, went}
 use Rattle.depot_world.specs.Suite.{Stage, stands_on}
 use Rattle.depot_world.specs.Transcript.{ended}
 use Rattle.depot_replay.specs.Acting.{CameTo, IsSeated, View}
-use Rattle.depot_replay.specs.Disks.{Stopped, StoppedReading, armed_of}
+use Rattle.depot_replay.specs.Disks.{StoppedReading, armed_of}
 use Rattle.depot_deeds.specs.Printing.{lines_of_deed, shown_text}
 use Rattle.depot_replay.specs.Seats.{stopped_line}
 use Rattle.depot_replay.proofs.SeatEvents.{IsThen, came_stopped, came_well}

@@ -1,5 +1,5 @@
 -- Starts of a node from a disk in memory.
-use Rattle.std.proofs.Common.{◌≡◌, ◌≤◌, ℕ, ◌+◌, ◌-◌, List, [], ◌∷◌, ◌++◌, length, map, nat_le, Bool, false, Some, None, refl, sym, ap, subst, ◌∙◌, inl, arith}
+use Rattle.std.proofs.Common.{◌≡◌, ◌≤◌, ℕ, ◌+◌, ◌-◌, List, [], ◌∷◌, ◌++◌, length, map, false, Some, None, refl, sym, ap, subst, ◌∙◌, inl, arith}
 use Rattle.std.proofs.lemmas.Bool.{lt-leb}
 use Rattle.std.proofs.lemmas.List.{append-nil}
 use Rattle.depot_base.specs.Calls.{Call, made, FailsAmong, asks_length, calls_to_append_all, calls_to_start, syncs, writes_at}
@@ -22,7 +22,7 @@ use Rattle.depot_replay.specs.Seats.{IsBegunOn, IsKeptOn, StandIn}
 use Rattle.depot_replay.proofs.DiskAppends.{appends_rest, appends_stand, synced_rest, synced_same, wrote}
 use Rattle.depot_replay.proofs.DiskStarts as starts
 use Rattle.depot_replay.proofs.DiskStops.{nearer_after, none_waits_after}
-use Rattle.depot_replay.proofs.Disks.{Gone, armed_numbered, led_on, some_is}
+use Rattle.depot_replay.proofs.DiskLaws.{Gone, armed_numbered, led_on, some_is}
 use Rattle.depot_replay.proofs.SeatLaws.{IsToCome, has_records, none_to_come, stand_in, to_come_after, two_bytes}
 
 -- ---- a start from a journal that has begun

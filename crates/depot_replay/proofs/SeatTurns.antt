@@ -1,14 +1,14 @@
 -- The events of a seated node that append: what the call on the node came to, and what the event did.
-use Rattle.std.proofs.Common.{◌≡◌, ◌↔◌, ℕ, false, List, ◌++◌, Option, None, Result, refl, sym, ap, subst, ◌∙◌}
+use Rattle.std.proofs.Common.{◌≡◌, ◌↔◌, ℕ, false, List, ◌++◌, Option, None, Result, refl, subst, ◌∙◌}
 use Rattle.std.specs.Prelude.{IfOk, IsErrOf}
 use Rattle.depot_base.specs.Sized.{IsKey, IsValue}
 use Rattle.depot_base.specs.declared.key.RosterEntry.{RosterEntry}
 use Rattle.depot_base.specs.declared.record.Record.{Record}
 use Rattle.depot_gossip.specs.Bundling.{Bundles, journaled_for}
-use Rattle.depot_gossip.specs.declared.error.BundleError.{BundleError}
-use Rattle.depot_gossip.specs.declared.error.BundleError.TheVariants as bundle_error
-use Rattle.depot_gossip.specs.declared.error.FeedError.{FeedError}
-use Rattle.depot_gossip.specs.declared.error.FeedError.TheVariants as feed_error
+use Rattle.depot_gossip.specs.declared.gossip_error.BundleError.{BundleError}
+use Rattle.depot_gossip.specs.declared.gossip_error.BundleError.TheVariants as bundle_error
+use Rattle.depot_gossip.specs.declared.gossip_error.FeedError.{FeedError}
+use Rattle.depot_gossip.specs.declared.gossip_error.FeedError.TheVariants as feed_error
 use Rattle.depot_gossip.specs.declared.own_bundle.Bundled.{Bundled}
 use Rattle.depot_laws.specs.Streams.{AreBytes}
 use Rattle.depot_model.specs.Bundle.{Signs, bundle_answer}
@@ -16,25 +16,24 @@ use Rattle.depot_model.specs.Checks.{Setting}
 use Rattle.depot_model.specs.Feeding.{Feeding, feed_of}
 use Rattle.depot_model.specs.Roster.{Verifies}
 use Rattle.depot_model.specs.World.{Correct}
-use Rattle.depot_node.specs.Putting.{Puts, put_records}
-use Rattle.depot_node.specs.declared.answer.PutDone.{PutDone}
-use Rattle.depot_node.specs.declared.answer.PutError.{PutError}
-use Rattle.depot_node.specs.declared.answer.PutError.TheVariants as put_error
+use Rattle.depot_decide.specs.Putting.{Puts, put_records}
+use Rattle.depot_decide.specs.declared.put_answers.PutDone.{PutDone}
+use Rattle.depot_decide.specs.declared.put_answers.PutError.{PutError}
+use Rattle.depot_decide.specs.declared.put_answers.PutError.TheVariants as put_error
 use Rattle.depot_outside.specs.Stopping.{State}
 use Rattle.depot_world.specs.Deeds.{bundle_by, fed_by, give_by, put_by}
 use Rattle.depot_world.specs.Run.{Station}
-use Rattle.depot_world.specs.Stops.{went}
+use Rattle.depot_world.specs.ScheduleStops.{went}
 use Rattle.depot_world.specs.Suite.{Stage, signs_on, stands_on}
 use Rattle.depot_replay.specs.Acting.{CameTo, IsSeated, View}
 use Rattle.depot_replay.specs.Disks.{armed_of}
 use Rattle.depot_deeds.specs.Printing.{IsPrintOf, IsToldOf, SettlesBundle, SettlesFeed}
-use Rattle.depot_replay.specs.Printing.{EndsAs}
+use Rattle.depot_replay.specs.PrintedRuns.{EndsAs}
 use Rattle.depot_deeds.specs.PutPrinting.{SettlesPut}
 use Rattle.depot_replay.specs.Seats.{IsBegunOn, IsCalled}
 use Rattle.depot_deeds.specs.declared.printed.Printed.{Printed}
 use Rattle.depot_deeds.specs.declared.feeds.Fed.{Fed}
 use Rattle.depot_replay.proofs.SeatCalls.{IsDoneOn, appends_there, bundle_appends, bundle_called, bundle_longer, give_appends, give_called, give_longer}
-use Rattle.depot_deeds.proofs.FedStreams.{if_ok}
 use Rattle.depot_replay.proofs.SeatPuts.{put_appends, put_called, put_longer}
 
 -- a node stands where it was started

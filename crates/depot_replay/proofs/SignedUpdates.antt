@@ -21,17 +21,17 @@ use Rattle.depot_schedule.specs.declared.event.Ref.{Ref}
 use Rattle.depot_schedule.specs.declared.member.Member.{Member}
 use Rattle.depot_schedule.specs.declared.verb.Verb.TheVariants as verb
 use Rattle.depot_world.specs.Run.{Run, bytes_of, seen_with}
-use Rattle.depot_world.specs.Signing.{drafted, entries_of, history_by, prev_of, proof_in, updated, update_text, with_history}
+use Rattle.depot_world.specs.FaultySigning.{drafted, entries_of, history_by, prev_of, proof_in, updated, update_text, with_history}
 use Rattle.depot_world.specs.Suite.{Stage, signs_on}
 use Rattle.depot_world.specs.Transcript.{Done, done, done_by_text, done_by_update, ended, head_count, judged_with, lines_of}
 use Rattle.depot_replay.specs.Acting.{AreSeated, View}
-use Rattle.depot_replay.specs.Casting.{MayHappen}
+use Rattle.depot_stage.specs.Casting.{MayHappen}
 use Rattle.depot_replay.specs.Doing.{HasDone, lines_from_arrow, signed_text, update_by, with_update}
-use Rattle.depot_replay.specs.Labels.{AreLabels}
+use Rattle.depot_stage.specs.Labels.{AreLabels}
 use Rattle.depot_replay.specs.Playing.{IsAt, IsAtPlay}
-use Rattle.depot_replay.specs.Seen.{HasSeenParents}
-use Rattle.depot_replay.specs.declared.labels.Given.{Given}
-use Rattle.depot_replay.specs.declared.labels.Labels.{Labels}
+use Rattle.depot_stage.specs.Seen.{HasSeenParents}
+use Rattle.depot_stage.specs.declared.label_table.Given.{Given}
+use Rattle.depot_stage.specs.declared.label_table.Labels.{Labels}
 use Rattle.depot_replay.specs.declared.play.Play.{Play}
 use Rattle.depot_replay.proofs.RememberedRuns.{judged_remembers, update_remembers}
 

@@ -7,7 +7,7 @@ use Rattle.depot_outside.specs.declared.stops.Image.{Image}
 use Rattle.depot_outside.specs.declared.stops.Image.TheVariants as image
 use Rattle.depot_outside.specs.declared.stops.Stop.{Stop}
 use Rattle.depot_world.specs.Run.{Armed}
-use Rattle.depot_world.specs.Stops.{standing_after}
+use Rattle.depot_world.specs.ScheduleStops.{standing_after}
 
 -- the number of an image, as schedules write it
 abbrev pub number_of : Image → ℕ

@@ -7,13 +7,13 @@ use Rattle.depot_model.specs.Journal.{accepted}
 use Rattle.depot_schedule.specs.declared.event.Event.{Event}
 use Rattle.depot_schedule.specs.declared.event.Event.TheVariants as event
 use Rattle.depot_world.specs.Deeds.{put_by, get_by, hello_by, bundle_by, give_by, restart_by}
-use Rattle.depot_world.specs.Run.{Made, Run, Station, bytes_of, seen_with}
-use Rattle.depot_world.specs.Signing.{Text, no_reference, counted_bytes, updated, update_text, vouched_text, proof_text, flip_at}
-use Rattle.depot_world.specs.Stops.{Deed}
+use Rattle.depot_world.specs.Run.{Run, Station, bytes_of, seen_with}
+use Rattle.depot_world.specs.FaultySigning.{Text, no_reference, counted_bytes, updated, update_text, vouched_text, proof_text, flip_at}
+use Rattle.depot_world.specs.ScheduleStops.{Deed}
 use Rattle.depot_world.specs.Suite.{Stage, stands_on, signs_on}
 use Rattle.depot_world.specs.Transcript.{Done, ended, lines_of}
 use Rattle.depot_replay.specs.Acting.{View}
-use Rattle.depot_replay.specs.Playing.{IsAtPlay}
+use Rattle.depot_replay.specs.Playing.{IsAtPlay, IsPlayed}
 use Rattle.depot_replay.specs.declared.away.Away.{Away}
 use Rattle.depot_replay.specs.declared.play.Play.{Play}
 
@@ -54,17 +54,6 @@ deed_of stage run (event.Bundle node hello label) s = bundle_by (stands_on stage
 deed_of stage run (event.Give node label size) s = give_by (stands_on stage s.correct.node) s.correct (bytes_of run label)
 deed_of stage run e s = restart_by s.correct
 
--- the label that the node's bytes are given
-abbrev pub label_by : Event → Option (List ℕ)
-label_by (event.Hello node label) = Some label
-label_by (event.Bundle node hello label) = Some label
-label_by e = None
-
--- labels, and that one with these bytes
-abbrev pub labels_with : List Made → Option (List ℕ) → List ℕ → List Made
-labels_with labels None bytes = labels
-labels_with labels (Some label) bytes = labels ++ record { label = label; bytes = bytes; signed = None } ∷ []
-
 -- The first node of this number left its place.
 pub record HasLeft (A : Type 0) (view : A → View) (node : ℕ) (old new : Play A) (away : Away A) : Type 0 where
   pub place_is : position (λ a. (view a).here.me == node) old.actors.items ≡ Some away.place
@@ -73,6 +62,12 @@ pub record HasLeft (A : Type 0) (view : A → View) (node : ℕ) (old new : Play
   pub others : new.actors.items ≡ remove old.actors.items away.place
   pub labels_stay : new.labels ≡ old.labels
   pub seen_stays : new.seen ≡ old.seen
+
+-- the same, of a play that was at some point of some run
+pub record HasLeftPlay (A : Type 0) (view : A → View) (node : ℕ) (new : Play A) (away : Away A) : Type 0 where
+  pub before : Play A
+  pub played : IsPlayed view before
+  pub left : HasLeft A view node before new away
 
 -- ---- events that only make a label
 

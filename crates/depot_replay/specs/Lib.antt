@@ -1,13 +1,8 @@
 pub mod Acting
-pub mod Casting
 pub mod Disks
 pub mod Doing
 pub mod Drafts
-pub mod Entries
-pub mod Labels
 pub mod Playing
-pub mod Printing
+pub mod PrintedRuns
 pub mod SeatFacts
 pub mod Seats
-pub mod Seen
-pub mod Texts

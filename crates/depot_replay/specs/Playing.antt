@@ -3,15 +3,20 @@ use Rattle.std.specs.Prelude.{◌≡◌, ℕ, List, [], Vec, true, Some, map}
 use Rattle.std.specs.List.{AllByRecursion}
 use Rattle.depot_base.specs.declared.statement.Signed.{Signed}
 use Rattle.depot_base.specs.declared.update.Update.{Update}
+use Rattle.depot_base.specs.declared.key.PublicKey.{PublicKey}
+use Rattle.depot_model.specs.Bundle.{Signs}
 use Rattle.depot_model.specs.Journal.{accepted, has_id, update_in}
 use Rattle.depot_model.specs.Lists.{IsIn}
 use Rattle.depot_model.specs.Order.{IsCausal}
+use Rattle.depot_model.specs.Roster.{Verifies}
 use Rattle.depot_model.specs.Texts.{IsSigned, id_of_update}
 use Rattle.depot_world.specs.Run.{Made, Run, Station}
 use Rattle.depot_world.specs.Suite.{Stage}
 use Rattle.depot_replay.specs.Acting.{View, AreSeated}
-use Rattle.depot_replay.specs.Labels.{AreLabels}
-use Rattle.depot_replay.specs.declared.labels.Given.{Given}
+use Rattle.depot_stage.specs.Casting.{IsOn}
+use Rattle.depot_stage.specs.Labels.{AreLabels}
+use Rattle.depot_stage.specs.declared.label_table.Given.{Given}
+use Rattle.depot_stage.specs.declared.scene.Scene.{Scene}
 use Rattle.depot_replay.specs.declared.play.Play.{Play}
 use Rattle.depot_graph.specs.Kept.{updates_in}
 use Rattle.std.specs.declared.alloc.Global.{Global}
@@ -40,5 +45,14 @@ abbrev pub IsAtPlay : {A : Type 0} → (A → View) → Stage → Run → Play A
 IsAtPlay view stage run play = IsAt stage run (map view play.actors.items) play.labels.map.entries (updates_in play.seen.graph.items.entries)
 
 -- a play is at some point of some run
-abbrev pub IsPlayed : {A : Type 0} → (A → View) → Play A → Type 0
-IsPlayed view play = (stage : Stage) × ((run : Run) × IsAtPlay view stage run play)
+pub record IsPlayed {A : Type 0} (view : A → View) (play : Play A) : Type 0 where
+  pub stage : Stage
+  pub run : Run
+  pub at : IsAtPlay view stage run play
+
+-- a play is at some point of some run, on the stage of this scene
+pub record IsPlayedOn {A S G : Type 0} (verifies : Verifies) (key : G → PublicKey) (sign : G → Signs) (scene : Scene S G) (view : A → View) (play : Play A) : Type 0 where
+  pub stage : Stage
+  pub run : Run
+  pub on : IsOn verifies key sign stage scene
+  pub at : IsAtPlay view stage run play

@@ -1,8 +1,6 @@
 -- That a disk is at rest and has the records of a journal is a fact with one proof at most, so that a type can keep it.
-use Rattle.std.specs.Prelude.{◌≡◌, ℕ, List, Option, refl}
-use Rattle.std.specs.Coded.{Coded, Coded-set, code_by, coded×, coded_ℕ, coded_list, coded_option, Π_prop, →_prop, le_prop}
-use Rattle.std.specs.Prelude.{Some}
-use Rattle.depot_base.specs.File.{blocks}
+use Rattle.std.specs.Prelude.{◌≡◌, ℕ, List, refl}
+use Rattle.std.specs.Coded.{Coded, Coded-set, code_by, coded×, coded_ℕ, coded_list, Π_prop, →_prop, le_prop}
 use Rattle.depot_base.specs.declared.record.Record.{Record}
 use Rattle.std.proofs.Common.{subst}
 use Rattle.depot_base.specs.declared.key.RosterEntry.{RosterEntry}
@@ -10,9 +8,8 @@ use Rattle.depot_model.specs.Bundle.{Signs}
 use Rattle.depot_model.specs.Codes.{coded_roster_entry}
 use Rattle.depot_model.specs.Lawful.{IsLawful}
 use Rattle.depot_model.specs.Roster.{Verifies}
-use Rattle.depot_outside.specs.Images.{Moment, Written, synced_as}
+use Rattle.depot_outside.specs.Images.{Moment, Written}
 use Rattle.depot_outside.specs.Stopping.{State}
-use Rattle.depot_world.specs.Run.{Armed}
 use Rattle.depot_replay.specs.Disks.{IsAtRest}
 use Rattle.depot_replay.specs.Seats.{IsKeptOn, StandIn}
 

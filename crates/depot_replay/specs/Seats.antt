@@ -11,7 +11,7 @@ use Rattle.depot_model.specs.Stops.{calls_to_record}
 use Rattle.depot_outside.specs.Stopping.{State, Leads}
 use Rattle.depot_answers.specs.Answers.{numbered}
 use Rattle.depot_world.specs.Run.{Armed}
-use Rattle.depot_world.specs.Stops.{Deed, calls_to_append}
+use Rattle.depot_world.specs.ScheduleStops.{Deed, calls_to_append}
 use Rattle.depot_world.specs.Transcript.{ended}
 use Rattle.depot_replay.specs.Acting.{View}
 use Rattle.depot_replay.specs.Disks.{IsAtRest, armed_of}
@@ -48,6 +48,14 @@ pub record IsCalled (v : View) (s t : State) (K longer : List Record) (failed : 
   pub lawful : IsLawful v.here longer
   pub whole : (failed → ⊥) → (K ≡ longer) × Leads s (made (calls_to_record v.journal new)) t
   pub part : failed → FailsAmong Leads s t (calls_to_record v.journal new)
+
+-- the same of a node that was seen so here, and had some disk
+pub record WasCalled (here : Setting) (t : State) (K : List Record) (failed : Type 0) : Type 0 where
+  pub view : View
+  pub before : State
+  pub longer : List Record
+  pub here_is : view.here ≡ here
+  pub called : IsCalled view before t K longer failed
 
 -- an event whose calls are those that append what its journal grows by
 pub record Appends (d : Deed) (J longer : List Record) : Type 0 where

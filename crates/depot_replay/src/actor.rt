@@ -1,14 +1,16 @@
 //! A correct node at work.
-ghost use Rattle.std.specs.Prelude.{◌≡◌, ◌<◌, ◌≤◌, ℕ, List, Some, IfOk, length, option_copied, slice_get};
+ghost use Rattle.std.specs.Prelude.{◌≡◌, ◌<◌, ◌≤◌, Some, IfOk, length, option_copied, slice_get};
+ghost use Rattle.depot_base.specs.declared.limits.TheConstants.{MOST_STOP_CALL};
 ghost use Rattle.depot_model.specs.Journal.{accepted};
 ghost use Rattle.depot_model.specs.Lawful.{IsLawful};
 ghost use Rattle.depot_world.specs.Deeds.{put_by, get_by, hello_by, bundle_by, give_by, restart_by};
 ghost use Rattle.depot_world.specs.Run.{Station, own_update};
-ghost use Rattle.depot_world.specs.Stops.{went};
+ghost use Rattle.depot_world.specs.ScheduleStops.{went};
 ghost use Rattle.depot_world.specs.Suite.{Stage, stands_on, signs_on};
 ghost use Rattle.depot_replay.specs.Acting.{CameTo, IsSeated, View};
 
-use depot_base::{Bytes, Key, Memory, NodeId, Update, Value};
+use depot_base::{Bytes, Key, Memory, Update, Value};
+use depot_stage::Numbered;
 
 /// What an event of a node came to.
 #[derive(Drop)]
@@ -23,13 +25,9 @@ pub struct Told<A> {
 
 /// A correct node at work, which keeps its journal on a disk in memory. Each event that it takes part in makes of it what the
 /// definitions of runs say (`depot_world`): where a stop falls into it the node is started again. After Memory it is gone.
-pub trait Actor: Drop {
+pub trait Actor: Drop + Numbered {
     /// Where it stands, how it signs, its journal, and the stop that waits on its disk.
     ghost view: { Self → View };
-
-    /// Its number. It takes no memory.
-    fn number(&self) -> NodeId
-        ensures { result ≡ (view self.now).here.me };
 
     /// How many updates it accepted. It takes no memory.
     fn update_count(&self) -> u32
@@ -72,9 +70,12 @@ pub trait Actor: Drop {
     /// place of one that waits.
     fn stop_at(self, call: u32, image: u8) -> Result<Self, Memory>
         requires call { 1 ≤ call }
-        requires most { call ≤ 1000000 }
+        requires most { call ≤ MOST_STOP_CALL }
         requires image { image ≤ 2 }
         ensures { IfOk result (λ a. view a ≡ record (view self) { armed = Some (record { call = call; image = image }) }) };
+
+    /// Its number is that of the node that it is.
+    ghost named: { (a : Self) → Self.number_of a ≡ (view a).here.me };
 
     /// Its journal is lawful.
     ghost lawful: { (a : Self) → IsLawful (view a).here (view a).journal };

@@ -1,22 +1,21 @@
 //! Events that a node acts in.
-ghost use Rattle.std.specs.Prelude.{◌≡◌, List, true, option_copied, IfOk, OnOk};
+ghost use Rattle.std.specs.Prelude.{◌≡◌, true, IfOk};
 ghost use Rattle.depot_schedule.specs.EventLines.{node_of};
-ghost use Rattle.depot_world.specs.Run.{Run, Station, Made};
-ghost use Rattle.depot_world.specs.Stops.{went};
+ghost use Rattle.depot_world.specs.Run.{Run, Station};
+ghost use Rattle.depot_world.specs.ScheduleStops.{went};
 ghost use Rattle.depot_world.specs.Suite.{Stage};
 ghost use Rattle.depot_world.specs.Transcript.{done};
 ghost use Rattle.depot_replay.specs.Acting.{CameTo, IsSeated};
 ghost use Rattle.depot_replay.specs.declared.play.Play.{Play};
-ghost use Rattle.depot_replay.specs.Doing.{HasDone, HasLeft, deed_of, is_deed, label_by, labels_with};
-ghost use Rattle.depot_replay.specs.Labels.{AreLabels};
+ghost use Rattle.depot_replay.specs.Doing.{HasDone, HasLeft, HasLeftPlay, deed_of, is_deed};
+ghost use Rattle.depot_stage.specs.Labels.{AreLabels};
 ghost use Rattle.depot_replay.specs.Playing.{IsAtPlay, IsPlayed};
 
 use crate::actor::{Actor, Told};
 use crate::away::Away;
-use crate::labels::Given;
 use crate::play::Play;
 use depot_base::{Bytes, Memory, NodeId};
-use depot_schedule::{Event, Label};
+use depot_schedule::Event;
 
 impl<A: Actor> Play<A> {
     /// An event that a node acts in. The lines are those from the arrow on.
@@ -35,7 +34,7 @@ impl<A: Actor> Play<A> {
     /// The same with the node that left its place for it.
     fn act(&mut self, away: Away<A>, event: &Event) -> Result<Bytes, Memory>
         requires deed { is_deed event.now ≡ true }
-        requires left { (before : Play A) × (IsPlayed A.view before × HasLeft A A.view (node_of event.now) before self.old away) }
+        requires left { HasLeftPlay A A.view (node_of event.now) self.old away }
         ensures { IfOk result (λ lines. (before : Play A) → HasLeft A A.view (node_of event.now) before self.old away → (stage : Stage) (run : Run) → IsAtPlay A.view stage run before → HasDone A A.view stage (done stage run event.now) lines self.new) }
     {
         let Away {
@@ -49,7 +48,7 @@ impl<A: Actor> Play<A> {
             bytes,
         } = self.acted(actor, event)?;
         self.come_back(place, count, actor)?;
-        self.keep(event, bytes)?;
+        self.labels.keep(event, bytes)?;
         Ok(lines)
     }
 
@@ -62,39 +61,10 @@ impl<A: Actor> Play<A> {
             Event::Put { key, value, .. } => actor.put(key.copy()?, value.copy()?),
             Event::Get { key, .. } => actor.get(key),
             Event::Hello { .. } => actor.hello(),
-            Event::Bundle { hello, .. } => actor.bundle(self.labels.bytes(hello.bytes())),
-            Event::Give { label, size, .. } => actor.give(self.labels.bytes(label.bytes()), *size),
+            Event::Bundle { hello, .. } => actor.bundle(self.labels.bytes(hello)),
+            Event::Give { label, size, .. } => actor.give(self.labels.bytes(label), *size),
             Event::Restart { .. } => actor.restart(),
             _ => unreachable!(),
         }
-    }
-
-    /// The label that the event makes, if it makes one, is given these bytes.
-    fn keep(&mut self, event: &Event, bytes: Bytes) -> Result<(), Memory>
-        ensures actors { self.new.actors ≡ self.old.actors }
-        ensures seen { self.new.seen ≡ self.old.seen }
-        ensures labels { OnOk result ((labels : List Made) → AreLabels self.old.labels.map.entries labels → AreLabels self.new.labels.map.entries (labels_with labels (label_by event.now) bytes)) }
-    {
-        match label_of(event) {
-            Some(label) => self.labels.put(
-                label.bytes(),
-                Given {
-                    bytes,
-                    signed: None,
-                },
-            ),
-            None => Ok(()),
-        }
-    }
-}
-
-/// The label that a node's event makes.
-fn label_of(event: &Event) -> Option<&Label>
-    ensures { option_copied result ≡ label_by event.now }
-{
-    match event {
-        Event::Hello { label, .. } => Some(label),
-        Event::Bundle { label, .. } => Some(label),
-        _ => None,
     }
 }

@@ -1,21 +1,19 @@
 //! One event of a schedule.
-ghost use Rattle.std.specs.Prelude.{◌≡◌, IfOk};
+ghost use Rattle.std.specs.Prelude.{IfOk};
 ghost use Rattle.depot_world.specs.Run.{Run, bytes_of};
-ghost use Rattle.depot_world.specs.Signing.{proof_in};
+ghost use Rattle.depot_world.specs.FaultySigning.{proof_in};
 ghost use Rattle.depot_world.specs.Suite.{Stage};
 ghost use Rattle.depot_world.specs.Transcript.{done, judged_with};
-ghost use Rattle.depot_replay.specs.Casting.{IsOn, IsOnSome, MayHappen};
+ghost use Rattle.depot_stage.specs.Casting.{IsOn, IsOnSome, MayHappen};
 ghost use Rattle.depot_replay.specs.Doing.{HasDone, HasTold};
 ghost use Rattle.depot_replay.specs.Playing.{IsAtPlay, IsPlayed};
 
 use crate::actor::Actor;
-use crate::heads::head;
-use crate::judge::judged;
 use crate::play::Play;
-use crate::scene::Scene;
 use depot_base::{Bytes, Memory};
 use depot_model::{Scheme, Signer};
 use depot_schedule::{Event, Label};
+use depot_stage::{Scene, event_head, judged};
 
 impl<A: Actor> Play<A> {
     /// Does an event, and gives its lines. After Memory the play isn't one any more.
@@ -30,7 +28,7 @@ impl<A: Actor> Play<A> {
         ensures { IfOk result (λ lines. (stage : Stage) (run : Run) → IsOn S.verifies G.key_of G.signature_of stage scene.now → IsAtPlay A.view stage run self.old → HasTold A A.view stage event.now (done stage run event.now) lines self.new) }
     {
         let mut lines = Bytes::new(self.alloc);
-        head(self.alloc, &mut lines, event)?;
+        event_head(self.alloc, &mut lines, event)?;
         let behind = self.lines(scene, event)?;
         lines.push_all(behind.as_slice())?;
         Ok(lines)

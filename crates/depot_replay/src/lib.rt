@@ -4,9 +4,9 @@
 //! `transcript_of`. After an error a front of it went out.
 //!
 //! A `Play` is a run at work (`IsAtPlay`): the correct nodes, what labels name, and the updates that were seen. `events` does
-//! one event and gives its lines: `deeds` those that a node acts in, which leaves its place for them (`places`), `stops` those that set
-//! a stop on a disk, `updates` and `made` those that only make a label. `stage` has the roster and the signers of a schedule's members,
-//! `heads` the front of an event's line, and `playing` plays them all.
+//! one event and gives its lines: `deeds` those that a node acts in, which leaves its place for them (`seat_places`), `event_stops` those
+//! that set a stop on a disk, `updates` and `made` those that only make a label, and `drafting` finds what their references name. `playing`
+//! plays them all. What needs no node stands in `depot_stage`: signers, labels, what was seen, and what faulty nodes make.
 //!
 //! A correct node is an `Actor`, known by its contract alone, so that nothing here speaks of disks but the `Seat` that is one.
 #![tactic(auto)]
@@ -15,25 +15,16 @@ mod actor;
 mod away;
 mod begins;
 mod deeds;
-mod draft;
-mod entries;
-mod error;
+mod drafting;
+mod event_stops;
 mod events;
-mod heads;
-mod judge;
-mod labels;
 mod made;
-mod places;
 mod play;
 mod playing;
-mod scene;
+mod replay_error;
 mod seat;
-mod seen;
-mod signing;
-mod stage;
-mod stops;
-mod texts;
+mod seat_places;
 mod updates;
 
-pub use error::ReplayError;
 pub use playing::replay;
+pub use replay_error::ReplayError;

@@ -1,29 +1,25 @@
 //! Events that only make a label.
-ghost use Rattle.std.specs.Prelude.{◌≡◌, ◌++◌, ◌∷◌, [], ℕ, List, None, true, IfOk, IfSome, OnOk};
-ghost use Rattle.depot_answers.specs.Answers.{spaced};
+ghost use Rattle.std.specs.Prelude.{◌≡◌, [], ℕ, List, None, true, IfOk, IfSome};
 ghost use Rattle.depot_model.specs.Journal.{update_in};
 ghost use Rattle.depot_model.specs.Texts.{IsSigned};
 ghost use Rattle.depot_schedule.specs.EventLines.{label_of};
 ghost use Rattle.depot_schedule.specs.declared.event.Event.TheVariants as event;
-ghost use Rattle.depot_world.specs.Run.{Made, Run};
-ghost use Rattle.depot_world.specs.Signing.{proof_text, vouched_text};
+ghost use Rattle.depot_world.specs.Run.{Run};
+ghost use Rattle.depot_world.specs.FaultySigning.{proof_text, vouched_text};
 ghost use Rattle.depot_world.specs.Suite.{Stage, signs_on};
 ghost use Rattle.depot_world.specs.Transcript.{done};
-ghost use Rattle.depot_replay.specs.Casting.{IsOn, IsOnSome, MayHappen};
+ghost use Rattle.depot_stage.specs.Casting.{IsOn, IsOnSome, MayHappen};
 ghost use Rattle.depot_replay.specs.Doing.{HasDone, is_text, text_by};
-ghost use Rattle.depot_replay.specs.Labels.{AreLabels};
 ghost use Rattle.depot_replay.specs.Playing.{IsAtPlay, IsPlayed};
-ghost use Rattle.depot_replay.specs.Texts.{IsText};
+ghost use Rattle.depot_stage.specs.StageTexts.{IsText};
 
 use crate::actor::Actor;
-use crate::labels::Given;
 use crate::play::Play;
-use crate::scene::Scene;
-use crate::texts;
-use crate::texts::Text;
 use depot_base::{Bytes, Kind, Memory, NodeId};
 use depot_model::{Scheme, Signer};
 use depot_schedule::{Event, Label, Ref};
+use depot_stage::texts::Text;
+use depot_stage::{Scene, texts};
 
 impl<A: Actor> Play<A> {
     /// An event that only makes a label. The lines are those from the arrow on.
@@ -41,7 +37,7 @@ impl<A: Actor> Play<A> {
         ensures { IfOk result (λ lines. (stage : Stage) (run : Run) → IsOn S.verifies G.key_of G.signature_of stage scene.now → IsAtPlay A.view stage run self.old → HasDone A A.view stage (done stage run event.now) lines self.new) }
     {
         let text = self.text(scene, event)?;
-        let lines = self.give(label, text)?;
+        let lines = self.labels.give(label, text)?;
         Ok(lines)
     }
 
@@ -123,24 +119,5 @@ impl<A: Actor> Play<A> {
             return texts::no_reference(self.alloc);
         };
         texts::proof(self.alloc, kind, one, other)
-    }
-
-    /// Gives a label what an event made. The lines are those from the arrow on.
-    pub fn give(&mut self, label: &Label, text: Text) -> Result<Bytes, Memory>
-        ensures lines { IfOk result (λ lines. lines ≡ spaced text.answer ++ 10 ∷ []) }
-        ensures actors { self.new.actors ≡ self.old.actors }
-        ensures seen { self.new.seen ≡ self.old.seen }
-        ensures labels { OnOk result ((labels : List Made) → AreLabels self.old.labels.map.entries labels → AreLabels self.new.labels.map.entries (labels ++ record { label = label.now; bytes = text.bytes; signed = text.signed } ∷ [])) }
-    {
-        let Text {
-            bytes,
-            signed,
-            answer,
-        } = text;
-        self.labels.put(label.bytes(), Given { bytes, signed })?;
-        let mut lines = Bytes::from_slice(self.alloc, b" ")?;
-        lines.push_all(answer.as_slice())?;
-        lines.push_all(b"\n")?;
-        Ok(lines)
     }
 }

@@ -1,33 +1,28 @@
 //! A schedule is played, and its transcript is written.
-ghost use Rattle.std.specs.Prelude.{◌≡◌, ◌++◌, [], ◌∷◌, ℕ, take, Some, None, IsTrue, OnOk, OnErr, IsErrOf, IfOk};
+ghost use Rattle.std.specs.Prelude.{◌≡◌, ◌++◌, ℕ, take, IsTrue, OnOk, OnErr, IsErrOf, IfOk};
 ghost use Rattle.depot_base.specs.Faults.{HasCause};
 ghost use Rattle.depot_base.specs.Reading.{AddsFrontOf};
-ghost use Rattle.depot_base.specs.declared.record.Record.TheVariants.{Birth};
 ghost use Rattle.depot_model.specs.Lists.{IsIn};
 ghost use Rattle.depot_model.specs.Roster.{key_of};
-ghost use Rattle.depot_model.specs.Texts.{hash_of_roster};
 ghost use Rattle.depot_schedule.specs.Schedules.{IsSchedule};
 ghost use Rattle.depot_schedule.specs.declared.event.Event.{Event};
 ghost use Rattle.depot_world.specs.Run.{Run, run_of};
 ghost use Rattle.depot_world.specs.Suite.{Stage, stage_of, suite_of};
 ghost use Rattle.depot_world.specs.Transcript.{printed, transcript_of};
-ghost use Rattle.depot_replay.specs.Casting.{AreSigners, IsOn, MayHappen, hands_of};
-ghost use Rattle.depot_replay.specs.Playing.{IsAtPlay};
+ghost use Rattle.depot_stage.specs.Casting.{AreSigners, IsOn, MayHappen, hands_of};
+ghost use Rattle.depot_replay.specs.Playing.{IsAtPlay, IsPlayedOn};
 
 use crate::actor::Actor;
 use crate::begins::Begins;
-use crate::error::ReplayError;
-use crate::labels::Labels;
 use crate::play::Play;
-use crate::scene::Scene;
+use crate::replay_error::ReplayError;
 use crate::seat::Seat;
-use crate::seen::Seen;
-use crate::stage::{plain_signers, roster_of, winter_signers};
 use depot_base::Memory;
 use depot_model::{Scheme, Signer};
 use depot_outside::{OutError, Sink};
 use depot_schedule::{Event, Schedule};
 use depot_sign::PlainScheme;
+use depot_stage::{Labels, Scene, Seen, plain_signers, roster_of, winter_signers};
 use depot_winter::WinterScheme;
 use std::alloc::Global;
 
@@ -115,7 +110,7 @@ fn play_all<A: Actor, S: Scheme, G: Signer, K: Sink>(
     out: &mut K,
 ) -> Result<(), ReplayError>
     requires may { (e : Event) → IsIn e events.now → MayHappen scene.now.height scene.now.members.now e }
-    requires played { (stage : Stage) × ((run : Run) × (IsOn S.verifies G.key_of G.signature_of stage scene.now × IsAtPlay A.view stage run play.old)) }
+    requires played { IsPlayedOn S.verifies G.key_of G.signature_of scene.now A.view play.old }
     ensures done { (stage : Stage) (run : Run) → IsOn S.verifies G.key_of G.signature_of stage scene.now → IsAtPlay A.view stage run play.old → IsTrue (K.tells out.old) → OnOk result (K.written out.new ≡ K.written out.old ++ printed stage run events.now) }
     ensures front { (stage : Stage) (run : Run) → IsOn S.verifies G.key_of G.signature_of stage scene.now → IsAtPlay A.view stage run play.old → IsTrue (K.tells out.old) → OnErr result (AddsFrontOf (K.written out.old) (printed stage run events.now) (K.written out.new)) }
     ensures tells { K.tells out.new ≡ K.tells out.old }

@@ -1,5 +1,5 @@
 //! A correct node over a disk in memory.
-ghost use Rattle.std.specs.Prelude.{◌≡◌, ◌≢◌, ◌↔◌, ◌≤◌, [], ◌∷◌, ℕ, List, false, Some, None, IfOk, IfErr, IsTrue};
+ghost use Rattle.std.specs.Prelude.{◌≡◌, ◌≢◌, ◌≤◌, [], ◌∷◌, ℕ, List, false, Some, None, IfOk, IfErr, refl};
 ghost use Rattle.depot_base.specs.Calls.{FailsAmong, made};
 ghost use Rattle.depot_base.specs.declared.record.Record.{Record};
 ghost use Rattle.depot_base.specs.declared.record.Record.TheVariants.{Birth};
@@ -7,14 +7,14 @@ ghost use Rattle.depot_model.specs.Roster.{key_of};
 ghost use Rattle.depot_model.specs.Stops.{HasRecords};
 ghost use Rattle.depot_model.specs.Texts.{hash_of_roster};
 ghost use Rattle.depot_node.specs.Starting.{IsStartedFrom, calls_to_start_node};
-ghost use Rattle.depot_node.specs.declared.answer.StartError.TheVariants as start_error;
+ghost use Rattle.depot_node.specs.declared.start_error.StartError.TheVariants as start_error;
 ghost use Rattle.depot_outside.specs.Stopping.{State, Leads, state_of};
 ghost use Rattle.depot_world.specs.Run.{own_update};
 ghost use Rattle.depot_replay.specs.Acting.{View};
 ghost use Rattle.depot_replay.specs.Disks.{armed_of};
-ghost use Rattle.depot_replay.specs.Printing.{EndsAs};
+ghost use Rattle.depot_replay.specs.PrintedRuns.{EndsAs};
 ghost use Rattle.depot_replay.specs.SeatFacts.{IsKeptOn-prop, is_node-prop, is_roster-prop, same_signs-prop, lawful_there};
-ghost use Rattle.depot_replay.specs.Seats.{IsBegunOn, IsCalled, IsKeptOn, IsSeatedAgain};
+ghost use Rattle.depot_replay.specs.Seats.{IsBegunOn, IsCalled, IsKeptOn, IsSeatedAgain, WasCalled};
 
 use crate::actor::{Actor, Told};
 use depot_base::{Bytes, Items, Key, Memory, NodeId, Update, Value};
@@ -27,6 +27,7 @@ use depot_model::{Replica, Scheme, Signer};
 use depot_node::{Node, StartError};
 use depot_outside::{Back, MemDisk};
 use depot_sign::Roster;
+use depot_stage::{Numbered, is_by};
 use std::alloc::Global;
 
 /// How many calls on a disk start a node from a journal that has begun.
@@ -115,13 +116,6 @@ fn piece_of(stream: &[u8], size: Option<u32>) -> usize
     }
 }
 
-/// Whether an update is the one that a node wrote with a number.
-fn is_by(update: &Update, writer: NodeId, seq: u32) -> bool
-    ensures { IsTrue result ↔ ((update.now.writer ≡ writer) × (update.now.seq ≡ seq)) }
-{
-    update.writer == writer && update.seq == seq
-}
-
 /// Seats a node behind a call, with what is printed of it. Where a stop fell into the call, nothing is printed of that, and the node is
 /// started again.
 fn seated<S: Scheme + Copy, G: Signer<Of = S> + Copy>(
@@ -133,7 +127,7 @@ fn seated<S: Scheme + Copy, G: Signer<Of = S> + Copy>(
     requires listed { node.store.listed ≡ means.roster }
     requires signs { G.signature_of node.signer ≡ G.signature_of means.signer }
     requires runs { printed ≢ None → node.store.stopped ≡ false }
-    requires called { (v : View) × ((s : State) × ((longer : List Record) × ((v.here ≡ record { verifies = S.verifies; me = means.me; listed = means.roster }) × IsCalled v s (state_of node.store.disk) node.store.records longer (printed ≡ None)))) }
+    requires called { WasCalled (record { verifies = S.verifies; me = means.me; listed = means.roster }) (state_of node.store.disk) node.store.records (printed ≡ None) }
     ensures { IfOk result (λ t. (v : View) (s : State) (longer : List Record) → v.here ≡ record { verifies = S.verifies; me = means.me; listed = means.roster } → v.sign ≡ G.signature_of means.signer → IsCalled v s (state_of node.store.disk) node.store.records longer (printed ≡ None) → EndsAs v longer printed (⟦<Seat<S, G> as Actor>⟧.view t.actor) t.lines t.bytes) }
 {
     match printed {
@@ -173,12 +167,16 @@ impl<S: Scheme + Copy, G: Signer<Of = S> + Copy> Seat<S, G> {
     }
 }
 
-impl<S: Scheme + Copy, G: Signer<Of = S> + Copy> Actor for Seat<S, G> {
-    ghost view = { λ a. record { here = record { verifies = S.verifies; me = a.means.me; listed = a.means.roster }; sign = G.signature_of a.means.signer; journal = a.node.store.records; armed = armed_of (state_of a.node.store.disk).next } };
+impl<S: Scheme + Copy, G: Signer<Of = S> + Copy> Numbered for Seat<S, G> {
+    ghost number_of = { λ a. a.means.me };
 
     fn number(&self) -> NodeId {
         self.means.me
     }
+}
+
+impl<S: Scheme + Copy, G: Signer<Of = S> + Copy> Actor for Seat<S, G> {
+    ghost view = { λ a. record { here = record { verifies = S.verifies; me = a.means.me; listed = a.means.roster }; sign = G.signature_of a.means.signer; journal = a.node.store.records; armed = armed_of (state_of a.node.store.disk).next } };
 
     fn update_count(&self) -> u32 {
         self.node.update_count()
@@ -262,6 +260,8 @@ impl<S: Scheme + Copy, G: Signer<Of = S> + Copy> Actor for Seat<S, G> {
             Err(_) => Err(Memory),
         }
     }
+
+    ghost named = { λ a. refl };
 
     ghost lawful = { λ a. lawful_there S.verifies a.node.store.me a.means.me a.node.store.listed a.means.roster a.node.store.records a.is_me a.is_listed a.node.lawful };
 }

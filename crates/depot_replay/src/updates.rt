@@ -6,24 +6,23 @@ ghost use Rattle.depot_schedule.specs.EventLines.{label_of, node_of, value_of, v
 ghost use Rattle.depot_schedule.specs.Vocabulary.{is_declared};
 ghost use Rattle.depot_schedule.specs.declared.verb.Verb.TheVariants as verb;
 ghost use Rattle.depot_world.specs.Run.{Run, seen_with};
-ghost use Rattle.depot_world.specs.Signing.{update_text};
+ghost use Rattle.depot_world.specs.FaultySigning.{update_text};
 ghost use Rattle.depot_world.specs.Suite.{Stage, signs_on};
 ghost use Rattle.depot_world.specs.Transcript.{done};
-ghost use Rattle.depot_replay.specs.Casting.{IsOn, IsOnSome, MayHappen};
+ghost use Rattle.depot_stage.specs.Casting.{IsOn, IsOnSome, MayHappen};
 ghost use Rattle.depot_replay.specs.Doing.{HasDone, signed_text, update_by, with_update};
 ghost use Rattle.depot_replay.specs.Playing.{IsAtPlay, IsPlayed, WereSeen};
-ghost use Rattle.depot_replay.specs.Seen.{HasSeenParents};
-ghost use Rattle.depot_replay.specs.Texts.{IsText};
+ghost use Rattle.depot_stage.specs.Seen.{HasSeenParents};
+ghost use Rattle.depot_stage.specs.StageTexts.{IsText};
 
 use crate::actor::Actor;
 use crate::play::Play;
-use crate::scene::Scene;
-use crate::texts;
-use crate::texts::Text;
 use depot_base::{Bytes, Memory, Update, Value};
 use depot_graph::Graph;
 use depot_model::{Past, Scheme, Signer};
 use depot_schedule::{Event, Label};
+use depot_stage::texts::Text;
+use depot_stage::{Scene, texts};
 
 impl<A: Actor> Play<A> {
     /// A faulty node signs an update, which is seen from now on. The lines are those from the arrow on.
@@ -41,7 +40,7 @@ impl<A: Actor> Play<A> {
         ensures { IfOk result (λ lines. (stage : Stage) (run : Run) → IsOn S.verifies G.key_of G.signature_of stage scene.now → IsAtPlay A.view stage run self.old → HasDone A A.view stage (done stage run event.now) lines self.new) }
     {
         let text = self.signed(scene, event)?;
-        let lines = self.give(label, text)?;
+        let lines = self.labels.give(label, text)?;
         Ok(lines)
     }
 

@@ -1,22 +1,18 @@
 -- Reading decimal digits one after the other.
-use Rattle.std.proofs.Common.{◌≡◌, ℕ, zero, suc, ◌+◌, ◌-◌, ◌*◌, ◌^◌, ◌<◌, ◌≤◌, Bool, true, false, ◌&&◌, leb, List, length, get_or, drop, refl, arith, add-one, drop-cons}
+use Rattle.std.proofs.Common.{◌≡◌, ℕ, zero, suc, ◌+◌, ◌-◌, ◌*◌, ◌^◌, ◌<◌, ◌≤◌, true, false, ◌&&◌, leb, List, length, get_or, drop, refl, arith, add-one, drop-cons}
 use Rattle.std.specs.List.{list_all}
 use Rattle.std.proofs.Math.Nat.{pow-suc}
-use Rattle.std.proofs.lemmas.Bool.{leb-true, and_parts}
+use Rattle.std.proofs.lemmas.Bool.{leb-true, and_parts, true_from_ne_false}
 use Rattle.std.proofs.lemmas.List.{drop_all}
 use Rattle.std.proofs.lemmas.List.Folds.{list_all_at}
 use Rattle.depot_schedule.specs.Spelling.{is_digit, is_within, is_number, has_no_leading_zero, value_behind}
-
-unless_false : (b : Bool) → (b ≡ false → ⊥) → b ≡ true
-unless_false true h = refl
-unless_false false h = absurd (h refl)
 
 -- each byte of a number is a digit
 digit_at : (word : List ℕ) (i : ℕ) → is_number word ≡ true → i < length word → (48 ≤ get_or word i 0) × (get_or word i 0 ≤ 57)
 digit_at word i number lt =
     let front = and_parts (is_within 1 19 (length word) && list_all is_digit word) (has_no_leading_zero word) number in
     let all = and_parts (is_within 1 19 (length word)) (list_all is_digit word) front.0 in
-    let is = unless_false (is_digit (get_or word i 0)) (λ no. let none : list_all is_digit word ≡ false = list_all_at is_digit word i 0 lt no in cc) in
+    let is = true_from_ne_false (is_digit (get_or word i 0)) (λ no. let none : list_all is_digit word ≡ false = list_all_at is_digit word i 0 lt no in cc) in
     let range = and_parts (leb 48 (get_or word i 0)) (leb (get_or word i 0) 57) is in
     (leb-true _ _ range.0, leb-true _ _ range.1)
 

@@ -1,15 +1,9 @@
 -- Reading the parts of a word one after the other.
-use Rattle.std.proofs.Common.{◌≡◌, ℕ, ◌<◌, ◌≤◌, Bool, true, false, leb, List, [], ◌∷◌, ◌++◌, Option, Some, None, Result, Ok, Err, refl, sym, ap, ◌∙◌, arith, append_assoc, ◌⊎◌, inl, inr}
-use Rattle.std.proofs.lemmas.Bool.{leb-true, le-leb, cases_lt, false_from_ne_true}
-use Rattle.depot_schedule.specs.declared.fault.LineFault.{LineFault}
+use Rattle.std.proofs.Common.{◌≡◌, Bool, true, false, leb, List, [], ◌∷◌, ◌++◌, Option, Some, None, Result, Ok, Err, refl, sym, ap, ◌∙◌, arith, append_assoc}
+use Rattle.std.proofs.lemmas.Bool.{leb-true, le-leb, false_from_ne_true, leb-false}
+use Rattle.depot_schedule.specs.declared.line_fault.LineFault.{LineFault}
 use Rattle.depot_schedule.specs.Language.{rank_of, earlier, with_parts}
 use Rattle.depot_schedule.specs.Readers.{gathered, GathersMore}
-
-not_le : (a b : ℕ) → leb a b ≡ false → b < a
-not_le a b e = by (cases_lt b a) where
-  by : (b < a) ⊎ (a ≤ b) → b < a
-  by (inl lt) = lt
-  by (inr le) = let t : leb a b ≡ true = le-leb _ _ le in absurd cc
 
 -- which of three is looked for first does not hang on how they are grouped
 earlier_assoc : (f g h : LineFault) → earlier f (earlier g h) ≡ earlier (earlier f g) h
@@ -21,10 +15,10 @@ earlier_assoc f g h = by (leb (rank_of f) (rank_of g)) (leb (rank_of g) (rank_of
   by true false x y = rw (x, y) refl
   by false true x y = rw (x, y) (rw x refl)
   by false false x y =
-      let lt : leb (rank_of f) (rank_of h) ≡ false = false_from_ne_true _ (λ t. let le = leb-true _ _ t in omega (arith, not_le _ _ x, not_le _ _ y, le)) in
+      let lt : leb (rank_of f) (rank_of h) ≡ false = false_from_ne_true _ (λ t. let le = leb-true _ _ t in omega (arith, leb-false _ _ x, leb-false _ _ y, le)) in
       rw (x, y) (rw lt refl)
 
-abbrev ok : {A : Type 0} → A → Result A LineFault
+abbrev pub ok : {A : Type 0} → A → Result A LineFault
 ok x = Ok x
 
 abbrev fails : {A : Type 0} → LineFault → Result A LineFault

@@ -8,7 +8,7 @@ use Rattle.hex.specs.Hex.{encode_lower, encode_with, lower_digits, decode_of, de
 use Rattle.hex.specs.declared.error.FromHexError.{FromHexError}
 use Rattle.hex.specs.declared.error.FromHexError.TheVariants.{OddLength}
 use Rattle.hex.proofs.HexLemmas.{decode_of-encode_lower, decode_pairs-ok, length-encode_with}
-use Rattle.depot_schedule.specs.declared.fault.LineFault.TheVariants as is
+use Rattle.depot_schedule.specs.declared.line_fault.LineFault.TheVariants as is
 use Rattle.depot_schedule.specs.Spelling.{is_word, is_word_byte, is_within, is_lower_digit, hex_word, sized}
 use Rattle.depot_schedule.specs.Vocabulary.{hex, key, value, raw_bytes, digest}
 use Rattle.depot_schedule.proofs.LanguageLaws.{LawfulWord, bind_ok, or_fault_ok, or_empty_lawful, if_some, never}

@@ -5,10 +5,11 @@ use Rattle.std.specs.Str.{bytes_eq}
 use Rattle.std.proofs.lemmas.Bool.{le-leb, eqb-true, and_from, false_from_ne_true}
 use Rattle.std.proofs.lemmas.List.{nil_from_length}
 use Rattle.std.proofs.lemmas.Slice.Eq.{bytes_eq-Decides}
-use Rattle.depot_schedule.specs.declared.fault.LineFault.{LineFault}
-use Rattle.depot_schedule.specs.declared.fault.LineFault.TheVariants as is
+use Rattle.depot_schedule.specs.declared.line_fault.LineFault.{LineFault}
+use Rattle.depot_schedule.specs.declared.line_fault.LineFault.TheVariants as is
 use Rattle.depot_schedule.specs.Spelling.{is_word, is_within}
 use Rattle.depot_schedule.specs.Language.{◌>>=◌, or_fault, Word, Words, such_that, dash, or_none, or_empty, FitsOption, FitsIfAny, next, word, made, optional, last, counted, texts_of}
+use Rattle.depot_schedule.proofs.GatherSteps.{ok}
 
 -- Each word is read as its value and as nothing else, and it is a word of a line.
 pub record LawfulWord {C A : Type 0} (w : Word C A) : Type 0 where
@@ -27,6 +28,11 @@ pub record LawfulWithin {C E : Type 0} (f : Words C E) (low high : ℕ) : Type 0
   pub lawful : Lawful f
   pub few : (c : C) (e : E) → f.fits c e → (low ≤ length (f.text e)) × (length (f.text e) ≤ high)
 
+-- The same, where a value that has such a line is the one that its parts make.
+pub record LawfulLine {C E : Type 0} (f : Words C E) (low high : ℕ) (remade : E → E) : Type 0 where
+  pub within : LawfulWithin f low high
+  pub made : (c : C) (e : E) → f.fits c e → e ≡ remade e
+
 -- ---- steps
 
 pub bind_ok : {A B F : Type 0} (r : Result A F) (f : A → Result B F) (y : B) → (r >>= f) ≡ Ok y → (x : A) × (r ≡ Ok x) × (f x ≡ Ok y)
@@ -42,13 +48,10 @@ pub or_fault_ok : {A F : Type 0} (o : Option A) (f : F) (a : A) → or_fault o f
 or_fault_ok None f a e = absurd cc
 or_fault_ok (Some b) f a e = cc
 
-abbrev good : {A : Type 0} → A → Result A LineFault
-good a = Ok a
-
-pub ok_is : {A : Type 0} (x y : A) → good x ≡ good y → x ≡ y
+pub ok_is : {A : Type 0} (x y : A) → ok x ≡ ok y → x ≡ y
 ok_is x y e = cc
 
-pub not_ok : {A : Type 0} (f : LineFault) (y : A) → Err f ≡ good y → ⊥
+pub not_ok : {A : Type 0} (f : LineFault) (y : A) → Err f ≡ ok y → ⊥
 not_ok f y e = cc
 
 -- a test that gives a value on true, and goes on on false
@@ -61,9 +64,6 @@ never e = cc
 
 pub is_same : (a b : List ℕ) → bytes_eq a b ≡ true → a ≡ b
 is_same a b e = (bytes_eq-Decides a b).0 e
-
-pub same : (a : List ℕ) → bytes_eq a a ≡ true
-same a = (bytes_eq-Decides a a).1 refl
 
 -- ---- words
 
@@ -167,7 +167,7 @@ made_lawful {C = C} {E = E} e = record {
     takes = λ c ws d r.
         let n = need_ok (eqb (length ws) 0) (Ok e) is.Fields d r in
         (sym (ok_is e d n.1), nil_from_length ws (eqb-true _ _ n.0));
-    again = λ c d fits. ap (λ (x : E). good x) (sym fits);
+    again = λ c d fits. ap (λ (x : E). ok x) (sym fits);
     plain = λ c d fits. refl;
   };
   few = λ c d fits. (omega arith, omega arith);
@@ -202,7 +202,7 @@ optional_lawful {A = A} {E = E} first part make l is_part = record {
         let words : ws ≡ texts_of first.text (part (make b.0)) = t.1 ∙ ap (λ (o : Option A). texts_of first.text o) (sym back) in
         let made_of : make b.0 ≡ make (part (make b.0)) = ap make (sym back) in
         subst (λ (x : E). (FitsOption (first.fits c) (part x) × (x ≡ make (part x))) × (ws ≡ texts_of first.text (part x))) (ok_is (make b.0) e b.2) ((fits, made_of), words);
-    again = λ c e fits. rw (last_again first l c (part e) fits.0) (ap (λ (x : E). good x) (sym fits.1));
+    again = λ c e fits. rw (last_again first l c (part e) fits.0) (ap (λ (x : E). ok x) (sym fits.1));
     plain = λ c e fits. (last_plain first l c (part e) fits.0).0;
   };
   few = λ c e fits. (omega arith, (last_plain first l c (part e) fits.0).1);
@@ -216,3 +216,22 @@ counted_lawful low high f l = record {
       rw (le-leb _ _ few.0, le-leb _ _ few.1) (l.lawful.again c e fits);
   plain = l.lawful.plain;
 }
+
+-- ---- lines whose values are what their parts make
+
+-- a word is a part of what is made of it, and of the words behind it
+pub word_line : {C A E : Type 0} (first : Word C A) (part : E → A) (more : A → Words C E) (remade : A → E → E) (low high : ℕ) → LawfulWord first → ((a : A) (e : E) → part (remade a e) ≡ a) → ((a : A) → LawfulLine (more a) low high (remade a))
+    → LawfulLine (word first part more) (suc low) (suc high) (λ e. remade (part e) e)
+word_line first part more remade low high fl is_part rest = record {
+  within = word_lawful first part more low high fl (λ c a e fits. ap part ((rest a).made c e fits) ∙ is_part a e) (λ a. (rest a).within);
+  made = λ c e fits. (rest (part e)).made c e fits.1;
+}
+
+pub made_line : {C E : Type 0} (e : E) → LawfulLine (made {C = C} e) 0 0 (λ d. e)
+made_line e = record { within = made_lawful e; made = λ c d fits. fits }
+
+pub optional_line : {C A E : Type 0} (first : Word C A) (part : E → Option A) (make : Option A → E) → LawfulWord first → ((o : Option A) → part (make o) ≡ o) → LawfulLine (optional first part make) 0 1 (λ e. make (part e))
+optional_line first part make l is_part = record { within = optional_lawful first part make l is_part; made = λ c e fits. fits.1 }
+
+pub counted_line : {C E : Type 0} (low high : ℕ) (f : Words C E) (remade : E → E) → LawfulLine f low high remade → LawfulLine (counted low high f) low high remade
+counted_line low high f remade l = record { within = record { lawful = counted_lawful low high f l.within; few = l.within.few }; made = l.made }

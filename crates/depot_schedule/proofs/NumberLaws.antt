@@ -1,12 +1,13 @@
 -- Numbers in decimal are lawful words.
-use Rattle.std.proofs.Common.{◌≡◌, ℕ, ◌^◌, ◌<◌, ◌≤◌, Bool, true, false, not, cond, leb, eqb, ◌&&◌, List, [], ◌∷◌, length, get_or, Option, Some, None, refl, sym, ap, subst, arith, rules, inl, inr}
+use Rattle.std.proofs.Common.{◌≡◌, ℕ, ◌^◌, ◌<◌, ◌≤◌, true, false, not, leb, eqb, ◌&&◌, List, [], ◌∷◌, length, get_or, Option, Some, refl, sym, ap, subst, arith, rules, inl, inr}
 use Rattle.std.specs.List.{list_all}
 use Rattle.std.specs.Fmt.{decimal}
 use Rattle.std.proofs.lemmas.Bool.{leb-true, le-leb, lt-ltb, and_parts, and_from, cases_lt, ne_eqb}
 use Rattle.std.proofs.lemmas.Fmt.{decimal-digits_value, digits_decimal, digits_value-decimal, decimal_nonempty, length-decimal-le, first_decimal, decimal_digit}
 use Rattle.std.proofs.lemmas.Str.Parse.{IsNumeralModel, numerals_by_fold, IsDigitsTest, FoldsDigits}
-use Rattle.depot_schedule.specs.declared.fault.LineFault.{LineFault}
-use Rattle.depot_schedule.specs.declared.fault.LineFault.TheVariants as is
+use Rattle.depot_base.proofs.GeneralLaws.{when_some}
+use Rattle.depot_schedule.specs.declared.line_fault.LineFault.{LineFault}
+use Rattle.depot_schedule.specs.declared.line_fault.LineFault.TheVariants as is
 use Rattle.depot_schedule.specs.Spelling.{is_word, is_word_byte, is_digit, value_behind, has_no_leading_zero, is_within, is_number, number_word}
 use Rattle.depot_schedule.specs.Language.{or_fault}
 use Rattle.depot_schedule.specs.Vocabulary.{number_or, number}
@@ -25,10 +26,6 @@ folds = search rules
 
 own : IsNumeralModel AreDigits (value_behind 0)
 own = numerals_by_fold AreDigits tells value_behind folds
-
-when_some : (b : Bool) (n m : ℕ) → cond b (Some n) None ≡ Some m → (b ≡ true) × (n ≡ m)
-when_some true n m e = (refl, cc)
-when_some false n m e = absurd cc
 
 -- one digit alone may be 0
 zero_first : (ds : List ℕ) → 0 < length ds → has_no_leading_zero ds ≡ true → get_or ds 0 0 ≡ 48 → length ds ≡ 1

@@ -1,8 +1,8 @@
 -- What an answer that is the reading of a text says of that text.
 use Rattle.std.proofs.Common.{◌≡◌, ℕ, List, Result, Ok, Err, ◌⊎◌, inl, inr, ◌∙◌, ap}
 use Rattle.std.specs.Prelude.{IfOk}
-use Rattle.depot_schedule.specs.declared.fault.ScheduleError.{ScheduleError}
-use Rattle.depot_schedule.specs.declared.fault.ScheduleError.TheVariants as error
+use Rattle.depot_schedule.specs.declared.line_fault.ScheduleError.{ScheduleError}
+use Rattle.depot_schedule.specs.declared.line_fault.ScheduleError.TheVariants as error
 use Rattle.depot_schedule.specs.declared.schedule.Schedule.{Schedule}
 use Rattle.depot_schedule.specs.Schedules.{schedule_of}
 use Rattle.depot_schedule.specs.Readers.{Parses, IsTextOf}

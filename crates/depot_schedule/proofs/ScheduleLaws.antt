@@ -3,10 +3,10 @@ use Rattle.std.proofs.Common.{◌≡◌, ℕ, suc, ◌+◌, ◌^◌, ◌<◌, �
 use Rattle.std.specs.List.{list_all, flat_map}
 use Rattle.std.specs.Fmt.{decimal}
 use Rattle.std.specs.Str.{bytes_eq}
-use Rattle.std.proofs.lemmas.Bool.{ltb-false, le-ltb, and_parts, and_from, or_parts}
+use Rattle.std.proofs.lemmas.Bool.{ltb-false, le-ltb, and_parts, and_from, or_parts, not-false, not-true}
 use Rattle.std.proofs.lemmas.List.{append-nil, nil_from_length, length-map, map-append}
-use Rattle.depot_schedule.specs.declared.fault.LineFault.{LineFault}
-use Rattle.depot_schedule.specs.declared.fault.LineFault.TheVariants as is
+use Rattle.depot_schedule.specs.declared.line_fault.LineFault.{LineFault}
+use Rattle.depot_schedule.specs.declared.line_fault.LineFault.TheVariants as is
 use Rattle.depot_schedule.specs.declared.member.Member.{Member}
 use Rattle.depot_schedule.specs.declared.event.Event.{Event}
 use Rattle.depot_schedule.specs.declared.schedule.Schedule.{Schedule}
@@ -15,8 +15,8 @@ use Rattle.depot_schedule.specs.Spelling.{is_word, is_word_byte, number_word}
 use Rattle.depot_schedule.specs.Language.{◌>>=◌, or_fault, split, join}
 use Rattle.depot_schedule.specs.EventLines.{verb_of, line_of, name_of, verb_named}
 use Rattle.depot_schedule.specs.Schedules.{with_member, with_event, before_members, before_events, scheme_name, member_name, first_words, scheme_words, member_words, event_words, words_of_schedule, text_of_line, text_of_schedule, has_correct, may_join, FitsMember, FitMembers, FitsEvent, FitEvents, IsSchedule, Line, lines_of_parts, lines_of, first_of, is_empty, are_words, read_first, scheme_named, blank, read_scheme, Head, member, misplaced, other, head_named, has_events, read_member, read_event, read_by, read_line, in_line, checked, read_rest, read_second, read_all, schedule_of}
-use Rattle.depot_schedule.proofs.LanguageLaws.{bind_ok, need_ok, or_fault_ok, ok_is, is_same}
-use Rattle.depot_schedule.proofs.Splitting.{no_from_not, lacks, split_at, split_join, join_split, split_some, all_weaker, all_append, all_join}
+use Rattle.depot_schedule.proofs.LanguageLaws.{bind_ok, need_ok, or_fault_ok, is_same, ok_is}
+use Rattle.depot_schedule.proofs.Splitting.{lacks, split_at, split_join, join_split, split_some, all_weaker, all_append, all_join}
 use Rattle.depot_schedule.proofs.NumberLaws.{decimal_of_word, word_of_decimal, plain_decimal}
 use Rattle.depot_schedule.proofs.LanguageLaws.{if_some}
 use Rattle.depot_schedule.proofs.EventLineLaws.{row_lawful, name_is}
@@ -27,10 +27,6 @@ pub no_ok : {A F : Type 0} (b : Bool) (d : F) (x : Result A F) (y : A) → cond 
 no_ok true d x y e = absurd cc
 no_ok false d x y e = (refl, e)
 
-yes_from_not : (b : Bool) → not b ≡ false → b ≡ true
-yes_from_not true e = refl
-yes_from_not false e = absurd cc
-
 in_line_ok : {A : Type 0} (n : ℕ) (r : Result A LineFault) (a : A) → in_line n r ≡ Ok a → r ≡ Ok a
 in_line_ok n (Ok x) a e = cc
 in_line_ok n (Err f) a e = absurd cc
@@ -39,7 +35,7 @@ pub checked_ok : {A : Type 0} (n : ℕ) (line : Line) (read : List (List ℕ) �
 checked_ok n line read a e =
     let x = no_ok (not line.ended) (n, is.End) (cond (ltb 100000 n) (Err (n, is.Long)) (in_line n (read (split 32 line.text)))) a e in
     let y = no_ok (ltb 100000 n) (n, is.Long) (in_line n (read (split 32 line.text))) a x.1 in
-    (yes_from_not line.ended x.0, ltb-false _ _ y.0, in_line_ok n _ a y.1)
+    (not-false line.ended x.0, ltb-false _ _ y.0, in_line_ok n _ a y.1)
 
 -- ---- lines of words
 
@@ -50,10 +46,10 @@ word_lacks : (c : ℕ) → ((b : ℕ) → is_word_byte b ≡ true → not (eqb b
 word_lacks c to w e = all_weaker is_word_byte (λ b. not (eqb b c)) to w (and_parts (ltb 0 (length w)) (list_all is_word_byte w) e).1
 
 not_space : (b : ℕ) → is_word_byte b ≡ true → not (eqb b 32) ≡ true
-not_space b e = let p = or_parts (eqb b 32) (eqb b 10) (no_from_not (eqb b 32 || eqb b 10) e) in rw p.0 refl
+not_space b e = let p = or_parts (eqb b 32) (eqb b 10) (not-true (eqb b 32 || eqb b 10) e) in rw p.0 refl
 
 not_end : (b : ℕ) → is_word_byte b ≡ true → not (eqb b 10) ≡ true
-not_end b e = let p = or_parts (eqb b 32) (eqb b 10) (no_from_not (eqb b 32 || eqb b 10) e) in rw p.1 refl
+not_end b e = let p = or_parts (eqb b 32) (eqb b 10) (not-true (eqb b 32 || eqb b 10) e) in rw p.1 refl
 
 split_words : (ws : List (List ℕ)) → 0 < length ws → list_all is_word ws ≡ true → split 32 (join 32 ws) ≡ ws
 split_words ws some e = split_join 32 ws some (all_weaker is_word (lacks 32) (word_lacks 32 not_space) ws e)
@@ -172,7 +168,7 @@ scheme_takes (x ∷ name ∷ h ∷ []) s e =
 scheme_takes (x ∷ y ∷ n ∷ z ∷ zs) s e = absurd cc
 
 decimal_some : (n : ℕ) → n < 10 ^ 19 → is_empty (decimal n) ≡ false
-decimal_some n small = no_from_not (is_empty (decimal n)) (some_word (decimal n) (plain_decimal n small))
+decimal_some n small = not-true (is_empty (decimal n)) (some_word (decimal n) (plain_decimal n small))
 
 scheme_reads : (s : Schedule) → 2 ≤ s.height → s.height ≤ 12 → read_scheme (scheme_words s) ≡ Ok (before_members s)
 scheme_reads s low high = rw (decimal_some s.height (omega arith), scheme_again s.winter, word_of_decimal 2 12 (omega arith) s.height low high) refl

@@ -1,7 +1,7 @@
 -- Parts between separators.
 use Rattle.std.proofs.Common.{◌≡◌, ℕ, ◌<◌, Bool, true, false, not, eqb, ◌&&◌, List, [], ◌∷◌, ◌++◌, length, map, refl, sym, ap, ◌∙◌, arith}
 use Rattle.std.specs.List.{list_all, onto_first}
-use Rattle.std.proofs.lemmas.Bool.{and_parts, and_from, eq-eqb}
+use Rattle.std.proofs.lemmas.Bool.{and_parts, and_from, eq-eqb, not-true}
 use Rattle.std.proofs.lemmas.List.Folds.{list_all-append}
 use Rattle.std.proofs.lemmas.List.Splits.{join_with_byte-slice_split}
 use Rattle.depot_schedule.specs.Language.{split, join}
@@ -10,21 +10,17 @@ use Rattle.depot_schedule.specs.Language.{split, join}
 abbrev pub lacks : ℕ → List ℕ → Bool
 lacks separator text = list_all (λ b. not (eqb b separator)) text
 
-pub no_from_not : (b : Bool) → not b ≡ true → b ≡ false
-no_from_not true e = absurd cc
-no_from_not false e = refl
-
 pub split_none : (separator : ℕ) (text : List ℕ) → lacks separator text ≡ true → split separator text ≡ text ∷ []
 split_none separator [] none = refl
 split_none separator (b ∷ bs) none =
     let p = and_parts (not (eqb b separator)) (lacks separator bs) none in
-    rw (no_from_not (eqb b separator) p.0, split_none separator bs p.1) refl
+    rw (not-true (eqb b separator) p.0, split_none separator bs p.1) refl
 
 pub split_at : (separator : ℕ) (text rest : List ℕ) → lacks separator text ≡ true → split separator (text ++ (separator ∷ rest)) ≡ text ∷ split separator rest
 split_at separator [] rest none = rw (eq-eqb separator separator refl) refl
 split_at separator (b ∷ bs) rest none =
     let p = and_parts (not (eqb b separator)) (lacks separator bs) none in
-    rw (no_from_not (eqb b separator) p.0, split_at separator bs rest p.1) refl
+    rw (not-true (eqb b separator) p.0, split_at separator bs rest p.1) refl
 
 -- parts without the separator are those of their join
 pub split_join : (separator : ℕ) (parts : List (List ℕ)) → 0 < length parts → list_all (lacks separator) parts ≡ true → split separator (join separator parts) ≡ parts

@@ -6,11 +6,12 @@ use Rattle.std.specs.Str.{bytes_eq}
 use Rattle.std.proofs.lemmas.Bool.{leb-true, ltb-true, lt-ltb, and_parts, and_from, false_from_ne_true, ne_eqb, or_cases}
 use Rattle.hex.specs.Hex.{encode_lower, lower_digits}
 use Rattle.hex.proofs.HexLemmas.{length-encode_with}
+use Rattle.depot_base.specs.declared.limits.TheConstants.{MOST_PIECE, MOST_STOP_CALL}
 use Rattle.depot_base.specs.declared.proof.Kind.{Kind}
 use Rattle.depot_base.specs.declared.proof.Kind.TheVariants.{SameNumber, SamePrev, Backward}
 use Rattle.depot_model.specs.Lines.{name_of_kind}
-use Rattle.depot_schedule.specs.declared.fault.LineFault.{LineFault}
-use Rattle.depot_schedule.specs.declared.fault.LineFault.TheVariants as is
+use Rattle.depot_schedule.specs.declared.line_fault.LineFault.{LineFault}
+use Rattle.depot_schedule.specs.declared.line_fault.LineFault.TheVariants as is
 use Rattle.depot_schedule.specs.declared.event.Ref.{Ref}
 use Rattle.depot_schedule.specs.declared.event.Ref.TheVariants as ref
 use Rattle.depot_schedule.specs.declared.event.HistoryWord.{HistoryWord}
@@ -18,8 +19,8 @@ use Rattle.depot_schedule.specs.declared.event.HistoryWord.TheVariants.{Right, G
 use Rattle.depot_schedule.specs.declared.schedule.Schedule.{Schedule}
 use Rattle.depot_schedule.specs.Spelling.{is_word, is_word_byte, is_label, is_label_byte, is_letter, is_digit, is_within}
 use Rattle.depot_schedule.specs.Language.{◌>>=◌, split, join, Word, or_none, or_empty, FitAll, with_parts, read_parts, parts_of}
-use Rattle.depot_schedule.specs.Vocabulary.{id, correct, faulty, seq, clock, any_u32, to_million, image, digest, label, new_label, made_label, update_label, signed_label, is_correct, is_faulty, named_by, is_update, is_signed, kind_named, kind, history, FitsHistory, text_of_history, FitsRef, text_of_ref, ref_of, reference, references}
-use Rattle.depot_schedule.proofs.LanguageLaws.{LawfulWord, bind_ok, need_ok, if_some, or_fault_ok, ok_is, is_same, such_that_lawful, or_none_lawful, or_empty_lawful}
+use Rattle.depot_schedule.specs.Vocabulary.{id, correct, faulty, seq, clock, any_u32, piece_size, stop_call, image, digest, label, new_label, made_label, update_label, signed_label, is_correct, is_faulty, named_by, is_update, is_signed, kind_named, kind, history, FitsHistory, text_of_history, FitsRef, text_of_ref, ref_of, reference, references}
+use Rattle.depot_schedule.proofs.LanguageLaws.{LawfulWord, bind_ok, need_ok, if_some, or_fault_ok, is_same, such_that_lawful, or_none_lawful, or_empty_lawful, ok_is}
 use Rattle.depot_schedule.proofs.Splitting.{lacks, split_none, split_at, split_join, join_split, split_some, all_weaker, all_append, all_join}
 use Rattle.depot_schedule.proofs.NumberLaws.{number_or_lawful, number_lawful, plain_decimal, digits_of_decimal}
 use Rattle.depot_schedule.proofs.HexWords.{digest_lawful}
@@ -44,8 +45,11 @@ seq_lawful = such_that_lawful any_u32 (λ s q. ltb q (2 ^ s.height)) is.Number a
 pub clock_lawful : {C : Type 0} → LawfulWord (clock {C = C})
 clock_lawful = number_lawful 1 9223372036854775807 (omega arith)
 
-pub to_million_lawful : {C : Type 0} → LawfulWord (to_million {C = C})
-to_million_lawful = number_lawful 1 1000000 (omega arith)
+pub piece_size_lawful : {C : Type 0} → LawfulWord (piece_size {C = C})
+piece_size_lawful = number_lawful 1 MOST_PIECE (omega arith)
+
+pub stop_call_lawful : {C : Type 0} → LawfulWord (stop_call {C = C})
+stop_call_lawful = number_lawful 1 MOST_STOP_CALL (omega arith)
 
 pub image_lawful : {C : Type 0} → LawfulWord (image {C = C})
 image_lawful = number_or_lawful is.Label 0 2 (omega arith)

@@ -1,6 +1,7 @@
 -- The lines of events: one line of this table a kind of event.
 use Rattle.std.specs.Prelude.{ℕ, List, [], Option, None, codes, find}
 use Rattle.std.specs.Str.{bytes_eq}
+use Rattle.depot_base.specs.declared.limits.TheConstants.{MOST_ENTRIES, MOST_IDS}
 use Rattle.depot_base.specs.declared.proof.Kind.{Kind}
 use Rattle.depot_base.specs.declared.proof.Kind.TheVariants.{SameNumber}
 use Rattle.depot_schedule.specs.declared.event.Event.{Event}
@@ -13,7 +14,7 @@ use Rattle.depot_schedule.specs.declared.verb.Verb.{Verb}
 use Rattle.depot_schedule.specs.declared.verb.Verb.TheVariants as verb
 use Rattle.depot_schedule.specs.declared.verb.TheConstants.{VERBS}
 use Rattle.depot_schedule.specs.Language.{Words, word, made, optional, counted, or_none, or_empty}
-use Rattle.depot_schedule.specs.Vocabulary.{correct, faulty, seq, clock, any_u32, to_million, image, key, value, raw_bytes, new_label, made_label, signed_label, kind, history, reference, references}
+use Rattle.depot_schedule.specs.Vocabulary.{correct, faulty, seq, clock, any_u32, piece_size, stop_call, image, key, value, raw_bytes, new_label, made_label, signed_label, kind, history, reference, references}
 
 -- ---- the parts of events; where an event has no such part, any value serves
 
@@ -144,7 +145,7 @@ bundle = counted 3 3 (word correct node_of λ node. word made_label source_of λ
 
 -- `give N LABEL` or `give N LABEL SIZE`
 unfoldable pub give : Line
-give = counted 2 3 (word correct node_of λ node. word made_label label_of λ label. optional to_million size_of λ size. Give node label size)
+give = counted 2 3 (word correct node_of λ node. word made_label label_of λ label. optional piece_size size_of λ size. Give node label size)
 
 -- `restart N`
 unfoldable pub restart : Line
@@ -154,12 +155,12 @@ restart = counted 1 1 (word correct node_of λ node. made (Restart node))
 unfoldable pub update : Line
 update = counted 9 9 (
     word new_label label_of λ label. word faulty node_of λ writer. word seq seq_of λ n. word clock clock_of λ time. word (or_none reference) prev_of λ prev.
-    word key key_of λ k. word value value_of λ v. word (or_empty (references 1024)) refs_of λ deps. word history history_of λ hash.
+    word key key_of λ k. word value value_of λ v. word (or_empty (references MOST_ENTRIES)) refs_of λ deps. word history history_of λ hash.
     made (Update label writer n time prev k v deps hash))
 
 -- `voucher LABEL W SEQ REFS`
 unfoldable pub voucher : Line
-voucher = counted 4 4 (word new_label label_of λ label. word faulty node_of λ writer. word seq seq_of λ n. word (references 256) refs_of λ refs. made (Voucher label writer n refs))
+voucher = counted 4 4 (word new_label label_of λ label. word faulty node_of λ writer. word seq seq_of λ n. word (references MOST_IDS) refs_of λ refs. made (Voucher label writer n refs))
 
 -- `proof LABEL KIND A B`
 unfoldable pub proof : Line
@@ -187,7 +188,7 @@ join = counted 3 3 (word new_label label_of λ label. word made_label source_of 
 
 -- `stop N K IMAGE`
 unfoldable pub stop : Line
-stop = counted 3 3 (word correct node_of λ node. word to_million call_of λ call. word image image_of λ left. made (Stop node call left))
+stop = counted 3 3 (word correct node_of λ node. word stop_call call_of λ call. word image image_of λ left. made (Stop node call left))
 
 -- ---- all kinds of events
 

@@ -2,12 +2,13 @@
 use Rattle.std.specs.Prelude.{◌≡◌, ℕ, List, [], ◌∷◌, ◌++◌, Option, Some, None, Result, Ok, Err, length, Bool, true, false, ◌≤◌, ◌<◌, ◌⊎◌}
 use Rattle.std.specs.List.{flat_map}
 use Rattle.std.specs.Borrow.{Bor}
-use Rattle.depot_schedule.specs.declared.fault.LineFault.{LineFault}
-use Rattle.depot_schedule.specs.declared.fault.LineFault.TheVariants as is
-use Rattle.depot_schedule.specs.declared.fault.LineError.{LineError}
-use Rattle.depot_schedule.specs.declared.fault.LineError.TheVariants.{Memory, In}
-use Rattle.depot_schedule.specs.declared.fault.ScheduleError.{ScheduleError}
-use Rattle.depot_schedule.specs.declared.fault.ScheduleError.TheVariants as error
+use Rattle.depot_base.specs.declared.limits.TheConstants.{MOST_LINES}
+use Rattle.depot_schedule.specs.declared.line_fault.LineFault.{LineFault}
+use Rattle.depot_schedule.specs.declared.line_fault.LineFault.TheVariants as is
+use Rattle.depot_schedule.specs.declared.line_fault.LineError.{LineError}
+use Rattle.depot_schedule.specs.declared.line_fault.LineError.TheVariants.{Memory, In}
+use Rattle.depot_schedule.specs.declared.line_fault.ScheduleError.{ScheduleError}
+use Rattle.depot_schedule.specs.declared.line_fault.ScheduleError.TheVariants as error
 use Rattle.depot_schedule.specs.declared.schedule.Schedule.{Schedule}
 use Rattle.depot_schedule.specs.Spelling.{is_within}
 use Rattle.depot_schedule.specs.Language.{split, earlier}
@@ -77,9 +78,9 @@ TakesLine old None new = lines_of_parts old ≡ []
 
 -- whether the words of the line of this number are looked at
 abbrev pub Allows : ℕ → Bool → Result (Unit {0}) ScheduleError → Type 0
-Allows n ended (Ok done) = (ended ≡ true) × (n ≤ 100000)
+Allows n ended (Ok done) = (ended ≡ true) × (n ≤ MOST_LINES)
 Allows n ended (Err error.Memory) = ⊥
-Allows n ended (Err (error.Line m f)) = (m ≡ n) × (((ended ≡ false) × (f ≡ is.End)) ⊎ ((ended ≡ true) × (100000 < n) × (f ≡ is.Long)))
+Allows n ended (Err (error.Line m f)) = (m ≡ n) × (((ended ≡ false) × (f ≡ is.End)) ⊎ ((ended ≡ true) × (MOST_LINES < n) × (f ≡ is.Long)))
 
 -- a fault in the line of this number
 abbrev pub InLine : {A : Type 0} → ℕ → Result A LineError → Result A ScheduleError → Type 0

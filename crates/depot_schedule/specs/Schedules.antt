@@ -3,8 +3,9 @@ use Rattle.std.specs.Prelude.{◌≡◌, ℕ, ◌+◌, ◌≤◌, Bool, true, fa
 use Rattle.std.specs.List.{list_all, list_any, filter, flat_map}
 use Rattle.std.specs.Fmt.{decimal}
 use Rattle.std.specs.Str.{bytes_eq}
-use Rattle.depot_schedule.specs.declared.fault.LineFault.{LineFault}
-use Rattle.depot_schedule.specs.declared.fault.LineFault.TheVariants as is
+use Rattle.depot_base.specs.declared.limits.TheConstants.{MOST_NODES, MOST_CORRECT, MOST_LINES, LEAST_HEIGHT, GREATEST_HEIGHT}
+use Rattle.depot_schedule.specs.declared.line_fault.LineFault.{LineFault}
+use Rattle.depot_schedule.specs.declared.line_fault.LineFault.TheVariants as is
 use Rattle.depot_schedule.specs.declared.member.Member.{Member}
 use Rattle.depot_schedule.specs.declared.event.Event.{Event}
 use Rattle.depot_schedule.specs.declared.schedule.Schedule.{Schedule}
@@ -79,7 +80,7 @@ count_correct members = length (filter (λ m. m.correct) members)
 
 -- whether a member's id is new, and the members stay at most 256, of which at most 32 are correct
 abbrev pub may_join : Schedule → Member → Bool
-may_join s m = not (is_declared s.members m.node) && (not m.correct || nat_lt (count_correct s.members) 32) && nat_lt (length s.members) 256
+may_join s m = not (is_declared s.members m.node) && (not m.correct || nat_lt (count_correct s.members) MOST_CORRECT) && nat_lt (length s.members) MOST_NODES
 
 -- a member fits behind those so far
 abbrev pub FitsMember : Schedule → Member → Type 0
@@ -101,12 +102,12 @@ FitEvents s (e ∷ es) = FitsEvent s e × FitEvents (with_event s e) es
 
 -- the schedules that have a text: each of their lines may stand behind those before it, and they have at most 100,000
 pub record IsSchedule (s : Schedule) : Type 0 where
-  pub low : 2 ≤ s.height
-  pub high : s.height ≤ 12
+  pub low : LEAST_HEIGHT ≤ s.height
+  pub high : s.height ≤ GREATEST_HEIGHT
   pub members : FitMembers (before_members s) s.members
   pub some : has_correct s.members ≡ true
   pub events : FitEvents (before_events s) s.events
-  pub lines : 2 + (length s.members + length s.events) ≤ 100000
+  pub lines : 2 + (length s.members + length s.events) ≤ MOST_LINES
 
 -- ---- lines of a text
 
@@ -161,7 +162,7 @@ scheme_named word = if bytes_eq word (codes "plain") then Some false else (if by
 abbrev pub read_scheme : List (List ℕ) → Result Schedule LineFault
 read_scheme (scheme ∷ name ∷ height ∷ []) =
     if bytes_eq scheme (codes "scheme") && not (is_empty height)
-    then (or_fault (scheme_named name) is.Header >>= λ winter. or_fault (number_word 2 12 height) is.Number >>= λ h. Ok (blank winter h))
+    then (or_fault (scheme_named name) is.Header >>= λ winter. or_fault (number_word LEAST_HEIGHT GREATEST_HEIGHT height) is.Number >>= λ h. Ok (blank winter h))
     else Err is.Header
 read_scheme words = Err is.Header
 
@@ -225,7 +226,7 @@ in_line n (Err f) = Err (n, f)
 abbrev pub checked : {A : Type 0} → ℕ → Line → (List (List ℕ) → Result A LineFault) → Result A (ℕ × LineFault)
 checked n line read =
     if not line.ended then Err (n, is.End) else
-    if nat_lt 100000 n then Err (n, is.Long) else in_line n (read (split 32 line.text))
+    if nat_lt MOST_LINES n then Err (n, is.Long) else in_line n (read (split 32 line.text))
 
 -- the lines behind the second, the first of them of this number
 abbrev pub read_rest : ℕ → Schedule → List Line → Result Schedule (ℕ × LineFault)

@@ -2,6 +2,7 @@
 use Rattle.std.specs.Prelude.{ℕ, ◌+◌, ◌-◌, ◌*◌, List, [], ◌∷◌, length, Bool, true, false, not, ◌&&◌, ◌||◌, ◌==◌, nat_le, nat_lt, Option, Some, None, if◌then◌else◌}
 use Rattle.std.specs.List.{list_all}
 use Rattle.std.specs.Result.{result_ok}
+use Rattle.depot_base.specs.declared.limits.TheConstants.{MOST_NAME}
 use Rattle.hex.specs.Hex.{decode_of}
 use Rattle.depot_model.specs.Lists.{when}
 
@@ -77,4 +78,4 @@ is_label (b ∷ bs) = is_letter b && list_all is_label_byte bs && nat_le (length
 
 -- 1 to 4,096 bytes without space or LF
 abbrev pub is_name : List ℕ → Bool
-is_name word = is_within 1 4096 (length word) && list_all is_word_byte word
+is_name word = is_within 1 MOST_NAME (length word) && list_all is_word_byte word

@@ -3,13 +3,14 @@ use Rattle.std.specs.Prelude.{◌≡◌, ℕ, ◌^◌, ◌≤◌, Bool, true, fa
 use Rattle.std.specs.List.{list_any}
 use Rattle.std.specs.Fmt.{decimal}
 use Rattle.std.specs.Str.{bytes_eq}
+use Rattle.depot_base.specs.declared.limits.TheConstants.{MOST_KEY, MOST_VALUE, MOST_PIECE, MOST_STOP_CALL}
 use Rattle.hex.specs.Hex.{encode_lower, IsBytes}
 use Rattle.depot_base.specs.declared.proof.Kind.{Kind}
 use Rattle.depot_base.specs.declared.proof.Kind.TheVariants.{SameNumber, SamePrev, Backward}
 use Rattle.depot_model.specs.Lists.{when}
 use Rattle.depot_model.specs.Lines.{name_of_kind}
-use Rattle.depot_schedule.specs.declared.fault.LineFault.{LineFault}
-use Rattle.depot_schedule.specs.declared.fault.LineFault.TheVariants as is
+use Rattle.depot_schedule.specs.declared.line_fault.LineFault.{LineFault}
+use Rattle.depot_schedule.specs.declared.line_fault.LineFault.TheVariants as is
 use Rattle.depot_schedule.specs.declared.member.Member.{Member}
 use Rattle.depot_schedule.specs.declared.event.Event.{Event}
 use Rattle.depot_schedule.specs.declared.event.Event.TheVariants as event
@@ -122,9 +123,13 @@ seq = such_that any_u32 (λ s n. nat_lt n (2 ^ s.height)) is.Number
 abbrev pub clock : {C : Type 0} → Word C ℕ
 clock = number 1 9223372036854775807
 
--- the size of a piece in bytes, or which call of a disk stops
-abbrev pub to_million : {C : Type 0} → Word C ℕ
-to_million = number 1 1000000
+-- the most bytes of a piece
+abbrev pub piece_size : {C : Type 0} → Word C ℕ
+piece_size = number 1 MOST_PIECE
+
+-- the call on a disk in which a stop comes
+abbrev pub stop_call : {C : Type 0} → Word C ℕ
+stop_call = number 1 MOST_STOP_CALL
 
 -- the number of an image of a disk
 abbrev pub image : {C : Type 0} → Word C ℕ
@@ -142,11 +147,11 @@ hex test = record {
 
 -- a key: 1 to 255 bytes
 abbrev pub key : {C : Type 0} → Word C (List ℕ)
-key = hex (is_within 1 255)
+key = hex (is_within 1 MOST_KEY)
 
 -- a value: at most 65,536 bytes
 abbrev pub value : {C : Type 0} → Word C (List ℕ)
-value = or_empty (hex (is_within 1 65536))
+value = or_empty (hex (is_within 1 MOST_VALUE))
 
 -- bytes as they are, however many
 abbrev pub raw_bytes : {C : Type 0} → Word C (List ℕ)

@@ -2,6 +2,7 @@
 ghost use Rattle.std.specs.Prelude.{◌≡◌, ℕ, List, ◌≤◌, ◌<◌, ◌&&◌, ◌||◌, ◌==◌, IfOk, Option, None, Some};
 ghost use Rattle.std.specs.Option.{MatchOption};
 ghost use Rattle.std.specs.List.{filter};
+ghost use Rattle.depot_base.specs.declared.limits.TheConstants.{GREATEST_HEIGHT};
 ghost use Rattle.depot_schedule.specs.Vocabulary.{is_declared, is_correct, is_faulty, label_made, named_by, if_named, first_or};
 ghost use Rattle.depot_schedule.specs.LabelTable.{named_in};
 ghost use Rattle.depot_schedule.specs.Schedules.{blank, has_correct, has_events, count_correct, may_join, with_member, with_event};
@@ -9,13 +10,10 @@ ghost use Rattle.depot_schedule.specs.Schedules.{blank, has_correct, has_events,
 use crate::labels::Labels;
 use crate::verb::Made;
 use crate::{Event, Label, Member, Schedule};
-use depot_base::limits::MOST_NODES;
+use depot_base::limits::{MOST_CORRECT, MOST_NODES};
 use depot_base::{Memory, NodeId, Sequence};
 use std::alloc::Global;
 use std::marker::Model;
-
-/// The most correct nodes of a schedule.
-const MOST_CORRECT: usize = 32;
 
 /// A schedule so far, and what its labels name. It is seen as that schedule.
 #[derive(Drop)]
@@ -25,6 +23,7 @@ pub struct Draft {
 }
 
 impl Model for Draft {
+    ghost use Rattle.depot_base.specs.declared.limits.TheConstants.{GREATEST_HEIGHT};
     ghost use Rattle.std.specs.Prelude.{◌≡◌, ℕ, List, ◌≤◌};
     ghost use Rattle.depot_schedule.specs.declared.schedule.Schedule.{Schedule};
     ghost use Rattle.depot_schedule.specs.Vocabulary.{named_by};
@@ -34,7 +33,7 @@ impl Model for Draft {
 
     ghost view = { λ d. d.schedule };
 
-    ghost invariant = { λ d. (d.schedule.height ≤ 12) × ((label : List ℕ) → named_in label d.labels.map.entries ≡ named_by d.schedule.events label) };
+    ghost invariant = { λ d. (d.schedule.height ≤ GREATEST_HEIGHT) × ((label : List ℕ) → named_in label d.labels.map.entries ≡ named_by d.schedule.events label) };
 }
 
 /// Whether a node is declared.
@@ -108,7 +107,7 @@ fn with_label_of(labels: Labels, alloc: Global, event: &Event) -> Result<Labels,
 impl Draft {
     /// The schedule before its first member. It takes no memory.
     pub fn new(alloc: Global, winter: bool, height: u8) -> Draft
-        requires { height ≤ 12 }
+        requires { height ≤ GREATEST_HEIGHT }
         ensures { result ≡ blank winter height }
     {
         Draft {
@@ -125,7 +124,7 @@ impl Draft {
     /// The height of each node's tree.
     pub fn height(&self) -> u8
         ensures same { result ≡ self.now.height }
-        ensures range { result ≤ 12 }
+        ensures range { result ≤ GREATEST_HEIGHT }
     {
         self.schedule.height
     }

@@ -1,21 +1,22 @@
 //! Reads the words behind the name of an event: one function a line of the table.
 ghost use Rattle.std.specs.Prelude.{◌==◌, length, Ok, Err, if◌then◌else◌};
-ghost use Rattle.depot_schedule.specs.declared.fault.LineFault.TheVariants as is;
+ghost use Rattle.depot_schedule.specs.declared.line_fault.LineFault.TheVariants as is;
 ghost use Rattle.depot_schedule.specs.Language.{nothing, last};
-ghost use Rattle.depot_schedule.specs.Vocabulary.{to_million};
+ghost use Rattle.depot_schedule.specs.Vocabulary.{piece_size};
 ghost use Rattle.depot_schedule.specs.EventLines.{put, get, hello, bundle, give, restart, update, voucher, proof, judge, raw, cut, flip, join, stop, line_of};
 ghost use Rattle.depot_schedule.specs.Readers.{Gives, Counts};
 
 use crate::draft::Draft;
 use crate::event::Event;
-use crate::fault::{LineError, LineFault};
+use crate::line_fault::{LineError, LineFault};
 use crate::parts::Parts;
 use crate::references::{deps, prev, references};
 use crate::verb::Verb;
 use crate::vocabulary::{
     any_u32, clock, correct, faulty, history, image, key, kind, made_label, new_label, number_of,
-    raw_bytes, seq, signed_label, to_million, value,
+    raw_bytes, seq, signed_label, stop_call, value,
 };
+use depot_base::limits::{MOST_IDS, MOST_PIECE};
 use std::alloc::Global;
 
 /// The value that the words made, where none is left.
@@ -89,12 +90,12 @@ fn bundle(alloc: Global, words: &mut Parts<'_>, behind: &Draft) -> Result<Event,
 
 /// The last word as the size of a piece, if there is one.
 fn last_size(words: &mut Parts<'_>) -> Result<Option<u32>, LineError>
-    ensures { Gives result (last (to_million.read nothing) words.old) }
+    ensures { Gives result (last (piece_size.read nothing) words.old) }
 {
     let Some(word) = words.next() else {
         return Ok(None);
     };
-    let size = number_of(word, 1, 1_000_000)?;
+    let size = number_of(word, 1, MOST_PIECE as u64)?;
     if words.is_done() {
         Ok(Some(size as u32))
     } else {
@@ -164,7 +165,7 @@ fn voucher(alloc: Global, words: &mut Parts<'_>, behind: &Draft) -> Result<Event
     let label = new_label(alloc, words, behind)?;
     let writer = faulty(words, behind)?;
     let seq = seq(words, behind)?;
-    let refs = references(alloc, words, behind, 256)?;
+    let refs = references(alloc, words, behind, MOST_IDS as usize)?;
     made(
         words,
         Event::Voucher {
@@ -284,7 +285,7 @@ fn stop(words: &mut Parts<'_>, behind: &Draft) -> Result<Event, LineError>
 {
     counted(words, 3, 3)?;
     let node = correct(words, behind)?;
-    let call = to_million(words)?;
+    let call = stop_call(words)?;
     let image = image(words)?;
     made(words, Event::Stop { node, call, image })
 }

@@ -7,10 +7,11 @@ ghost use Rattle.depot_schedule.specs.Readers.{Gives};
 
 use crate::Member;
 use crate::draft::Draft;
-use crate::fault::{LineError, LineFault};
+use crate::line_fault::{LineError, LineFault};
 use crate::parts::Parts;
 use crate::spelling::is;
 use crate::vocabulary::{id_of, number_of};
+use depot_base::limits::{GREATEST_HEIGHT, LEAST_HEIGHT};
 use std::alloc::Global;
 
 /// The two words of a line. None exactly where they are more or fewer.
@@ -108,7 +109,7 @@ fn scheme_by(alloc: Global, scheme: &[u8], name: &[u8], height: &[u8]) -> Result
     let Some(winter) = scheme_named(name) else {
         return Err(LineError::In(LineFault::Header));
     };
-    let height = number_of(height, 2, 12)?;
+    let height = number_of(height, LEAST_HEIGHT as u64, GREATEST_HEIGHT as u64)?;
     Ok(Draft::new(alloc, winter, height as u8))
 }
 

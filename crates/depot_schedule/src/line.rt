@@ -6,8 +6,8 @@ ghost use Rattle.depot_schedule.specs.Readers.{Gives};
 
 use crate::draft::Draft;
 use crate::event_lines::event_of;
-use crate::fault::{LineError, LineFault};
 use crate::header::{is_empty, read_member};
+use crate::line_fault::{LineError, LineFault};
 use crate::parts::Parts;
 use crate::spelling::is;
 use crate::verb::Verb;

@@ -3,8 +3,8 @@
 
 pub use crate::event_lines::{counted, made};
 pub use crate::event_writers::write;
-pub use crate::fault::LineError;
 pub use crate::line::are_words;
+pub use crate::line_fault::LineError;
 pub use crate::parse::{allowed, in_line, next_line};
 pub use crate::parts::Parts;
 pub use crate::vocabulary::{key, value};

@@ -1,18 +1,17 @@
 //! Reads whole schedules.
 ghost use Rattle.std.specs.Prelude.{◌≡◌, ◌≤◌, ◌⊎◌, Ok, Err, IfOk};
+ghost use Rattle.depot_base.specs.declared.limits.TheConstants.{MOST_LINES};
 ghost use Rattle.depot_schedule.specs.declared.schedule.Schedule.{Schedule};
-ghost use Rattle.depot_schedule.specs.declared.fault.ScheduleError.TheVariants as error;
+ghost use Rattle.depot_schedule.specs.declared.line_fault.ScheduleError.TheVariants as error;
 ghost use Rattle.depot_schedule.specs.Schedules.{schedule_of, checked, lines_of_parts, read_line, read_rest};
 ghost use Rattle.depot_schedule.specs.Readers.{Parses, IsTextOf, Allows, InLine, TakesFirst, TakesSecond, TakesLine};
 
 use crate::draft::Draft;
-use crate::fault::{LineError, LineFault};
+use crate::line_fault::{LineError, LineFault};
 use crate::parts::Parts;
 use crate::{Schedule, ScheduleError, header, line};
+use depot_base::limits::MOST_LINES;
 use std::alloc::Global;
-
-/// The most lines of a schedule.
-const MOST_LINES: u32 = 100_000;
 
 /// Takes the next line, and says whether an LF ends it.
 pub fn next_line<'a>(parts: &mut Parts<'a>) -> Option<(&'a [u8], bool)>
@@ -85,7 +84,7 @@ fn one_line(
     ended: bool,
 ) -> Result<Draft, ScheduleError>
     ensures parses { Parses result (checked number (record { text = text.now; ended = ended }) (read_line draft)) }
-    ensures few { IfOk result (λ _. number ≤ 100000) }
+    ensures few { IfOk result (λ _. number ≤ MOST_LINES) }
 {
     allowed(number, ended)?;
     in_line(number, line::read_line(alloc, draft, text))

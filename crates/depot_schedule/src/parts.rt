@@ -5,7 +5,7 @@ ghost use Rattle.std.specs.Option.{option_copied};
 ghost use Rattle.depot_schedule.specs.Language.{split};
 ghost use Rattle.depot_schedule.specs.Readers.{parts_left, TakesPart, TakesWord};
 
-use crate::fault::{LineError, LineFault};
+use crate::line_fault::{LineError, LineFault};
 use std::marker::Model;
 
 /// The parts of a text that are left, as the words of a line. No call takes memory.

@@ -1,12 +1,13 @@
 //! Reads references to updates, and lists of them.
 ghost use Rattle.std.specs.Prelude.{◌≡◌, ◌++◌, [], ◌∷◌, Option, Some, None, Ok, IfOk};
+ghost use Rattle.depot_base.specs.declared.limits.TheConstants.{MOST_ENTRIES};
 ghost use Rattle.depot_schedule.specs.Language.{next, rank_of, earlier, read_parts, split, or_none, or_empty};
 ghost use Rattle.depot_schedule.specs.Vocabulary.{label_ref, own_ref, reference, references};
 ghost use Rattle.depot_schedule.specs.Readers.{Gives, Reads, gathered, first_fault, GathersMore};
 
 use crate::draft::Draft;
 use crate::event::{Ref, Refs};
-use crate::fault::{LineError, LineFault};
+use crate::line_fault::{LineError, LineFault};
 use crate::parts::Parts;
 use crate::spelling::is;
 use crate::vocabulary::{id_of, seq_of, update_label_of};
@@ -186,7 +187,7 @@ pub fn prev(alloc: Global, words: &mut Parts<'_>, behind: &Draft) -> Result<Opti
 
 /// The next word of a line, as the references of an update: none or more, and at most 1,024.
 pub fn deps(alloc: Global, words: &mut Parts<'_>, behind: &Draft) -> Result<Refs, LineError>
-    ensures { Reads result words.new (next ((or_empty (references 1024)).read behind.now) words.old) }
+    ensures { Reads result words.new (next ((or_empty (references MOST_ENTRIES)).read behind.now) words.old) }
 {
     let word = words.word()?;
     if is(word, "-") {

@@ -5,6 +5,7 @@ ghost use Rattle.std.specs.Str.{bytes_eq};
 ghost use Rattle.depot_model.specs.Lines.{name_of_kind};
 ghost use Rattle.depot_schedule.specs.Spelling.{is_word_byte, is_within, is_lower_digit, is_digit, hex_word, has_no_leading_zero, is_number, value_behind, number_word, is_name};
 
+use depot_base::limits::MOST_NAME;
 use depot_base::{Bytes, Kind, Memory};
 use hex::FromHexError;
 use std::alloc::Global;
@@ -129,7 +130,7 @@ fn are_word_bytes(bytes: &[u8]) -> bool
 pub fn is_name(bytes: &[u8]) -> bool
     ensures { result ≡ is_name bytes.now }
 {
-    has_length(bytes, 1, 4096) && are_word_bytes(bytes)
+    has_length(bytes, 1, MOST_NAME) && are_word_bytes(bytes)
 }
 
 /// The name of a kind of contradiction.

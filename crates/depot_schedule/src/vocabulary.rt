@@ -2,17 +2,17 @@
 ghost use Rattle.std.specs.Prelude.{◌≡◌, ◌≤◌, ◌<◌, ◌^◌, length, Option, Some, None, Ok, IfOk};
 ghost use Rattle.depot_schedule.specs.Spelling.{is_within, number_word, is_label};
 ghost use Rattle.depot_schedule.specs.Language.{nothing, next};
-ghost use Rattle.depot_schedule.specs.Vocabulary.{number, id, correct, faulty, any_u32, seq, clock, to_million, image, hex, key, value, raw_bytes, label, new_label, made_label, update_label, signed_label, is_update, is_signed, kind, history};
+ghost use Rattle.depot_schedule.specs.Vocabulary.{number, id, correct, faulty, any_u32, seq, clock, stop_call, image, hex, key, value, raw_bytes, label, new_label, made_label, update_label, signed_label, is_update, is_signed, kind, history};
 ghost use Rattle.depot_schedule.specs.Readers.{Gives, Reads};
 
 use crate::draft::Draft;
 use crate::event::HistoryWord;
-use crate::fault::{LineError, LineFault};
 use crate::label::{Label, is_label};
+use crate::line_fault::{LineError, LineFault};
 use crate::parts::Parts;
 use crate::spelling::{has_length, hex_word, is, number_word};
 use crate::verb::Made;
-use depot_base::limits::{MOST_KEY, MOST_VALUE};
+use depot_base::limits::{MOST_KEY, MOST_STOP_CALL, MOST_VALUE};
 use depot_base::{Bytes, Hash32, Key, Kind, NodeId, Value};
 use std::alloc::Global;
 
@@ -109,12 +109,12 @@ pub fn any_u32(words: &mut Parts<'_>) -> Result<u32, LineError>
     Ok(n as u32)
 }
 
-/// A number from 1 to 1,000,000.
-pub fn to_million(words: &mut Parts<'_>) -> Result<u32, LineError>
-    ensures { Reads result words.new (next (to_million.read nothing) words.old) }
+/// The call on a disk in which a stop comes, from 1 to 1,000,000.
+pub fn stop_call(words: &mut Parts<'_>) -> Result<u32, LineError>
+    ensures { Reads result words.new (next (stop_call.read nothing) words.old) }
 {
     let word = words.word()?;
-    let n = number_of(word, 1, 1_000_000)?;
+    let n = number_of(word, 1, MOST_STOP_CALL as u64)?;
     Ok(n as u32)
 }
 

@@ -3,16 +3,16 @@ use Rattle.std.proofs.Common.{◌≡◌, ℕ, ◌≤◌, true, leb, List, length
 use Rattle.std.specs.List.{list_all}
 use Rattle.std.specs.Str.{bytes_eq, is_utf8}
 use Rattle.std.proofs.lemmas.Bool.{leb-true, lt-ltb, and_parts, and_from}
-use Rattle.depot_schedule.specs.declared.fault.LineFault.TheVariants as is
+use Rattle.depot_schedule.specs.declared.line_fault.LineFault.TheVariants as is
 use Rattle.depot_schedule.specs.Spelling.{is_word, is_word_byte, is_within, is_name}
 use Rattle.depot_schedule.specs.Language.{nothing}
-use Rattle.depot_schedule.proofs.LanguageLaws.{LawfulWord, Lawful, need_ok, ok_is, is_same, word_lawful, made_lawful, counted_lawful}
+use Rattle.depot_schedule.proofs.LanguageLaws.{LawfulWord, Lawful, need_ok, is_same, word_lawful, made_lawful, counted_lawful, ok_is}
 use Rattle.depot_schedule.proofs.HexWords.{key_lawful, value_lawful}
 use Rattle.depot_schedule.proofs.EventLineLaws.{found_passes}
 use Rattle.depot_script.specs.declared.command.Command.{Command}
-use Rattle.depot_script.specs.declared.verb.Verb.{Verb}
-use Rattle.depot_script.specs.declared.verb.Verb.TheVariants as verb
-use Rattle.depot_script.specs.declared.verb.TheConstants.{VERBS}
+use Rattle.depot_script.specs.declared.command_verb.Verb.{Verb}
+use Rattle.depot_script.specs.declared.command_verb.Verb.TheVariants as verb
+use Rattle.depot_script.specs.declared.command_verb.TheConstants.{VERBS}
 use Rattle.depot_script.specs.Names.{is_file_name, file_name}
 use Rattle.depot_script.specs.Commands.{key_of, value_of, file_of, hello_of, put, get, hello, bundle, take, verb_of, name_of, form_of, verb_named}
 

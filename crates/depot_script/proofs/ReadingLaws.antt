@@ -2,10 +2,10 @@
 use Rattle.std.proofs.Common.{◌≡◌, ℕ, List, Result, Ok, Err, ◌⊎◌, inl, inr, ◌∙◌, ap}
 use Rattle.std.specs.Prelude.{IfOk}
 use Rattle.depot_script.specs.declared.command.Command.{Command}
-use Rattle.depot_script.specs.declared.error.ScriptError.{ScriptError}
-use Rattle.depot_script.specs.declared.error.ScriptError.TheVariants as error
+use Rattle.depot_script.specs.declared.script_error.ScriptError.{ScriptError}
+use Rattle.depot_script.specs.declared.script_error.ScriptError.TheVariants as error
 use Rattle.depot_script.specs.Scripts.{script_of}
-use Rattle.depot_script.specs.Reading.{Parses, IsTextOf}
+use Rattle.depot_script.specs.ScriptReading.{Parses, IsTextOf}
 use Rattle.depot_script.proofs.ScriptLaws.{script_again, script_takes}
 
 pub text_of_read : (text : List ℕ) (s : List Command) → script_of text ≡ Ok s → IsTextOf text s

@@ -3,14 +3,14 @@ use Rattle.std.proofs.Common.{◌≡◌, ℕ, ◌+◌, ◌≤◌, true, not, Lis
 use Rattle.std.specs.List.{list_all, flat_map}
 use Rattle.std.proofs.lemmas.Bool.{and_from}
 use Rattle.std.proofs.lemmas.List.Folds.{flat_map-map}
-use Rattle.depot_schedule.specs.declared.fault.LineFault.TheVariants as is
+use Rattle.depot_schedule.specs.declared.line_fault.LineFault.TheVariants as is
 use Rattle.depot_schedule.specs.Spelling.{is_word}
 use Rattle.depot_schedule.specs.Language.{◌>>=◌, or_fault, FitAll, nothing}
 use Rattle.depot_schedule.specs.Schedules.{text_of_line, Line, lines_of, are_words, in_line, checked}
 use Rattle.depot_schedule.proofs.LanguageLaws.{bind_ok, or_fault_ok}
 use Rattle.depot_schedule.proofs.ScheduleLaws.{no_ok, checked_ok, line_of_text, are_words_of, checked_again, lines_again, AllEnded, words_of_line, lines_text}
 use Rattle.depot_script.specs.declared.command.Command.{Command}
-use Rattle.depot_script.specs.declared.verb.Verb.{Verb}
+use Rattle.depot_script.specs.declared.command_verb.Verb.{Verb}
 use Rattle.depot_script.specs.Commands.{verb_of, name_of, form_of, verb_named}
 use Rattle.depot_script.specs.Scripts.{command_words, text_of_script, FitsCommand, IsScript, read_command, read_lines, script_of}
 use Rattle.depot_script.proofs.CommandLaws.{form_lawful, name_is}

@@ -5,9 +5,9 @@ use Rattle.depot_schedule.specs.Language.{Words, word, made, counted}
 use Rattle.depot_schedule.specs.Vocabulary.{key, value}
 use Rattle.depot_script.specs.declared.command.Command.{Command}
 use Rattle.depot_script.specs.declared.command.Command.TheVariants.{Put, Get, Hello, Bundle, Take}
-use Rattle.depot_script.specs.declared.verb.Verb.{Verb}
-use Rattle.depot_script.specs.declared.verb.Verb.TheVariants as verb
-use Rattle.depot_script.specs.declared.verb.TheConstants.{VERBS}
+use Rattle.depot_script.specs.declared.command_verb.Verb.{Verb}
+use Rattle.depot_script.specs.declared.command_verb.Verb.TheVariants as verb
+use Rattle.depot_script.specs.declared.command_verb.TheConstants.{VERBS}
 use Rattle.depot_script.specs.Names.{file_name}
 
 -- ---- the parts of commands; where a command has no such part, any value serves

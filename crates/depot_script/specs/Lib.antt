@@ -1,4 +1,4 @@
 pub mod Names
 pub mod Commands
 pub mod Scripts
-pub mod Reading
+pub mod ScriptReading

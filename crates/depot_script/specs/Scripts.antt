@@ -1,8 +1,9 @@
 -- Scripts: which have a text, that text, and which line of a text goes wrong first, and how. A script is a list of commands.
 use Rattle.std.specs.Prelude.{ℕ, ◌+◌, ◌≤◌, not, List, [], ◌∷◌, length, Result, Ok, Err, if◌then◌else◌}
 use Rattle.std.specs.List.{flat_map}
-use Rattle.depot_schedule.specs.declared.fault.LineFault.{LineFault}
-use Rattle.depot_schedule.specs.declared.fault.LineFault.TheVariants as is
+use Rattle.depot_base.specs.declared.limits.TheConstants.{MOST_LINES}
+use Rattle.depot_schedule.specs.declared.line_fault.LineFault.{LineFault}
+use Rattle.depot_schedule.specs.declared.line_fault.LineFault.TheVariants as is
 use Rattle.depot_schedule.specs.Language.{◌>>=◌, or_fault, FitAll, nothing}
 use Rattle.depot_schedule.specs.Schedules.{text_of_line, Line, lines_of, are_words, checked}
 use Rattle.depot_script.specs.declared.command.Command.{Command}
@@ -25,7 +26,7 @@ FitsCommand c = (form_of (verb_of c)).fits nothing c
 -- the scripts that have a text: each of their commands has a line, and they are at most 100,000
 pub record IsScript (commands : List Command) : Type 0 where
   pub fit : FitAll FitsCommand commands
-  pub lines : length commands ≤ 100000
+  pub lines : length commands ≤ MOST_LINES
 
 -- ---- lines
 

@@ -1,7 +1,7 @@
 //! What a script lets a node do.
 
 use crate::FileName;
-use crate::verb::Verb;
+use crate::command_verb::Verb;
 use depot_base::{Key, Value};
 
 /// One command.

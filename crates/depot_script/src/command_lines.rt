@@ -4,7 +4,7 @@ ghost use Rattle.depot_schedule.specs.Readers.{Gives, Reads};
 ghost use Rattle.depot_script.specs.Names.{file_name};
 ghost use Rattle.depot_script.specs.Commands.{put, get, hello, bundle, take, form_of};
 
-use crate::verb::Verb;
+use crate::command_verb::Verb;
 use crate::{Command, FileName};
 use depot_schedule::LineFault;
 use depot_schedule::lines::{LineError, Parts, counted, key, made, value};

@@ -15,20 +15,20 @@
 
 mod command;
 mod command_lines;
+mod command_verb;
 mod command_writers;
-mod error;
 mod file_name;
-mod laws;
-mod parse;
-mod print;
 mod script;
-mod verb;
+mod script_error;
+mod script_laws;
+mod script_parse;
+mod script_print;
 
 pub use command::Command;
-pub use error::ScriptError;
+pub use command_verb::Verb;
 pub use file_name::FileName;
-pub use laws::{scripts_are_read_back, scripts_have_one_spelling};
-pub use parse::parse_script;
-pub use print::print_script;
 pub use script::Script;
-pub use verb::Verb;
+pub use script_error::ScriptError;
+pub use script_laws::{scripts_are_read_back, scripts_have_one_spelling};
+pub use script_parse::parse_script;
+pub use script_print::print_script;

@@ -9,24 +9,24 @@ use Rattle.depot_model.specs.Stops.{HasFront, Lasts}
 use Rattle.depot_model.specs.World.{Correct}
 use Rattle.depot_model.specs.declared.replica.Replica.{Ghosts}
 use Rattle.depot_gossip.specs.Bundling.{Bundles, finds_disk, journaled_for}
-use Rattle.depot_gossip.specs.declared.error.BundleError.{BundleError}
-use Rattle.depot_gossip.specs.declared.error.BundleError.TheVariants as error
+use Rattle.depot_gossip.specs.declared.gossip_error.BundleError.{BundleError}
+use Rattle.depot_gossip.specs.declared.gossip_error.BundleError.TheVariants as error
 use Rattle.depot_gossip.specs.declared.own_bundle.Bundled.{Bundled}
 use Rattle.depot_outside.specs.Told.{Shelves, Sinks, Wrote}
 use Rattle.depot_schedule.specs.Language.{join}
 use Rattle.depot_script.specs.Scripts.{command_words}
 use Rattle.depot_script.specs.declared.command.Command.TheVariants as command
 use Rattle.depot_world.specs.Deeds.{bundle_by, bundle_with}
-use Rattle.depot_world.specs.Stops.{Deed}
+use Rattle.depot_world.specs.ScheduleStops.{Deed}
 use Rattle.depot_deeds.specs.Printing.{SettlesBundle, lines_of_deed}
 use Rattle.depot_session.specs.declared.ending.Ending.{Ending}
 use Rattle.depot_session.specs.declared.ending.Ending.TheVariants as ending
-use Rattle.depot_session.specs.Runs.{disk_line}
+use Rattle.depot_session.specs.SessionRuns.{disk_line}
 use Rattle.depot_session.specs.Sessions.{Session, Step, absent, bundle_step, bundle_to, ending_of_bundle, lines_of_command, printed_count, step_of, stored}
-use Rattle.depot_session.specs.Telling.{IsFaultTold, IsUnchanged, Stores, Tells}
+use Rattle.depot_session.specs.ScriptTelling.{IsFaultTold, IsUnchanged, Stores, Tells}
 use Rattle.depot_session.specs.Turns.{IsAt, Turns}
-use Rattle.depot_session.proofs.Keeping.{NeedsNone}
-use Rattle.depot_session.proofs.Leaving.{leaves_front}
+use Rattle.depot_session.proofs.KeptFaults.{NeedsNone}
+use Rattle.depot_session.proofs.LeftJournals.{leaves_front}
 use Rattle.depot_session.proofs.Stepping.{stored_alike, stored_told}
 use Rattle.depot_session.proofs.Turning.{disk_told, told, without_memory}
 

@@ -15,10 +15,10 @@ use Rattle.depot_answers.specs.Answers.{text_of_limit, text_of_put}
 use Rattle.depot_script.specs.declared.command.Command.{Command}
 use Rattle.depot_script.specs.declared.command.Command.TheVariants as command
 use Rattle.depot_world.specs.Deeds.{idle, grown, put_by, read_of, get_by, hello_by, bundle_with, bundle_by, give_by}
-use Rattle.depot_world.specs.Stops.{Deed}
+use Rattle.depot_world.specs.ScheduleStops.{Deed}
 use Rattle.depot_world.proofs.GoodDeeds.{read_is, never_falls}
 use Rattle.depot_world.proofs.GoodNodes.{begun_grows, read_grows}
-use Rattle.depot_session.specs.Runs.{world_at}
+use Rattle.depot_session.specs.SessionRuns.{world_at}
 use Rattle.depot_session.specs.Sessions.{Session, bundle_step, bundle_to, step_of, take_from}
 use Rattle.depot_session.proofs.StepGrowth.{step_grows, step_stays}
 

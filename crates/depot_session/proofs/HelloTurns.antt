@@ -15,7 +15,7 @@ use Rattle.depot_world.specs.Deeds.{hello_by}
 use Rattle.depot_world.specs.Transcript.{ended}
 use Rattle.depot_session.specs.declared.ending.Ending.{Ending}
 use Rattle.depot_session.specs.Sessions.{Session, printed_count, step_of, stored}
-use Rattle.depot_session.specs.Telling.{Stores}
+use Rattle.depot_session.specs.ScriptTelling.{Stores}
 use Rattle.depot_session.specs.Turns.{IsAt, IsRunning, Turns}
 use Rattle.depot_session.proofs.StepGrowth.{step_grows}
 use Rattle.depot_session.proofs.Stepping.{brings_uncalled, leaves_uncalled, stable, stored_alike, stored_told}

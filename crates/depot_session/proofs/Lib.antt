@@ -1,10 +1,10 @@
-pub mod Leaving
+pub mod LeftJournals
 pub mod Turning
 pub mod StepGrowth
-pub mod Told
+pub mod ToldFaults
 pub mod Still
 pub mod PutTurns
-pub mod Keeping
+pub mod KeptFaults
 pub mod Stepping
 pub mod HelloTurns
 pub mod TakeTurns

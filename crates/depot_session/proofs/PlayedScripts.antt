@@ -7,7 +7,7 @@ use Rattle.std.proofs.lemmas.List.Concat.{flat_map-append}
 use Rattle.std.specs.List.{flat_map}
 use Rattle.depot_base.specs.declared.record.Record.{Record}
 use Rattle.depot_gossip.specs.Lasting.{LastsIn}
-use Rattle.depot_gossip.proofs.LastingLaws.{joined_in, nothing_in}
+use Rattle.depot_gossip.proofs.LastingStreams.{joined_in, nothing_in}
 use Rattle.depot_model.specs.Bundle.{Signs}
 use Rattle.depot_model.specs.Checks.{Setting}
 use Rattle.depot_model.specs.Lawful.{IsLawful}
@@ -22,8 +22,8 @@ use Rattle.depot_script.specs.declared.command.Command.{Command}
 use Rattle.depot_session.specs.declared.ending.Ending.{Ending}
 use Rattle.depot_session.specs.declared.ending.Ending.TheVariants as ending
 use Rattle.depot_session.specs.Sessions.{Answers, Session, answers_of, loads_of, step_of}
-use Rattle.depot_session.specs.Runs.{IsCutBy, IsLast, IsToBeWritten, Pending, pending_for, world_at}
-use Rattle.depot_session.specs.Telling.{TellsShelf}
+use Rattle.depot_session.specs.SessionRuns.{IsCutBy, IsLast, IsToBeWritten, Pending, pending_for, world_at}
+use Rattle.depot_session.specs.ScriptTelling.{TellsShelf}
 use Rattle.depot_session.specs.Turns.{IsAt, IsBroken, IsPlayed, IsPlayedInPart, IsRunning, Keeps, LeftBy, Plays, Steps, Turns}
 use Rattle.depot_session.proofs.CorrectSteps.{step_is_correct}
 use Rattle.depot_session.proofs.StepGrowth.{step_stays}
@@ -89,7 +89,7 @@ cut_from late early shelf_late shelf_early sink_late sink_early ending.Identity 
 to_be_written_so : (a b : Pending) → ((name : List ℕ) → a.names name → b.names name) → a.text ≡ b.text → (a.stands → b.stands) → (a.disk_failed → b.disk_failed) → (a.shelf_failed → b.shelf_failed) → (line : List ℕ) → IsToBeWritten a line → IsToBeWritten b line
 to_be_written_so a b names text stands disk shelf line (inl own) = inl (stands own.0, own.1 ∙ text)
 to_be_written_so a b names text stands disk shelf line (inr (inl failed)) = inr (inl (disk failed.0, failed.1))
-to_be_written_so a b names text stands disk shelf line (inr (inr failed)) = inr (inr (shelf failed.0, (failed.1.0, (names failed.1.0 failed.1.1.0, failed.1.1.1))))
+to_be_written_so a b names text stands disk shelf line (inr (inr (failed, (name, (named, is))))) = inr (inr (shelf failed, (name, (names name named, is))))
 
 -- and what stands at last does then
 pub last_so : (a b : Pending) → ((name : List ℕ) → a.names name → b.names name) → a.text ≡ b.text → (a.stands → b.stands) → (a.disk_failed → b.disk_failed) → (a.shelf_failed → b.shelf_failed) → (e : Ending) (last : List ℕ) → IsLast a e last → IsLast b e last

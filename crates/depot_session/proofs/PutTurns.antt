@@ -10,7 +10,7 @@ use Rattle.depot_deeds.specs.Printing.{IsPrintOf, lines_of_deed}
 use Rattle.depot_deeds.specs.PutPrinting.{SettlesPut}
 use Rattle.depot_deeds.proofs.PutTexts.{deed_within, put_lawful}
 use Rattle.depot_gossip.specs.Lasting.{LastsIn}
-use Rattle.depot_gossip.proofs.LastingLaws.{all_of, cut_of, lasts_alike, lasts_longer, none_in, to_append, IsPart}
+use Rattle.depot_gossip.proofs.LastingStreams.{all_of, cut_of, lasts_alike, lasts_longer, none_in, to_append, IsPart}
 use Rattle.depot_model.specs.Bundle.{Signs}
 use Rattle.depot_model.specs.Checks.{Setting}
 use Rattle.depot_model.specs.Lawful.{IsLawful, is_empty}
@@ -20,10 +20,10 @@ use Rattle.depot_model.specs.Replicas.{IsSameNode, KeepsDisk, StopsBy}
 use Rattle.depot_model.specs.Stops.{HasFront, Lasts}
 use Rattle.depot_model.specs.World.{Correct}
 use Rattle.depot_model.specs.declared.replica.Replica.{Ghosts}
-use Rattle.depot_node.specs.Putting.{Puts, put_records}
-use Rattle.depot_node.specs.declared.answer.PutDone.{PutDone}
-use Rattle.depot_node.specs.declared.answer.PutError.{PutError}
-use Rattle.depot_node.specs.declared.answer.PutError.TheVariants as refused
+use Rattle.depot_decide.specs.Putting.{Puts, put_records}
+use Rattle.depot_decide.specs.declared.put_answers.PutDone.{PutDone}
+use Rattle.depot_decide.specs.declared.put_answers.PutError.{PutError}
+use Rattle.depot_decide.specs.declared.put_answers.PutError.TheVariants as refused
 use Rattle.depot_outside.specs.Told.{Shelves, Sinks, Wrote}
 use Rattle.depot_schedule.specs.Language.{join}
 use Rattle.depot_script.specs.Scripts.{command_words}
@@ -31,15 +31,15 @@ use Rattle.depot_script.specs.declared.command.Command.{Command}
 use Rattle.depot_script.specs.declared.command.Command.TheVariants as command
 use Rattle.depot_session.specs.declared.ending.Ending.{Ending}
 use Rattle.depot_session.specs.declared.ending.Ending.TheVariants as ending
-use Rattle.depot_session.specs.Runs.{IsHandedOut, disk_line}
+use Rattle.depot_session.specs.SessionRuns.{IsHandedOut, disk_line}
 use Rattle.depot_session.specs.Sessions.{Session, Step, ending_of_put, printed_count, step_of}
-use Rattle.depot_session.specs.Telling.{IsFaultTold, IsUnchanged, Tells}
+use Rattle.depot_session.specs.ScriptTelling.{IsFaultTold, IsUnchanged, Tells}
 use Rattle.depot_session.specs.Turns.{HasNoFault, IsAt, IsBroken, IsRunning, Keeps, LeftBy, Turns}
-use Rattle.depot_session.proofs.Leaving.{leaves_front}
-use Rattle.depot_session.proofs.Told.{EndsCalmly, NamesFaults}
+use Rattle.depot_session.proofs.LeftJournals.{leaves_front}
+use Rattle.depot_session.proofs.ToldFaults.{EndsCalmly, NamesFaults}
 use Rattle.depot_session.proofs.Turning.{disk_told, told, without_memory}
 use Rattle.depot_world.specs.Deeds.{idle, put_by}
-use Rattle.depot_world.specs.Stops.{Deed}
+use Rattle.depot_world.specs.ScheduleStops.{Deed}
 
 -- ---- the records
 

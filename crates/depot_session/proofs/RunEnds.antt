@@ -12,19 +12,19 @@ use Rattle.depot_model.specs.Texts.{IsRoster}
 use Rattle.depot_model.specs.World.{IsCorrect, Read}
 use Rattle.depot_model.specs.declared.replica.Replica.{Ghosts}
 use Rattle.depot_node.specs.Starting.{LeavesFile, birth_after, started}
-use Rattle.depot_node.specs.declared.answer.StartError.{StartError}
-use Rattle.depot_node.specs.declared.answer.StartError.TheVariants as refused
+use Rattle.depot_node.specs.declared.start_error.StartError.{StartError}
+use Rattle.depot_node.specs.declared.start_error.StartError.TheVariants as refused
 use Rattle.depot_node.proofs.Started.{started_has_one, started_is_lawful}
 use Rattle.depot_outside.specs.Told.{Disks, Shelves, Sinks, Wrote, WroteFront}
 use Rattle.depot_script.specs.declared.command.Command.{Command}
 use Rattle.depot_world.proofs.GoodNodes.{read_grows}
 use Rattle.depot_session.specs.declared.ending.Ending.{Ending}
 use Rattle.depot_session.specs.declared.ending.Ending.TheVariants as ending
-use Rattle.depot_session.specs.Runs.{Answered, AreReadsOf, GoesShort, GoesWhole, HasFailed, IsCutBy, IsLast, IsNextHandedOut, LeavesFront, Pending, disk_line, ending_of_refusal, line_of_refusal, pending_in, world_at}
+use Rattle.depot_session.specs.SessionRuns.{Answered, AreReadsOf, GoesShort, GoesWhole, HasFailed, IsCutBy, IsLast, IsNextHandedOut, LeavesFront, Pending, disk_line, ending_of_refusal, line_of_refusal, pending_in, world_at}
 use Rattle.depot_session.specs.Sessions.{Files, Session, answers_of, session_from}
-use Rattle.depot_session.specs.Telling.{IsFaultTold, IsUnchanged, IsUnwritten}
+use Rattle.depot_session.specs.ScriptTelling.{IsFaultTold, IsUnchanged, IsUnwritten}
 use Rattle.depot_session.specs.Turns.{HasNoFault, IsPlayed, IsPlayedInPart, LeftBy, Plays, ending_by}
-use Rattle.depot_session.proofs.Leaving.{all_there}
+use Rattle.depot_session.proofs.LeftJournals.{all_there}
 use Rattle.depot_session.proofs.PlayedScripts.{last_so}
 use Rattle.depot_session.proofs.RunImages.{birth_front}
 use Rattle.depot_session.proofs.StepGrowth.{answers_grow}

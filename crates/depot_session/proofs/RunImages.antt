@@ -14,10 +14,10 @@ use Rattle.depot_model.specs.Roster.{has_node, key_of}
 use Rattle.depot_model.specs.Stops.{HasFront, HasRecords}
 use Rattle.depot_model.specs.Texts.{IsRoster}
 use Rattle.depot_node.specs.Starting.{IsKeyFault, IsNotStarted, IsStartedFrom, StartLeaves, birth_after}
-use Rattle.depot_node.specs.declared.answer.StartError.{StartError}
-use Rattle.depot_node.specs.declared.answer.StartError.TheVariants as refused
+use Rattle.depot_node.specs.declared.start_error.StartError.{StartError}
+use Rattle.depot_node.specs.declared.start_error.StartError.TheVariants as refused
 use Rattle.depot_outside.specs.Told.{Disks}
-use Rattle.depot_session.specs.Runs.{GoesOn, Settles}
+use Rattle.depot_session.specs.SessionRuns.{GoesOn, Settles}
 
 -- ---- a start
 

@@ -6,7 +6,7 @@ use Rattle.depot_model.proofs.FeedGrowth.{IsGrown, grown_none, grown_twice}
 use Rattle.depot_script.specs.declared.command.Command.{Command}
 use Rattle.depot_script.specs.declared.command.Command.TheVariants as command
 use Rattle.depot_world.specs.Deeds.{bundle_by}
-use Rattle.depot_world.specs.Stops.{Deed}
+use Rattle.depot_world.specs.ScheduleStops.{Deed}
 use Rattle.depot_world.proofs.DeedGrowth.{put_grows, get_grows, hello_grows, bundle_grows, give_grows}
 use Rattle.depot_session.specs.declared.ending.Ending.{Ending}
 use Rattle.depot_session.specs.Sessions.{Answers, Session, Step, answers_of, bundle_step, bundle_to, followed_by, step_of, take_from}

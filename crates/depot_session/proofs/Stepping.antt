@@ -12,11 +12,11 @@ use Rattle.depot_script.specs.declared.command.Command.{Command}
 use Rattle.depot_session.specs.declared.ending.Ending.{Ending}
 use Rattle.depot_session.specs.declared.ending.Ending.TheVariants as ending
 use Rattle.depot_script.specs.declared.command.Command.TheVariants as command
-use Rattle.depot_session.specs.Runs.{IsHandedOut}
+use Rattle.depot_session.specs.SessionRuns.{IsHandedOut}
 use Rattle.depot_session.specs.Sessions.{Files, Names, Session, Step, StoresAs, absent, shelf_line, stored}
-use Rattle.depot_session.specs.Telling.{IsFaultTold, IsUnchanged, LeavesOthers, Stores}
+use Rattle.depot_session.specs.ScriptTelling.{IsFaultTold, IsUnchanged, LeavesOthers, Stores}
 use Rattle.depot_session.specs.Turns.{IsRunning, LeftBy, Turns}
-use Rattle.depot_session.proofs.Leaving.{all_there, front_of_none}
+use Rattle.depot_session.proofs.LeftJournals.{all_there, front_of_none}
 use Rattle.depot_session.proofs.Turning.{absent_told, leaves_journal, shelf_told, untold, without_memory}
 
 -- ---- storing

@@ -4,7 +4,7 @@ use Rattle.std.specs.Prelude.{is_err}
 use Rattle.std.proofs.lemmas.List.{append-nil}
 use Rattle.depot_base.specs.declared.record.Record.{Record}
 use Rattle.depot_deeds.specs.Printing.{shown_text}
-use Rattle.depot_gossip.proofs.LastingLaws.{nothing_in}
+use Rattle.depot_gossip.proofs.LastingStreams.{nothing_in}
 use Rattle.depot_model.specs.Bundle.{Signs}
 use Rattle.depot_model.specs.Checks.{Setting}
 use Rattle.depot_model.specs.Lawful.{IsLawful}
@@ -19,11 +19,11 @@ use Rattle.depot_script.specs.declared.command.Command.TheVariants as command
 use Rattle.depot_session.specs.declared.ending.Ending.{Ending}
 use Rattle.depot_session.specs.declared.ending.Ending.TheVariants as ending
 use Rattle.depot_session.specs.Sessions.{Session, Step, printed_count, step_of}
-use Rattle.depot_session.specs.Telling.{IsUnchanged, Tells}
+use Rattle.depot_session.specs.ScriptTelling.{IsUnchanged, Tells}
 use Rattle.depot_session.specs.Turns.{IsAt, IsBroken, IsRunning, Keeps, Turns}
-use Rattle.depot_session.proofs.Leaving.{all_there, front_of_none}
+use Rattle.depot_session.proofs.LeftJournals.{all_there, front_of_none}
 use Rattle.depot_session.proofs.StepGrowth.{step_grows}
-use Rattle.depot_session.proofs.Told.{NamesFaults}
+use Rattle.depot_session.proofs.ToldFaults.{NamesFaults}
 use Rattle.depot_session.proofs.Turning.{told, without_memory}
 use Rattle.depot_world.specs.Deeds.{get_by, shown_of}
 use Rattle.depot_world.specs.Transcript.{ended}

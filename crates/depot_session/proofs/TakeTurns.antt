@@ -8,8 +8,8 @@ use Rattle.depot_model.specs.Feeding.{Closing, Feeding, feed_of, feeding_from, i
 use Rattle.depot_model.specs.Stops.{HasFront}
 use Rattle.depot_model.specs.declared.replica.Replica.{Ghosts}
 use Rattle.depot_gossip.specs.Lasting.{LastsFed}
-use Rattle.depot_gossip.specs.declared.error.FeedError.{FeedError}
-use Rattle.depot_gossip.specs.declared.error.FeedError.TheVariants as error
+use Rattle.depot_gossip.specs.declared.gossip_error.FeedError.{FeedError}
+use Rattle.depot_gossip.specs.declared.gossip_error.FeedError.TheVariants as error
 use Rattle.depot_outside.specs.Told.{Shelves, Sinks, Wrote}
 use Rattle.depot_schedule.specs.Language.{join}
 use Rattle.depot_script.specs.Scripts.{command_words}
@@ -19,12 +19,12 @@ use Rattle.depot_deeds.specs.Printing.{IsToldOf, SettlesFeed, lines_of_deed}
 use Rattle.depot_deeds.specs.declared.feeds.Fed.{Fed}
 use Rattle.depot_session.specs.declared.ending.Ending.{Ending}
 use Rattle.depot_session.specs.declared.ending.Ending.TheVariants as ending
-use Rattle.depot_session.specs.Runs.{disk_line}
+use Rattle.depot_session.specs.SessionRuns.{disk_line}
 use Rattle.depot_session.specs.Sessions.{Session, Step, absent, ending_of_take, lines_of_command, printed_count, step_of, take_from}
-use Rattle.depot_session.specs.Telling.{IsFaultTold, IsUnchanged, Tells}
+use Rattle.depot_session.specs.ScriptTelling.{IsFaultTold, IsUnchanged, Tells}
 use Rattle.depot_session.specs.Turns.{IsAt, Turns}
-use Rattle.depot_session.proofs.Keeping.{NeedsNone}
-use Rattle.depot_session.proofs.Leaving.{leaves_front}
+use Rattle.depot_session.proofs.KeptFaults.{NeedsNone}
+use Rattle.depot_session.proofs.LeftJournals.{leaves_front}
 use Rattle.depot_session.proofs.Turning.{disk_told, told, without_memory}
 
 -- ---- the answer

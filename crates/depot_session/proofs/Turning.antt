@@ -9,10 +9,10 @@ use Rattle.depot_script.specs.declared.command.Command.{Command}
 use Rattle.depot_session.specs.declared.ending.Ending.{Ending}
 use Rattle.depot_session.specs.declared.ending.Ending.TheVariants as ending
 use Rattle.depot_session.specs.Sessions.{Names, Step, shelf_line}
-use Rattle.depot_session.specs.Runs.{IsHandedOut, IsToBeWritten, Stands, disk_line, pending_for}
-use Rattle.depot_session.specs.Telling.{IsFaultTold, IsUnwritten, Tells}
+use Rattle.depot_session.specs.SessionRuns.{IsHandedOut, IsToBeWritten, Stands, disk_line, pending_for}
+use Rattle.depot_session.specs.ScriptTelling.{IsFaultTold, IsUnwritten, Tells}
 use Rattle.depot_session.specs.Turns.{IsBroken, LeftBy, Steps, Turns}
-use Rattle.depot_session.proofs.Leaving.{all_there}
+use Rattle.depot_session.proofs.LeftJournals.{all_there}
 
 -- nothing was written
 pub nothing_written : (sink : Sinks) → sink.after ≡ sink.before → Wrote sink []

@@ -1,4 +1,4 @@
 pub mod Sessions
-pub mod Runs
-pub mod Telling
+pub mod SessionRuns
+pub mod ScriptTelling
 pub mod Turns

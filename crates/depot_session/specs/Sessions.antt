@@ -12,7 +12,7 @@ use Rattle.depot_script.specs.Scripts.{command_words}
 use Rattle.depot_script.specs.declared.command.Command.{Command}
 use Rattle.depot_script.specs.declared.command.Command.TheVariants as command
 use Rattle.depot_world.specs.Deeds.{put_by, get_by, hello_by, bundle_by, give_by}
-use Rattle.depot_world.specs.Stops.{Deed}
+use Rattle.depot_world.specs.ScheduleStops.{Deed}
 use Rattle.depot_deeds.specs.Printing.{lines_of_deed}
 use Rattle.depot_node.specs.Starting.{started}
 use Rattle.depot_session.specs.declared.ending.Ending.{Ending}

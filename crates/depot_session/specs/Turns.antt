@@ -13,7 +13,7 @@ use Rattle.depot_session.specs.declared.ending.Ending.{Ending}
 use Rattle.depot_session.specs.declared.ending.Ending.TheVariants as ending
 use Rattle.depot_script.specs.declared.command.Command.{Command}
 use Rattle.depot_session.specs.Sessions.{Files, Session, Step, Answers, answers_of}
-use Rattle.depot_session.specs.Runs.{IsCutBy, IsHandedOut, IsLast, IsNextHandedOut, pending_for, pending_in, world_at}
+use Rattle.depot_session.specs.SessionRuns.{IsCutBy, IsHandedOut, IsLast, IsNextHandedOut, pending_for, pending_in, world_at}
 
 -- ---- the node, whatever came of it
 

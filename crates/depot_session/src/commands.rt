@@ -9,7 +9,7 @@ ghost use Rattle.depot_gossip.specs.Bundling.{Bundles};
 ghost use Rattle.depot_deeds.specs.Printing.{IsToldOf, SettlesBundle};
 ghost use Rattle.depot_session.specs.Sessions.{Session, loads_of, step_of};
 ghost use Rattle.depot_session.specs.Sessions as sessions;
-ghost use Rattle.depot_session.specs.Telling.{IsUnchanged, TellsShelf};
+ghost use Rattle.depot_session.specs.ScriptTelling.{IsUnchanged, TellsShelf};
 ghost use Rattle.depot_session.specs.Turns.{IsAt, IsRunning, Keeps, Turns};
 
 use crate::ending::Ending;

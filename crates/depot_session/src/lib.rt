@@ -2,20 +2,20 @@
 //!
 //! What a script comes to is defined in `specs/Sessions.antt`, command by command (`step_of`) and whole (`answers_of`): the lines, the
 //! journal, the files, and how the run ends. `run` starts the node from its disk and does just that, or is cut short by want of memory or
-//! by a fault of the disk, the shelf or the sink; `specs/Runs.antt` says what stands then, on the disk at any stop too.
+//! by a fault of the disk, the shelf or the sink; `specs/SessionRuns.antt` says what stands then, on the disk at any stop too.
 //!
 //! The node is known as a `Local`, a `Peer` that writes and reads. `commands` has the commands, each of which changes the node, then the
 //! shelf, and tells of it last; `telling` writes lines, `heads` the words of a command, `script` a whole script, and `running` the run with
 //! its start.
 #![tactic(auto)]
 
+mod command_heads;
 mod commands;
 mod ending;
-mod heads;
 mod local;
 mod running;
-mod script;
 mod telling;
+mod whole_script;
 
 pub use ending::Ending;
 pub use running::run;

@@ -3,7 +3,7 @@ ghost use Rattle.std.specs.Prelude.{◌≡◌, ◌≢◌, [], false, IfOk, IfErr
 ghost use Rattle.depot_deeds.specs.Printing.{shown_text};
 ghost use Rattle.depot_model.specs.Replicas.{IsSameNode, StopsBy, KeepsDisk};
 ghost use Rattle.depot_model.specs.Stops.{Lasts};
-ghost use Rattle.depot_node.specs.Putting.{Puts, put_records};
+ghost use Rattle.depot_decide.specs.Putting.{Puts, put_records};
 ghost use Rattle.depot_world.specs.Deeds.{shown_of};
 ghost use Rattle.depot_world.specs.Transcript.{ended};
 

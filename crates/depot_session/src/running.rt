@@ -4,13 +4,13 @@ ghost use Rattle.depot_answers.specs.Answers.{numbered, spaced, text_of_record_f
 ghost use Rattle.depot_model.specs.Roster.{key_of};
 ghost use Rattle.depot_model.specs.Texts.{IsRoster};
 ghost use Rattle.depot_outside.specs.Told.{disks, loads, shelves, sinks};
-ghost use Rattle.depot_session.specs.Runs.{AnswersScript, Begins, KeepsFile, LoadsFiles, Settles, ending_of_refusal, line_of_refusal};
-ghost use Rattle.depot_session.specs.Telling.{IsFaultTold, TellsShelf};
+ghost use Rattle.depot_session.specs.SessionRuns.{AnswersScript, Begins, KeepsFile, LoadsFiles, Settles, ending_of_refusal, line_of_refusal};
+ghost use Rattle.depot_session.specs.ScriptTelling.{IsFaultTold, TellsShelf};
 ghost use Rattle.depot_session.specs.Turns.{ending_by};
 
 use crate::ending::Ending;
-use crate::script::play;
 use crate::telling::write;
+use crate::whole_script::play;
 use depot_answers::{numbered, record_fault};
 use depot_base::{Bytes, Memory, NodeId};
 use depot_model::{RecordFault, Scheme, Signer};

@@ -4,11 +4,11 @@ ghost use Rattle.depot_outside.specs.Told.{LacksFile, WhereTold, Wrote, shelves,
 ghost use Rattle.depot_schedule.specs.Language.{join};
 ghost use Rattle.depot_script.specs.Scripts.{command_words};
 ghost use Rattle.depot_session.specs.Sessions.{printed_count, shelf_line, stored};
-ghost use Rattle.depot_session.specs.Runs.{disk_line};
-ghost use Rattle.depot_session.specs.Telling.{IsFaultTold, IsLoaded, Stores, Tells, TellsShelf};
+ghost use Rattle.depot_session.specs.SessionRuns.{disk_line};
+ghost use Rattle.depot_session.specs.ScriptTelling.{IsFaultTold, IsLoaded, Stores, Tells, TellsShelf};
 
+use crate::command_heads::head;
 use crate::ending::Ending;
-use crate::heads::head;
 use depot_base::{Bytes, Memory};
 use depot_outside::{OutError, Shelf, Sink};
 use depot_script::{Command, FileName};

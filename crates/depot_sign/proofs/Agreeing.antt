@@ -1,15 +1,16 @@
 -- The reader of a roster agrees with the roster's format: it stops exactly where the format goes wrong.
-use Rattle.std.proofs.Common.{◌≡◌, ℕ, zero, suc, ◌+◌, ◌<◌, ◌≤◌, Bool, true, false, cond, eqb, leb, ltb, ◌&&◌, List, [], ◌∷◌, ◌++◌, length, take, Option, Some, None, Result, Ok, Err, refl, arith, inl, inr}
+use Rattle.std.proofs.Common.{◌≡◌, ℕ, zero, suc, ◌+◌, ◌<◌, Bool, true, false, cond, eqb, leb, ltb, List, [], ◌∷◌, ◌++◌, length, take, Option, Some, None, Result, Ok, Err, refl, arith, inl, inr}
 use Rattle.std.specs.Int.{w16, from_be_bytes, is_in_range}
-use Rattle.std.proofs.lemmas.Bool.{and_from, eq-eqb, ne_eqb, le-leb, lt-leb, lt-ltb, le-ltb, cases_lt}
+use Rattle.std.proofs.lemmas.Bool.{eq-eqb, ne_eqb, lt-leb, lt-ltb, le-ltb, cases_lt, and_right}
 use Rattle.depot_base.specs.Cursor.{Cursor, advanced}
 use Rattle.depot_base.specs.Format.{◌>>=◌, number, constant, list_of, last_of, read_entries, whole}
 use Rattle.depot_base.specs.Parts.{roster_entry, roster_entry_rises}
 use Rattle.depot_base.specs.declared.key.RosterEntry.{RosterEntry}
 use Rattle.depot_model.specs.Texts.{roster}
+use Rattle.depot_base.proofs.Numbers.{is_in}
 use Rattle.depot_sign.specs.declared.text.Stop.{Stop}
 use Rattle.depot_sign.specs.declared.text.Stop.TheVariants as stop
-use Rattle.depot_sign.specs.Reading.{after_field, after_part, checked_count, count_or_stop, placed, entries_or_stop, roster_or_stop, whole_or_stop}
+use Rattle.depot_sign.specs.RosterReading.{after_field, after_part, checked_count, count_or_stop, placed, entries_or_stop, roster_or_stop, whole_or_stop}
 
 -- what the reader answers, beside what the format's reading gives
 abbrev pub Agrees : {V : Type 0} → Result V Stop → Result V ℕ → Type 0
@@ -32,15 +33,8 @@ agree_part (Err (stop.Twice node)) q f g a h = (a.0, rw a.1 refl)
 
 -- ---- the count
 
-in_range : (low high n : ℕ) → low ≤ n → n ≤ high → is_in_range low high n ≡ true
-in_range low high n above below = and_from _ _ (le-leb low n above) (le-leb n high below)
-
-not_both : (a b : Bool) → b ≡ false → (a && b) ≡ false
-not_both true b e = e
-not_both false b e = refl
-
 over : (low high n : ℕ) → high < n → is_in_range low high n ≡ false
-over low high n great = not_both (leb low n) (leb n high) (lt-leb n high great)
+over low high n great = and_right (leb low n) (leb n high) (lt-leb n high great)
 
 count_agrees : (short : Bool) (n at : ℕ) (d : Cursor)
     → Agrees (after_field (cond short (Err at) (cond (is_in_range 0 65535 n) (Ok (n, d)) (Err at))) (λ x. checked_count at x)) (cond short (Err at) (cond (is_in_range 1 256 n) (Ok (n, d)) (Err at)))
@@ -49,10 +43,10 @@ count_agrees false n at d =
     elim (cases_lt 256 n) [
       | inl great ↦ elim (cases_lt 65535 n) [
         | inl beyond ↦ rw (over 0 65535 n beyond, over 1 256 n great) refl
-        | inr within ↦ rw (in_range 0 65535 n (omega arith) within, over 1 256 n great, lt-ltb 256 n great) (at, refl)
+        | inr within ↦ rw (is_in 0 65535 n (omega arith) within, over 1 256 n great, lt-ltb 256 n great) (at, refl)
       ]
       | inr small ↦ elim (cases_lt 0 n) [
-        | inl some ↦ rw (in_range 0 65535 n (omega arith) (omega arith), in_range 1 256 n (omega arith) small, le-ltb 256 n small, ne_eqb n 0 (λ e. omega arith)) refl
+        | inl some ↦ rw (is_in 0 65535 n (omega arith) (omega arith), is_in 1 256 n (omega arith) small, le-ltb 256 n small, ne_eqb n 0 (λ e. omega arith)) refl
         | inr none ↦ let zero : n ≡ 0 = omega arith in rw zero refl
       ]
     ]

@@ -7,16 +7,14 @@ use Rattle.depot_base.specs.declared.fault.Fault.TheVariants as fault
 use Rattle.depot_base.specs.declared.key.RosterEntry.{RosterEntry}
 use Rattle.depot_base.specs.Format.{last_of}
 use Rattle.depot_base.specs.Parts.{roster_entry}
+use Rattle.depot_base.proofs.Loop.{failing}
 use Rattle.depot_sign.specs.declared.text.Stop.{Stop}
 use Rattle.depot_sign.specs.declared.text.Stop.TheVariants as stop
-use Rattle.depot_sign.specs.Reading.{stop_of, placed, unless_stopped, entries_or_stop, ReadsOrStops}
-use Rattle.depot_sign.proofs.Stops.{after_good}
+use Rattle.depot_sign.specs.RosterReading.{stop_of, placed, unless_stopped, entries_or_stop, ReadsOrStops}
+use Rattle.depot_sign.proofs.ReaderStops.{after_good}
 
 abbrev Read : Type 0
 Read = Result (List RosterEntry × Cursor) Stop
-
-abbrev failing : {V : Type 0} → Fault → Result V Fault
-failing f = Err f
 
 abbrev stopping : Stop → Result (List RosterEntry) Stop
 stopping s = Err s

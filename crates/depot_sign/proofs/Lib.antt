@@ -1,8 +1,9 @@
-pub mod Leaves
+pub mod KeyLeaves
 pub mod Keys
-pub mod Entries
+pub mod RosterEntries
 pub mod Agreeing
-pub mod Stops
-pub mod Causes
+pub mod ReaderStops
+pub mod RosterCauses
+mod RosterExamples
 pub mod EntryLoop
-pub mod Parsing
+pub mod RosterParsing

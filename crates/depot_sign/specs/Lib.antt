@@ -1,3 +1,3 @@
-pub mod Kept
-pub mod Reading
+pub mod KeptEntries
+pub mod RosterReading
 pub mod PlainLaws

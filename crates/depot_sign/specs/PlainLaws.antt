@@ -5,6 +5,7 @@ use Rattle.std.proofs.Common.{subst, sym, lit≤}
 use Rattle.std.proofs.lemmas.Bool.{lt-ltb, and_from}
 use Rattle.std.proofs.lemmas.Slice.Eq.{bytes_eq-Decides}
 use Rattle.sha2.proofs.Facts256.{length-sha256}
+use Rattle.depot_base.specs.declared.limits.TheConstants.{MOST_SIGNATURE}
 use Rattle.depot_base.specs.Cursor.{numeral}
 use Rattle.depot_base.specs.declared.key.PublicKey.{PublicKey}
 use Rattle.depot_model.specs.Plain.{plain_signature, plain_verifies}
@@ -17,7 +18,7 @@ signed_by_plain_verifies key seq body lt =
     and_from _ _ (lt-ltb _ _ lt) ((bytes_eq-Decides signature signature).1 refl)
 
 -- a signature has 32 bytes, which is at most 8,192
-pub length-plain_signature : (root : List ℕ) (seq : ℕ) (body : List ℕ) → length (plain_signature root seq body) ≤ 8192
+pub length-plain_signature : (root : List ℕ) (seq : ℕ) (body : List ℕ) → length (plain_signature root seq body) ≤ MOST_SIGNATURE
 unfolding plain_signature
 length-plain_signature root seq body =
-    subst (λ (n : ℕ). n ≤ 8192) (sym (length-sha256 (6 ∷ (root ++ (numeral w32 seq ++ body))))) (lit≤ tt)
+    subst (λ (n : ℕ). n ≤ MOST_SIGNATURE) (sym (length-sha256 (6 ∷ (root ++ (numeral w32 seq ++ body))))) (lit≤ tt)

@@ -14,10 +14,10 @@
 
 mod plain;
 mod roster;
-mod signed;
+mod signed_check;
 mod text;
 
 pub use depot_model::{RosterError, Scheme, Signer};
 pub use plain::{PlainScheme, PlainSigner};
 pub use roster::{Roster, rosters_are_prefix_free, rosters_are_read_in_one_way};
-pub use signed::verify_signed;
+pub use signed_check::verify_signed;

@@ -1,11 +1,13 @@
 //! The nodes that take part, and their public keys.
 ghost use Rattle.std.specs.Prelude.{◌≡◌, ◌≤◌, length, IfOk};
+ghost use Rattle.depot_base.specs.declared.limits.TheConstants.{MOST_NODES};
 ghost use Rattle.depot_base.specs.Reading.{IsPrefixFree, IsReadInOneWay};
 ghost use Rattle.depot_model.specs.Roster.{key_of, has_node};
 ghost use Rattle.depot_model.specs.RosterText.{ParsesRoster, AreReadInOneWay};
 ghost use Rattle.depot_model.specs.Texts.{IsRoster, roster, text_of_roster, hash_of_roster};
 
 use crate::text::{error_of, text_of, whole_roster};
+use depot_base::limits::MOST_NODES;
 use depot_base::{Bytes, Hash32, Memory, NodeId, PublicKey, RosterEntry, Sequence};
 use depot_model::{RosterError, hash_of};
 use std::alloc::Global;
@@ -23,7 +25,7 @@ pub struct Roster {
 impl Model for Roster {
     ghost use Rattle.std.specs.Prelude.{List};
     ghost use Rattle.depot_base.specs.declared.key.RosterEntry.{RosterEntry};
-    ghost use Rattle.depot_sign.specs.Kept.{IsKept};
+    ghost use Rattle.depot_sign.specs.KeptEntries.{IsKept};
 
     ghost Value = { List RosterEntry };
 
@@ -34,7 +36,7 @@ impl Model for Roster {
 
 impl Roster {
     /// The most nodes of a roster.
-    pub const MOST: u16 = 256;
+    pub const MOST: u16 = MOST_NODES;
 
     /// The roster that this text is of: version 01, kind 04, the number of entries as two bytes, and the entries. An entry
     /// has 35 bytes: the node's number as two bytes, the height as one and the root (docs/FORMATS.md).
@@ -99,7 +101,7 @@ impl Roster {
     pub fn count(&self) -> u32
         ensures number { result ≡ length self.now }
         ensures not_empty { 1 ≤ result }
-        ensures at_most_256 { result ≤ 256 }
+        ensures at_most_256 { result ≤ MOST_NODES }
     {
         self.entries.as_slice().len() as u32
     }

@@ -3,7 +3,7 @@ ghost use Rattle.std.specs.Prelude.{◌≡◌, List, [], Result, IfOk};
 ghost use Rattle.std.specs.Option.{option_copied};
 ghost use Rattle.depot_base.specs.declared.key.RosterEntry.{RosterEntry};
 ghost use Rattle.depot_base.specs.Cursor.{Cursor};
-ghost use Rattle.depot_sign.specs.Reading.{stop_of, error_of, IsEarlyStop, count_or_stop, placed, unless_stopped, entries_or_stop, roster_or_stop, whole_or_stop, ReadsOrStops, GivesOrStops};
+ghost use Rattle.depot_sign.specs.RosterReading.{stop_of, error_of, IsEarlyStop, count_or_stop, placed, unless_stopped, entries_or_stop, roster_or_stop, whole_or_stop, ReadsOrStops, GivesOrStops};
 ghost use Rattle.depot_sign.specs.declared.text.Stop.{Stop};
 ghost use Rattle.depot_sign.specs.declared.text.Stop.TheVariants as stop;
 ghost use Rattle.depot_model.specs.Texts.{IsRoster, text_of_roster};
@@ -68,7 +68,7 @@ pub fn error_of(stop: Stop) -> RosterError
 }
 
 /// The number of entries, 1 to 256.
-#[tactic(auto, unfolding(crate::specs::Reading::count_or_stop))]
+#[tactic(auto, unfolding(crate::specs::RosterReading::count_or_stop))]
 fn count_in(fields: &mut Fields<'_>) -> Result<u16, Stop>
     ensures { ReadsOrStops result fields.new (count_or_stop fields.old) }
 {
@@ -119,7 +119,7 @@ fn entries_in(
 }
 
 /// Takes the text of a roster from the front, and gives the roster's entries.
-#[tactic(auto, unfolding(crate::specs::Reading::roster_or_stop))]
+#[tactic(auto, unfolding(crate::specs::RosterReading::roster_or_stop))]
 fn roster_in(alloc: Global, fields: &mut Fields<'_>) -> Result<Sequence<RosterEntry>, Stop>
     ensures { ReadsOrStops result fields.new (roster_or_stop fields.old) }
 {

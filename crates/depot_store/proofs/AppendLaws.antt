@@ -15,9 +15,9 @@ use Rattle.depot_model.specs.Roster.{Verifies}
 use Rattle.depot_model.specs.Stops.{HasFront, LeavesAll}
 use Rattle.depot_journal.specs.Answers.{KeepsLimits}
 use Rattle.depot_journal.specs.Stable as stable
-use Rattle.depot_journal.specs.View.{View, Covers}
-use Rattle.depot_journal.specs.declared.error.AppendError.{AppendError}
-use Rattle.depot_journal.specs.declared.error.AppendError.TheVariants as refused
+use Rattle.depot_journal.specs.JournalView.{View, Covers}
+use Rattle.depot_journal.specs.declared.journal_error.AppendError.{AppendError}
+use Rattle.depot_journal.specs.declared.journal_error.AppendError.TheVariants as refused
 use Rattle.depot_journal.proofs.Moments as runs
 use Rattle.depot_laws.proofs.OwnTexts.{lawful_is_light, lawful_is_short}
 use Rattle.depot_laws.proofs.Splits.{lawful_front}
@@ -28,7 +28,7 @@ use Rattle.depot_store.specs.declared.growth.News.{News}
 use Rattle.depot_store.proofs.JournalTexts.{IsReadTo, all_of_records, as_many, blocks_long, both_texts, cut_texts, front_of_records, passes_none, read_all, whole_texts}
 use Rattle.depot_store.proofs.LastingLaws.{LastsOn, lasts_appended, lasts_found}
 use Rattle.depot_store.proofs.RoomLaws.{growth_takes}
-use Rattle.depot_store.proofs.SeenLaws.{lawful_inside, whole_inside}
+use Rattle.depot_store.proofs.SeenRecords.{lawful_inside, whole_inside}
 
 -- ---- what may be answered
 

@@ -10,7 +10,7 @@ use Rattle.depot_model.specs.Checks.{Setting}
 use Rattle.depot_model.specs.Journal.{accepted, foreign, foreign_by, own}
 use Rattle.depot_model.specs.Lawful.{IsLawful}
 use Rattle.depot_model.specs.Vouching.{records_of}
-use Rattle.depot_laws.proofs.Limits.{within_from_room}
+use Rattle.depot_laws.proofs.JournalLimits.{within_from_room}
 use Rattle.depot_laws.proofs.OwnTexts.{few_own, lawful_is_short}
 use Rattle.depot_laws.proofs.Splits.{lawful_front, lawful_last}
 use Rattle.depot_store.specs.NewRecords.{vouchers_of}
@@ -61,8 +61,12 @@ pub few_of_own : (here : Setting) (me : ℕ) (J : List Record) (r : Record) (t :
 few_of_own here me J r t l a = let w = within here J r l in omega (arith, w.own, a.own)
 
 -- the records in front of others
-pub few_records : (here : Setting) (J more : List Record) → IsLawful here (J ++ more) → length J ≤ 131072
+few_records : (here : Setting) (J more : List Record) → IsLawful here (J ++ more) → length J ≤ 131072
 few_records here J more l = lawful_is_short here J (lawful_front here J more l)
+
+-- the same of their count, where there are some that hold this
+pub few_counted : (P : List Record → Type 0) (here : Setting) (more : List Record) (count : ℕ) → (J : List Record) × (P J × ((count ≡ length J) × IsLawful here (J ++ more))) → count ≤ 131072
+few_counted P here more count (J, (holds, (is, l))) = omega (arith, is, few_records here J more l)
 
 -- own vouchers behind others
 pub few_vouchers : (here : Setting) (J : List Record) (xs : List NewVoucher) → IsLawful here (J ++ records_of (vouchers_of xs)) → length xs ≤ 131072

@@ -15,9 +15,10 @@ use Rattle.depot_model.specs.Records.{IsRecord, journal_bytes, text_of_record}
 use Rattle.depot_model.specs.Stops.{HasFront, LeavesAll}
 use Rattle.depot_journal.specs.Stable as stable
 use Rattle.depot_laws.proofs.Counts.{bytes_more}
+use Rattle.depot_base.proofs.GeneralLaws.{all_both}
 use Rattle.depot_store.specs.NewRecords.{AreTextsFor, bytes_of}
 use Rattle.depot_store.specs.RecordTexts.{AreTexts, records_of}
-use Rattle.depot_store.proofs.RecordTextLaws.{all_more, records_of_texts}
+use Rattle.depot_store.proofs.RecordTextLaws.{records_of_texts}
 
 -- ---- records and their texts
 
@@ -40,7 +41,7 @@ as_many J texts t = ap length t.are ∙ length-map J text_of_record
 -- of records and more behind them
 pub both_texts : (J new : List Record) (texts more : List (List ℕ)) → AreTextsFor J texts → AreTextsFor new more → AreTextsFor (J ++ new) (texts ++ more)
 both_texts J new texts more t u = record {
-  fit = all_more IsRecord J new t.fit u.fit;
+  fit = all_both IsRecord J new t.fit u.fit;
   are = ap (λ (x : List (List ℕ)). x ++ more) t.are ∙ ap (λ (x : List (List ℕ)). map text_of_record J ++ x) u.are ∙ sym (map-append text_of_record J new);
 }
 

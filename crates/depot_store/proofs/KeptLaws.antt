@@ -18,13 +18,14 @@ use Rattle.depot_model.specs.Roster.{Verifies}
 use Rattle.depot_model.specs.Texts.{id_of_update}
 use Rattle.depot_values.specs.Values as values
 use Rattle.depot_values.specs.declared.values.Values.{Values}
-use Rattle.depot_accept.specs.View.{View, IsAsBefore, IsStateOf, setting}
+use Rattle.depot_accept.specs.StateView.{View, IsAsBefore, IsStateOf, setting}
+use Rattle.depot_accept.proofs.StateLaws.{turned_state}
 use Rattle.depot_store.specs.StoreParts.{IsKept, Keeps, MayKeep, StillKeeps}
 use Rattle.depot_store.specs.RoomByCounts.{leaves_then}
 use Rattle.depot_store.specs.Totals.{AreTotals, AreTaken}
 use Rattle.depot_store.specs.declared.totals.Totals.{Totals}
 use Rattle.depot_store.proofs.HeldLaws.{Adds, held_grows, held_stays}
-use Rattle.depot_store.proofs.StateGrowth.{lawful_both, put_hash, silent_state, turned_state}
+use Rattle.depot_store.proofs.StateGrowth.{lawful_both, put_hash, silent_state}
 use Rattle.depot_store.proofs.TotalLaws.{put_totals, silent_totals, taken_behind, taken_totals, voucher_totals}
 
 -- where the node is the same

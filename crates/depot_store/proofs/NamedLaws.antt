@@ -1,13 +1,11 @@
 -- What a mark that is put in changes, and what new records name.
-use Rattle.std.proofs.Common.{◌≡◌, ℕ, Bool, true, false, cond, eqb, eq-eqb, ltb, arith, append_assoc, ◌&&◌, ◌||◌, List, [], ◌∷◌, ◌++◌, Option, Some, None, IsTrue, is_some, refl, sym, ap, ◌∙◌, subst}
+use Rattle.std.proofs.Common.{◌≡◌, ℕ, Bool, true, false, cond, eqb, eq-eqb, append_assoc, ◌&&◌, ◌||◌, List, [], ◌∷◌, ◌++◌, Option, Some, None, IsTrue, is_some, refl, sym, ap, ◌∙◌, subst}
 use Rattle.std.specs.BTreeMap.{get, IsUnchanged}
 use Rattle.std.specs.Cmp.Lexicographic.{slice_cmp}
 use Rattle.std.specs.List.{list_any}
-use Rattle.std.specs.Ordering.{is_eq, nat_cmp, ordering_then}
+use Rattle.std.specs.Ordering.{is_eq, nat_cmp}
 use Rattle.std.specs.Str.{bytes_eq}
-use Rattle.std.specs.declared.cmp.Ordering.{Ordering}
-use Rattle.std.specs.declared.cmp.Ordering.TheVariants.{Less, Equal, Greater}
-use Rattle.std.proofs.lemmas.Bool.{and_parts, and_from, ltb-true, ne_eqb, eqb-true}
+use Rattle.std.proofs.lemmas.Bool.{and_parts, and_from, eqb-true}
 use Rattle.std.proofs.lemmas.Grind.{flat_map-append}
 use Rattle.std.proofs.lemmas.List.{append-nil}
 use Rattle.std.proofs.lemmas.List.Folds.{list_any-append}
@@ -18,30 +16,19 @@ use Rattle.depot_base.specs.declared.record.Record.TheVariants.{Birth, OwnPut, O
 use Rattle.depot_base.specs.declared.statement.Statement.{Statement}
 use Rattle.depot_base.specs.declared.statement.Statement.TheVariants as statements
 use Rattle.depot_base.specs.declared.update.Update.{Update}
+use Rattle.depot_model.specs.Contents.{NamedValue, value_named}
 use Rattle.depot_model.specs.Journal.{accepted, accepted_by, is_wanted, update_in}
 use Rattle.depot_laws.proofs.Splits.{accepted_push, silent}
 use Rattle.depot_model.specs.Vouching.{records_of}
+use Rattle.depot_base.proofs.GeneralLaws.{or_none, is_eq-nat_cmp, is_eq-then}
 use Rattle.depot_store.specs.NewRecords.{records_in, vouchers_of}
-use Rattle.depot_store.specs.Named.{is_named, is_name, name_of, name_in_statement, name_in_record, name_in, Marks, compare_names, is_marked, has_mark, PutsMark, names, AreNamed}
+use Rattle.depot_store.specs.Named.{is_named, is_name, name_in_statement, name_in_record, name_in, Marks, compare_names, is_marked, has_mark, PutsMark, names, AreNamed}
 use Rattle.depot_store.specs.declared.growth.News.{News}
 use Rattle.depot_store.specs.declared.growth.News.TheVariants.{Nothing, One, Convicting, Vouchers}
-use Rattle.depot_store.specs.declared.named.NamedValue.{NamedValue}
 use Rattle.depot_store.specs.declared.named.NamedValues.{NamedValues}
 use Rattle.depot_store.proofs.VoucherRecords.{none_accepted, none_named}
 
 -- ---- the order of names
-
-is_eq-nat_cmp : (m n : ℕ) → is_eq (nat_cmp m n) ≡ eqb m n
-is_eq-nat_cmp m n = by_tests (ltb m n) (eqb m n) (λ below. ne_eqb m n (λ same. absurd (omega (arith, ltb-true m n below, same)))) where
-  by_tests : (a b : Bool) → (a ≡ true → b ≡ false) → is_eq (cond a Less (cond b Equal Greater)) ≡ b
-  by_tests true b apart = sym (apart refl)
-  by_tests false true apart = refl
-  by_tests false false apart = refl
-
-is_eq-then : (a b : Ordering) → is_eq (ordering_then a b) ≡ (is_eq a && is_eq b)
-is_eq-then Less b = refl
-is_eq-then Equal b = refl
-is_eq-then Greater b = refl
 
 -- two names compare as equal exactly where they are one
 same_name : (a b : NamedValue) → is_eq (compare_names a b) ≡ is_named a b.hash b.size
@@ -60,10 +47,6 @@ name_is a hash size e =
 pub puts_mark : (old new : Marks) (name : NamedValue) (mark : Bool) → ((q : NamedValue) → get compare_names new q ≡ cond (is_eq (compare_names name q)) (Some mark) (get compare_names old q)) → PutsMark old new name mark
 puts_mark old new name mark updates = record { marks = λ q. updates q ∙ ap (λ (b : Bool). cond b (Some mark) (get compare_names old q)) (same_name name q) }
 
-pub or_false : (b : Bool) → b ≡ (b || false)
-or_false true = refl
-or_false false = refl
-
 or_true : (b : Bool) → true ≡ (b || true)
 or_true true = refl
 or_true false = refl
@@ -74,7 +57,7 @@ pub marked : (old new : Marks) (name : NamedValue) → PutsMark old new name tru
 marked old new name p hash size = ap is_marked (p.marks (record { hash = hash; size = size })) ∙ by_test (is_named name hash size) where
   by_test : (b : Bool) → is_marked (cond b (Some true) (get compare_names old (record { hash = hash; size = size }))) ≡ (is_marked (get compare_names old (record { hash = hash; size = size })) || b)
   by_test true = or_true _
-  by_test false = or_false _
+  by_test false = or_none _
 
 none_marked : (o : Option Bool) → is_some o ≡ false → is_marked o ≡ false
 none_marked None e = refl
@@ -104,15 +87,15 @@ same_marks old new same n = rw same refl
 -- ---- what new records name
 
 -- the updates with one more name its value too
-wanted_more : (us : List Update) (u : Update) (hash : List ℕ) (size : ℕ) → is_wanted (us ++ u ∷ []) hash size ≡ (is_wanted us hash size || is_named (name_of u) hash size)
+wanted_more : (us : List Update) (u : Update) (hash : List ℕ) (size : ℕ) → is_wanted (us ++ u ∷ []) hash size ≡ (is_wanted us hash size || is_named (value_named u) hash size)
 unfolding is_wanted
 wanted_more us u hash size =
-    list_any-append (λ (t : Update). bytes_eq t.value_hash hash && eqb t.value_len size) us (u ∷ []) ∙ ap (λ (b : Bool). list_any (λ (t : Update). bytes_eq t.value_hash hash && eqb t.value_len size) us || b) (sym (or_false (bytes_eq u.value_hash hash && eqb u.value_len size)))
+    list_any-append (λ (t : Update). bytes_eq t.value_hash hash && eqb t.value_len size) us (u ∷ []) ∙ ap (λ (b : Bool). list_any (λ (t : Update). bytes_eq t.value_hash hash && eqb t.value_len size) us || b) (sym (or_none (bytes_eq u.value_hash hash && eqb u.value_len size)))
 
 silent_names : (J : List Record) (r : Record) (hash : List ℕ) (size : ℕ) → accepted_by r ≡ [] → is_wanted (accepted (J ++ r ∷ [])) hash size ≡ (is_wanted (accepted J) hash size || false)
-silent_names J r hash size none = ap (λ (us : List Update). is_wanted us hash size) (silent accepted_by J r none) ∙ or_false (is_wanted (accepted J) hash size)
+silent_names J r hash size none = ap (λ (us : List Update). is_wanted us hash size) (silent accepted_by J r none) ∙ or_none (is_wanted (accepted J) hash size)
 
-update_names : (J : List Record) (r : Record) (u : Update) (hash : List ℕ) (size : ℕ) → accepted_by r ≡ u ∷ [] → is_wanted (accepted (J ++ r ∷ [])) hash size ≡ (is_wanted (accepted J) hash size || is_named (name_of u) hash size)
+update_names : (J : List Record) (r : Record) (u : Update) (hash : List ℕ) (size : ℕ) → accepted_by r ≡ u ∷ [] → is_wanted (accepted (J ++ r ∷ [])) hash size ≡ (is_wanted (accepted J) hash size || is_named (value_named u) hash size)
 update_names J r u hash size brings = ap (λ (us : List Update). is_wanted us hash size) (accepted_push J r ∙ ap (λ (us : List Update). accepted J ++ us) brings) ∙ wanted_more (accepted J) u hash size
 
 record_names : (J : List Record) (r : Record) (hash : List ℕ) (size : ℕ) → is_wanted (accepted (J ++ r ∷ [])) hash size ≡ (is_wanted (accepted J) hash size || is_name (name_in_record r) hash size)
@@ -128,7 +111,7 @@ record_names J (Held value) hash size = silent_names J (Held value) hash size re
 
 -- the records of a growth name what they bring
 pub growth_names : (J : List Record) (news : News) (hash : List ℕ) (size : ℕ) → is_wanted (accepted (J ++ records_in news)) hash size ≡ (is_wanted (accepted J) hash size || is_name (name_in (records_in news)) hash size)
-growth_names J Nothing hash size = ap (λ (K : List Record). is_wanted (accepted K) hash size) (append-nil J) ∙ or_false (is_wanted (accepted J) hash size)
+growth_names J Nothing hash size = ap (λ (K : List Record). is_wanted (accepted K) hash size) (append-nil J) ∙ or_none (is_wanted (accepted J) hash size)
 growth_names J (One r h) hash size = record_names J r hash size
 growth_names J (Convicting p s id) hash size =
     ap (λ (K : List Record). is_wanted (accepted K) hash size) (sym (append_assoc J (Conviction p ∷ []) (Foreign s ∷ [])))
@@ -137,7 +120,7 @@ growth_names J (Convicting p s id) hash size =
 growth_names J (Vouchers xs) hash size =
     let new : List Record = records_of (vouchers_of xs) in
     ap (λ (us : List Update). is_wanted us hash size) (flat_map-append accepted_by J new ∙ ap (λ (us : List Update). accepted J ++ us) (none_accepted (vouchers_of xs)) ∙ append-nil (accepted J))
-    ∙ or_false (is_wanted (accepted J) hash size)
+    ∙ or_none (is_wanted (accepted J) hash size)
     ∙ ap (λ (n : Option NamedValue). is_wanted (accepted J) hash size || is_name n hash size) (sym (none_named (vouchers_of xs)))
 
 -- what is named grows with the records

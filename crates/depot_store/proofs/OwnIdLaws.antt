@@ -8,9 +8,9 @@ use Rattle.depot_base.specs.declared.record.Record.TheVariants.{OwnVoucher}
 use Rattle.depot_base.specs.declared.voucher.Voucher.{Voucher}
 use Rattle.depot_model.specs.Lists.{is_among}
 use Rattle.depot_model.specs.Vouching.{own_voucher_by, own_vouchers, is_mine_vouched}
-use Rattle.depot_vouch.specs.Vouching.{AreTogether}
+use Rattle.depot_vouch.specs.VouchedView.{AreTogether}
+use Rattle.depot_base.proofs.GeneralLaws.{or_none}
 use Rattle.depot_store.specs.OwnIds.{AreMine, AddsMine}
-use Rattle.depot_store.proofs.NamedLaws.{or_false}
 
 or_assoc : (a b c : Bool) → ((a || b) || c) ≡ (a || (b || c))
 or_assoc true b c = refl
@@ -26,11 +26,11 @@ mine_of_none J ids none empty = record { are = λ h. ap (is_among h) empty ∙ s
 
 -- nor do records without own vouchers
 pub adds_none : (new : List Record) (old then : List (List ℕ)) → own_vouchers new ≡ [] → then ≡ old → AddsMine old new then
-adds_none new old then none same h = ap (is_among h) same ∙ or_false (is_among h old) ∙ ap (λ (vs : List Voucher). is_among h old || list_any (λ (v : Voucher). is_among h v.ids) vs) (sym none)
+adds_none new old then none same h = ap (is_among h) same ∙ or_none (is_among h old) ∙ ap (λ (vs : List Voucher). is_among h old || list_any (λ (v : Voucher). is_among h v.ids) vs) (sym none)
 
 -- an own voucher names its ids
 pub adds_one : (v : Voucher) (old then : List (List ℕ)) → AreTogether old v.ids then → AddsMine old (OwnVoucher v ∷ []) then
-adds_one v old then t h = t h ∙ ap (λ (b : Bool). is_among h old || b) (or_false (is_among h v.ids))
+adds_one v old then t h = t h ∙ ap (λ (b : Bool). is_among h old || b) (or_none (is_among h v.ids))
 
 -- to the same ids
 pub adds_behind : (old mid then : List (List ℕ)) (new : List Record) → mid ≡ old → AddsMine mid new then → AddsMine old new then

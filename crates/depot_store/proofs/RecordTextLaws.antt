@@ -8,11 +8,10 @@ use Rattle.depot_base.specs.Parts.{node_number, digest}
 use Rattle.depot_base.specs.declared.update.Update.{Update}
 use Rattle.depot_base.specs.declared.record.Record.{Record}
 use Rattle.depot_base.specs.declared.record.Record.TheVariants.{Birth, OwnPut, OwnVoucher, Foreign, Conviction, Held}
-use Rattle.depot_base.proofs.Numbers.{number_within}
 use Rattle.depot_base.proofs.PartLaws.{u8_lawful, u32_lawful, node_lawful, digest_lawful}
-use Rattle.depot_model.specs.Texts.{update_fields, update_body, IsUpdate}
+use Rattle.depot_model.specs.Texts.{update_body, IsUpdate}
 use Rattle.depot_model.specs.Records.{birth, own_put, tagged, tag_of, record_text, IsRecord, text_of_record}
-use Rattle.depot_model.proofs.RecordLaws.{record_text_lawful}
+use Rattle.depot_model.proofs.RecordLaws.{record_text_lawful, short_value}
 use Rattle.depot_model.proofs.TextLaws.{update_body_lawful, voucher_body_lawful, signed_lawful, proof_lawful}
 use Rattle.depot_store.specs.RecordTexts.{listed_ok, record_of, records_of, IsTextOf}
 
@@ -27,10 +26,6 @@ record_of_text r fits = ap listed_ok (record_text_lawful.again 0 r fits)
 
 tag_short : (tag : ℕ) → (number w8 1 6).fits tag → length ((number w8 1 6).text tag) ≤ 1
 tag_short tag fits = (u8_lawful 1 6 (omega arith)).short tag fits
-
-value_short : (u : Update) → IsUpdate u → u.value_len ≤ 65536
-unfolding update_body update_fields
-value_short u fits = (number_within w32 0 65536 u.value_len fits.1.1.1.1.1.1.1.1.1.0).1
 
 birth_short : (b : ℕ × List ℕ) → birth.fits b → length (birth.text b) ≤ 34
 unfolding birth
@@ -48,7 +43,7 @@ own_put_short p fits =
       arith,
       body_length_short _ fits.0,
       update_body_lawful.short p.0 body,
-      value_short p.0 body,
+      short_value p.0 body,
       value,
       length-append ((number w32 0 4294967295).text (length (update_body.text p.0))) (update_body.text p.0 ++ (p.1 ++ [])),
       length-append (update_body.text p.0) (p.1 ++ []),
@@ -82,8 +77,3 @@ text_short r text t = omega (arith, ap length t.is, record_short r t.fits)
 pub records_of_texts : (rs : List Record) → AllByRecursion IsRecord rs → records_of (map text_of_record rs) ≡ rs
 records_of_texts [] all = refl
 records_of_texts (r ∷ rs) all = ap (λ (xs : List Record). xs ++ records_of (map text_of_record rs)) (record_of_text r all.0) ∙ ap (λ (xs : List Record). r ∷ xs) (records_of_texts rs all.1)
-
--- what holds of each of two lists
-pub all_more : {X : Type 0} (P : X → Type 0) (xs ys : List X) → AllByRecursion P xs → AllByRecursion P ys → AllByRecursion P (xs ++ ys)
-all_more P [] ys all more = more
-all_more P (x ∷ xs) ys all more = (all.0, all_more P xs ys all.1 more)

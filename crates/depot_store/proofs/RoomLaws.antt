@@ -24,18 +24,14 @@ use Rattle.depot_model.specs.Records.{IsRecord, journal_bytes, text_of_record}
 use Rattle.depot_model.specs.Room.{foreign_leaves, takes_update, take_an_update, full_with, full_by}
 use Rattle.depot_model.specs.Vouching.{records_of}
 use Rattle.depot_laws.proofs.Counts.{bytes_more, leaves_behind, taken_count}
-use Rattle.depot_laws.proofs.Limits.{within_from_room}
-use Rattle.depot_laws.proofs.Splits.{lawful_from_end}
+use Rattle.depot_laws.proofs.NewVouchers.{takes_none}
+use Rattle.depot_laws.proofs.OwnTexts.{lawful_is_light}
 use Rattle.depot_store.specs.NewRecords.{bytes_of, records_in, vouchers_of, IsGrowth, AreNew}
 use Rattle.depot_store.specs.RoomByCounts.{limit, leaves_then, leaves_with_record, leaves_with, writers_full}
 use Rattle.depot_store.specs.declared.growth.News.{News}
 use Rattle.depot_store.specs.declared.growth.News.TheVariants.{Nothing, One, Convicting, Vouchers}
 use Rattle.depot_store.proofs.RecordTextLaws.{record_short}
-use Rattle.depot_store.proofs.VoucherRecords.{no_leaves, none_taken}
-
--- a lawful journal has at most 2^30 bytes
-pub lawful_is_small : (here : Setting) (J : List Record) → IsLawful here J → journal_bytes J ≤ 2 ^ 30
-lawful_is_small here J l = lawful_from_end here (λ (x : List Record). journal_bytes x ≤ 2 ^ 30) (omega arith) (λ x r front allowed before. (within_from_room here.me x (r ∷ []) allowed.room).bytes) J l
+use Rattle.depot_store.proofs.VoucherRecords.{no_leaves}
 
 -- ---- the third limit
 
@@ -69,7 +65,7 @@ writers_with here J (Held value) l new = writers_none here.me J (Held value) ref
 
 -- own vouchers count no leaf
 writers_of_vouchers : (me : ℕ) (J : List Record) (vs : List Voucher) (us : List Update) (count : ℕ) (leaves : Option ℕ) → leaves ≡ leaves_with us count (records_of vs) → writers me J (records_of vs) ≡ writers_full (length (foreign_leaves me J)) leaves
-writers_of_vouchers me J vs us count leaves then = rw (none_taken vs) (ap (writers_full (length (foreign_leaves me J))) (sym (then ∙ no_leaves us count vs)))
+writers_of_vouchers me J vs us count leaves then = rw (takes_none vs) (ap (writers_full (length (foreign_leaves me J))) (sym (then ∙ no_leaves us count vs)))
 
 -- ---- all three
 
@@ -163,5 +159,5 @@ pub record Takes (news : News) (texts : List (List ℕ)) (bytes : ℕ) : Type 0 
 pub growth_takes : (here : Setting) (J : List Record) (news : News) (texts : List (List ℕ)) (bytes : ℕ) → IsGrowth news texts bytes → IsLawful here (J ++ records_in news) → Takes news texts bytes
 growth_takes here J news texts bytes g l =
     let many : length texts ≡ length (records_in news) = ap length g.made.are ∙ length-map (records_in news) text_of_record in
-    let small = lawful_is_small here (J ++ records_in news) l in
+    let small = lawful_is_light here (J ++ records_in news) l in
     record { least = omega (arith, bytes_least (records_in news), many, g.sum); most = omega (arith, small, bytes_more J (records_in news), g.sum) }

@@ -17,7 +17,8 @@ use Rattle.depot_model.specs.Lawful.{IsLawful}
 use Rattle.depot_model.specs.Room.{foreign_leaves}
 use Rattle.depot_model.specs.Texts.{id_of_update}
 use Rattle.depot_laws.proofs.Counts.{put_count, silent_leaves, taken_count}
-use Rattle.depot_laws.proofs.Splits.{accepted_push, flat_push, lawful_front, lawful_last, silent}
+use Rattle.depot_laws.proofs.Splits.{accepted_push, lawful_front, lawful_last, silent}
+use Rattle.depot_base.proofs.GeneralLaws.{flat_push}
 use Rattle.depot_store.specs.RoomByCounts.{leaves_then, number_after}
 use Rattle.depot_store.specs.Totals.{AreTotals, AreTaken}
 use Rattle.depot_store.specs.declared.totals.Totals.{Totals}

@@ -1,13 +1,11 @@
 -- The records of own vouchers tell of vouchers, and of nothing else.
 use Rattle.std.proofs.Common.{◌≡◌, ℕ, ◌+◌, List, [], ◌∷◌, ◌++◌, None, length, refl, ap, ◌∙◌}
-use Rattle.std.specs.List.{flat_map}
 use Rattle.std.proofs.lemmas.List.{map-append}
 use Rattle.depot_base.specs.declared.record.Record.TheVariants.{OwnVoucher}
 use Rattle.depot_base.specs.declared.update.Update.{Update}
 use Rattle.depot_base.specs.declared.voucher.Voucher.{Voucher}
 use Rattle.depot_model.specs.Bundle.{records_where}
 use Rattle.depot_model.specs.Journal.{accepted}
-use Rattle.depot_model.specs.Room.{takes_update}
 use Rattle.depot_model.specs.Vouching.{records_of}
 use Rattle.depot_store.specs.Named.{name_in}
 use Rattle.depot_store.specs.NewRecords.{vouchers_of}
@@ -19,11 +17,6 @@ use Rattle.depot_store.specs.declared.growth.NewVoucher.{NewVoucher}
 pub none_accepted : (vs : List Voucher) → accepted (records_of vs) ≡ []
 none_accepted [] = refl
 none_accepted (v ∷ vs) = none_accepted vs
-
--- nor do they take one of another
-pub none_taken : (vs : List Voucher) → flat_map takes_update (records_of vs) ≡ []
-none_taken [] = refl
-none_taken (v ∷ vs) = none_taken vs
 
 pub none_accepting : (n : ℕ) (vs : List Voucher) → records_where accepts n (records_of vs) ≡ []
 unfolding records_where

@@ -10,8 +10,8 @@ use Rattle.depot_base.specs.declared.record.Record.TheVariants.{OwnPut, Foreign}
 use Rattle.depot_base.specs.declared.statement.Statement.{Statement}
 use Rattle.depot_base.specs.declared.statement.Statement.TheVariants as statements
 use Rattle.depot_base.specs.declared.update.Update.{Update}
+use Rattle.depot_model.specs.Contents.{NamedValue, value_named}
 use Rattle.depot_model.specs.Journal.{is_wanted}
-use Rattle.depot_store.specs.declared.named.NamedValue.{NamedValue}
 use Rattle.depot_store.specs.declared.named.NamedValues.{NamedValues}
 
 -- ---- names
@@ -24,15 +24,12 @@ abbrev pub is_name : Option NamedValue → List ℕ → ℕ → Bool
 is_name None hash size = false
 is_name (Some n) hash size = is_named n hash size
 
-abbrev pub name_of : Update → NamedValue
-name_of u = record { hash = u.value_hash; size = u.value_len }
-
 abbrev pub name_in_statement : Statement → Option NamedValue
-name_in_statement (statements.Update u) = Some (name_of u)
+name_in_statement (statements.Update u) = Some (value_named u)
 name_in_statement (statements.Voucher v) = None
 
 abbrev pub name_in_record : Record → Option NamedValue
-name_in_record (OwnPut u value) = Some (name_of u)
+name_in_record (OwnPut u value) = Some (value_named u)
 name_in_record (Foreign s) = name_in_statement s.statement
 name_in_record r = None
 

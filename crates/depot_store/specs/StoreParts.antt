@@ -4,7 +4,7 @@ use Rattle.depot_base.specs.declared.record.Record.{Record}
 use Rattle.depot_model.specs.Journal.{accepted, held, value_with}
 use Rattle.depot_model.specs.Lawful.{IsLawful}
 use Rattle.depot_model.specs.Roster.{Verifies}
-use Rattle.depot_accept.specs.View.{View, IsStateOf, setting}
+use Rattle.depot_accept.specs.StateView.{View, IsStateOf, setting}
 use Rattle.depot_values.specs.Values as values
 use Rattle.depot_values.specs.declared.values.Values.{Values}
 use Rattle.depot_store.specs.Named.{AreNamed}

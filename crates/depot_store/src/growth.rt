@@ -1,7 +1,7 @@
 //! What a journal grows by in one call.
 ghost use Rattle.std.specs.Prelude.{◌≡◌, ◌≤◌, ◌+◌, [], ◌∷◌, length, IfOk};
 ghost use Rattle.std.specs.List.{AllByRecursion};
-ghost use Rattle.depot_base.specs.declared.limits.TheConstants.{MOST_RECORDS};
+ghost use Rattle.depot_base.specs.declared.limits.TheConstants.{MOST_RECORDS, MOST_RECORD};
 ghost use Rattle.depot_base.specs.declared.record.Record.TheVariants.{OwnVoucher, Foreign, Conviction};
 ghost use Rattle.depot_model.specs.Records.{IsRecord};
 ghost use Rattle.depot_model.specs.Texts.{IsProof, id_of_statement};
@@ -153,7 +153,7 @@ const FRAME: u64 = 5;
 fn size_of(text: &Bytes) -> u64
     requires { (r : Record) × IsTextOf r text.now }
     ensures size { result ≡ 5 + length text.now }
-    ensures small { result ≤ 108928 }
+    ensures small { result ≤ 5 + MOST_RECORD }
 {
     FRAME + text.as_slice().len() as u64
 }

@@ -2,12 +2,13 @@
 ghost use Rattle.std.specs.Prelude.{◌≡◌, ◌<◌, ◌≤◌, ◌+◌, [], ◌∷◌, List, length, OnOk, OnErr};
 ghost use Rattle.std.specs.List.{AllByRecursion};
 ghost use Rattle.sha2.specs.Sha256.{sha256};
+ghost use Rattle.depot_base.specs.declared.limits.TheConstants.{MOST_RECORDS};
 ghost use Rattle.depot_base.specs.declared.record.Record.{Record};
 ghost use Rattle.depot_base.specs.declared.record.Record.TheVariants.{OwnPut, OwnVoucher, Foreign, Conviction, Held};
 ghost use Rattle.depot_model.specs.Texts.{id_of_statement, id_of_update};
 ghost use Rattle.depot_model.specs.Vouching.{records_of};
-ghost use Rattle.depot_vouch.specs.Vouching.{AreWithin};
-ghost use Rattle.depot_accept.specs.View.{setting};
+ghost use Rattle.depot_vouch.specs.VouchedView.{AreWithin};
+ghost use Rattle.depot_accept.specs.StateView.{setting};
 ghost use Rattle.depot_laws.specs.Leaves.{follows_leaf};
 ghost use Rattle.depot_store.specs.NewRecords.{records_in, vouchers_of, IsHashOf, HasOwnId, AreHashed};
 ghost use Rattle.depot_store.specs.OwnIds.{AddsMine, HaveRoom};
@@ -99,7 +100,7 @@ impl<S: Scheme> Kept<S> {
         ensures err { OnErr result (StillKeeps self.old.state self.old.values self.old.totals self.new.state self.new.values self.new.totals) }
         ensures stays { setting S.verifies self.new.state ≡ setting S.verifies self.old.state }
     {
-        let hash = update.value_hash;
+        let hash = update.value_named().hash;
         self.values.reserve(&hash)?;
         let clock = update.clock;
         self.state.add_own(Statement::Update(update), id)?;
@@ -217,7 +218,7 @@ impl<S: Scheme> Kept<S> {
     {
         let totals = self.totals_with(&signed.statement, leaves);
         self.state.add_foreign(signed, id)?;
-        self.state.convict(proof.first.statement.writer());
+        self.state.convict(proof.accused());
         self.totals = totals;
         Ok(())
     }
@@ -228,7 +229,7 @@ impl<S: Scheme> Kept<S> {
         ensures kept { Keeps S.verifies self.old.state self.old.values self.old.totals (Conviction proof.now ∷ []) self.new.state self.new.values self.new.totals }
         ensures stays { setting S.verifies self.new.state ≡ setting S.verifies self.old.state }
     {
-        self.state.convict(proof.first.statement.writer());
+        self.state.convict(proof.accused());
     }
 
     /// Keeps a value of others.
@@ -262,7 +263,7 @@ impl<S: Scheme> Kept<S> {
     /// How many leaves of other writers there are once a growth is taken, where it takes an update of another.
     #[tactic(auto, using(crate::proofs::VoucherRecords::no_leaves))]
     pub(crate) fn leaves_with(&self, news: &News) -> Option<u32>
-        requires { self.now.totals.leaves ≤ 131072 }
+        requires { self.now.totals.leaves ≤ MOST_RECORDS }
         ensures { result ≡ leaves_with self.now.state.accepted self.now.totals.leaves (records_in news.now) }
     {
         match news {
@@ -275,7 +276,7 @@ impl<S: Scheme> Kept<S> {
 
     /// The same of a record.
     fn leaves_with_record(&self, item: &Record) -> Option<u32>
-        requires { self.now.totals.leaves ≤ 131072 }
+        requires { self.now.totals.leaves ≤ MOST_RECORDS }
         ensures { result ≡ leaves_with_record self.now.state.accepted self.now.totals.leaves item.now }
     {
         let Record::Foreign { signed } = item else {
@@ -286,7 +287,7 @@ impl<S: Scheme> Kept<S> {
 
     /// The same of a statement.
     fn leaves_then(&self, statement: &Statement) -> Option<u32>
-        requires { self.now.totals.leaves ≤ 131072 }
+        requires { self.now.totals.leaves ≤ MOST_RECORDS }
         ensures { result ≡ leaves_then self.now.state.accepted self.now.totals.leaves statement.now }
     {
         let Statement::Update(update) = statement else {

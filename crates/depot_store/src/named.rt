@@ -1,20 +1,13 @@
 //! The values that accepted updates name.
 ghost use Rattle.std.specs.Prelude.{◌≡◌, ◌||◌, ℕ, List, IsTrue, IsOk, OnOk, OnErr, None, false};
 ghost use Rattle.std.specs.BTreeMap.{IsUnchanged};
-ghost use Rattle.depot_store.specs.Named.{PutsMark, has_mark, is_name, name_in, name_in_record, name_in_statement, name_of};
+ghost use Rattle.depot_store.specs.Named.{PutsMark, has_mark, is_name, name_in, name_in_record, name_in_statement};
 ghost use Rattle.depot_store.specs.NewRecords.{records_in};
 
 use crate::growth::News;
-use depot_base::{Hash32, Memory, Record, Statement, Update};
+use depot_base::{Hash32, Memory, NamedValue, Record, Statement};
 use std::alloc::Global;
 use std::collections::BTreeMap;
-
-/// A value as an update names it: its SHA-256 and its length in bytes.
-#[derive(Clone, Copy, Debug, PartialEq, Eq, PartialOrd, Ord)]
-pub(crate) struct NamedValue {
-    pub(crate) hash: Hash32,
-    pub(crate) size: u32,
-}
 
 type Marks = BTreeMap<NamedValue, bool>;
 
@@ -110,7 +103,7 @@ fn name_in_record(item: &Record) -> Option<NamedValue>
     ensures { result ≡ name_in_record item.now }
 {
     match item {
-        Record::OwnPut { update, .. } => Some(name_of(update)),
+        Record::OwnPut { update, .. } => Some(update.value_named()),
         Record::Foreign { signed } => name_in_statement(&signed.statement),
         _ => None,
     }
@@ -121,17 +114,7 @@ fn name_in_statement(statement: &Statement) -> Option<NamedValue>
     ensures { result ≡ name_in_statement statement.now }
 {
     match statement {
-        Statement::Update(update) => Some(name_of(update)),
+        Statement::Update(update) => Some(update.value_named()),
         Statement::Voucher(_) => None,
-    }
-}
-
-/// The value that an update names.
-fn name_of(update: &Update) -> NamedValue
-    ensures { result ≡ name_of update.now }
-{
-    NamedValue {
-        hash: update.value_hash,
-        size: update.value_len,
     }
 }

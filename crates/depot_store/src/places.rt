@@ -1,6 +1,7 @@
 //! The places of the records that accepted the updates.
 ghost use Rattle.std.specs.Prelude.{◌≡◌, ◌≤◌, ◌++◌, [], ◌∷◌, length, nat_lt, OnOk, if◌then◌else◌};
 ghost use Rattle.std.specs.Option.{option_to_list};
+ghost use Rattle.depot_base.specs.declared.limits.TheConstants.{MOST_RECORDS};
 ghost use Rattle.depot_model.specs.Bundle.{records_where};
 ghost use Rattle.depot_model.specs.Journal.{update_in};
 ghost use Rattle.depot_store.specs.NewRecords.{records_in};
@@ -72,7 +73,7 @@ impl AcceptPlaces {
 /// record.
 #[tactic(auto, using(crate::proofs::VoucherRecords::none_accepting), unfolding(depot_model::specs::Bundle::records_where))]
 pub(crate) fn accept_place(news: &News, count: u32) -> Option<u32>
-    requires { count ≤ 131072 }
+    requires { count ≤ MOST_RECORDS }
     ensures { option_to_list result ≡ records_where accepts count (records_in news.now) }
 {
     match news {

@@ -2,7 +2,7 @@
 ghost use Rattle.std.specs.Prelude.{◌≡◌, ◌++◌, List, [], length, OnOk, OnErr};
 ghost use Rattle.depot_base.specs.declared.record.Record.{Record};
 ghost use Rattle.depot_model.specs.Lawful.{IsLawful};
-ghost use Rattle.depot_accept.specs.View.{IsStateOf, setting};
+ghost use Rattle.depot_accept.specs.StateView.{IsStateOf, setting};
 ghost use Rattle.depot_store.specs.NewRecords.{records_in, AreHashed};
 ghost use Rattle.depot_store.specs.RoomByCounts.{leaves_with};
 ghost use Rattle.depot_store.specs.StoreParts.{AreReadings};

@@ -1,5 +1,6 @@
 //! A growth is appended where there is room for it.
 ghost use Rattle.std.specs.Prelude.{◌≡◌, ◌≢◌, ◌↔◌, ◌≤◌, ◌+◌, ◌^◌, [], length, true, false, Some, IfErr, IsErrOf};
+ghost use Rattle.depot_base.specs.declared.limits.TheConstants.{MOST_RECORDS, MOST_JOURNAL};
 ghost use Rattle.depot_base.specs.declared.check.Full.{Full};
 ghost use Rattle.depot_model.specs.Journal.{accepted};
 ghost use Rattle.depot_model.specs.Lawful.{IsLawful, is_empty};
@@ -83,8 +84,8 @@ impl<D: Disk, S: Scheme> Store<D, S> {
     /// The first limit that so many records more, of so many bytes, pass, where there are so many leaves of other writers then.
     fn limit(&self, records: u64, bytes: u64, leaves: Option<u32>) -> Option<Full>
         requires whole { IsWhole self.now }
-        requires records { length self.now.records ≤ 131072 }
-        requires bytes { journal_bytes self.now.records ≤ 2 ^ 30 }
+        requires records { length self.now.records ≤ MOST_RECORDS }
+        requires bytes { journal_bytes self.now.records ≤ MOST_JOURNAL }
         requires few { records ≤ 2 ^ 40 }
         requires small { bytes ≤ 2 ^ 40 }
         ensures { result ≡ limit (length self.now.records) (journal_bytes self.now.records) (length (foreign_leaves self.now.me self.now.records)) (length self.now.records + records) (journal_bytes self.now.records + bytes) leaves }

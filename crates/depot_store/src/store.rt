@@ -1,11 +1,12 @@
 //! A journal on a disk, with what is read off it.
 ghost use Rattle.std.specs.Prelude.{◌≡◌, ◌<◌, ◌≤◌, List, ℕ, [], ◌∷◌, false, IsTrue, Some, None, length, option_copied, map, slice_get};
+ghost use Rattle.depot_base.specs.declared.limits.TheConstants.{MOST_RECORDS};
 ghost use Rattle.depot_model.specs.Journal.{accepted, held, is_wanted, value_with};
 ghost use Rattle.depot_model.specs.Records.{text_of_record};
 ghost use Rattle.depot_model.specs.Room.{foreign_leaves};
 ghost use Rattle.depot_model.specs.Stops.{LeavesAll};
 ghost use Rattle.depot_model.specs.Vouching.{is_mine_vouched};
-ghost use Rattle.depot_accept.specs.View.{IsStateOf, setting};
+ghost use Rattle.depot_accept.specs.StateView.{IsStateOf, setting};
 ghost use Rattle.depot_store.specs.RoomByCounts.{leaves_with};
 ghost use Rattle.depot_store.specs.Holdings.{standing};
 ghost use Rattle.depot_store.specs.Places.{accept_places};
@@ -169,7 +170,7 @@ impl<D: Disk, S: Scheme> Store<D, S> {
     /// How many leaves of other writers there are with a growth, where it takes an update of another. It takes no memory.
     pub(crate) fn leaves_with(&self, new: &Growth) -> Option<u32>
         requires runs { self.now.stopped ≡ false }
-        requires short { length self.now.records ≤ 131072 }
+        requires short { length self.now.records ≤ MOST_RECORDS }
         ensures { result ≡ leaves_with (accepted self.now.records) (length (foreign_leaves self.now.me self.now.records)) new.now }
     {
         self.readings.kept.leaves_with(&new.news)

@@ -1,43 +1,15 @@
 //! The program `depot`.
 //!
 //! It collects its words, makes the real shelf, disk and sink, calls `depot` and ends with its status. All that it does
-//! is said by the contract of `depot` in `top.rt`; what the real adapters do is trusted (`depot_outside`).
-//!
-//! `scan` stands in `body`, `ids`, `log`, `order`, `writes`, `lines` and `scan`; `key`, `judge`, `replay` and `node` in
-//! files of their names; `load` in `long_run`; how words are read in `words`.
+//! is said by the contract of `depot` in `depot_commands`; what the real adapters do is trusted (`depot_outside`).
 #![tactic(auto)]
 
-mod body;
-mod command;
-mod height;
-mod ids;
-mod judge;
-mod key;
-mod lines;
-mod load;
-mod log;
-mod long_run;
-mod node;
-mod order;
-mod outcome;
-mod replay;
-mod scan;
-mod status;
-#[cfg(test)]
-mod tests;
-mod top;
-mod word;
-mod words;
-mod writes;
-
 use depot_base::Memory;
+use depot_commands::{Status, Word, depot};
 use depot_outside::{RealDisk, RealShelf, RealSink};
-use status::Status;
 use std::env;
 use std::io::ErrorKind;
 use std::process::ExitCode;
-use top::depot;
-use word::Word;
 
 /// The words behind the program's name. Where one isn't UTF-8 they are no command, so none is given.
 fn words_of(rt: &HostRuntime) -> Result<Vec<Word>, Memory> {

@@ -1,1 +1,1 @@
-pub mod OwnTexts
+pub mod OwnRecordTexts

@@ -1,1 +1,1 @@
-pub mod SlotLaws
+pub mod ValueSlotLaws

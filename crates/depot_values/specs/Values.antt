@@ -1,6 +1,6 @@
 -- What is seen of the values: which are held, and for which hashes there is room.
 use Rattle.std.specs.Prelude.{ℕ, Bool, List, Option}
-use Rattle.depot_values.specs.Slots.{value_at, has_slot}
+use Rattle.depot_values.specs.ValueSlots.{value_at, has_slot}
 use Rattle.depot_values.specs.declared.values.Values.{Values}
 
 -- the value with this hash

@@ -4,7 +4,7 @@ ghost use Rattle.std.specs.HashMap.{IsUnchanged};
 ghost use Rattle.sha2.specs.Sha256.{sha256};
 ghost use Rattle.depot_base.specs.Sized.{IsValue};
 ghost use Rattle.depot_model.specs.declared.taken.Taken.TheVariants as taken;
-ghost use Rattle.depot_values.specs.Slots.{AreHashed, PutsSlot, has_slot};
+ghost use Rattle.depot_values.specs.ValueSlots.{AreHashed, PutsSlot, has_slot};
 
 use depot_base::{Hash32, Memory, Value};
 use depot_model::Taken;
@@ -38,7 +38,7 @@ impl Values {
     ghost use Rattle.depot_values.specs.Values.{held, has_room};
 
     /// No values. It takes no memory.
-    #[tactic(auto, using(crate::proofs::SlotLaws::slot_laws), unfolding(crate::specs::Values::held, crate::specs::Values::has_room))]
+    #[tactic(auto, using(crate::proofs::ValueSlotLaws::slot_laws), unfolding(crate::specs::Values::held, crate::specs::Values::has_room))]
     pub fn new(alloc: Global) -> Values
         ensures { (hash : List ℕ) → held result hash ≡ None }
     {
@@ -49,7 +49,7 @@ impl Values {
 
     /// Finds the memory for a value of this hash: after it the next `add` of one can't fail, whatever other hashes are
     /// reserved or added before. After Memory all is as before.
-    #[tactic(auto, using(crate::proofs::SlotLaws::slot_laws), unfolding(crate::specs::Values::held, crate::specs::Values::has_room))]
+    #[tactic(auto, using(crate::proofs::ValueSlotLaws::slot_laws), unfolding(crate::specs::Values::held, crate::specs::Values::has_room))]
     pub fn reserve(&mut self, hash: &Hash32) -> Result<(), Memory>
         ensures room { OnOk result (IsTrue (has_room self.new hash.now)) }
         ensures room_stays { (other : List ℕ) → IsTrue (has_room self.old other) → IsTrue (has_room self.new other) }
@@ -76,7 +76,7 @@ impl Values {
     }
 
     /// The same for a value whose SHA-256 is known, so that it isn't hashed once more.
-    #[tactic(auto, using(crate::proofs::SlotLaws::slot_laws), unfolding(crate::specs::Values::held, crate::specs::Values::has_room))]
+    #[tactic(auto, using(crate::proofs::ValueSlotLaws::slot_laws), unfolding(crate::specs::Values::held, crate::specs::Values::has_room))]
     pub fn add_hashed(&mut self, hash: Hash32, value: Value) -> Result<Taken, Memory>
         requires { hash ≡ sha256 value }
         ensures known { (result ≡ Ok taken.Known) ↔ IsSome (held self.old hash) }
@@ -94,7 +94,7 @@ impl Values {
     }
 
     /// The value with this hash. None exactly where there is none. It takes no memory.
-    #[tactic(auto, using(crate::proofs::SlotLaws::slot_laws), unfolding(crate::specs::Values::held, crate::specs::Values::has_room))]
+    #[tactic(auto, using(crate::proofs::ValueSlotLaws::slot_laws), unfolding(crate::specs::Values::held, crate::specs::Values::has_room))]
     pub fn get(&self, hash: &Hash32) -> Option<&[u8]>
         ensures value { option_copied result ≡ held self.now hash.now }
         ensures hashed { IfSome (held self.now hash.now) (λ value. sha256 value ≡ hash.now) }

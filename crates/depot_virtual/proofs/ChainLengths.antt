@@ -1,12 +1,12 @@
 -- How long the chains of a forest are, and where the next item stands.
-use Rattle.std.proofs.Common.{◌≡◌, ℕ, zero, suc, ◌+◌, ◌-◌, ◌<◌, ◌≤◌, List, [], ◌∷◌, ◌++◌, length, Bool, true, false, cond, eqb, Option, Some, refl, sym, ap, subst, ◌∙◌, arith, inl, inr, ◌⊎◌, true≢false}
+use Rattle.std.proofs.Common.{◌≡◌, ℕ, zero, suc, ◌+◌, ◌-◌, ◌<◌, ◌≤◌, List, [], ◌∷◌, ◌++◌, length, true, false, cond, eqb, Option, Some, refl, sym, ap, subst, ◌∙◌, arith, inl, inr, true≢false}
 use Rattle.std.proofs.lemmas.Bool.{cases_lt}
-use Rattle.std.proofs.lemmas.Bool.Decides.{nat_tests}
 use Rattle.std.proofs.lemmas.List.Sums.{sum_by-append}
 use Rattle.std.specs.List.{slice_get}
+use Rattle.depot_base.proofs.GeneralLaws.{from_pushed, to_pushed, one_or_none}
 use Rattle.depot_virtual.specs.declared.Spot.{Spot}
 use Rattle.depot_virtual.specs.Spots.{has_child, chains_of, chain_length, next_spot, spots_behind, spots}
-use Rattle.depot_virtual.proofs.Places.{from_pushed, to_pushed, at_pushed}
+use Rattle.depot_virtual.proofs.SpotPlaces.{at_pushed}
 use Rattle.depot_virtual.proofs.Placing.{spot_at, Placed, next_cases, child_there, placed_next, none_placed, all_placed, back_by}
 
 -- each place of a chain is below its length, and the last of these is taken
@@ -17,27 +17,17 @@ pub record Long (placed : List Spot) : Type 0 where
 chain_length-push : (placed : List Spot) (x : Spot) (c : ℕ) → chain_length (placed ++ x ∷ []) c ≡ chain_length placed c + cond (eqb x.chain c) 1 0
 chain_length-push placed x c = sum_by-append (λ (s : Spot). cond (eqb s.chain c) 1 0) placed (x ∷ []) ∙ omega arith
 
-chosen : (m n : ℕ) → ((m ≡ n) × (cond {A = ℕ} (eqb m n) 1 0 ≡ 1)) ⊎ ((m ≡ n → ⊥) × (cond {A = ℕ} (eqb m n) 1 0 ≡ 0))
-chosen m n = elim (either (eqb m n)) [
-  | inl yes_ ↦ inl (grind (arith, nat_tests), ap (λ (b : Bool). cond {A = ℕ} b 1 0) yes_)
-  | inr no_ ↦ inr ((λ same. absurd (grind (arith, nat_tests))), ap (λ (b : Bool). cond {A = ℕ} b 1 0) no_)
-]
-  where
-    either : (b : Bool) → (b ≡ true) ⊎ (b ≡ false)
-    either true = inl refl
-    either false = inr refl
-
 -- one item more, at its chain's length
 long_push : (placed : List Spot) (x : Spot) → Long placed → x.place ≡ chain_length placed x.chain → Long (placed ++ x ∷ [])
 long_push placed x l place = record {
   low = λ item s at. elim (from_pushed placed x item s at) [
     | inl h ↦ omega (arith, l.low item s h, chain_length-push placed x s.chain)
-    | inr h ↦ subst (λ (y : Spot). y.place < chain_length (placed ++ x ∷ []) y.chain) h.1 (elim (chosen x.chain x.chain) [
+    | inr h ↦ subst (λ (y : Spot). y.place < chain_length (placed ++ x ∷ []) y.chain) h.1 (elim (one_or_none x.chain x.chain) [
       | inl same ↦ omega (arith, place, chain_length-push placed x x.chain, same.1)
       | inr other ↦ absurd (other.0 refl)
     ])
   ];
-  last = λ chain n is. elim (chosen x.chain chain) [
+  last = λ chain n is. elim (one_or_none x.chain chain) [
     | inl same ↦
         let here : x.place ≡ n = omega (arith, place, is, chain_length-push placed x chain, same.1, ap (chain_length placed) same.0) in
         let x_is : x ≡ spot_at chain n = ap (λ (c : ℕ). spot_at c x.place) same.0 ∙ ap (λ (k : ℕ). spot_at chain k) here in

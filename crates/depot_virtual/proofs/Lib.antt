@@ -1,4 +1,4 @@
 pub mod ChainLengths
-pub mod Places
+pub mod SpotPlaces
 pub mod Placing
 pub mod Tips

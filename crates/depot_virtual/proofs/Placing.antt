@@ -6,9 +6,10 @@ use Rattle.std.proofs.lemmas.List.Sums.{sum_by-append}
 use Rattle.std.proofs.lemmas.Option.{slice_get_within}
 use Rattle.std.proofs.lemmas.Map.Keys.{any_passes_from_place}
 use Rattle.std.specs.List.{slice_get}
+use Rattle.depot_base.proofs.GeneralLaws.{from_pushed, to_pushed}
 use Rattle.depot_virtual.specs.declared.Spot.{Spot}
 use Rattle.depot_virtual.specs.Spots.{IsForest, IsTip, is_item, has_child, chains_of, next_chain, place_behind, next_spot, spots_behind, spots, LeadsBack}
-use Rattle.depot_virtual.proofs.Places.{from_pushed, to_pushed, at_pushed}
+use Rattle.depot_virtual.proofs.SpotPlaces.{at_pushed}
 
 abbrev pub spot_at : ℕ → ℕ → Spot
 spot_at chain place = record { chain = chain; place = place }

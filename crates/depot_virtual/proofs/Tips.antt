@@ -7,10 +7,11 @@ use Rattle.std.proofs.lemmas.List.Sums.{count_by-le-length}
 use Rattle.std.proofs.lemmas.List.Folds.{list_any-append}
 use Rattle.std.proofs.lemmas.Option.{slice_get_within}
 use Rattle.std.specs.List.{slice_get}
+use Rattle.depot_base.proofs.GeneralLaws.{from_pushed, to_pushed}
 use Rattle.depot_virtual.specs.declared.Spot.{Spot}
 use Rattle.depot_virtual.specs.Spots.{IsForest, is_item, has_child, chains_of, next_chain, place_behind, next_spot, spots, spots_behind, number_of_chains, IsTip}
 use Rattle.depot_virtual.specs.Numbered.{IsNumbered}
-use Rattle.depot_virtual.proofs.Places.{from_pushed, to_pushed, at_pushed, at_set, beside_set}
+use Rattle.depot_virtual.proofs.SpotPlaces.{at_pushed, at_set, beside_set}
 use Rattle.depot_virtual.proofs.Placing.{spot_at, Placed, Continues, Starts, next_cases, chains_start, chains_continue, all_placed, spots_next}
 
 -- ---- children

@@ -1,16 +1,13 @@
 -- A node that is put behind others.
-use Rattle.std.proofs.Common.{◌≡◌, ℕ, Result, Ok, Err, IsOk, IfOk, rules, List, [], ◌∷◌, ◌++◌, Bool, true, false, cond, eqb, ◌||◌, refl, ap, ◌∙◌, arith}
+use Rattle.std.proofs.Common.{◌≡◌, ℕ, Result, Ok, Err, IsOk, IfOk, rules, List, [], ◌∷◌, ◌++◌, Bool, true, false, cond, eqb, ◌||◌, refl, ap, ◌∙◌}
 use Rattle.std.specs.List.{list_any}
-use Rattle.std.proofs.lemmas.Bool.Decides.{nat_tests}
 use Rattle.indexmap.specs.IndexSet.{insert_key}
 use Rattle.depot_model.specs.Lists.{is_one_of}
-
-turn : (a b : ℕ) → eqb a b ≡ eqb b a
-turn a b = grind (arith, nat_tests)
+use Rattle.depot_base.proofs.GeneralLaws.{eqb_comm}
 
 turned : (ks : List ℕ) (node : ℕ) → list_any (eqb node) ks ≡ is_one_of node ks
 turned [] node = refl
-turned (k ∷ ks) node = let one : eqb node k ≡ eqb k node = turn node k in ap (λ (b : Bool). b || list_any (eqb node) ks) one ∙ ap (λ (b : Bool). eqb k node || b) (turned ks node)
+turned (k ∷ ks) node = let one : eqb node k ≡ eqb k node = eqb_comm node k in ap (λ (b : Bool). b || list_any (eqb node) ks) one ∙ ap (λ (b : Bool). eqb k node || b) (turned ks node)
 
 -- a node that isn't there goes last
 new_node : (ks : List ℕ) (node : ℕ) (b : Bool) → list_any (eqb node) ks ≡ b → is_one_of node ks ≡ false → cond b ks (ks ++ node ∷ []) ≡ ks ++ node ∷ []

@@ -1,2 +1,2 @@
 pub mod ConvictedNodes
-pub mod SlotLaws
+pub mod IdSlotLaws

@@ -1,2 +1,2 @@
-pub mod Vouching
-pub mod Slots
+pub mod VouchedView
+pub mod IdSlots

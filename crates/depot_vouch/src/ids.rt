@@ -2,8 +2,8 @@
 ghost use Rattle.std.specs.Prelude.{◌≡◌, [], ◌∷◌, true, IsOk, OnOk, OnErr};
 ghost use Rattle.std.specs.Map.{keys_of};
 ghost use Rattle.depot_model.specs.Lists.{is_among};
-ghost use Rattle.depot_vouch.specs.Vouching.{AreTogether, AreWithin};
-ghost use Rattle.depot_vouch.specs.Slots.{vouched_in, DoAscend};
+ghost use Rattle.depot_vouch.specs.VouchedView.{AreTogether, AreWithin};
+ghost use Rattle.depot_vouch.specs.IdSlots.{vouched_in, DoAscend};
 
 use depot_base::{Hash32, Ids, Memory};
 use std::alloc::Global;
@@ -24,8 +24,8 @@ type Slots = BTreeMap<Hash32, bool>;
 
 impl Model for VouchedIds {
     ghost use Rattle.std.specs.Map.{keys_of};
-    ghost use Rattle.depot_vouch.specs.Vouching.{IdsWithRoom};
-    ghost use Rattle.depot_vouch.specs.Slots.{vouched_in, DoAscend};
+    ghost use Rattle.depot_vouch.specs.VouchedView.{IdsWithRoom};
+    ghost use Rattle.depot_vouch.specs.IdSlots.{vouched_in, DoAscend};
 
     ghost Value = { IdsWithRoom };
 

@@ -13,7 +13,7 @@ mod ids;
 ghost use Rattle.std.specs.Prelude.{◌≡◌, ◌<◌, ◌≤◌, ◌+◌, ◌⊎◌, [], ◌∷◌, ◌++◌, length, true, false, OnOk, OnErr, IfOk};
 ghost use Rattle.indexmap.specs.IndexSet.{spare};
 ghost use Rattle.depot_model.specs.Lists.{is_among, is_one_of};
-ghost use Rattle.depot_vouch.specs.Vouching.{AreTogether, with_node};
+ghost use Rattle.depot_vouch.specs.VouchedView.{AreTogether, with_node};
 
 pub use crate::ids::VouchedIds;
 use depot_base::{Hash32, Ids, Memory, NodeId};
@@ -32,7 +32,7 @@ pub struct Vouched {
 impl Model for Vouched {
     ghost use Rattle.std.specs.Prelude.{length};
     ghost use Rattle.indexmap.specs.IndexSet.{spare};
-    ghost use Rattle.depot_vouch.specs.Vouching.{Vouching, HasRoom};
+    ghost use Rattle.depot_vouch.specs.VouchedView.{Vouching, HasRoom};
 
     ghost Value = { Vouching };
 

@@ -7,15 +7,12 @@ use Rattle.std.proofs.lemmas.List.Elements.{All-nil, All-cons, All-append}
 use Rattle.sha2.specs.Sha256.{sha256, digest_bytes}
 use Rattle.sha2.proofs.Facts256.{length-sha256}
 use Rattle.depot_base.specs.Cursor.{numeral}
-use Rattle.depot_model.specs.Winternitz.{secret, step, walk, value_at, values_from, leaf, leaf_of, inner_node, node, sibling, siblings_from, digest_of, digits_of, winternitz_signature, root_of}
+use Rattle.depot_model.specs.Winternitz.{secret, step, walk, value_at, values_from, node, sibling, siblings_from, digest_of, digits_of, winternitz_signature, root_of}
+use Rattle.depot_base.proofs.CallLaws.{numeral_long}
+use Rattle.depot_model.proofs.TreeNodes.{byte_small, length-node}
 use Rattle.depot_winter.proofs.DigitLemmas.{IsDigest, length-digits_of}
 
 -- ---- bytes
-
--- a byte is below 256
-byte_small : (i n : ℕ) → byte_at i n < 256
-byte_small zero n = omega arith
-byte_small (suc i) n = omega arith
 
 -- and so are the bytes of a number
 number_bytes_small : (k n : ℕ) → All (λ x. x < 256) (bytes_high_first k n)
@@ -40,11 +37,6 @@ digest_of_digest root i body = sha256_digest (5 ∷ (root ++ (numeral w32 i ++ b
 
 -- ---- lengths
 
--- four bytes
-pub length-numeral : (n : ℕ) → length (numeral w32 n) ≡ 4
-unfolding numeral
-length-numeral n = refl
-
 -- a chain leads from 32 bytes to 32 bytes
 pub length-walk : (i j p n : ℕ) (value : List ℕ) → length value ≡ 32 → length (walk i j p n value) ≡ 32
 unfolding walk step
@@ -62,12 +54,6 @@ unfolding values_from
 length-values_from seed i j [] = refl
 length-values_from seed i j (d ∷ ds) =
     omega (arith, length-append (value_at seed i j d) (values_from seed i (j + 1) ds), length-value_at seed i j d, length-values_from seed i (j + 1) ds)
-
--- 32 bytes a node
-pub length-node : (seed : List ℕ) (level k : ℕ) → length (node seed level k) ≡ 32
-unfolding node leaf_of leaf inner_node
-length-node seed zero k = length-sha256 _
-length-node seed (suc level) k = length-sha256 _
 
 -- 32 bytes a level
 pub length-siblings_from : (seed : List ℕ) (level k n : ℕ) → length (siblings_from seed level k n) ≡ 32 * n
@@ -92,7 +78,7 @@ length-winternitz_signature seed height i body =
       arith,
       length-append (numeral w32 i) (values ++ siblings),
       length-append values siblings,
-      length-numeral i,
+      numeral_long i,
       length-values_of_digest seed i digest (digest_of_digest (root_of seed height) i body),
       length-siblings_from seed 0 i height,
     )

@@ -1,9 +1,9 @@
-pub mod Chains
+pub mod HashChains
 pub mod Climbs
 pub mod DigitLemmas
 pub mod Ends
 pub mod Heights
-pub mod Laws
+pub mod SignatureLaws
 pub mod Lengths
 pub mod Levels
-pub mod Smaller
+pub mod SmallerLaws

@@ -1,4 +1,4 @@
 pub mod Signer
-pub mod Signing
+pub mod TreeSigning
 pub mod Smaller
 pub mod Tree

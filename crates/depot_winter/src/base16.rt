@@ -29,7 +29,7 @@ pub fn digits(digest: &Hash32) -> [u8; 67]
 
 /// The first place, from 0 to 66, at which the second digest's digit is smaller than the first's, and `None` for equal
 /// digests. For two different digests each has a smaller digit somewhere, so that no signature of one signs the other.
-#[tactic(auto, using(crate::proofs::Smaller::differ_both_ways))]
+#[tactic(auto, using(crate::proofs::SmallerLaws::differ_both_ways))]
 pub fn smaller_digit(first: &Hash32, second: &Hash32) -> Option<u8>
     ensures found { IfSome result (IsFirstSmaller first.now second.now) }
     ensures none { IsNone result ↔ (first.now ≡ second.now) }

@@ -17,12 +17,12 @@
 #![tactic(auto)]
 
 mod base16;
-mod chain;
+mod hash_chain;
 mod layout;
-mod leaf;
 mod scheme;
 mod signer;
 mod tree;
+mod tree_leaf;
 
 pub use base16::{digits, smaller_digit};
 pub use scheme::WinterScheme;

@@ -7,8 +7,8 @@ ghost use Rattle.depot_model.specs.Winternitz.{computed_root, digest_of, wintern
 
 use crate::base16::digits;
 use crate::layout::{SIBLINGS_START, VALUES_START, signature_length};
-use crate::leaf::leaf_of_values;
 use crate::tree::{climb, leaf_count};
+use crate::tree_leaf::leaf_of_values;
 use depot_base::{Hash32, PublicKey};
 use depot_model::Scheme;
 use sha2::{Digest, Sha256};
@@ -26,7 +26,7 @@ pub(crate) fn digest_of(root: &Hash32, seq: u32, body: &[u8]) -> Hash32
 }
 
 // Whether a tree has this leaf.
-#[tactic(auto, using(crate::proofs::Heights::leaf_of_high_tree))]
+#[tactic(auto, using(depot_base::proofs::Trees::leaf_of_high_tree))]
 fn has_leaf(height: u8, seq: u32) -> bool
     ensures { result ≡ nat_lt seq (2 ^ height) }
 {

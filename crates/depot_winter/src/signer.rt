@@ -1,11 +1,12 @@
 //! Who makes the signatures of a key.
 ghost use Rattle.std.specs.Prelude.{◌≡◌, ◌-◌, ◌^◌, ◌<◌, ◌≤◌, ◌++◌, ℕ, List, IfOk, OnOk};
+ghost use Rattle.depot_base.specs.declared.limits.TheConstants.{LEAST_HEIGHT, GREATEST_HEIGHT};
 ghost use Rattle.depot_model.specs.Winternitz.{node, root_of, siblings_from, values_from, winternitz_signature};
-ghost use Rattle.depot_winter.specs.Signing.{SignsWell, key_of_seed};
+ghost use Rattle.depot_winter.specs.TreeSigning.{SignsWell, key_of_seed};
 ghost use Rattle.depot_winter.specs.Tree.{IsTreeFront, node_count};
 
 use crate::base16::digits;
-use crate::chain::Chain;
+use crate::hash_chain::Chain;
 use crate::scheme::{WinterScheme, digest_of};
 use crate::tree::{level_start, sibling, tree_of_seed};
 use depot_base::{Bytes, Hash32, Memory, PublicKey};
@@ -22,7 +23,7 @@ pub struct WinterSigner {
     height: u8,
     // The nodes of the key's tree, level after level from the leaves to the root.
     nodes: Vec<Hash32>,
-    ghost at_most_12: { height ≤ 12 },
+    ghost at_most_12: { height ≤ GREATEST_HEIGHT },
     // This is true of every seed, and stands here for the laws of `Signer`, which can't cite this crate's proofs.
     ghost signs_well: { SignsWell seed height },
     ghost keeps_tree: { IsTreeFront seed height (node_count height) nodes.items },
@@ -51,10 +52,10 @@ fn push_values(
 impl WinterSigner {
     /// The signer of the key of a seed and a height, 2 to 12. It makes the whole tree, `2^height` leaves of about 1,100
     /// SHA-256 compressions each.
-    #[tactic(auto, using(crate::proofs::Laws::signs_well))]
+    #[tactic(auto, using(crate::proofs::SignatureLaws::signs_well))]
     pub fn from_seed(alloc: Global, seed: &Hash32, height: u8) -> Result<WinterSigner, Memory>
-        requires low { 2 ≤ height }
-        requires high { height ≤ 12 }
+        requires low { LEAST_HEIGHT ≤ height }
+        requires high { height ≤ GREATEST_HEIGHT }
         ensures key { IfOk result (λ signer. ⟦<WinterSigner as Signer>⟧.key_of signer ≡ key_of_seed seed.now height) }
         ensures signature { IfOk result (λ signer. ⟦<WinterSigner as Signer>⟧.signature_of signer ≡ winternitz_signature seed.now height) }
     {

@@ -1,10 +1,11 @@
 //! The tree over the leaves of a key. Levels are numbered from the leaves up, and the nodes of each from 0.
 ghost use Rattle.std.specs.Prelude.{◌≡◌, ◌+◌, ◌*◌, ◌^◌, ◌<◌, ◌≤◌, [], ◌∷◌, ◌++◌, length, IfOk};
+ghost use Rattle.depot_base.specs.declared.limits.TheConstants.{GREATEST_HEIGHT};
 ghost use Rattle.depot_model.specs.Winternitz.{climb, inner_node, sibling};
 ghost use Rattle.depot_winter.specs.Tree.{IsTreeFront, level_start, node_count};
 
 use crate::layout::hash_at;
-use crate::leaf::leaf_of_seed;
+use crate::tree_leaf::leaf_of_seed;
 use depot_base::{Hash32, Memory};
 use sha2::{Digest, Sha256};
 use std::alloc::Global;
@@ -58,7 +59,7 @@ pub(crate) fn leaf_count(height: u8) -> u32
 // Where the nodes of a level begin among those of a tree, after the levels below it.
 #[tactic(auto, using(crate::proofs::Levels::level_start_is, crate::proofs::Levels::levels_shrink))]
 pub(crate) fn level_start(height: u8, level: u8) -> usize
-    requires small { height ≤ 12 }
+    requires small { height ≤ GREATEST_HEIGHT }
     requires in_height { level ≤ height }
     ensures { result ≡ level_start height level }
 {
@@ -67,7 +68,7 @@ pub(crate) fn level_start(height: u8, level: u8) -> usize
 
 // The node that comes after the first ones of a tree: a leaf, or the parent of two of them.
 fn next_node(seed: &Hash32, height: u8, nodes: &[Hash32]) -> Hash32
-    requires small { height ≤ 12 }
+    requires small { height ≤ GREATEST_HEIGHT }
     requires front { IsTreeFront seed.now height (length nodes.now) nodes.now }
     requires unfinished { length nodes.now < node_count height }
     ensures { IsTreeFront seed.now height (length nodes.now + 1) (nodes.now ++ result ∷ []) }
@@ -84,7 +85,7 @@ fn next_node(seed: &Hash32, height: u8, nodes: &[Hash32]) -> Hash32
 // All nodes of the tree of a seed, level after level from the leaves to the root.
 #[tactic(auto, using(crate::proofs::Levels::front_none))]
 pub(crate) fn tree_of_seed(alloc: Global, seed: &Hash32, height: u8) -> Result<Vec<Hash32>, Memory>
-    requires { height ≤ 12 }
+    requires { height ≤ GREATEST_HEIGHT }
     ensures { IfOk result (λ nodes. IsTreeFront seed.now height (node_count height) nodes.items) }
 {
     let node_count = 2 * leaf_count(height) as usize - 1;

@@ -27,8 +27,8 @@ use Rattle.depot_laws.proofs.Candidates.{behind_is}
 use Rattle.depot_laws.proofs.HeldValues.{held_is_brought, held_as_is, value_with_is}
 use Rattle.depot_laws.proofs.Parcels.{candidates_for, sent_in_front, told_of_parcels}
 use Rattle.depot_laws.proofs.Splits.{given_by, flat_left, flat_gives}
-use Rattle.depot_laws.proofs.Tests.{all_both}
 use Rattle.depot_laws.proofs.Worlds.{giver_in}
+use Rattle.depot_base.proofs.GeneralLaws.{all_both}
 use Rattle.depot_world.proofs.OnlyBytes.{OnlyBytes, only_flat}
 use Rattle.depot_world.proofs.ByteTexts.{only_id, update_statement, only_frame}
 use Rattle.depot_world.proofs.ByteSignatures.{SignsBytes, only_signed_with}

@@ -4,15 +4,12 @@ use Rattle.std.specs.Int.{w32, from_be_bytes}
 use Rattle.std.proofs.lemmas.List.{append-nil}
 use Rattle.depot_base.specs.Format.{Format, ◌>>=◌, whole}
 use Rattle.depot_base.specs.Closed.{rest_of}
-use Rattle.depot_base.specs.declared.check.Check.{Check}
 use Rattle.depot_base.specs.declared.check.Full.{Full}
 use Rattle.depot_base.specs.declared.record.Record.{Record}
 use Rattle.depot_base.proofs.Combined.{whole_takes}
-use Rattle.depot_base.proofs.Laws.{Lawful, bind_ok, ok_is}
-use Rattle.depot_model.specs.declared.taken.Taken.{Taken}
-use Rattle.depot_model.specs.declared.taken.Taken.TheVariants.{New, Known}
+use Rattle.depot_base.proofs.FormatLaws.{Lawful, bind_ok, ok_is}
 use Rattle.depot_model.specs.Checks.{Setting, Given, given_statement, given_proof, given_value, answer_to, growth}
-use Rattle.depot_model.specs.Feeding.{given_by, take_frame, Feeding, feeding_from, feed_of, ill_formed, closed_by, passed, counted, after_outcome, says_more, fed_frame, fed_at, is_over, fed_byte, fed, form_of}
+use Rattle.depot_model.specs.Feeding.{given_by, take_frame, Feeding, feeding_from, feed_of, ill_formed, closed_by, passed, after_outcome, says_more, fed_frame, fed_at, is_over, fed_byte, fed, form_of}
 use Rattle.depot_model.specs.Frames.{Frame, FrameAt, whole_frame, open_frame, no_frame, is_tag, goes_astray, frame_at}
 use Rattle.depot_model.specs.Room.{full_by}
 use Rattle.depot_model.specs.Taking.{at_start, outcome_within, outcome_of, Form, as_statement, as_proof, as_value, given_as}
@@ -20,7 +17,8 @@ use Rattle.depot_model.specs.Texts.{signed, proof}
 use Rattle.depot_model.proofs.FeedGrowth.{IsGrown, grown_none}
 use Rattle.depot_model.proofs.TextLaws.{signed_lawful, proof_lawful}
 use Rattle.depot_laws.proofs.Feeds.{frame_leaves_none}
-use Rattle.depot_laws.proofs.Tests.{all_both}
+use Rattle.depot_base.proofs.GeneralLaws.{all_both}
+use Rattle.depot_laws.proofs.LawfulFeeds.{counted_journal}
 use Rattle.depot_world.proofs.OnlyBytes.{OnlyBytes, by_places, only_both, only_take, only_drop}
 use Rattle.depot_world.proofs.ByteJournals.{HoldsBytes, AllHold, GivesBytes, growth_holds}
 
@@ -63,11 +61,6 @@ grow J K new g holds = record {
 }
 
 -- ---- frames
-
-counted_journal : (n : ℕ) (answer : Result Taken Check) (new : List Record) (s : Feeding) → (passed n (counted answer new s)).journal ≡ s.journal ++ new
-counted_journal n (Ok New) new s = refl
-counted_journal n (Ok Known) new s = refl
-counted_journal n (Err c) new s = refl
 
 given_grows : (here : Setting) (J : List Record) (n : ℕ) (s : Feeding) (r : Result Given ℕ) → ((x : Given) → r ≡ Ok x → GivesBytes x) → HasGrown J s.journal → HasGrown J (after_outcome n s (outcome_of here s.journal r)).journal
 given_grows here J n s (Err at) gives g = subst (λ (K : List Record). HasGrown J K) (sym (append-nil s.journal)) g

@@ -22,8 +22,8 @@ use Rattle.depot_model.specs.Texts.{text_of_update, text_of_statement, text_of_s
 use Rattle.depot_model.proofs.Members.{all_at}
 use Rattle.depot_laws.proofs.Contrary.{opponent_is, named_opponent_is}
 use Rattle.depot_laws.proofs.Splits.{given_by}
-use Rattle.depot_laws.proofs.Tests.{all_both}
 use Rattle.depot_laws.proofs.Worlds.{giver_in}
+use Rattle.depot_base.proofs.GeneralLaws.{all_both}
 use Rattle.depot_world.proofs.OnlyBytes.{OnlyBytes}
 use Rattle.depot_world.proofs.ByteTexts.{only_proof, statement_in_signed, update_statement}
 

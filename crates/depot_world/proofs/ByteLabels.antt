@@ -21,7 +21,7 @@ use Rattle.depot_schedule.specs.declared.event.HistoryWord.{HistoryWord}
 use Rattle.depot_schedule.specs.declared.event.HistoryWord.TheVariants as history_word
 use Rattle.depot_schedule.specs.declared.event.Ref.{Ref}
 use Rattle.depot_world.specs.Run.{Made, Run, made_in, bytes_of, signed_of, referred}
-use Rattle.depot_world.specs.Signing.{Text, no_reference, counted_bytes, all_of, all_referred, prev_of, entries_of, history_by, with_history, drafted, update_text, updated, voucher_text, vouched_text, proof_by, proof_text, flipped, flip_at}
+use Rattle.depot_world.specs.FaultySigning.{Text, no_reference, counted_bytes, all_of, all_referred, prev_of, entries_of, history_by, with_history, drafted, update_text, updated, voucher_text, vouched_text, proof_by, proof_text, flipped, flip_at}
 use Rattle.depot_world.proofs.OnlyBytes.{OnlyBytes, only_both, only_sha256, only_zeros}
 use Rattle.depot_world.proofs.ByteTexts.{only_id, only_update, update_statement, only_voucher, only_proof, only_frame}
 use Rattle.depot_world.proofs.ByteOwn.{only_entries, only_history}

@@ -1,6 +1,6 @@
 -- The texts of updates, statements, proofs, hellos and frames are bytes, where their parts are.
 use Rattle.std.proofs.Common.{◌≡◌, ℕ, ◌≤◌, List, [], ◌∷◌, length, refl, sym, subst, arith}
-use Rattle.std.specs.List.{flat_map}
+use Rattle.std.specs.List.{AllByRecursion, flat_map}
 use Rattle.std.specs.Int.{w8, w16, w32, w64}
 use Rattle.depot_base.specs.Cursor.{numeral}
 use Rattle.depot_base.specs.Format.{number, bytes_of, list_of}
@@ -78,8 +78,11 @@ only_update u has = subst OnlyBytes (sym (update_text u)) (only_joined (update_p
 ))
 
 -- the hash that an update names
+hash_in_parts : (u : Update) → AllByRecursion OnlyBytes (update_parts u) → OnlyBytes u.value_hash
+hash_in_parts u (version, (kind, (writer, (seq, (clock, (prev, (key_length, (key, (value_hash, behind))))))))) = value_hash
+
 pub hash_in_update : (u : Update) → OnlyBytes (text_of_update u) → OnlyBytes u.value_hash
-hash_in_update u only = (joined_only (update_parts u) (subst OnlyBytes (update_text u) only)).1.1.1.1.1.1.1.1.0
+hash_in_update u only = hash_in_parts u (joined_only (update_parts u) (subst OnlyBytes (update_text u) only))
 
 -- ---- statements
 

@@ -12,7 +12,7 @@ use Rattle.depot_model.specs.World.{Correct}
 use Rattle.depot_model.proofs.FeedGrowth.{IsGrown, grown_none, feed_grows}
 use Rattle.depot_answers.specs.Answers.{text_of_limit, text_of_put}
 use Rattle.depot_world.specs.Deeds.{idle, grown, put_by, get_by, hello_by, bundle_with, bundle_by, give_by, restart_by}
-use Rattle.depot_world.specs.Stops.{Deed}
+use Rattle.depot_world.specs.ScheduleStops.{Deed}
 
 pub put_grows : (here : Setting) (c : Correct) (key value : List ℕ) → IsGrown c.journal (put_by here c key value).journal
 unfolding put_by

@@ -60,9 +60,7 @@ put_is s node k v fits = (key_is s k fits.1.0, value_is s v fits.1.1.0)
 
 update_is : (s : Schedule) (label : List ℕ) (writer seq clock : ℕ) (prev : _) (k v : List ℕ) (deps : _) (hash : HistoryWord) → update.fits s (event.Update label writer seq clock prev k v deps hash) → IsByteKey k × (IsByteValue v × IsByteHistory hash)
 unfolding update
-update_is s label writer seq clock prev k v deps hash fits =
-    let behind = fits.1.1.1.1.1 in
-    (key_is s k behind.0, (value_is s v behind.1.0, history_is hash behind.1.1.1.0))
+update_is s label writer seq clock prev k v deps hash (of_label, (of_writer, (of_seq, (of_clock, (of_prev, (of_key, (of_value, (of_deps, (of_history, same))))))))) = (key_is s k of_key, (value_is s v of_value, history_is hash of_history))
 
 raw_brings : (s : Schedule) (label bytes : List ℕ) → raw.fits s (event.Raw label bytes) → OnlyBytes bytes
 unfolding raw

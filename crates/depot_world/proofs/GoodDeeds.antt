@@ -28,11 +28,11 @@ use Rattle.depot_laws.proofs.Causes.{lawful_is_causal}
 use Rattle.depot_laws.proofs.LawfulFeeds.{feed_keeps}
 use Rattle.depot_laws.proofs.NewVouchers.{new_are_lawful}
 use Rattle.depot_laws.proofs.OwnTexts.{own_put_is_lawful}
-use Rattle.depot_laws.proofs.Tests.{all_both}
 use Rattle.depot_answers.specs.Answers.{text_of_limit, text_of_put}
+use Rattle.depot_base.proofs.GeneralLaws.{all_both}
 use Rattle.depot_world.specs.Deeds.{idle, grown, put_by, shown_of, read_of, get_by, hello_by, bundle_with, bundle_by, fed_by, give_by, restart_by}
-use Rattle.depot_world.specs.Latest.{latest_in}
-use Rattle.depot_world.specs.Stops.{Deed}
+use Rattle.depot_world.specs.ShownLatest.{latest_in}
+use Rattle.depot_world.specs.ScheduleStops.{Deed}
 use Rattle.depot_world.specs.Suite.{Stage, stands_on}
 use Rattle.depot_world.proofs.OnlyBytes.{OnlyBytes, by_places}
 use Rattle.depot_world.proofs.ByteBundles.{unvouched_are_foreign, bundle_vouchers_hold, bundle_holds}

@@ -15,8 +15,8 @@ use Rattle.depot_schedule.specs.declared.event.Event.TheVariants as event
 use Rattle.depot_answers.specs.Answers.{spaced}
 use Rattle.depot_world.specs.Deeds.{put_by, get_by, hello_by, bundle_by, give_by, restart_by}
 use Rattle.depot_world.specs.Run.{Station, Run, station_in, bytes_of, seen_with, with_station}
-use Rattle.depot_world.specs.Signing.{counted_bytes, no_reference, update_text, updated, vouched_text, proof_text, proof_in, flip_at}
-use Rattle.depot_world.specs.Stops.{Deed}
+use Rattle.depot_world.specs.FaultySigning.{counted_bytes, no_reference, update_text, updated, vouched_text, proof_text, proof_in, flip_at}
+use Rattle.depot_world.specs.ScheduleStops.{Deed}
 use Rattle.depot_world.specs.Suite.{Stage, stands_on, signs_on}
 use Rattle.depot_world.specs.Transcript.{Done, armed_at, done_by_update, judged_with, done}
 use Rattle.depot_world.proofs.OnlyBytes.{OnlyBytes, by_places, only_both, only_take, only_drop}

@@ -12,7 +12,7 @@ use Rattle.depot_model.specs.World.{Correct, Read, Shown, IsRead, NeverFall, val
 use Rattle.depot_laws.proofs.Splits.{lawful_front}
 use Rattle.depot_laws.proofs.Tests.{all_left}
 use Rattle.depot_world.specs.Run.{Armed, Station}
-use Rattle.depot_world.specs.Stops.{Deed, Went, standing_after, left_of, went_by, stopped_with, went_armed, went}
+use Rattle.depot_world.specs.ScheduleStops.{Deed, Went, standing_after, left_of, went_by, stopped_with, went_armed, went}
 use Rattle.depot_world.specs.Suite.{Stage, stands_on}
 use Rattle.depot_world.proofs.OnlyBytes.{OnlyBytes}
 use Rattle.depot_world.proofs.ByteJournals.{HoldsBytes, AllHold}

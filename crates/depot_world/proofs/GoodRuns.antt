@@ -10,8 +10,8 @@ use Rattle.depot_model.specs.Lists.{IsIn}
 use Rattle.depot_model.specs.Texts.{IsProof}
 use Rattle.depot_model.proofs.Members.{in_pushed}
 use Rattle.depot_world.specs.Run.{Station, Made, Run, station_in, put_station, with_label, with_station}
-use Rattle.depot_world.specs.Signing.{Text}
-use Rattle.depot_world.specs.Stops.{Deed, Went, went}
+use Rattle.depot_world.specs.FaultySigning.{Text}
+use Rattle.depot_world.specs.ScheduleStops.{Deed, Went, went}
 use Rattle.depot_world.specs.Suite.{Stage}
 use Rattle.depot_world.specs.Transcript.{Done, done_by_node, by_node, done_by_text}
 use Rattle.depot_world.proofs.OnlyBytes.{OnlyBytes}

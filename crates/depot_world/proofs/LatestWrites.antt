@@ -3,8 +3,6 @@ use Rattle.std.proofs.Common.{◌≡◌, ℕ, Bool, true, false, not, ◌&&◌, 
 use Rattle.std.specs.List.{list_any, filter}
 use Rattle.std.specs.Ordering.{is_lt}
 use Rattle.std.specs.Str.{bytes_eq}
-use Rattle.std.specs.declared.cmp.Ordering.{Ordering}
-use Rattle.std.specs.declared.cmp.Ordering.TheVariants.{Less, Equal, Greater}
 use Rattle.std.proofs.lemmas.Bool.{and_parts, and_from, false_from_ne_true, not-true}
 use Rattle.std.proofs.lemmas.Cmp.{nat_list_cmp_total}
 use Rattle.std.proofs.lemmas.Slice.Eq.{bytes_eq-Decides}
@@ -22,8 +20,9 @@ use Rattle.depot_model.proofs.Pasts.{past_in, past_of_listed}
 use Rattle.depot_model.proofs.RisingLists.{RisesBy}
 use Rattle.depot_model.proofs.RisingUpdates.{AreApart, apart_from_causal, apart_filter}
 use Rattle.depot_model.proofs.NamedIds.{has_id_from, has_id_to}
+use Rattle.depot_base.proofs.GeneralLaws.{less_is}
 use Rattle.depot_world.specs.Insertion.{order_by}
-use Rattle.depot_world.specs.Latest.{is_listed_before, is_last, latest_in}
+use Rattle.depot_world.specs.ShownLatest.{is_listed_before, is_last, latest_in}
 use Rattle.depot_world.proofs.InsertionLaws.{IsOrderOf, AllDiffer, from_order, in_order, order_rises}
 
 -- ---- the listed order
@@ -31,11 +30,6 @@ use Rattle.depot_world.proofs.InsertionLaws.{IsOrderOf, AllDiffer, from_order, i
 -- two updates have two ids
 abbrev HasOtherId : Update → Update → Type 0
 HasOtherId t u = id_of_update t ≡ id_of_update u → ⊥
-
-less_is : (o : Ordering) → is_lt o ≡ true → o ≡ Less
-less_is Less e = refl
-less_is Equal e = absurd cc
-less_is Greater e = absurd cc
 
 listed_or_above : (t u : Update) → is_listed_before t u ≡ false → HasOtherId u t → is_listed_before u t ≡ true
 listed_or_above t u not_before other =

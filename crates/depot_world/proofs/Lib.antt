@@ -1,4 +1,4 @@
-pub mod Rows
+pub mod WorkedSchedules
 pub mod InsertionLaws
 pub mod LatestWrites
 pub mod OnlyBytes

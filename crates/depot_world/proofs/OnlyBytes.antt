@@ -2,12 +2,14 @@
 use Rattle.std.proofs.Common.{ℕ, zero, suc, ◌<◌, List, [], ◌∷◌, ◌++◌, take, drop, replicate, inl, inr, arith, refl}
 use Rattle.std.specs.Prelude.{slice_index}
 use Rattle.std.specs.List.{AllByRecursion, flat_map}
-use Rattle.std.specs.Int.{Width, byte_len, byte_at, bytes_high_first, to_be_bytes, w32}
+use Rattle.std.specs.Int.{Width, byte_len, bytes_high_first, to_be_bytes, w32}
 use Rattle.sha2.specs.Sha256.{digest_bytes, final_hash, initial_hash_256, sha256}
 use Rattle.depot_base.specs.Cursor.{numeral}
 use Rattle.depot_model.specs.Lists.{IsIn}
-use Rattle.depot_laws.proofs.Tests.{all_left, all_right, all_both}
+use Rattle.depot_laws.proofs.Tests.{all_left, all_right}
 use Rattle.depot_laws.specs.Streams.{AreBytes}
+use Rattle.depot_base.proofs.GeneralLaws.{all_both}
+use Rattle.depot_model.proofs.TreeNodes.{byte_small}
 
 abbrev pub IsByte : ℕ → Type 0
 IsByte b = b < 256
@@ -67,13 +69,9 @@ joined_only (p ∷ parts) only = (only_left p (joined parts) only, joined_only p
 
 -- ---- numbers, digests, zeros
 
-byte_is_small : (k n : ℕ) → byte_at k n < 256
-byte_is_small zero n = omega arith
-byte_is_small (suc k) n = omega arith
-
 only_high_first : (k n : ℕ) → OnlyBytes (bytes_high_first k n)
 only_high_first zero n = tt
-only_high_first (suc k) n = (byte_is_small k n, only_high_first k n)
+only_high_first (suc k) n = (byte_small k n, only_high_first k n)
 
 pub only_numeral : (w : Width) (n : ℕ) → OnlyBytes (numeral w n)
 unfolding numeral

@@ -27,9 +27,9 @@ use Rattle.depot_schedule.specs.EventLines.{put, get}
 use Rattle.depot_schedule.specs.Schedules.{IsSchedule}
 use Rattle.depot_world.specs.Deeds.{put_by, get_by}
 use Rattle.depot_world.specs.Insertion.{insert_by, order_by}
-use Rattle.depot_world.specs.Latest.{latest_in}
+use Rattle.depot_world.specs.ShownLatest.{latest_in}
 use Rattle.depot_world.specs.Run.{run_of, world_by, station_in, seen_with, put_station, with_station}
-use Rattle.depot_world.specs.Stops.{went}
+use Rattle.depot_world.specs.ScheduleStops.{went}
 use Rattle.depot_world.specs.Suite.{suite_of, seed_of, stage_of}
 use Rattle.depot_world.specs.Transcript.{by_node, done, run_after, world_of}
 use Rattle.depot_world.proofs.GoodWorlds.{schedule_world_is_causal, schedule_world_convicts_none}

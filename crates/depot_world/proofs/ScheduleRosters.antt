@@ -1,5 +1,5 @@
 -- The roster of a schedule is a roster, and has each member.
-use Rattle.std.proofs.Common.{◌≡◌, ℕ, zero, suc, ◌≤◌, Bool, true, false, eqb, ltb, cond, is_some, List, [], ◌∷◌, length, map, Some, refl, ap, subst, ◌∙◌, inl, inr, arith}
+use Rattle.std.proofs.Common.{◌≡◌, ℕ, ◌≤◌, Bool, true, false, eqb, ltb, cond, is_some, List, [], ◌∷◌, length, map, Some, refl, ap, subst, ◌∙◌, inl, inr, arith}
 use Rattle.std.proofs.lemmas.Bool.Decides.{Decides-eqb, nat_tests}
 use Rattle.std.proofs.lemmas.List.{length-map}
 use Rattle.sha2.proofs.Facts256.{length-sha256}
@@ -11,24 +11,20 @@ use Rattle.depot_model.specs.Lists.{IsIn}
 use Rattle.depot_model.specs.Plain.{plain_root}
 use Rattle.depot_model.specs.Roster.{key_of, has_node}
 use Rattle.depot_model.specs.Texts.{roster, IsRoster}
-use Rattle.depot_model.specs.Winternitz.{node, leaf, leaf_of, inner_node}
+use Rattle.depot_model.specs.Winternitz.{node}
 use Rattle.depot_model.proofs.Members.{from_map, all_at, all_from, in_map}
 use Rattle.depot_model.proofs.RisingLists.{RisesBy}
 use Rattle.depot_laws.proofs.RisingBytes.{rising_follow}
 use Rattle.depot_schedule.specs.declared.member.Member.{Member}
 use Rattle.depot_schedule.specs.declared.schedule.Schedule.{Schedule}
 use Rattle.depot_schedule.specs.Schedules.{IsSchedule}
+use Rattle.depot_model.proofs.TreeNodes.{length-node}
 use Rattle.depot_world.specs.Insertion.{order_by}
 use Rattle.depot_world.specs.Suite.{Suite, suite_of, seed_of, entry_of, is_entry_before, roster_of, stage_of}
 use Rattle.depot_world.proofs.InsertionLaws.{IsOrderOf, AllDiffer, from_order, in_order, long_order, order_rises}
 use Rattle.depot_world.proofs.ScheduleMembers.{nodes_of, members_are, some_member}
 
 -- ---- roots
-
-long_node : (seed : List ℕ) (level k : ℕ) → length (node seed level k) ≡ 32
-unfolding node leaf_of leaf inner_node
-long_node seed zero k = length-sha256 _
-long_node seed (suc n) k = length-sha256 _
 
 long_plain : (seed : List ℕ) → length (plain_root seed) ≡ 32
 unfolding plain_root
@@ -37,7 +33,7 @@ long_plain seed = length-sha256 seed
 -- a root of either scheme has 32 bytes
 long_root : (winter : Bool) (seed : List ℕ) (height : ℕ) → length ((suite_of winter).root seed height) ≡ 32
 unfolding suite_of
-long_root true seed height = long_node seed height 0
+long_root true seed height = length-node seed height 0
 long_root false seed height = long_plain seed
 
 -- ---- the order of entries

@@ -13,8 +13,8 @@ use Rattle.depot_model.specs.Own.{next_own}
 use Rattle.depot_model.specs.Vouching.{records_of}
 use Rattle.depot_model.specs.World.{Correct, Read, Shown, value_under}
 use Rattle.depot_answers.specs.Answers.{spaced, numbered, text_of_limit, text_of_put, text_of_write, text_of_records, text_of_named, text_of_counts, name_of_more, text_of_report, text_of_refusal}
-use Rattle.depot_world.specs.Latest.{latest_in}
-use Rattle.depot_world.specs.Stops.{Deed, calls_to_append}
+use Rattle.depot_world.specs.ShownLatest.{latest_in}
+use Rattle.depot_world.specs.ScheduleStops.{Deed, calls_to_append}
 
 -- an event that leaves the node as it is
 abbrev pub idle : Correct → List ℕ → Deed

@@ -1,8 +1,8 @@
 pub mod Deeds
 pub mod Insertion
-pub mod Latest
+pub mod ShownLatest
 pub mod Run
-pub mod Signing
-pub mod Stops
+pub mod FaultySigning
+pub mod ScheduleStops
 pub mod Suite
 pub mod Transcript

@@ -15,8 +15,8 @@ use Rattle.depot_schedule.specs.declared.schedule.Schedule.{Schedule}
 use Rattle.depot_answers.specs.Answers.{spaced}
 use Rattle.depot_world.specs.Deeds.{put_by, get_by, hello_by, bundle_by, give_by, restart_by}
 use Rattle.depot_world.specs.Run.{Run, Station, run_of, world_by, station_in, bytes_of, seen_with, with_label, with_station}
-use Rattle.depot_world.specs.Signing.{Text, no_reference, counted_bytes, updated, update_text, vouched_text, proof_text, proof_in, point_by, flip_at}
-use Rattle.depot_world.specs.Stops.{Deed, Went, went}
+use Rattle.depot_world.specs.FaultySigning.{Text, no_reference, counted_bytes, updated, update_text, vouched_text, proof_text, proof_in, point_by, flip_at}
+use Rattle.depot_world.specs.ScheduleStops.{Deed, Went, went}
 use Rattle.depot_world.specs.Suite.{Stage, stage_of, stands_on, signs_on}
 
 -- an event that was done: what is printed behind the arrow, the lines behind that line, and the run after it

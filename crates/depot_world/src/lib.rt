@@ -7,6 +7,8 @@
 //! `laws` says that this is a world, whatever faulty nodes sign and send and wherever disks stop, so that the laws of worlds hold of it.
 #![tactic(auto)]
 
-mod laws;
+mod world_laws;
 
-pub use laws::{latest_writes_are_listed, schedules_make_worlds, worlds_of_schedules_are_causal};
+pub use world_laws::{
+    latest_writes_are_listed, schedules_make_worlds, worlds_of_schedules_are_causal,
+};

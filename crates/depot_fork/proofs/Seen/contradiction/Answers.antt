@@ -1,5 +1,5 @@
 use Rattle.std.proofs.Common.{List, map, ap, sym, subst, ◌∙◌}
-use Rattle.depot_fork.specs.declared.entry.Entry.{Entry}
+use Rattle.depot_fork.specs.declared.kept_entry.Entry.{Entry}
 use Rattle.depot_fork.specs.Keeping.{IsKeeping}
 use Rattle.depot_fork.specs.Opponents.{Kept}
 use Rattle.depot_fork.proofs.OpponentLaws.{of_voucher, of_update}

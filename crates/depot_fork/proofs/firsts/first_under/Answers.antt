@@ -1,7 +1,7 @@
 use Rattle.std.proofs.Common.{[], ◌∷◌}
 use Rattle.depot_fork.proofs.ListedPlaces.{is_next, whole_next}
 use Rattle.depot_fork.proofs.KeepLaws.{place_low}
-use Rattle.depot_fork.proofs.FirstLaws.{first_of_both}
+use Rattle.depot_fork.proofs.FirstOpponents.{first_of_both}
 use Rattle.depot_fork.proofs.firsts.first_under.Goals as goal
 
 pub contradiction_at-requires-clause-place : goal.contradiction_at-requires-clause-place

@@ -6,8 +6,8 @@ use Rattle.depot_gossip.specs.NodeCalls.{stream_by, TakesFrame}
 use Rattle.depot_gossip.proofs.ChunkLaws.{in_reach}
 use Rattle.depot_gossip.proofs.StreamCalls.{nothing_called_for, called_for_frame}
 use Rattle.depot_gossip.proofs.PieceLaws.{over_is_ill, chunk_is_dropped, chunk_is_open, chunk_is_ill, frame_is_fed, chunk_is_taken}
-use Rattle.depot_gossip.proofs.FeedGrowth.{nothing_fed, frame_fed}
-use Rattle.depot_gossip.proofs.LastingLaws.{nothing_in}
+use Rattle.depot_gossip.proofs.FeedRecords.{nothing_fed, frame_fed}
+use Rattle.depot_gossip.proofs.LastingStreams.{nothing_in}
 use Rattle.depot_gossip.proofs.feed.feed_chunk.Goals as goal
 
 pub returns-then-is_over-clause-feeds : goal.returns-then-is_over-clause-feeds

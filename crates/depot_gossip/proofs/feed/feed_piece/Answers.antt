@@ -10,8 +10,8 @@ use Rattle.depot_gossip.specs.NodeCalls.{stream_by}
 use Rattle.depot_gossip.proofs.ChunkLaws.{in_reach}
 use Rattle.depot_gossip.proofs.NodeCallLaws.{uncalled, kept_on}
 use Rattle.depot_gossip.proofs.StreamCalls.{called_for_all, called_on, called_for_chunk}
-use Rattle.depot_gossip.proofs.FeedGrowth.{piece_fed, piece_fails}
-use Rattle.depot_gossip.proofs.LastingLaws.{nothing_in, joined_in}
+use Rattle.depot_gossip.proofs.FeedRecords.{piece_fed, piece_fails}
+use Rattle.depot_gossip.proofs.LastingStreams.{nothing_in, joined_in}
 use Rattle.depot_gossip.proofs.PieceLaws.{under_way_first, under_way_on, under_way_fails}
 use Rattle.depot_gossip.proofs.feed.feed_piece.Goals as goal
 

@@ -10,7 +10,7 @@ use Rattle.depot_gossip.specs.Fronts.{IsStream}
 use Rattle.depot_gossip.proofs.ApartLaws.{unvouched_apart, unvouched_foreign, unvouched_fresh}
 use Rattle.depot_gossip.proofs.StreamCalls.{not_vouched_calls}
 use Rattle.depot_gossip.proofs.StreamLaws.{not_bundled, not_prepared_stops, not_prepared_keeps, no_disk, not_vouched, only_vouched, all_bundled, stops_alike, keeps_alike, same_fault, memory_stops, memory_keeps, good_stops, good_keeps}
-use Rattle.depot_gossip.proofs.LastingLaws.{nothing_lasts, nothing_in, lasts_longer}
+use Rattle.depot_gossip.proofs.LastingStreams.{nothing_lasts, nothing_in, lasts_longer}
 use Rattle.depot_gossip.proofs.VoucherGrowth.{vouched_in, not_vouched_in, vouched_lasts, not_vouched_lasts}
 use Rattle.depot_gossip.proofs.own_bundle.bundle.Goals as goal
 

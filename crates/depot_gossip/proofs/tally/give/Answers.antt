@@ -3,7 +3,7 @@ use Rattle.depot_model.proofs.CallsOnDisk.{calls_alike}
 use Rattle.depot_gossip.proofs.StreamCalls.{disk_told, disk_was_told}
 use Rattle.depot_gossip.proofs.GivenLaws.{proof_answers, statement_answers, value_answers}
 use Rattle.depot_gossip.proofs.FrameGrowth.{proof_brings, statement_brings, value_brings, told_runs, given_in}
-use Rattle.depot_gossip.proofs.LastingLaws.{lasts_alike}
+use Rattle.depot_gossip.proofs.LastingStreams.{lasts_alike}
 use Rattle.depot_gossip.proofs.tally.give.Goals as goal
 
 pub returns-in-1-clause-answers : goal.returns-in-1-clause-answers

@@ -4,9 +4,9 @@ use Rattle.depot_model.specs.Items.{children_of}
 use Rattle.depot_model.specs.Lists.{IsIn}
 use Rattle.depot_model.proofs.Elements.{in_at}
 use Rattle.depot_graph.specs.Kept.{updates_in}
-use Rattle.depot_history.specs.Chains.{IsCovered}
+use Rattle.depot_history.specs.PastChains.{IsCovered}
 use Rattle.depot_history.proofs.ItemPlaces.{index_of, below_more}
-use Rattle.depot_history.proofs.Chains.{child_is}
+use Rattle.depot_history.proofs.ChainLeaves.{child_is}
 use Rattle.depot_history.proofs.covered.has_covered_child.Goals as goal
 
 pub is_covered-requires-clause-item : goal.is_covered-requires-clause-item

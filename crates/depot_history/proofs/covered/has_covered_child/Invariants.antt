@@ -2,7 +2,7 @@ use Rattle.std.proofs.Common.{◌<◌, ℕ, List, get_or}
 use Rattle.depot_model.specs.Items.{children_of}
 use Rattle.depot_graph.specs.Kept.{updates_in}
 use Rattle.depot_graph.specs.UpdateRows.{IsJoinedRow}
-use Rattle.depot_history.specs.Chains.{IsCovered}
+use Rattle.depot_history.specs.PastChains.{IsCovered}
 use Rattle.depot_history.proofs.covered.has_covered_child.Given as goal
 
 abbrev pub invariant-loop-child : goal.invariant-loop-child

@@ -7,9 +7,9 @@ use Rattle.depot_model.proofs.Members.{all_from}
 use Rattle.depot_graph.specs.Causal.{causal_from_test}
 use Rattle.depot_graph.specs.Kept.{updates_in}
 use Rattle.depot_history.specs.declared.leaf.Leaf.{Leaf}
-use Rattle.depot_history.specs.Leaves.{leaf_in, standing}
+use Rattle.depot_history.specs.PastLeaves.{leaf_in, standing}
 use Rattle.depot_history.proofs.Leaving.{if_ok, updates_back, items_within, entries_are}
-use Rattle.depot_history.proofs.Chains.{leaf_within}
+use Rattle.depot_history.proofs.ChainLeaves.{leaf_within}
 use Rattle.depot_history.proofs.Sorting.{sorted_within}
 use Rattle.depot_history.proofs.history.changed_leaves.Goals as goal
 

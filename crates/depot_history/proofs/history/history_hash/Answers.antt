@@ -2,9 +2,9 @@ use Rattle.std.proofs.Common.{[], ◌∙◌, ap, List, ℕ, map}
 use Rattle.depot_model.specs.History.{by_id}
 use Rattle.depot_graph.specs.Causal.{causal_from_test}
 use Rattle.depot_graph.specs.Kept.{updates_in}
-use Rattle.depot_history.specs.Leaves.{leaf_in, standing}
+use Rattle.depot_history.specs.PastLeaves.{leaf_in, standing}
 use Rattle.depot_history.proofs.Leaving.{hash_of_past}
-use Rattle.depot_history.proofs.Chains.{last_are_leaves}
+use Rattle.depot_history.proofs.ChainLeaves.{last_are_leaves}
 use Rattle.depot_history.proofs.history.history_hash.Goals as goal
 
 pub returns : goal.returns

@@ -1,7 +1,7 @@
 use Rattle.std.proofs.Common.{◌≡◌, map, take}
 use Rattle.depot_model.specs.History.{by_id}
 use Rattle.depot_graph.specs.Kept.{updates_in}
-use Rattle.depot_history.specs.Leaves.{leaf_in, standing}
+use Rattle.depot_history.specs.PastLeaves.{leaf_in, standing}
 use Rattle.depot_history.proofs.history.sorted.Given as goal
 
 abbrev pub invariant-loop-item : goal.invariant-loop-item

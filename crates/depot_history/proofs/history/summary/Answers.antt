@@ -3,7 +3,7 @@ use Rattle.depot_model.proofs.Members.{all_from}
 use Rattle.depot_graph.specs.Causal.{causal_from_test}
 use Rattle.depot_graph.specs.Kept.{updates_in}
 use Rattle.depot_history.proofs.Leaving.{hash_of_all}
-use Rattle.depot_history.proofs.Chains.{leaf_within}
+use Rattle.depot_history.proofs.ChainLeaves.{leaf_within}
 use Rattle.depot_history.proofs.history.summary.Goals as goal
 
 pub sorted-requires : goal.sorted-requires

@@ -2,7 +2,7 @@ use Rattle.std.proofs.Common.{◌∙◌, ap, sym, List, ℕ, [], ◌++◌, appen
 use Rattle.std.proofs.lemmas.List.{append-nil}
 use Rattle.std.specs.List.{flat_map}
 use Rattle.sha2.specs.Sha256.{sha256}
-use Rattle.depot_history.specs.Leaves.{row_of}
+use Rattle.depot_history.specs.PastLeaves.{row_of}
 use Rattle.depot_history.specs.declared.leaf.Leaf.{Leaf}
 use Rattle.depot_history.proofs.leaf.hash_of_rows.Goals as goal
 

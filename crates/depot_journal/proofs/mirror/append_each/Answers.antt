@@ -4,8 +4,8 @@ use Rattle.depot_base.specs.Calls.{calls_to_append_all, made}
 use Rattle.depot_base.specs.File.{StandsFor, blocks}
 use Rattle.depot_base.proofs.CallLaws.{fails_next, made_next}
 use Rattle.depot_journal.specs.Mirrored.{bodies_at}
-use Rattle.depot_journal.specs.Steps.{IsBeforeOrAfter, StandsBetween}
-use Rattle.depot_journal.proofs.Blocks.{on_err}
+use Rattle.depot_journal.specs.WriteSteps.{IsBeforeOrAfter, StandsBetween}
+use Rattle.depot_journal.proofs.RecordBlocks.{on_err}
 use Rattle.depot_journal.proofs.Moments.{started, weaker, joined}
 use Rattle.depot_journal.proofs.Walk.{blocks_front, gate_behind, next_text, next_long, between_first, between, next_stands}
 use Rattle.depot_journal.proofs.mirror.append_each.Goals as goal

@@ -4,7 +4,7 @@ use Rattle.depot_base.specs.Calls.{calls_to_append_all, made}
 use Rattle.depot_base.specs.Disk.{LeavesOnly, Only}
 use Rattle.depot_base.specs.File.{blocks}
 use Rattle.depot_journal.specs.Mirrored.{IsMirror, bodies_at}
-use Rattle.depot_journal.specs.Steps.{StandsBetween, StandsTo}
+use Rattle.depot_journal.specs.WriteSteps.{StandsBetween, StandsTo}
 use Rattle.depot_journal.proofs.mirror.append_each.Given as goal
 
 abbrev pub invariant-loop-text : goal.invariant-loop-text

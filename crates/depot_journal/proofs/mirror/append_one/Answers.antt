@@ -1,9 +1,9 @@
 use Rattle.std.proofs.Common.{rules, ◌≡◌, ◌++◌, ◌+◌, ◌-◌, ◌∷◌, [], List, ℕ, length, take, drop, subst, sym, ap, ◌∙◌, arith, vec_len}
 use Rattle.depot_base.specs.File.{closed_block, framed}
 use Rattle.depot_journal.specs.Mirrored.{bodies_at}
-use Rattle.depot_journal.specs.Steps.{StandsTo}
+use Rattle.depot_journal.specs.WriteSteps.{StandsTo}
 use Rattle.depot_journal.specs.declared.span.Span.{Span}
-use Rattle.depot_journal.proofs.Blocks.{if_not_err}
+use Rattle.depot_journal.proofs.RecordBlocks.{if_not_err}
 use Rattle.depot_journal.proofs.Mirrors.{behind_gate, open_block, put_long, closed_long, bodies_more, mirror_more}
 use Rattle.depot_journal.proofs.mirror.append_one.Goals as goal
 

@@ -2,8 +2,8 @@ use Rattle.std.proofs.Common.{rules, ◌+◌, ◌∷◌, [], IsTrue, List, ℕ, 
 use Rattle.depot_base.specs.Disk.{IsWritten, Only, LeavesOnly}
 use Rattle.depot_base.specs.Calls.{FailsAmong, made, syncs, writes_at}
 use Rattle.depot_base.proofs.CallLaws.{fails_later, fails_wider, made_later}
-use Rattle.depot_journal.specs.Steps.{IsBeforeOrAfter}
-use Rattle.depot_journal.proofs.Blocks.{appended, on_err, on_err_so, on_ok}
+use Rattle.depot_journal.specs.WriteSteps.{IsBeforeOrAfter}
+use Rattle.depot_journal.proofs.RecordBlocks.{appended, on_err, on_err_so, on_ok}
 use Rattle.depot_journal.proofs.Moments.{weaker, joined}
 use Rattle.depot_journal.proofs.Crash.{torn_behind, staged, torn_gate}
 use Rattle.depot_journal.proofs.write.append_on.Goals as goal

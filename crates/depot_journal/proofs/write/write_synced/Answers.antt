@@ -2,7 +2,7 @@ use Rattle.std.proofs.Common.{◌≡◌, ◌⊎◌, inl, inr, List, [], ◌∷�
 use Rattle.depot_base.specs.Disk.{IsTorn}
 use Rattle.depot_base.specs.Calls.{syncs, writes_at}
 use Rattle.depot_base.proofs.CallLaws.{fails_first, last_fails, last_made}
-use Rattle.depot_journal.proofs.Blocks.{on_err}
+use Rattle.depot_journal.proofs.RecordBlocks.{on_err}
 use Rattle.depot_journal.proofs.Moments.{started, goes_on}
 use Rattle.depot_journal.proofs.write.write_synced.Goals as goal
 

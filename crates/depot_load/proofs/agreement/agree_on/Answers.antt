@@ -2,7 +2,7 @@ use Rattle.std.proofs.Common.{ℕ, List, ap, ◌∙◌}
 use Rattle.std.specs.List.{filter_map}
 use Rattle.std.specs.Borrow.{Bor}
 use Rattle.depot_load.specs.Summaries.{are_same, writes_under}
-use Rattle.depot_load.proofs.Kept.{last_seen}
+use Rattle.depot_load.proofs.KeptLoads.{last_seen}
 use Rattle.depot_load.proofs.agreement.agree_on.Goals as goal
 
 pub returns : goal.returns

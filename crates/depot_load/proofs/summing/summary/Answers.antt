@@ -1,6 +1,6 @@
 use Rattle.std.proofs.Common.{◌≡◌, List, ◌∙◌, subst}
 use Rattle.std.specs.Prelude.{IfOk}
-use Rattle.depot_load.specs.declared.telling.Told.{Told}
+use Rattle.depot_load.specs.declared.load_telling.Told.{Told}
 use Rattle.depot_load.specs.Summaries.{summary_line, summary_of}
 use Rattle.depot_load.proofs.summing.summary.Goals as goal
 

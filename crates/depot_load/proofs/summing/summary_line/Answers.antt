@@ -2,7 +2,7 @@ use Rattle.std.proofs.Common.{◌≡◌, ℕ, [], ◌∷◌, ◌++◌, codes, ap
 use Rattle.std.specs.List.{count_by}
 use Rattle.depot_answers.specs.Answers.{numbered, spaced}
 use Rattle.depot_load.specs.Summaries.{agree, agreement_text, convicted_last, is_put, reports_text}
-use Rattle.depot_load.proofs.Kept.{six_parts}
+use Rattle.depot_load.proofs.KeptLoads.{six_parts}
 use Rattle.depot_load.proofs.summing.summary_line.Goals as goal
 
 pub returns : goal.returns

@@ -1,7 +1,7 @@
 use Rattle.std.proofs.Common.{◌≡◌, ◌<◌, ◌≤◌, IsTrue, ℕ, List, [], map, Err, sym, ap, subst, ◌∙◌, arith}
 use Rattle.depot_base.specs.Calls.{FailsAmong, made}
 use Rattle.depot_base.specs.File.{IsFileOf}
-use Rattle.depot_accept.specs.View.{setting}
+use Rattle.depot_accept.specs.StateView.{setting}
 use Rattle.depot_model.specs.Checks.{Setting}
 use Rattle.depot_base.specs.declared.record.Record.{Record}
 use Rattle.depot_model.specs.Records.{text_of_record}

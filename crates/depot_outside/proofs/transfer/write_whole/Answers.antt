@@ -1,5 +1,5 @@
 use Rattle.std.proofs.Common.{Bor, ℕ, List, sym, subst, rules}
-use Rattle.depot_outside.proofs.Writing.{HasWritten, more_written, none_written, front_written}
+use Rattle.depot_outside.proofs.PieceWriting.{HasWritten, more_written, none_written, front_written}
 use Rattle.depot_outside.proofs.transfer.write_whole.Goals as goal
 use Rattle.depot_outside.proofs.transfer.write_whole.Goals.{in-Ok, in-Err}
 

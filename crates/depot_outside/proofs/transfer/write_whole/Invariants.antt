@@ -1,5 +1,5 @@
 -- What is gone from `rest` was written.
-use Rattle.depot_outside.proofs.Writing.{HasWritten}
+use Rattle.depot_outside.proofs.PieceWriting.{HasWritten}
 use Rattle.depot_outside.proofs.transfer.write_whole.Given as goal
 
 abbrev pub invariant-loop : goal.invariant-loop

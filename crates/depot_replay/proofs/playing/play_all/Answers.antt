@@ -14,10 +14,10 @@ event-requires-clause-may g c = c.requires.may c.event-item.result (on_at c.args
 pub event-requires-clause-played : goal.event-requires-clause-played
 event-requires-clause-played g c =
     let p = c.requires.played in
-    (p.0, (run_after p.0 p.1.0 (take c.loop-event.event-index c.args.events.now), c.loop-event.invariant.at p.0 p.1.0 p.1.1.0 p.1.1.1))
+    record { stage = p.stage; run = run_after p.stage p.run (take c.loop-event.event-index c.args.events.now); at = c.loop-event.invariant.at p.stage p.run p.on p.at }
 
 pub event-requires-clause-scene : goal.event-requires-clause-scene
-event-requires-clause-scene g c = (c.requires.played.0, c.requires.played.1.1.0)
+event-requires-clause-scene g c = (c.requires.played.stage, c.requires.played.on)
 
 pub loop-event-init : goal.loop-event-init
 unfolding run_after printed

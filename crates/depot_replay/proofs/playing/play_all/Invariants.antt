@@ -2,7 +2,7 @@ use Rattle.std.proofs.Common.{◌≡◌, ◌++◌, take, IsTrue}
 use Rattle.depot_world.specs.Run.{Run}
 use Rattle.depot_world.specs.Suite.{Stage}
 use Rattle.depot_world.specs.Transcript.{printed, run_after}
-use Rattle.depot_replay.specs.Casting.{IsOn}
+use Rattle.depot_stage.specs.Casting.{IsOn}
 use Rattle.depot_replay.specs.Playing.{IsAtPlay}
 use Rattle.depot_replay.proofs.playing.play_all.Given as goal
 

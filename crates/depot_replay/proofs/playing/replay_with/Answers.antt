@@ -8,7 +8,7 @@ use Rattle.depot_schedule.specs.declared.member.Member.{Member}
 use Rattle.depot_world.specs.Run.{run_of}
 use Rattle.depot_world.specs.Suite.{stage_of, suite_of}
 use Rattle.depot_world.specs.Transcript.{printed, transcript_of}
-use Rattle.depot_replay.specs.Casting.{AreSigners, IsSet, MayHappen, hands_of}
+use Rattle.depot_stage.specs.Casting.{AreSigners, IsSet, MayHappen, hands_of}
 use Rattle.depot_replay.proofs.BegunRuns.{schedule_may}
 use Rattle.depot_replay.proofs.playing.replay_with.Given.{Over}
 use Rattle.depot_replay.proofs.playing.replay_with.Goals as goal
@@ -33,7 +33,7 @@ begun-requires g c = let set = set_by g (goal.at.begun-requires g c).After-as_sl
 pub play_all-requires-clause-played : goal.play_all-requires-clause-played
 play_all-requires-clause-played g c =
     let stage = stage_of c.args.schedule.now in
-    (stage, (run_of stage c.args.schedule.now.members, (set_by g (goal.at.play_all-requires-clause-played g c).After-as_slice, c.in_ok-play.ensures)))
+    record { stage = stage; run = run_of stage c.args.schedule.now.members; on = set_by g (goal.at.play_all-requires-clause-played g c).After-as_slice; at = c.in_ok-play.ensures }
 
 pub play_all-requires-clause-may : goal.play_all-requires-clause-may
 play_all-requires-clause-may g c = λ e on.

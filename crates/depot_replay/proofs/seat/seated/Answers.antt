@@ -1,12 +1,10 @@
-use Rattle.std.proofs.Common.{◌≡◌, ℕ, List, None, Some, refl, sym, ap, subst, ◌∙◌}
-use Rattle.depot_base.specs.declared.record.Record.{Record}
+use Rattle.std.proofs.Common.{◌≡◌, None, refl, sym, ap, subst, ◌∙◌}
 use Rattle.depot_model.specs.Bundle.{Signs}
 use Rattle.depot_model.specs.Checks.{Setting}
-use Rattle.depot_outside.specs.Stopping.{State, state_of}
+use Rattle.depot_outside.specs.Stopping.{state_of}
 use Rattle.depot_outside.specs.declared.mem_disk.MemDisk.{MemDisk}
-use Rattle.depot_replay.specs.Acting.{View}
 use Rattle.depot_replay.specs.Disks.{armed_of}
-use Rattle.depot_replay.specs.Seats.{IsBegunOn, IsCalled}
+use Rattle.depot_replay.specs.Seats.{IsBegunOn}
 use Rattle.depot_replay.proofs.SeatEvents.{begun_cut, called_kept, called_well, cut_ends, cut_of, left_by_cut}
 use Rattle.depot_deeds.proofs.FedStreams.{if_ok}
 use Rattle.depot_replay.proofs.seat.seated.Goals as goal
@@ -19,15 +17,15 @@ invariant_of-result g c =
       is_me = c.requires.me;
       is_listed = c.requires.listed;
       signs = λ seq body. ap (λ (s : Signs). s seq body) c.requires.signs;
-      kept = called_kept c.requires.called.1.1.1.1 never;
+      kept = called_kept c.requires.called.called never;
     }
 
 pub stopped-requires : goal.stopped-requires
 stopped-requires g c =
     let here : Setting = record { verifies = g.S.Scheme.verifies; me = c.args.means.me; listed = c.args.means.roster } in
-    let called = c.requires.called.1.1.1.1 in
+    let called = c.requires.called.called in
     let J = left_by_cut called c.in-None.is in
-    (J, subst (λ (d : MemDisk). IsBegunOn here (state_of d) J) (sym c.into_disk.ensures) (subst (λ (h : Setting). IsBegunOn h (state_of c.args.node.store.disk) J) c.requires.called.1.1.1.0 (begun_cut called c.in-None.is)))
+    (J, subst (λ (d : MemDisk). IsBegunOn here (state_of d) J) (sym c.into_disk.ensures) (subst (λ (h : Setting). IsBegunOn h (state_of c.args.node.store.disk) J) c.requires.called.here_is (begun_cut called c.in-None.is)))
 
 pub returns-in-Some : goal.returns-in-Some
 returns-in-Some g c = λ v s longer here sign called stage x d seat appends print.

@@ -2,7 +2,7 @@ use Rattle.std.proofs.Common.{refl, arith, inr}
 use Rattle.std.proofs.lemmas.Result.{err_from_is_err_and}
 use Rattle.depot_outside.specs.Told.{sinks}
 use Rattle.depot_session.proofs.Still.{get_turns, keeps_still, stopped_at_once}
-use Rattle.depot_session.proofs.Told.{names_memory, names_told}
+use Rattle.depot_session.proofs.ToldFaults.{names_memory, names_told}
 use Rattle.depot_session.proofs.Turning.{nothing_written}
 use Rattle.depot_session.proofs.commands.get.Goals as goal
 

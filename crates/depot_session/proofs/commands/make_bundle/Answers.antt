@@ -1,9 +1,10 @@
 use Rattle.std.proofs.Common.{Some, refl, sym, ap, subst, ◌∙◌, arith, inl}
 use Rattle.depot_outside.specs.Told.{shelves, sinks}
 use Rattle.depot_model.specs.Bundle.{bundle_answer}
+use Rattle.depot_deeds.proofs.FedStreams.{runs_on}
 use Rattle.depot_session.specs.declared.ending.Ending.TheVariants as ending
-use Rattle.depot_session.proofs.Keeping.{NeedsNone, by_lines_told, by_none, by_shelf_told, by_stored, keeps_called, keeps_uncalled, lasts_at_end, memory_alone, runs_after}
-use Rattle.depot_session.proofs.Leaving.{lasts_so}
+use Rattle.depot_session.proofs.KeptFaults.{NeedsNone, by_lines_told, by_none, by_shelf_told, by_stored, keeps_called, keeps_uncalled, lasts_at_end, memory_alone}
+use Rattle.depot_session.proofs.LeftJournals.{lasts_so}
 use Rattle.depot_session.proofs.StepGrowth.{step_grows}
 use Rattle.depot_session.proofs.Stepping.{is_nothing, isnt_nothing, not_where_some, stored_from, uncalled_without_file, uncalled_without_memory}
 use Rattle.depot_session.proofs.BundleTurns.{bundle_needs_none, bundle_told, bundled_whole, bundles_absent, finds_none, made_to_disk, made_without_memory, refused_told}
@@ -53,7 +54,7 @@ returns-in-Some-2-clause-keeps g c =
     let m = c.bundle-made.new.node in
     let not = not_where_some _ _ _ c.in-Some-2.is c.in_ok-bundle_printed.ensures.stopped.1 in
     let lasts = rw (finds_none c.bundle-made.result not) at c.bundle-made.ensures.lasts in
-    keeps_called g.R.Replica n m _ c.store_and_tell.result _ c.bundle-made.ensures.stays c.bundle-made.ensures.disk (lasts_so _ _ n m lasts) (λ _. runs_after _ _ _ _ c.bundle-made.ensures.stops c.requires.running.runs not) (by_stored _ _ c.store_and_tell.ensures.later _ _ _ _ _ c.store_and_tell.ensures.stores)
+    keeps_called g.R.Replica n m _ c.store_and_tell.result _ c.bundle-made.ensures.stays c.bundle-made.ensures.disk (lasts_so _ _ n m lasts) (λ _. runs_on _ _ _ _ c.bundle-made.ensures.stops c.requires.running.runs not) (by_stored _ _ c.store_and_tell.ensures.later _ _ _ _ _ c.store_and_tell.ensures.stores)
 
 pub returns-in-Some-2-clause-turns : goal.returns-in-Some-2-clause-turns
 returns-in-Some-2-clause-turns g c = λ s tells at.
@@ -74,7 +75,7 @@ returns-in-Some-2-clause-turns g c = λ s tells at.
     let print = rw c.in-Some-2.is at (c.in_ok-bundle_printed.ensures.printed here sign s.correct text (g.R.Replica.records m) (rw (sym at.journal) at bundles)) in
     let ends = c.ending_of_bundle-ends.ensures.ends here sign (g.R.Replica.records n) text (g.R.Replica.records m) settled not bundles in
     rw c.requires.command (bundle_told g.R.Replica (g.met.R.Replica.counts_now) n m s c.args.hello.now c.args.file.now text (shelves g.F.Shelf shelf last) at (loaded tells ∙ ap (λ bytes. Some bytes) (sym c.as_slice.ensures)) c.requires.running.runs c.bundle-made.ensures.brings
-    sink _ _ c.store_and_tell.result (runs_after _ _ _ _ c.bundle-made.ensures.stops c.requires.running.runs not) (bundled_whole here sign (g.R.Replica.records n) text c.bundle-made.result (g.R.Replica.records m) settled not bundles) (sym ends ∙ is_nothing _ c.if-is_none.ensures) print.0 print.1 tells
+    sink _ _ c.store_and_tell.result (runs_on _ _ _ _ c.bundle-made.ensures.stops c.requires.running.runs not) (bundled_whole here sign (g.R.Replica.records n) text c.bundle-made.result (g.R.Replica.records m) settled not bundles) (sym ends ∙ is_nothing _ c.if-is_none.ensures) print.0 print.1 tells
     (stored_from (g.F.Shelf.tells mid) (g.F.Shelf.tells shelf) (g.F.Shelf.file mid) (g.F.Shelf.file shelf) (g.F.Shelf.file last) (g.F.Shelf.faults mid) (g.F.Shelf.faults shelf) (g.F.Shelf.faults last) sink _ c.args.file.now _ c.store_and_tell.result c.load.ensures.tells c.load.ensures.files quiet
     (rw c.requires.command at c.store_and_tell.ensures.stores)))
 
@@ -90,7 +91,7 @@ returns-clause-keeps g c =
     let bundles = rw c.requires.running.runs at c.bundle-made.ensures.bundles in
     let lasts = rw (finds_none c.bundle-made.result not) at c.bundle-made.ensures.lasts in
     let ends = c.ending_of_bundle-ends.ensures.ends here sign (g.R.Replica.records n) text (g.R.Replica.records m) settled not bundles in
-    keeps_called g.R.Replica n m _ c.tell.result _ c.bundle-made.ensures.stays c.bundle-made.ensures.disk (lasts_so _ _ n m lasts) (λ _. runs_after _ _ _ _ c.bundle-made.ensures.stops c.requires.running.runs not)
+    keeps_called g.R.Replica n m _ c.tell.result _ c.bundle-made.ensures.stays c.bundle-made.ensures.disk (lasts_so _ _ n m lasts) (λ _. runs_on _ _ _ _ c.bundle-made.ensures.stops c.requires.running.runs not)
     (by_lines_told _ _ c.tell.ensures.later _ c.ending_of_bundle-ends.result c.tell.result (subst NeedsNone (sym ends) (bundle_needs_none (bundle_answer here sign (g.R.Replica.records n) text))) c.tell.ensures.tells)
 
 pub returns-clause-turns : goal.returns-clause-turns
@@ -107,5 +108,5 @@ returns-clause-turns g c = λ s tells at.
     let print = rw c.in-Some-2.is at (c.in_ok-bundle_printed.ensures.printed here sign s.correct text (g.R.Replica.records m) (rw (sym at.journal) at bundles)) in
     let ends = c.ending_of_bundle-ends.ensures.ends here sign (g.R.Replica.records n) text (g.R.Replica.records m) settled not bundles in
     rw c.requires.command (refused_told g.R.Replica (g.met.R.Replica.counts_now) n m s c.args.hello.now c.args.file.now text (shelves g.F.Shelf c.args.shelf.now c.load.new.shelf) at (loaded tells ∙ ap (λ bytes. Some bytes) (sym c.as_slice.ensures)) c.requires.running.runs c.bundle-made.ensures.brings
-    (sinks g.K.Sink c.args.out.now c.tell.new.out) c.ending_of_bundle-ends.result _ c.tell.result (λ name. ap (λ files. files name) c.load.ensures.files) (runs_after _ _ _ _ c.bundle-made.ensures.stops c.requires.running.runs not)
+    (sinks g.K.Sink c.args.out.now c.tell.new.out) c.ending_of_bundle-ends.result _ c.tell.result (λ name. ap (λ files. files name) c.load.ensures.files) (runs_on _ _ _ _ c.bundle-made.ensures.stops c.requires.running.runs not)
     (bundled_whole here sign (g.R.Replica.records n) text c.bundle-made.result (g.R.Replica.records m) settled not bundles) ends (isnt_nothing _ c.if-is_none.ensures) print.0 (rw c.requires.command at c.tell.ensures.tells))

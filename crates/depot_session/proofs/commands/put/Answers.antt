@@ -4,7 +4,7 @@ use Rattle.depot_outside.specs.Told.{sinks}
 use Rattle.depot_session.specs.declared.ending.Ending.{Ending}
 use Rattle.depot_session.proofs.PutTurns.{ends_of_put, put_ends_calmly, put_failed, put_keeps, put_told, put_unprinted, same_put, some_there}
 use Rattle.depot_session.proofs.Still.{keeps_still, stopped_at_once}
-use Rattle.depot_session.proofs.Told.{EndsCalmly, names_memory, names_told, names_disk, disk_is_fault}
+use Rattle.depot_session.proofs.ToldFaults.{EndsCalmly, names_memory, names_told, names_disk, disk_is_fault}
 use Rattle.depot_session.proofs.Turning.{nothing_written}
 use Rattle.depot_session.proofs.commands.put.Goals as goal
 use Rattle.depot_session.proofs.commands.put.Goals.{in-Ok, in-Err}

@@ -3,7 +3,7 @@ use Rattle.depot_laws.proofs.HelloTexts.{hello_fits}
 use Rattle.depot_outside.specs.Told.{sinks}
 use Rattle.depot_session.specs.declared.ending.Ending.TheVariants as ending
 use Rattle.depot_session.proofs.HelloTurns.{hello_turns}
-use Rattle.depot_session.proofs.Keeping.{by_none, by_stored, keeps_uncalled, memory_alone}
+use Rattle.depot_session.proofs.KeptFaults.{by_none, by_stored, keeps_uncalled, memory_alone}
 use Rattle.depot_session.proofs.StepGrowth.{step_grows}
 use Rattle.depot_session.proofs.Stepping.{uncalled_without_memory}
 use Rattle.depot_session.proofs.Turning.{nothing_written}

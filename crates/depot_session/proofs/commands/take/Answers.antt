@@ -2,7 +2,7 @@ use Rattle.std.proofs.Common.{Some, refl, sym, ap, ◌∙◌, arith}
 use Rattle.depot_outside.specs.Told.{shelves, sinks}
 use Rattle.depot_model.specs.Feeding.{feed_of}
 use Rattle.depot_session.specs.declared.ending.Ending.TheVariants as ending
-use Rattle.depot_session.proofs.Keeping.{by_none, by_shelf_told, keeps_uncalled, memory_alone}
+use Rattle.depot_session.proofs.KeptFaults.{by_none, by_shelf_told, keeps_uncalled, memory_alone}
 use Rattle.depot_session.proofs.StepGrowth.{step_grows}
 use Rattle.depot_session.proofs.Stepping.{not_where_some, uncalled_without_file, uncalled_without_memory}
 use Rattle.depot_session.proofs.TakeTurns.{ends_fed, of_fed, taken_told, taken_to_disk, taken_without_memory, takes_absent}

@@ -1,4 +1,4 @@
-use Rattle.depot_sign.proofs.Leaves.{high_tree, no_quotient}
+use Rattle.depot_sign.proofs.KeyLeaves.{high_tree, no_quotient}
 use Rattle.depot_sign.proofs.plain.is_leaf.Goals as goal
 
 pub returns-then-key-ge32 : goal.returns-then-key-ge32

@@ -1,7 +1,7 @@
 use Rattle.std.proofs.Common.{Option, Some, None, ap}
 use Rattle.std.proofs.lemmas.Result.{err_from_is_err_and}
 use Rattle.depot_sign.specs.declared.text.Stop.{Stop}
-use Rattle.depot_sign.specs.Reading.{unless_stopped}
+use Rattle.depot_sign.specs.RosterReading.{unless_stopped}
 use Rattle.depot_sign.proofs.EntryLoop.{IsPlaced, goes_on, refused, failed}
 use Rattle.depot_sign.proofs.text.entries_in.Goals as goal
 

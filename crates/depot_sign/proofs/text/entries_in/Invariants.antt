@@ -1,5 +1,5 @@
 use Rattle.std.proofs.Common.{◌≡◌, ◌-◌, []}
-use Rattle.depot_sign.specs.Reading.{entries_or_stop}
+use Rattle.depot_sign.specs.RosterReading.{entries_or_stop}
 use Rattle.depot_sign.proofs.text.entries_in.Given as goal
 
 -- what is left to read leads to what all of it leads to

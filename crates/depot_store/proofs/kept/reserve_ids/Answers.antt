@@ -1,5 +1,5 @@
 use Rattle.std.proofs.Common.{◌∙◌}
-use Rattle.depot_vouch.proofs.SlotLaws.{added_together}
+use Rattle.depot_vouch.proofs.IdSlotLaws.{added_together}
 use Rattle.depot_store.proofs.VoucherSteps.{room_more}
 use Rattle.depot_store.proofs.kept.reserve_ids.Goals as goal
 

@@ -1,5 +1,5 @@
 use Rattle.std.proofs.Common.{length, ap, arith, inl, inr}
-use Rattle.depot_vouch.specs.Vouching.{Vouching}
+use Rattle.depot_vouch.specs.VouchedView.{Vouching}
 use Rattle.depot_vouch.proofs.Vouched.convict.Goals as goal
 
 pub insert_node-requires-clause-room : goal.insert_node-requires-clause-room

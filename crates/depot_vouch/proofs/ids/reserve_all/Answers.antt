@@ -1,5 +1,5 @@
 use Rattle.std.specs.Map.{keys_of}
-use Rattle.depot_vouch.proofs.SlotLaws.{stays_together, read_is_within, not_ok}
+use Rattle.depot_vouch.proofs.IdSlotLaws.{stays_together, read_is_within, not_ok}
 use Rattle.depot_vouch.proofs.ids.reserve_all.Goals as goal
 
 pub returns-in_err-reserve_one-clause-known : goal.returns-in_err-reserve_one-clause-known

@@ -1,7 +1,7 @@
 use Rattle.std.proofs.Common.{[], ◌∷◌, sym, ap, ◌∙◌}
 use Rattle.std.specs.Map.{keys_of}
-use Rattle.depot_vouch.specs.Slots.{vouched_in}
-use Rattle.depot_vouch.proofs.SlotLaws.{place_is_found, place_of_found, none_new, placed, vouched_same, stays_together}
+use Rattle.depot_vouch.specs.IdSlots.{vouched_in}
+use Rattle.depot_vouch.proofs.IdSlotLaws.{place_is_found, place_of_found, none_new, placed, vouched_same, stays_together}
 use Rattle.depot_vouch.proofs.ids.reserve_one.Goals as goal
 
 pub returns-then-contains_key-clause-ok : goal.returns-then-contains_key-clause-ok

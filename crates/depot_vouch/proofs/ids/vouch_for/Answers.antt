@@ -1,4 +1,4 @@
-use Rattle.depot_vouch.proofs.SlotLaws.{unless_absent, keys_unless, marked}
+use Rattle.depot_vouch.proofs.IdSlotLaws.{unless_absent, keys_unless, marked}
 use Rattle.depot_vouch.proofs.ids.vouch_for.Goals as goal
 
 pub returns-clause-together : goal.returns-clause-together

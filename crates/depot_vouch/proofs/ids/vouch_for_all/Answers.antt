@@ -1,7 +1,7 @@
 use Rattle.std.proofs.Common.{◌≡◌, ℕ, List, true, sym, subst}
 use Rattle.std.specs.Map.{keys_of}
 use Rattle.depot_model.specs.Lists.{is_among}
-use Rattle.depot_vouch.proofs.SlotLaws.{read_is_within}
+use Rattle.depot_vouch.proofs.IdSlotLaws.{read_is_within}
 use Rattle.depot_vouch.proofs.ids.vouch_for_all.Goals as goal
 
 pub vouch_for-requires : goal.vouch_for-requires

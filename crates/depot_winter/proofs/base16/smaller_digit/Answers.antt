@@ -1,5 +1,5 @@
 use Rattle.std.proofs.Common.{arith, refl}
-use Rattle.depot_winter.proofs.Smaller.{equal_where_none}
+use Rattle.depot_winter.proofs.SmallerLaws.{equal_where_none}
 use Rattle.depot_winter.proofs.base16.smaller_digit.Goals as goal
 
 pub returns-clause-none : goal.returns-clause-none

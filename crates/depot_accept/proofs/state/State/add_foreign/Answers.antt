@@ -3,7 +3,7 @@ use Rattle.depot_base.specs.declared.record.Record.TheVariants.{Foreign}
 use Rattle.depot_base.specs.declared.update.Update.{Update}
 use Rattle.depot_base.specs.declared.statement.Statement.TheVariants as statements
 use Rattle.depot_model.specs.Lists.{is_among}
-use Rattle.depot_accept.specs.View.{View}
+use Rattle.depot_accept.specs.StateView.{View}
 use Rattle.depot_accept.proofs.StateLaws.{grown, id_of_its_update, on_ok, update_grows, voucher_grows}
 use Rattle.depot_accept.proofs.state.State.add_foreign.Goals as goal
 

@@ -1,6 +1,6 @@
 use Rattle.std.proofs.Common.{[], ◌∷◌, ◌++◌, ap, ◌∙◌}
 use Rattle.depot_base.specs.declared.statement.Statement.{Statement}
-use Rattle.depot_accept.specs.View.{View}
+use Rattle.depot_accept.specs.StateView.{View}
 use Rattle.depot_accept.proofs.StateLaws.{grown, id_of_its_update, on_ok, own_update_grows, own_voucher_grows}
 use Rattle.depot_accept.proofs.state.State.add_own.Goals as goal
 

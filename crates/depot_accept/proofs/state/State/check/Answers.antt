@@ -2,7 +2,7 @@ use Rattle.std.proofs.Common.{sym, ap, ◌∙◌}
 use Rattle.std.specs.Prelude.{Option, is_some}
 use Rattle.depot_base.specs.declared.key.PublicKey.{PublicKey}
 use Rattle.depot_model.specs.Roster.{is_signed}
-use Rattle.depot_accept.specs.View.{View}
+use Rattle.depot_accept.specs.StateView.{View}
 use Rattle.depot_model.proofs.BodyLaws.{IsStatement-from_signed}
 use Rattle.depot_accept.proofs.CheckAnswers.{checked_known, checked_unknown, checked_mine, checked_unsigned, checked_after_signature}
 use Rattle.depot_accept.proofs.state.State.check.Goals as goal

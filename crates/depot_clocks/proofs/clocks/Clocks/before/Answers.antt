@@ -2,6 +2,7 @@ use Rattle.std.proofs.Common.{◌<◌, ℕ, List, true≢false, sym, subst}
 use Rattle.std.proofs.lemmas.Bool.{ltb-true, lt-ltb}
 use Rattle.depot_clocks.specs.ChainItems.{ChainItem, Precedes, IsCount}
 use Rattle.depot_clocks.specs.KeptRows.{KeepsItems}
+use Rattle.depot_clocks.proofs.ItemPaths.{standing}
 use Rattle.depot_clocks.proofs.RowCounts.{precedes_by_count, never_itself}
 use Rattle.depot_clocks.proofs.KeptCounts.{kept_of}
 use Rattle.depot_clocks.proofs.clocks.Clocks.before.Goals as goal
@@ -9,11 +10,12 @@ use Rattle.depot_clocks.proofs.clocks.Clocks.before.Goals as goal
 pub returns-clause-answer : goal.returns-clause-answer
 returns-clause-answer g c =
     let keeps = subst (λ (l : List ChainItem). KeepsItems l c.self.inside.kept.items c.self.inside.chains) c.self.view_is c.self.invariant in
-    let spot = (kept_of c.args.self.now c.self.inside.kept.items c.self.inside.chains c.args.a c.index-kept.result.now keeps c.requires.a c.index-kept.ensures).spot in
-    let count = subst (λ (k : ℕ). IsCount c.args.self.now k c.args.b c.count_of.result) (sym spot.1.1.0) c.count_of.ensures in
-    let told = precedes_by_count c.args.self.now c.args.a c.args.b c.count_of.result spot.0 keeps.chained spot.1.0 count c.if-a-b.false in (
-      (λ yes_. told.0 (subst (λ (k : ℕ). k < c.count_of.result) (sym spot.1.1.1) (ltb-true c.index-kept.result.now.place c.count_of.result yes_))),
-      (λ p. lt-ltb c.index-kept.result.now.place c.count_of.result (subst (λ (k : ℕ). k < c.count_of.result) spot.1.1.1 (told.1 p))),
+    let kept = kept_of c.args.self.now c.self.inside.kept.items c.self.inside.chains c.args.a c.index-kept.result.now keeps c.requires.a c.index-kept.ensures in
+    let spot = standing c.args.self.now c.args.a c.index-kept.result.now.chain c.index-kept.result.now.place kept.spot in
+    let count = subst (λ (k : ℕ). IsCount c.args.self.now k c.args.b c.count_of.result) (sym spot.of_chain) c.count_of.ensures in
+    let told = precedes_by_count c.args.self.now c.args.a c.args.b c.count_of.result spot.it keeps.chained spot.at count c.if-a-b.false in (
+      (λ yes_. told.0 (subst (λ (k : ℕ). k < c.count_of.result) (sym spot.at_place) (ltb-true c.index-kept.result.now.place c.count_of.result yes_))),
+      (λ p. lt-ltb c.index-kept.result.now.place c.count_of.result (subst (λ (k : ℕ). k < c.count_of.result) spot.at_place (told.1 p))),
     )
 
 pub returns-then-a-b-clause-answer : goal.returns-then-a-b-clause-answer

@@ -1,8 +1,8 @@
 use Rattle.std.proofs.Common.{refl}
 use Rattle.depot_model.specs.Frames.{frame_at}
 use Rattle.depot_gossip.proofs.StreamCalls.{nothing_called_for}
-use Rattle.depot_gossip.proofs.FeedGrowth.{nothing_fed}
-use Rattle.depot_gossip.proofs.LastingLaws.{nothing_in}
+use Rattle.depot_gossip.proofs.FeedRecords.{nothing_fed}
+use Rattle.depot_gossip.proofs.LastingStreams.{nothing_in}
 use Rattle.depot_gossip.proofs.feed.Feed.piece.Goals as goal
 
 pub invariant_of-self : goal.invariant_of-self

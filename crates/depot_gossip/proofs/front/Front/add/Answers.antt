@@ -3,9 +3,9 @@ use Rattle.std.specs.Prelude.{OnOk}
 use Rattle.depot_base.specs.declared.record.Record.{Record}
 use Rattle.depot_base.specs.declared.record.Record.TheVariants.{OwnVoucher, Conviction}
 use Rattle.depot_model.specs.Records.{IsRecord, text_of_record}
-use Rattle.depot_model.proofs.Elements.{at_place}
 use Rattle.depot_model.proofs.TextLaws.{proof_is_short}
-use Rattle.depot_laws.proofs.Records.{IsProof-from_record}
+use Rattle.depot_laws.proofs.LawfulRecords.{IsProof-from_record}
+use Rattle.depot_base.proofs.GeneralLaws.{at_place}
 use Rattle.depot_gossip.specs.Fronts.{IsFront}
 use Rattle.depot_gossip.proofs.ChoiceLaws.{read_at}
 use Rattle.depot_gossip.proofs.FrontLaws.{first_is_tag, rest_is_proof, some_text, front_same, not_in_front}

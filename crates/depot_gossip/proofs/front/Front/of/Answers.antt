@@ -1,8 +1,8 @@
 use Rattle.std.proofs.Common.{◌≤◌, ◌<◌, List, length, take, sym, subst, arith}
 use Rattle.std.proofs.lemmas.List.{length-take}
 use Rattle.depot_base.specs.declared.record.Record.{Record}
-use Rattle.depot_model.proofs.Elements.{at_place}
 use Rattle.depot_laws.proofs.OwnTexts.{lawful_is_short}
+use Rattle.depot_base.proofs.GeneralLaws.{at_place}
 use Rattle.depot_gossip.specs.Fronts.{IsFront}
 use Rattle.depot_gossip.proofs.FrontLaws.{is_few, take_push}
 use Rattle.depot_gossip.proofs.front.Front.of.Goals as goal

@@ -8,8 +8,8 @@ use Rattle.depot_gossip.specs.Pieces.{at_work}
 use Rattle.depot_gossip.specs.NodeCalls.{stream_by}
 use Rattle.depot_gossip.proofs.StreamCalls.{same_error}
 use Rattle.depot_gossip.proofs.GivenLaws.{end_is_passed, counted_is_fed, error_leaves}
-use Rattle.depot_gossip.proofs.FeedGrowth.{given_brings}
-use Rattle.depot_gossip.proofs.LastingLaws.{nothing_lasts, nothing_in, lasts_longer, lasts_alike}
+use Rattle.depot_gossip.proofs.FeedRecords.{given_brings}
+use Rattle.depot_gossip.proofs.LastingStreams.{nothing_lasts, nothing_in, lasts_longer, lasts_alike}
 use Rattle.depot_gossip.proofs.tally.Tally.take.Goals as goal
 
 pub returns-then-tag-eq4-clause-takes : goal.returns-then-tag-eq4-clause-takes

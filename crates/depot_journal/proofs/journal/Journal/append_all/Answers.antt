@@ -4,11 +4,11 @@ use Rattle.depot_base.specs.Disk.{LeavesOnly}
 use Rattle.depot_base.specs.File.{AreWithinLimits, HasFront, IsCutShort, IsFileOf, blocks}
 use Rattle.depot_base.proofs.CallLaws.{fails_later, made_later}
 use Rattle.depot_journal.specs.Mirrored.{bodies_at}
-use Rattle.depot_journal.specs.View.{View}
+use Rattle.depot_journal.specs.JournalView.{View}
 use Rattle.depot_journal.proofs.Appends.{all_within, blocks_many, counted, cut_short, found, front_within, reserved_less, then_appended, unmoved, with_none}
 use Rattle.depot_journal.proofs.AtRest.{one_more_at_most, rests}
 use Rattle.depot_journal.proofs.Walk.{stands_of}
-use Rattle.depot_journal.proofs.Blocks.{if_err, if_not_err}
+use Rattle.depot_journal.proofs.RecordBlocks.{if_err, if_not_err}
 use Rattle.depot_journal.proofs.Mirrors.{bodies_many}
 use Rattle.depot_journal.proofs.journal.Journal.append_all.Goals as goal
 

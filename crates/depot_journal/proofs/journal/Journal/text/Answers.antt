@@ -1,6 +1,6 @@
 use Rattle.std.proofs.Common.{◌≡◌, ℕ, List, Some, slice_get, length, refl, arith, ap, ◌∙◌, sym, subst}
 use Rattle.std.proofs.lemmas.Option.{slice_get_read}
-use Rattle.depot_journal.specs.View.{View}
+use Rattle.depot_journal.specs.JournalView.{View}
 use Rattle.depot_journal.specs.Mirrored.{bodies_at, cut}
 use Rattle.depot_journal.proofs.Mirrors.{bodies_many, span_at, body_at}
 use Rattle.depot_journal.proofs.journal.Journal.text.Goals as goal

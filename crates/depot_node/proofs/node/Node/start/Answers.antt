@@ -1,5 +1,5 @@
 use Rattle.std.proofs.Common.{◌≡◌, List, [], Some, is_some, sym, ap, subst, ◌∙◌}
-use Rattle.depot_accept.specs.View.{View, setting}
+use Rattle.depot_accept.specs.StateView.{View, setting}
 use Rattle.depot_base.specs.Calls.{FailsAmong, made}
 use Rattle.depot_base.specs.File.{IsFileOf}
 use Rattle.depot_base.specs.declared.key.RosterEntry.{RosterEntry}

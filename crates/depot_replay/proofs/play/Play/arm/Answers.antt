@@ -6,15 +6,16 @@ use Rattle.depot_replay.proofs.play.Play.arm.Goals as goal
 
 pub come_back-requires-clause-place : goal.come_back-requires-clause-place
 come_back-requires-clause-place g c =
-    let l = c.requires.left in
-    omega (arith, place_within _ g.A.Actor.view l.0 l.1.0 c.args.self.now c.args.away l.1.1.1, c.args.self.now.actors.ok.0)
+    let l = c.requires.left.1 in
+    omega (arith, place_within _ g.A.Actor.view c.requires.left.0 l.before c.args.self.now c.args.away l.left, c.args.self.now.actors.ok.0)
 
 pub come_back-requires-clause-seen : goal.come_back-requires-clause-seen
 come_back-requires-clause-seen g c =
-    let l = c.requires.left in
-    let played = l.1.1.0 in
-    let i = left_is _ g.A.Actor.view played.0 played.1.0 l.0 l.1.0 c.args.self.now c.args.away l.1.1.1 played.1.1 in
-    armed_had_seen _ g.A.Actor.view played.0 played.1.0 l.0 c.args.self.now c.args.away c.in_ok-actor.actor c.args.call c.args.image i c.in_ok-actor.ensures
+    let node = c.requires.left.0 in
+    let l = c.requires.left.1 in
+    let p = l.played in
+    let i = left_is _ g.A.Actor.view p.stage p.run node l.before c.args.self.now c.args.away l.left p.at in
+    armed_had_seen _ g.A.Actor.view p.stage p.run node c.args.self.now c.args.away c.in_ok-actor.actor c.args.call c.args.image i c.in_ok-actor.ensures
 
 pub returns : goal.returns
 returns g c = λ node before left. λ stage run at.

@@ -7,7 +7,11 @@ use Rattle.depot_replay.proofs.NodeEvents.{nothing_done}
 use Rattle.depot_replay.proofs.play.Play.deed.Goals as goal
 
 pub act-requires-clause-left : goal.act-requires-clause-left
-act-requires-clause-left g c = (c.args.self.now, (c.requires.played, subst (λ (n : ℕ). HasLeft g.row.A.Denot g.A.Actor.view n c.args.self.now c.leave.new.self c.in-Some.away) (sym c.requires.node) c.in-Some.ensures))
+act-requires-clause-left g c = record {
+  before = c.args.self.now;
+  played = c.requires.played;
+  left = subst (λ (n : ℕ). HasLeft g.row.A.Denot g.A.Actor.view n c.args.self.now c.leave.new.self c.in-Some.away) (sym c.requires.node) c.in-Some.ensures;
+}
 
 pub returns-in_ok-from_slice-in-None : goal.returns-in_ok-from_slice-in-None
 returns-in_ok-from_slice-in-None g c = λ stage run at.

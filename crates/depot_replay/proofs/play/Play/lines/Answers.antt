@@ -2,7 +2,7 @@ use Rattle.std.proofs.Common.{subst, sym}
 use Rattle.std.proofs.lemmas.Result.{IfOk-weaker}
 use Rattle.depot_schedule.specs.declared.event.Event.{Event}
 use Rattle.depot_world.specs.Transcript.{done}
-use Rattle.depot_replay.specs.Casting.{MayHappen}
+use Rattle.depot_stage.specs.Casting.{MayHappen}
 use Rattle.depot_replay.specs.Doing.{HasDone}
 use Rattle.depot_replay.proofs.SignedUpdates.{stop_is}
 use Rattle.depot_replay.proofs.play.Play.lines.Goals as goal

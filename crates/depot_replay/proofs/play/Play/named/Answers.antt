@@ -1,6 +1,6 @@
 use Rattle.std.proofs.Common.{ap, ◌∙◌, ◌++◌, ◌∷◌, []}
 use Rattle.depot_base.specs.declared.update.Dep.{Dep}
-use Rattle.depot_replay.proofs.NamedUpdates.{fits_here, none_named, nothing_named, one_named}
+use Rattle.depot_replay.proofs.LabelledUpdates.{fits_here, none_named, nothing_named, one_named}
 use Rattle.depot_replay.proofs.play.Play.named.Goals as goal
 
 pub loop-r-init : goal.loop-r-init

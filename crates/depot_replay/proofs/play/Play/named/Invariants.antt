@@ -2,7 +2,7 @@ use Rattle.std.proofs.Common.{take}
 use Rattle.depot_world.specs.Run.{Run}
 use Rattle.depot_world.specs.Suite.{Stage}
 use Rattle.depot_replay.specs.Playing.{IsAtPlay}
-use Rattle.depot_replay.proofs.NamedUpdates.{AreNamed}
+use Rattle.depot_replay.proofs.LabelledUpdates.{AreNamed}
 use Rattle.depot_replay.proofs.play.Play.named.Given as goal
 
 abbrev pub invariant-loop-r : goal.invariant-loop-r

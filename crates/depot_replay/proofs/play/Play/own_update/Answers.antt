@@ -1,10 +1,10 @@
-use Rattle.std.proofs.Common.{◌∙◌, refl}
-use Rattle.depot_replay.proofs.Seats.{no_seat, own_at}
+use Rattle.std.proofs.Common.{◌∙◌, refl, sym}
+use Rattle.depot_replay.proofs.SeatPlaces.{no_seat, own_at}
 use Rattle.depot_replay.proofs.play.Play.own_update.Goals as goal
 
 pub returns-in_err-place : goal.returns-in_err-place
 returns-in_err-place g c = λ stage run at.
-    let none = no_seat g.A.Actor.view stage run.stations c.args.self.now.actors.items c.args.node at.seated c.in_err-place.ensures in
+    let none = no_seat g.A.Actor.view stage run.stations c.args.self.now.actors.items c.args.node at.seated (sym c.in_err-place.ensures) in
     rw (c.from_residual.ensures, none) refl
 
 pub returns : goal.returns

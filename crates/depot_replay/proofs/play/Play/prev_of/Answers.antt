@@ -1,4 +1,4 @@
-use Rattle.depot_replay.proofs.NamedUpdates.{fits_here}
+use Rattle.depot_replay.proofs.LabelledUpdates.{fits_here}
 use Rattle.depot_replay.proofs.play.Play.prev_of.Goals as goal
 
 pub id_of-requires : goal.id_of-requires

@@ -1,7 +1,7 @@
 use Rattle.std.proofs.Common.{subst}
 use Rattle.std.proofs.lemmas.Result.{IfOk-weaker}
-use Rattle.depot_world.specs.Signing as signing
-use Rattle.depot_replay.specs.Texts.{IsText}
+use Rattle.depot_world.specs.FaultySigning as signing
+use Rattle.depot_stage.specs.StageTexts.{IsText}
 use Rattle.depot_replay.proofs.MadeTexts.{proof_is, no_first, no_second, signed_fits}
 use Rattle.depot_replay.proofs.play.Play.proof.Goals as goal
 
@@ -14,10 +14,10 @@ returns-in_default-signed_of-clause-is g c = IfOk-weaker c.no_reference-in_defau
     subst (λ (x : signing.Text). IsText t x) (no_second run c.args.kind c.args.first.now c.args.second.now c.in-Some.one.now (c.in-Some.ensures stage run at) (c.in_default-signed_of.ensures stage run at)) made) c.no_reference-in_default-signed_of.ensures
 
 pub proof-requires-clause-first : goal.proof-requires-clause-first
-proof-requires-clause-first g c = let at = c.requires.1.1 in signed_fits c.requires.1.0 c.args.first.now c.in-Some.one.now at.remembered (c.in-Some.ensures c.requires.0 c.requires.1.0 at)
+proof-requires-clause-first g c = let at = c.requires.at in signed_fits c.requires.run c.args.first.now c.in-Some.one.now at.remembered (c.in-Some.ensures c.requires.stage c.requires.run at)
 
 pub proof-requires-clause-second : goal.proof-requires-clause-second
-proof-requires-clause-second g c = let at = c.requires.1.1 in signed_fits c.requires.1.0 c.args.second.now c.in-Some-signed_of.other.now at.remembered (c.in-Some-signed_of.ensures c.requires.0 c.requires.1.0 at)
+proof-requires-clause-second g c = let at = c.requires.at in signed_fits c.requires.run c.args.second.now c.in-Some-signed_of.other.now at.remembered (c.in-Some-signed_of.ensures c.requires.stage c.requires.run at)
 
 pub returns-clause-is : goal.returns-clause-is
 returns-clause-is g c = IfOk-weaker c.proof.result _ _ (λ t made stage run at.

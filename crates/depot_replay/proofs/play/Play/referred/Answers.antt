@@ -3,7 +3,7 @@ use Rattle.depot_replay.proofs.play.Play.referred.Goals as goal
 
 pub returns-in-Label : goal.returns-in-Label
 unfolding referred
-returns-in-Label g c = λ stage run at. rw c.in-Label.is (c.labelled.ensures stage run at)
+returns-in-Label g c = λ stage run at. rw c.in-Label.is (c.update.ensures run.labels at.labels_are)
 
 pub returns-in-Own : goal.returns-in-Own
 unfolding referred

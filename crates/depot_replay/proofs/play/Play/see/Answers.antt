@@ -3,7 +3,7 @@ use Rattle.depot_base.specs.declared.update.Update.{Update}
 use Rattle.depot_graph.specs.Kept.{updates_in}
 use Rattle.depot_model.specs.Journal.{accepted}
 use Rattle.depot_world.specs.Run.{seen_with}
-use Rattle.depot_replay.specs.Seen.{HasSeenParents}
+use Rattle.depot_stage.specs.Seen.{HasSeenParents}
 use Rattle.depot_replay.proofs.NewUpdates.{added_fits, added_has_parents, adding_goes_on}
 use Rattle.depot_replay.proofs.Remembered.{seen_add_nothing}
 use Rattle.depot_replay.proofs.play.Play.see.Goals as goal

@@ -8,13 +8,13 @@ use Rattle.depot_schedule.specs.Vocabulary.{is_declared}
 use Rattle.depot_schedule.specs.declared.event.Event.{Event}
 use Rattle.depot_schedule.specs.declared.event.Ref.{Ref}
 use Rattle.depot_world.specs.Run.{Run}
-use Rattle.depot_world.specs.Signing as signing
+use Rattle.depot_world.specs.FaultySigning as signing
 use Rattle.depot_world.specs.Suite.{Stage, signs_on}
-use Rattle.depot_replay.specs.Casting.{MayHappen}
+use Rattle.depot_stage.specs.Casting.{MayHappen}
 use Rattle.depot_replay.specs.Doing.{signed_text, update_by, with_update}
 use Rattle.depot_replay.specs.Playing.{IsAtPlay}
-use Rattle.depot_replay.specs.Seen.{HasSeenParents}
-use Rattle.depot_replay.specs.Texts.{IsText}
+use Rattle.depot_stage.specs.Seen.{HasSeenParents}
+use Rattle.depot_stage.specs.StageTexts.{IsText}
 use Rattle.depot_replay.proofs.MadeTexts.{HasLeaf, update_has_leaf}
 use Rattle.depot_replay.proofs.SignedUpdates.{IsNumbered, is_numbered, signed_is, sees_update}
 use Rattle.depot_replay.proofs.play.Play.signed.Given.{Over}
@@ -32,7 +32,7 @@ numbered : (g : Over) (c : In-Some g) → IsNumbered c.in-Update.writer c.in-Upd
 numbered g c =
     let played = c.requires.played in
     let sign : Signs = λ seq body. [] in
-    is_numbered sign played.1.0 c.in-Update.writer c.in-Update.seq c.in-Update.clock c.in-Update.prev c.in-Update.key c.in-Update.value c.in-Update.deps c.in-Update.history c.in-Some.update (made_is g c played.0 played.1.0 sign played.1.1)
+    is_numbered sign played.run c.in-Update.writer c.in-Update.seq c.in-Update.clock c.in-Update.prev c.in-Update.key c.in-Update.value c.in-Update.deps c.in-Update.history c.in-Some.update (made_is g c played.stage played.run sign played.at)
 
 has_leaf : (g : Over) (c : In-Update g) → HasLeaf c.args.scene.now.height c.args.scene.now.members.now c.in-Update.writer c.in-Update.seq
 has_leaf g c =

@@ -6,7 +6,7 @@ use Rattle.depot_replay.proofs.NodeEvents.{nothing_armed}
 use Rattle.depot_replay.proofs.play.Play.stop.Goals as goal
 
 pub arm-requires-clause-left : goal.arm-requires-clause-left
-arm-requires-clause-left g c = (c.args.node, (c.args.self.now, (c.requires.played, c.in-Some.ensures)))
+arm-requires-clause-left g c = (c.args.node, record { before = c.args.self.now; played = c.requires.played; left = c.in-Some.ensures })
 
 pub returns-in-Some : goal.returns-in-Some
 returns-in-Some g c = c.arm.ensures c.args.node c.args.self.now c.in-Some.ensures

@@ -1,10 +1,10 @@
 use Rattle.std.proofs.Common.{List, ℕ, sym, ap, subst, ◌∙◌, []}
 use Rattle.depot_base.specs.declared.update.Update.{Update}
 use Rattle.depot_graph.specs.Kept.{updates_in}
-use Rattle.depot_world.specs.Signing.{history_by, with_history}
-use Rattle.depot_replay.specs.Seen.{HasSeenParents}
+use Rattle.depot_world.specs.FaultySigning.{history_by, with_history}
+use Rattle.depot_stage.specs.Seen.{HasSeenParents}
 use Rattle.depot_replay.proofs.DraftTexts.{IsPutTogether, IsSeenUpdate, draft_is_seen, draft_is_updated, no_entries, no_prev, updated_is_seen}
-use Rattle.depot_replay.proofs.NamedUpdates.{named_here}
+use Rattle.depot_replay.proofs.LabelledUpdates.{named_here}
 use Rattle.depot_replay.proofs.play.Play.updated.Given.{Over}
 use Rattle.depot_replay.proofs.play.Play.updated.Goals as goal
 use Rattle.depot_replay.proofs.play.Play.updated.Goals.{After-drafted-draft, In_ok-with_history}
@@ -23,9 +23,9 @@ made g c = subst (λ (k : List ℕ). IsPutTogether c.args.writer c.args.seq c.ar
 
 pub with_history-requires : goal.with_history-requires
 with_history-requires g c =
-    let stage = c.requires.played.0 in
-    let run = c.requires.played.1.0 in
-    let at = c.requires.played.1.1 in
+    let stage = c.requires.played.stage in
+    let run = c.requires.played.run in
+    let at = c.requires.played.at in
     subst (λ (us : List Update). HasSeenParents us c.drafted-draft.result) (sym at.seen_are)
     (draft_is_seen run c.args.writer c.args.seq c.args.clock c.args.prev.now c.in-Some.prev c.args.key.now c.args.value.now c.args.deps.now c.args.history c.in-Some-2.deps c.drafted-draft.result
     (named_here g.A.Actor.view stage run c.args.self.now g.met.A.Actor.lawful at) c.requires.fits (sym c.in-Some.is ∙ c.in_ok-prev.ensures stage run at) (sym c.in-Some-2.is ∙ c.in_ok-deps.ensures stage run at) (made g c))
@@ -40,9 +40,9 @@ returns-clause-is g c = λ stage run sign at.
 -- the update has a text, and its parents were seen
 seen : (g : Over) (c : In_ok-with_history g) → IsSeenUpdate (updates_in c.args.self.now.seen.graph.items.entries) c.in_ok-with_history.field-0
 seen g c =
-    let stage = c.requires.played.0 in
-    let run = c.requires.played.1.0 in
-    let at = c.requires.played.1.1 in
+    let stage = c.requires.played.stage in
+    let run = c.requires.played.run in
+    let at = c.requires.played.at in
     subst (λ (us : List Update). IsSeenUpdate us c.in_ok-with_history.field-0) (sym at.seen_are)
     (updated_is_seen run (λ _ _. []) c.args.writer c.args.seq c.args.clock c.args.prev.now c.args.key.now c.args.value.now c.args.deps.now c.args.history c.in_ok-with_history.field-0
     (named_here g.A.Actor.view stage run c.args.self.now g.met.A.Actor.lawful at) c.requires.fits (returns-clause-is g c stage run (λ _ _. []) at))

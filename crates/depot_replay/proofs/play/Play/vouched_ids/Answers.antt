@@ -2,7 +2,7 @@ use Rattle.std.proofs.Common.{sym, ap, ◌∙◌, List, map}
 use Rattle.depot_base.specs.declared.update.Dep.{Dep}
 use Rattle.depot_model.specs.Vouching.{rising}
 use Rattle.depot_replay.proofs.DraftTexts.{vouched_has_text}
-use Rattle.depot_replay.proofs.NamedUpdates.{ids_vouched}
+use Rattle.depot_replay.proofs.LabelledUpdates.{ids_vouched}
 use Rattle.depot_replay.proofs.play.Play.vouched_ids.Goals as goal
 
 pub returns-clause-is : goal.returns-clause-is
@@ -12,5 +12,5 @@ returns-clause-is g c = λ stage run at.
 pub returns-clause-text : goal.returns-clause-text
 returns-clause-text g c = λ node seq may.
     let played = c.requires in
-    vouched_has_text played.1.0 node seq c.args.refs.now c.in_ok-rising_ids.field-0
-    (ids_vouched played.1.0 c.args.refs.now c.in-Some.named c.in_ok-rising_ids.field-0 (sym c.in-Some.is ∙ c.in_ok-named.ensures played.0 played.1.0 played.1.1) (c.in_ok-rising_ids.ensures ∙ ap (λ (es : List Dep). rising (map (λ d. d.id) es)) c.as_slice.ensures)) may
+    vouched_has_text played.run node seq c.args.refs.now c.in_ok-rising_ids.field-0
+    (ids_vouched played.run c.args.refs.now c.in-Some.named c.in_ok-rising_ids.field-0 (sym c.in-Some.is ∙ c.in_ok-named.ensures played.stage played.run played.at) (c.in_ok-rising_ids.ensures ∙ ap (λ (es : List Dep). rising (map (λ d. d.id) es)) c.as_slice.ensures)) may

@@ -1,10 +1,10 @@
 use Rattle.std.proofs.Common.{ℕ, ◌<◌, ◌^◌, ap, sym, subst, ◌∙◌}
 use Rattle.std.proofs.lemmas.Result.{IfOk-weaker}
 use Rattle.depot_model.specs.Bundle.{Signs}
-use Rattle.depot_world.specs.Signing as signing
+use Rattle.depot_world.specs.FaultySigning as signing
 use Rattle.depot_world.specs.Suite.{signs_on}
-use Rattle.depot_replay.specs.Casting.{Hand}
-use Rattle.depot_replay.specs.Texts.{IsText}
+use Rattle.depot_stage.specs.Casting.{Hand}
+use Rattle.depot_stage.specs.StageTexts.{IsText}
 use Rattle.depot_replay.proofs.MadeTexts.{HasLeaf, voucher_has_leaf, vouched_is, unvouched_is}
 use Rattle.depot_replay.proofs.play.Play.voucher.Given.{Over}
 use Rattle.depot_replay.proofs.play.Play.voucher.Goals as goal

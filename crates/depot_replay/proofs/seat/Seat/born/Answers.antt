@@ -1,11 +1,9 @@
-use Rattle.std.proofs.Common.{◌≡◌, ℕ, List, [], ◌∷◌, refl, sym, ap, subst, ◌∙◌}
+use Rattle.std.proofs.Common.{◌≡◌, List, [], ◌∷◌, refl, ap, ◌∙◌}
 use Rattle.depot_base.specs.declared.key.RosterEntry.{RosterEntry}
-use Rattle.depot_base.specs.declared.record.Record.{Record}
 use Rattle.depot_base.specs.declared.record.Record.TheVariants.{Birth}
 use Rattle.depot_model.specs.Bundle.{Signs}
 use Rattle.depot_model.specs.Texts.{hash_of_roster}
-use Rattle.depot_outside.specs.Stopping.{State, fresh, state_of}
-use Rattle.depot_replay.specs.Seats.{IsKeptOn}
+use Rattle.depot_outside.specs.Stopping.{fresh, state_of}
 use Rattle.depot_replay.proofs.SeatEvents.{view_is}
 use Rattle.depot_replay.proofs.SeatStarts.{born_from}
 use Rattle.depot_replay.proofs.seat.Seat.born.Goals as goal

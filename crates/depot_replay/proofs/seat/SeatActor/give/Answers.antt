@@ -1,4 +1,4 @@
-use Rattle.std.proofs.Common.{refl, sym, ◌∙◌, arith}
+use Rattle.std.proofs.Common.{refl, ◌∙◌, arith}
 use Rattle.depot_outside.specs.Stopping.{state_of}
 use Rattle.depot_replay.proofs.SeatCalls.{done_on}
 use Rattle.depot_replay.proofs.SeatEvents.{begun_there, same_signs}
@@ -19,7 +19,7 @@ seated-requires-clause-called g c =
     let done = done_on n m (state_of n.store.disk) (state_of m.store.disk) _ (λ calls led. led) c.feed_all-fed.ensures.calls.calls in
     let called = give_seated _ _ there _ _ (same_signs _ _ a.signs) (state_of n.store.disk) (state_of m.store.disk) n.store.records m.store.records begun c.args.stream.now c.feed_all-fed.ensures.calls.appends c.feed_all-fed.result c.in_ok-printed.printed (λ i. omega (arith, c.type_inv.stream i)) c.feed_all-fed.ensures.grown
     c.in_ok-printed.ensures.settled c.feed_all-fed.ensures.calls.brings done c.in_ok-printed.ensures.stopped in
-    (_, (_, (_, (refl, called))))
+    record { view = _; before = _; longer = _; here_is = refl; called = called }
 
 pub returns : goal.returns
 returns g c =

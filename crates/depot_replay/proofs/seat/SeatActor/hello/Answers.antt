@@ -1,4 +1,4 @@
-use Rattle.std.proofs.Common.{refl, sym, ◌∙◌}
+use Rattle.std.proofs.Common.{refl, ◌∙◌}
 use Rattle.depot_laws.proofs.HelloTexts.{hello_fits}
 use Rattle.depot_outside.specs.Stopping.{state_of}
 use Rattle.depot_replay.proofs.SeatReads.{as_it_was, hello_came}

@@ -1,5 +1,4 @@
-use Rattle.std.proofs.Common.{refl, sym, ◌∙◌}
-use Rattle.depot_node.specs.Putting.{put_records}
+use Rattle.std.proofs.Common.{refl, ◌∙◌}
 use Rattle.depot_outside.specs.Stopping.{state_of}
 use Rattle.depot_replay.proofs.SeatCalls.{done_on}
 use Rattle.depot_replay.proofs.SeatEvents.{begun_there, same_signs}
@@ -20,7 +19,7 @@ seated-requires-clause-called g c =
     let done = done_on n m (state_of n.store.disk) (state_of m.store.disk) _ (λ calls led. led) c.put-done.ensures.calls in
     let called = put_seated _ _ there _ _ (same_signs _ _ a.signs) (state_of n.store.disk) (state_of m.store.disk) n.store.records m.store.records begun c.args.key c.args.value c.put-done.result c.in_ok-printed.printed c.have_sizes.ensures.key c.have_sizes.ensures.value c.put-done.ensures.puts
     c.in_ok-printed.ensures.settled done c.in_ok-printed.ensures.stopped in
-    (_, (_, (_, (refl, called))))
+    record { view = _; before = _; longer = _; here_is = refl; called = called }
 
 pub returns : goal.returns
 returns g c =

@@ -1,5 +1,5 @@
 use Rattle.std.proofs.Common.{arith}
-use Rattle.depot_sign.proofs.Parsing.{roster_count}
+use Rattle.depot_sign.proofs.RosterParsing.{roster_count}
 use Rattle.depot_sign.proofs.roster.Roster.count.Goals as goal
 
 pub overflow_cast-result : goal.overflow_cast-result

@@ -1,4 +1,4 @@
-use Rattle.depot_sign.proofs.Parsing.{text_is_kept}
+use Rattle.depot_sign.proofs.RosterParsing.{text_is_kept}
 use Rattle.depot_sign.proofs.roster.Roster.of.Goals as goal
 
 pub invariant_of-result : goal.invariant_of-result

@@ -1,5 +1,5 @@
 use Rattle.std.proofs.Common.{arith}
-use Rattle.depot_sign.proofs.Parsing.{read_is_kept, parses_ok, stop_is_early, parses_stop}
+use Rattle.depot_sign.proofs.RosterParsing.{read_is_kept, parses_ok, stop_is_early, parses_stop}
 use Rattle.depot_sign.proofs.roster.Roster.parse.Goals as goal
 
 pub invariant_of-result : goal.invariant_of-result

@@ -1,6 +1,6 @@
 use Rattle.std.proofs.Common.{◌≡◌, ◌∷◌, [], List, ℕ, length, ap, arith}
 use Rattle.depot_base.specs.declared.record.Record.TheVariants.{Foreign, Conviction}
-use Rattle.depot_laws.proofs.Records.{IsRecord-Conviction}
+use Rattle.depot_laws.proofs.LawfulRecords.{IsRecord-Conviction}
 use Rattle.depot_store.proofs.growth.Growth.convicting.Goals as goal
 
 pub encode_conviction-requires : goal.encode_conviction-requires

@@ -2,14 +2,15 @@ use Rattle.std.proofs.Common.{[], refl, arith}
 use Rattle.depot_base.specs.declared.record.Record.TheVariants.{OwnVoucher}
 use Rattle.depot_laws.proofs.Splits.{lawful_last}
 use Rattle.depot_vouch.proofs.ConvictedNodes.{where_ok}
+use Rattle.depot_laws.proofs.LawfulRecords.{IsStatement-from_own_voucher}
 use Rattle.depot_store.proofs.BoundLaws.{few_of_own, few_updates}
 use Rattle.depot_store.proofs.KeptLaws.{voucher_kept}
 use Rattle.depot_store.proofs.OwnIdLaws.{adds_one}
-use Rattle.depot_store.proofs.StateGrowth.{fits_behind, voucher_is_statement}
+use Rattle.depot_store.proofs.StateGrowth.{fits_behind}
 use Rattle.depot_store.proofs.kept.Kept.add_voucher.Goals as goal
 
 pub add_own-requires-clause-text : goal.add_own-requires-clause-text
-add_own-requires-clause-text g c = voucher_is_statement c.args.item.voucher (lawful_last _ c.requires.may.0 (OwnVoucher c.args.item.voucher) c.requires.may.1.1).text
+add_own-requires-clause-text g c = IsStatement-from_own_voucher c.args.item.voucher (lawful_last _ c.requires.may.0 (OwnVoucher c.args.item.voucher) c.requires.may.1.1).text
 
 pub add_own-requires-clause-fits : goal.add_own-requires-clause-fits
 add_own-requires-clause-fits g c = fits_behind _ c.requires.may.0 (OwnVoucher c.args.item.voucher) [] _ c.requires.may.1.1 refl c.requires.may.1.0.state.accepted

@@ -2,7 +2,7 @@ use Rattle.std.proofs.Common.{◌++◌, ◌∷◌, [], refl, sym, ap, ◌∙◌}
 use Rattle.depot_base.specs.declared.record.Record.TheVariants.{Foreign}
 use Rattle.depot_model.specs.Checks.{Setting}
 use Rattle.depot_model.specs.Roster.{has_node}
-use Rattle.depot_laws.proofs.Records.{IsSigned-from_record}
+use Rattle.depot_laws.proofs.LawfulRecords.{IsSigned-from_record}
 use Rattle.depot_laws.proofs.Splits.{lawful_front, lawful_last}
 use Rattle.depot_store.proofs.BoundLaws.{few_statements, few_updates}
 use Rattle.depot_store.proofs.KeptLaws.{both_kept, on_err, still_keeps, same_state}
@@ -32,7 +32,7 @@ add_foreign-requires-clause-few_foreign g c =
 pub convict-requires : goal.convict-requires
 convict-requires g c =
     let l = lawful_both _ c.requires.may.0 c.args.proof.now c.args.signed c.requires.may.1.1 in
-    ap (λ (s : Setting). has_node s.listed c.writer.result) c.in_ok-add_foreign.ensures.stays ∙ ap (has_node c.args.self.now.state.listed) c.writer.ensures
+    ap (λ (s : Setting). has_node s.listed c.accused.result) c.in_ok-add_foreign.ensures.stays ∙ ap (has_node c.args.self.now.state.listed) c.accused.ensures
     ∙ accused_is_listed _ c.requires.may.0 c.args.proof.now (lawful_front _ _ (Foreign c.args.signed ∷ []) l)
 
 pub returns-in_err-add_foreign-clause-err : goal.returns-in_err-add_foreign-clause-err
@@ -41,4 +41,4 @@ returns-in_err-add_foreign-clause-err g c = on_err _ (still_keeps g.S.Scheme.ver
 pub returns-clause-ok : goal.returns-clause-ok
 returns-clause-ok g c = λ J k l.
     both_kept g.S.Scheme.verifies J c.args.proof.now c.args.signed _ _ _ _ _ l (c.totals_with-totals.ensures J k) (c.convict.ensures.stays ∙ c.in_ok-add_foreign.ensures.stays)
-    (c.convict.ensures.convicted (J ++ Foreign c.args.signed ∷ []) c.args.proof.now (sym c.writer.ensures) (c.in_ok-add_foreign.ensures.ok J k.state)) k
+    (c.convict.ensures.convicted (J ++ Foreign c.args.signed ∷ []) c.args.proof.now (sym c.accused.ensures) (c.in_ok-add_foreign.ensures.ok J k.state)) k

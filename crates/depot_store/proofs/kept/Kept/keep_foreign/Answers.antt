@@ -1,6 +1,6 @@
 use Rattle.std.proofs.Common.{refl}
 use Rattle.depot_base.specs.declared.record.Record.TheVariants.{Foreign}
-use Rattle.depot_laws.proofs.Records.{IsSigned-from_record}
+use Rattle.depot_laws.proofs.LawfulRecords.{IsSigned-from_record}
 use Rattle.depot_laws.proofs.Splits.{lawful_last}
 use Rattle.depot_store.proofs.BoundLaws.{few_statements, few_updates}
 use Rattle.depot_store.proofs.KeptLaws.{taken_kept, on_err, still_keeps, same_state}

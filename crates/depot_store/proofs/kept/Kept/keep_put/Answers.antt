@@ -22,7 +22,7 @@ pub add_own-requires-clause-few : goal.add_own-requires-clause-few
 add_own-requires-clause-few g c = few_updates _ c.requires.may.0 (OwnPut c.args.update c.args.value) _ c.requires.may.1.1 c.requires.may.1.0.state.accepted
 
 pub add_hashed-requires : goal.add_hashed-requires
-add_hashed-requires g c = put_hash _ c.requires.may.0 c.args.update c.args.value c.requires.may.1.1
+add_hashed-requires g c = rw c.value_named-hash.ensures (put_hash _ c.requires.may.0 c.args.update c.args.value c.requires.may.1.1)
 
 pub returns-in_err-reserve-clause-err : goal.returns-in_err-reserve-clause-err
 returns-in_err-reserve-clause-err g c = on_err _ (still_keeps g.S.Scheme.verifies _ _ _ _ _ refl (λ J s. s) c.reserve.ensures.values_stay)
@@ -39,4 +39,4 @@ pub returns-clause-ok : goal.returns-clause-ok
 returns-clause-ok g c = λ J k l.
     put_kept g.S.Scheme.verifies J c.args.update c.args.value c.args.id c.max-self.result _ _ _ _ _ c.add_hashed.result _ l c.requires.id c.max-self.ensures c.in_ok-add_own.ensures.stays
     (c.in_ok-add_own.ensures.ok J (OwnPut c.args.update c.args.value) refl k.state) c.in_ok-reserve.ensures.values_stay (c.add_hashed.ensures.succeeds c.in_ok-reserve.ensures.room)
-    (record { known = c.add_hashed.ensures.known; new = c.add_hashed.ensures.new; else_stays = c.add_hashed.ensures.else_stays; others_stay = c.add_hashed.ensures.others_stay }) k
+    (record { known = rw c.value_named-hash.ensures at c.add_hashed.ensures.known; new = rw c.value_named-hash.ensures at c.add_hashed.ensures.new; else_stays = c.add_hashed.ensures.else_stays; others_stay = rw c.value_named-hash.ensures at c.add_hashed.ensures.others_stay }) k

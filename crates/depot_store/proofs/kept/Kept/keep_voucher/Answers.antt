@@ -1,6 +1,6 @@
 use Rattle.std.proofs.Common.{[], ◌∷◌, refl, ◌∙◌}
 use Rattle.depot_base.specs.declared.record.Record.TheVariants.{OwnVoucher}
-use Rattle.depot_vouch.proofs.SlotLaws.{added_together}
+use Rattle.depot_vouch.proofs.IdSlotLaws.{added_together}
 use Rattle.depot_store.specs.StoreParts.{StillKeeps}
 use Rattle.depot_store.proofs.KeptLaws.{keeps_still, may_still, on_err, same_setting, same_state, still_keeps}
 use Rattle.depot_store.proofs.OwnIdLaws.{adds_behind}

@@ -2,22 +2,21 @@ use Rattle.std.proofs.Common.{◌++◌, ◌||◌, ℕ, List, Option, sym, ap, �
 use Rattle.std.specs.Option.{option_to_list}
 use Rattle.depot_base.specs.declared.record.Record.{Record}
 use Rattle.depot_model.specs.Bundle.{records_where}
-use Rattle.depot_accept.specs.View.{setting}
+use Rattle.depot_accept.specs.StateView.{setting}
 use Rattle.depot_store.specs.NewRecords.{records_in}
 use Rattle.depot_store.specs.Named.{is_name, names}
 use Rattle.depot_store.specs.Places.{accepts, accept_places}
-use Rattle.depot_store.specs.declared.named.NamedValue.{NamedValue}
+use Rattle.depot_base.specs.declared.update.NamedValue.{NamedValue}
 use Rattle.depot_store.proofs.AcceptPlaceLaws.{accept_places-append}
-use Rattle.depot_store.proofs.BoundLaws.{few_records}
+use Rattle.depot_store.proofs.BoundLaws.{few_counted}
 use Rattle.depot_store.proofs.NamedLaws.{named_grows}
 use Rattle.depot_store.proofs.OwnIdLaws.{mine_grows}
 use Rattle.depot_store.proofs.readings.Readings.read.Goals as goal
 
 pub accept_place-place-requires : goal.accept_place-place-requires
 accept_place-place-requires g c =
-    let may = c.requires.may in
-    let few = few_records (setting g.S.Scheme.verifies c.args.self.now.kept.state) may.0 (records_in c.args.news) may.1.1.1 in
-    omega (arith, few, may.1.1.0)
+    let few = few_counted _ (setting g.S.Scheme.verifies c.args.self.now.kept.state) (records_in c.args.news) c.args.count c.requires.may in
+    omega (arith, few)
 
 pub returns-clause-ok : goal.returns-clause-ok
 returns-clause-ok g c = λ J r is l.

@@ -12,7 +12,7 @@ use Rattle.depot_store.proofs.AppendLaws.{appended, cut_appended, cut_seen, disk
 use Rattle.depot_store.proofs.CallingLaws.{calls_appended, calls_failed, calls_unappended}
 use Rattle.depot_store.proofs.JournalTexts.{read_count, whole_texts}
 use Rattle.depot_store.proofs.RoomLaws.{growth_takes}
-use Rattle.depot_store.proofs.SeenLaws.{lawful_inside, runs_inside, seen_with, whole_inside}
+use Rattle.depot_store.proofs.SeenRecords.{lawful_inside, runs_inside, seen_with, whole_inside}
 use Rattle.depot_store.proofs.store.Store.append_counted.Goals as goal
 
 pub overflow_cast-bytes : goal.overflow_cast-bytes

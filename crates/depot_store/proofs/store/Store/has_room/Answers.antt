@@ -13,10 +13,9 @@ use Rattle.depot_store.proofs.store.Store.has_room.Goals.{After-leaves_with}
 -- whatever leaves are counted
 room : (g : Over) (c : After-leaves_with g) (leaves : Option ℕ) → c.leaves_with.result ≡ leaves → full_by c.args.self.now.me c.args.self.now.records c.args.next.now ≡ writers_full (length (foreign_leaves c.args.self.now.me c.args.self.now.records)) leaves
 room g c leaves is =
-    let next = c.requires.next in
     let unread : drop c.self.inside.read c.self.inside.journal.records ≡ c.args.self.now.unread = ap (λ (v : Holding _). v.unread) c.self.view_is in
-    read_room (standing g.S.Scheme.verifies c.args.self.now) c.args.self.now.records c.args.next.now c.self.inside.read c.self.inside.journal.records leaves c.requires.lawful c.requires.new (texts_read c.args.self.now.records c.self.inside.read c.self.inside.journal.records c.self.invariant.0 (ap (λ (v : Holding _). v.records) c.self.view_is)) c.size-size.ensures.within
-    (next.0, (next.1.0, (next.1.1.0, unread ∙ next.1.1.1))) (sym is ∙ c.leaves_with.ensures)
+    read_room (standing g.S.Scheme.verifies c.args.self.now) c.args.self.now.records c.args.next.now c.self.inside.read c.self.inside.journal.records c.args.self.now.unread leaves c.requires.lawful c.requires.new (texts_read c.args.self.now.records c.self.inside.read c.self.inside.journal.records c.self.invariant.0 (ap (λ (v : Holding _). v.records) c.self.view_is)) c.size-size.ensures.within
+    unread c.requires.next (sym is ∙ c.leaves_with.ensures)
 
 pub leaves_with-requires-clause-short : goal.leaves_with-requires-clause-short
 leaves_with-requires-clause-short g c =

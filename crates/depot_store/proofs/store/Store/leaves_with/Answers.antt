@@ -2,7 +2,7 @@ use Rattle.std.proofs.Common.{length, take, ap, arith}
 use Rattle.depot_store.specs.Holdings.{Holding}
 use Rattle.depot_store.specs.RecordTexts.{records_of}
 use Rattle.depot_store.proofs.LeafLaws.{few_leaves}
-use Rattle.depot_store.proofs.SeenLaws.{runs_inside}
+use Rattle.depot_store.proofs.SeenRecords.{runs_inside}
 use Rattle.depot_store.proofs.store.Store.leaves_with.Goals as goal
 
 pub leaves_with-requires : goal.leaves_with-requires

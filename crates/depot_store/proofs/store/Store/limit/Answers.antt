@@ -3,7 +3,7 @@ use Rattle.depot_base.specs.declared.check.FullOf.TheVariants as full_of
 use Rattle.depot_model.specs.Records.{journal_bytes}
 use Rattle.depot_model.specs.Room.{foreign_leaves}
 use Rattle.depot_store.proofs.RoomLaws.{limit_bytes, limit_none, limit_none_taken, limit_writers}
-use Rattle.depot_store.proofs.SeenLaws.{leaves_seen, runs_inside, size_seen}
+use Rattle.depot_store.proofs.SeenRecords.{leaves_seen, runs_inside, size_seen}
 use Rattle.depot_store.proofs.store.Store.limit.Goals as goal
 
 pub returns-then-size-bytes : goal.returns-then-size-bytes

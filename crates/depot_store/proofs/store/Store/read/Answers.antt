@@ -1,6 +1,6 @@
 use Rattle.std.proofs.Common.{◌≡◌, List, length, take, refl, sym, ap, subst, arith}
 use Rattle.depot_base.specs.declared.record.Record.{Record}
-use Rattle.depot_accept.specs.View.{setting}
+use Rattle.depot_accept.specs.StateView.{setting}
 use Rattle.depot_laws.proofs.OwnTexts.{lawful_is_short}
 use Rattle.depot_laws.proofs.Splits.{lawful_front}
 use Rattle.depot_store.specs.Holdings.{standing}
@@ -8,7 +8,7 @@ use Rattle.depot_store.specs.NewRecords.{records_in}
 use Rattle.depot_store.specs.RecordTexts.{records_of}
 use Rattle.depot_store.specs.StoreParts.{AreReadings}
 use Rattle.depot_store.proofs.JournalTexts.{read_count}
-use Rattle.depot_store.proofs.SeenLaws.{lawful_inside, read_seen, view_read}
+use Rattle.depot_store.proofs.SeenRecords.{lawful_inside, read_seen, view_read}
 use Rattle.depot_store.proofs.store.Store.read.Goals as goal
 
 pub leaves_with-leaves-requires-clause-short : goal.leaves_with-leaves-requires-clause-short

@@ -3,11 +3,11 @@ use Rattle.depot_base.specs.declared.record.Record.{Record}
 use Rattle.depot_model.specs.Journal.{accepted}
 use Rattle.depot_model.specs.Records.{journal_bytes}
 use Rattle.depot_model.specs.Room.{foreign_leaves, full_by}
-use Rattle.depot_laws.proofs.OwnTexts.{lawful_is_short}
+use Rattle.depot_laws.proofs.OwnTexts.{lawful_is_short, lawful_is_light}
 use Rattle.depot_store.specs.NewRecords.{AreNew}
 use Rattle.depot_store.specs.RoomByCounts.{leaves_with, limit}
 use Rattle.depot_store.specs.Holdings.{standing}
-use Rattle.depot_store.proofs.RoomLaws.{lawful_is_small, full_with_growth, full_with_nothing, growth_is_small, is_none, isnt_none}
+use Rattle.depot_store.proofs.RoomLaws.{full_with_growth, full_with_nothing, growth_is_small, is_none, isnt_none}
 use Rattle.depot_store.proofs.store.Store.room_for.Goals as goal
 
 pub returns-then-is_empty : goal.returns-then-is_empty
@@ -19,7 +19,7 @@ pub limit-requires-clause-records : goal.limit-requires-clause-records
 limit-requires-clause-records g c = lawful_is_short (standing g.S.Scheme.verifies c.args.self.now) c.args.self.now.records c.requires.lawful
 
 pub limit-requires-clause-bytes : goal.limit-requires-clause-bytes
-limit-requires-clause-bytes g c = lawful_is_small (standing g.S.Scheme.verifies c.args.self.now) c.args.self.now.records c.requires.lawful
+limit-requires-clause-bytes g c = lawful_is_light (standing g.S.Scheme.verifies c.args.self.now) c.args.self.now.records c.requires.lawful
 
 pub limit-requires-clause-few : goal.limit-requires-clause-few
 limit-requires-clause-few g c = let few = (growth_is_small _ _ _ c.new.invariant).few in omega (arith, few, c.len.ensures, c.new.inside.texts.ok.0)

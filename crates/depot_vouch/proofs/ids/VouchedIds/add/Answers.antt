@@ -1,6 +1,6 @@
 use Rattle.std.proofs.Common.{ap}
-use Rattle.depot_vouch.specs.Vouching.{IdsWithRoom}
-use Rattle.depot_vouch.proofs.SlotLaws.{within_keys, not_ok}
+use Rattle.depot_vouch.specs.VouchedView.{IdsWithRoom}
+use Rattle.depot_vouch.proofs.IdSlotLaws.{within_keys, not_ok}
 use Rattle.depot_vouch.proofs.ids.VouchedIds.add.Goals as goal
 
 pub returns-in_err-reserve_all-clause-known : goal.returns-in_err-reserve_all-clause-known

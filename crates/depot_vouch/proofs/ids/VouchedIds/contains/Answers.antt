@@ -1,7 +1,7 @@
 use Rattle.std.proofs.Common.{ap, ◌∙◌}
 use Rattle.depot_model.specs.Lists.{is_among}
-use Rattle.depot_vouch.specs.Vouching.{IdsWithRoom}
-use Rattle.depot_vouch.proofs.SlotLaws.{found_is_vouched, missing_is_not_vouched}
+use Rattle.depot_vouch.specs.VouchedView.{IdsWithRoom}
+use Rattle.depot_vouch.proofs.IdSlotLaws.{found_is_vouched, missing_is_not_vouched}
 use Rattle.depot_vouch.proofs.ids.VouchedIds.contains.Goals as goal
 
 pub returns-in-Some : goal.returns-in-Some

@@ -1,6 +1,6 @@
 use Rattle.std.proofs.Common.{ap}
-use Rattle.depot_vouch.specs.Vouching.{IdsWithRoom}
-use Rattle.depot_vouch.proofs.SlotLaws.{within_keys}
+use Rattle.depot_vouch.specs.VouchedView.{IdsWithRoom}
+use Rattle.depot_vouch.proofs.IdSlotLaws.{within_keys}
 use Rattle.depot_vouch.proofs.ids.VouchedIds.reserve.Goals as goal
 
 pub returns-clause-known : goal.returns-clause-known

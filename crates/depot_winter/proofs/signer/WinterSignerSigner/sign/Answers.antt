@@ -1,6 +1,6 @@
 use Rattle.std.proofs.Common.{◌∙◌, ap}
 use Rattle.depot_model.specs.Winternitz.{digest_of}
-use Rattle.depot_winter.proofs.Laws.{signature_made}
+use Rattle.depot_winter.proofs.SignatureLaws.{signature_made}
 use Rattle.depot_winter.proofs.signer.WinterSignerSigner.sign.Goals as goal
 
 pub returns : goal.returns

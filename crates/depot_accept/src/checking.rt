@@ -1,0 +1,244 @@
+//! The checks of a statement.
+ghost use Rattle.std.specs.Prelude.{◌≡◌, ◌<◌, ◌↔◌, List, length, IsTrue, Ok, None, Some, slice_get};
+ghost use Rattle.std.specs.List.{AllByRecursion, list_any};
+ghost use Rattle.depot_base.specs.declared.record.Record.{Record};
+ghost use Rattle.depot_base.specs.declared.statement.Signed.{Signed};
+ghost use Rattle.depot_base.specs.declared.statement.Statement.TheVariants as statements;
+ghost use Rattle.depot_base.specs.Statement.{writer_of};
+ghost use Rattle.depot_model.specs.Lists.{first};
+ghost use Rattle.depot_model.specs.Roster.{key_of, is_signed};
+ghost use Rattle.depot_model.specs.Texts.{IsSigned, IsStatement, id_of_statement};
+ghost use Rattle.depot_model.specs.Checks.{given_statement, is_kept, content_of, named_opponent, exposed};
+ghost use Rattle.depot_accept.specs.StateView.{IsStateOf, setting};
+ghost use Rattle.depot_accept.specs.OwnVouchers.{has_body_of_voucher};
+ghost use Rattle.depot_accept.specs.Content.{TellsNoFork};
+ghost use Rattle.depot_accept.specs.Answers.{IsChecked, AreDue};
+ghost use Rattle.depot_accept.specs.AfterSignature.{IsCheckedAfterSignature, IsOpponent};
+
+use crate::answer::{CheckError, Pass};
+use crate::content::failed_content;
+use crate::state::State;
+use depot_base::{Check, Hash32, PublicKey, Signed, Statement, Update, Voucher};
+use depot_fork::Found;
+use depot_model::{Past, Scheme};
+
+impl<S: Scheme> State<S> {
+    /// What the journal whose state this is answers to a statement with this id: that it is new or known, or the first
+    /// check that fails, and the kept statement by which the conviction of its writer is due, if one is. Memory comes at
+    /// updates alone. The state stays.
+    ///
+    /// Its cost, of which no clause speaks: it verifies one signature at most, and none where a check before that one
+    /// answers; it looks each parent up once; it hashes the past only where no check before that of the history fails.
+    pub fn check(&self, signed: &Signed, id: &Hash32) -> Result<Pass, CheckError>
+        requires text { IsSigned signed.now }
+        requires id { id.now ≡ id_of_statement signed.now.statement }
+        ensures { (J : List Record) → IsStateOf J self.now → IsChecked (setting S.verifies self.now) J signed.now result }
+    {
+        let writer = signed.statement.writer();
+        let Some(key) = self.roster.key_of(writer) else {
+            return Err(refused(Check::UnknownWriter(writer)));
+        };
+        if self.is_kept(&signed.statement, id) {
+            return Ok(Pass::Known);
+        }
+        if writer == self.me {
+            return Err(refused(Check::NotMine(*id)));
+        }
+        if !self.verifies(&key, signed) {
+            return Err(refused(Check::BadSignature(writer)));
+        }
+        self.check_after_signature(signed, id)
+    }
+
+    /// Whether the signature of a statement verifies under this key, which is that of its writer.
+    fn verifies(&self, key: &PublicKey, signed: &Signed) -> bool
+        requires { key_of self.now.listed (writer_of signed.now.statement) ≡ Some key.now }
+        ensures { result ≡ is_signed S.verifies self.now.listed signed.now }
+    {
+        self.scheme.verify(
+            key,
+            signed.statement.seq(),
+            signed.body.as_slice(),
+            signed.signature.as_slice(),
+        )
+    }
+
+    /// The checks after that of the signature.
+    fn check_after_signature(&self, signed: &Signed, id: &Hash32) -> Result<Pass, CheckError>
+        requires text { IsSigned signed.now }
+        requires id { id.now ≡ id_of_statement signed.now.statement }
+        ensures { (J : List Record) → IsStateOf J self.now → IsCheckedAfterSignature J signed.now result }
+    {
+        match &signed.statement {
+            Statement::Update(update) => self.check_update(signed, update, id),
+            Statement::Voucher(voucher) => self.check_voucher(signed, voucher, id),
+        }
+    }
+
+    /// The same of an update.
+    fn check_update(
+        &self,
+        signed: &Signed,
+        update: &Update,
+        id: &Hash32,
+    ) -> Result<Pass, CheckError>
+        requires text { IsSigned signed.now }
+        requires update { signed.now.statement ≡ statements.Update update.now }
+        requires id { id.now ≡ id_of_statement signed.now.statement }
+        ensures { (J : List Record) → IsStateOf J self.now → IsCheckedAfterSignature J signed.now result }
+    {
+        match failed_content(self.alloc, &self.graph, update) {
+            Err(_) => Err(CheckError::Memory),
+            Ok(Some(check)) => Err(CheckError::Refused {
+                check,
+                against: self.exposing_prev(signed, update, id, &check),
+            }),
+            Ok(None) => self.check_fork(signed, update, id),
+        }
+    }
+
+    /// The same of an update of which no check of its content fails.
+    fn check_fork(&self, signed: &Signed, update: &Update, id: &Hash32) -> Result<Pass, CheckError>
+        requires text { IsSigned signed.now }
+        requires update { signed.now.statement ≡ statements.Update update.now }
+        requires id { id.now ≡ id_of_statement signed.now.statement }
+        ensures { (J : List Record) → IsStateOf J self.now → first (content_of J signed.now.statement) ≡ None → IsCheckedAfterSignature J signed.now result }
+    {
+        let is_vouched = self.vouched.is_vouched(id);
+        if self.vouched.is_convicted(update.writer) {
+            if is_vouched {
+                return Ok(Pass::Update(None));
+            }
+            return Err(refused(Check::Convicted(update.writer)));
+        }
+        let found = self.seen.contradiction(&signed.statement, id);
+        if is_vouched {
+            return Ok(Pass::Update(found));
+        }
+        match found {
+            Some(found) => Err(self.forked(id, found)),
+            None => Ok(Pass::Update(None)),
+        }
+    }
+
+    /// The same of a voucher.
+    fn check_voucher(
+        &self,
+        signed: &Signed,
+        voucher: &Voucher,
+        id: &Hash32,
+    ) -> Result<Pass, CheckError>
+        requires text { IsSigned signed.now }
+        requires voucher { signed.now.statement ≡ statements.Voucher voucher.now }
+        requires id { id.now ≡ id_of_statement signed.now.statement }
+        ensures { (J : List Record) → IsStateOf J self.now → IsCheckedAfterSignature J signed.now result }
+    {
+        if self.vouched.is_convicted(voucher.node) {
+            return Err(refused(Check::VoucherConvicted(voucher.node)));
+        }
+        match self.seen.contradiction(&signed.statement, id) {
+            Some(found) => Err(self.forked(id, found)),
+            None => Ok(Pass::Voucher),
+        }
+    }
+
+    /// The refusal of a statement with this id that contradicts the kept one that was found.
+    fn forked(&self, id: &Hash32, found: Found) -> CheckError
+        requires { found.index < length self.now.foreign }
+        ensures { (kept : Signed) → slice_get self.now.foreign found.index ≡ Some kept → result ≡ CheckError.Refused (Check.Forked (id_of_statement kept.statement) id.now found.kind) (Some found) }
+    {
+        CheckError::Refused {
+            check: Check::Forked {
+                kept: *self.seen.id_at(found.index),
+                came: *id,
+                kind: found.kind,
+            },
+            against: Some(found),
+        }
+    }
+
+    /// By which kept statement the conviction of an update's writer is due where this check of its content fails: by its
+    /// prev, if the update isn't above it and its writer isn't convicted.
+    fn exposing_prev(
+        &self,
+        signed: &Signed,
+        update: &Update,
+        id: &Hash32,
+        check: &Check,
+    ) -> Option<Found>
+        requires text { IsSigned signed.now }
+        requires update { signed.now.statement ≡ statements.Update update.now }
+        requires id { id.now ≡ id_of_statement signed.now.statement }
+        requires check { TellsNoFork check.now }
+        ensures { (J : List Record) → IsStateOf J self.now → AreDue J signed.now result (exposed J (given_statement signed.now) check.now) }
+    {
+        let Check::Backward(prev) = check else {
+            return None;
+        };
+        if self.vouched.is_convicted(update.writer) {
+            return None;
+        }
+        self.find_contrary(prev, &signed.statement, id)
+    }
+
+    /// The first kept update with the id `prev`, if the statement contradicts it, and how.
+    fn find_contrary(&self, prev: &Hash32, statement: &Statement, id: &Hash32) -> Option<Found>
+        requires text { IsStatement statement.now }
+        requires id { id.now ≡ id_of_statement statement.now }
+        ensures { IsOpponent self.now.foreign (named_opponent self.now.foreign prev.now statement.now) result }
+    {
+        let Some(index) = self.seen.find(prev) else {
+            return None;
+        };
+        match self.seen.kind_with(index, statement, id) {
+            Some(kind) => Some(Found { kind, index }),
+            None => None,
+        }
+    }
+
+    /// Whether the statement itself is here: an update of its id is accepted, or a voucher of its body is kept.
+    fn is_kept(&self, statement: &Statement, id: &Hash32) -> bool
+        requires text { IsStatement statement.now }
+        requires id { id.now ≡ id_of_statement statement.now }
+        ensures { (J : List Record) → IsStateOf J self.now → result ≡ is_kept J statement.now }
+    {
+        match statement {
+            Statement::Update(_) => self.graph.find(id).is_some(),
+            Statement::Voucher(voucher) => {
+                self.is_own_voucher(voucher) || self.seen.holds(statement, id)
+            }
+        }
+    }
+
+    /// Whether this is one of the node's own vouchers.
+    fn is_own_voucher(&self, voucher: &Voucher) -> bool
+        requires { IsStatement (statements.Voucher voucher.now) }
+        ensures { result ≡ list_any (has_body_of_voucher voucher.now) self.now.own_vouchers }
+    {
+        voucher.node == self.me && has_voucher(self.own_vouchers.as_slice(), voucher)
+    }
+}
+
+/// Whether this is one of these vouchers.
+fn has_voucher(vouchers: &[Voucher], voucher: &Voucher) -> bool
+    requires texts { AllByRecursion (λ v. IsStatement (statements.Voucher v)) vouchers.now }
+    requires text { IsStatement (statements.Voucher voucher.now) }
+    ensures { result ≡ list_any (has_body_of_voucher voucher.now) vouchers.now }
+{
+    for own in vouchers {
+        if own.is_same(voucher) {
+            return true;
+        }
+    }
+    false
+}
+
+/// A refusal by which no conviction is due.
+fn refused(check: Check) -> CheckError
+    ensures { result ≡ CheckError.Refused check None }
+{
+    CheckError::Refused {
+        check,
+        against: None,
+    }
+}

@@ -1,0 +1,98 @@
+//! Hellos, bundles, and what became of a stream.
+ghost use Rattle.std.specs.Prelude.{◌≡◌, ◌++◌, OnOk};
+ghost use Rattle.depot_model.specs.Feeding.{Feeding, report_of};
+ghost use Rattle.depot_answers.specs.Answers.{name_of_more, spaced, text_of_closing, text_of_counts, text_of_end, text_of_ending, text_of_named, text_of_report};
+ghost use Rattle.depot_answers.specs.Closings.{closing_of};
+
+use crate::limit_answers::full;
+use crate::words::{numbered, spaced_number, text};
+use depot_base::{Bytes, Full, Memory};
+use depot_model::{Counts, Ending, Hello, Report};
+use depot_schedule::lines::word;
+use std::alloc::Global;
+
+/// Why a feed was closed.
+#[derive(Clone, Copy, Debug, PartialEq, Eq)]
+pub enum Closing {
+    /// The stream has no frame at this offset in bytes.
+    IllFormed(u64),
+    /// There was no room for what a frame would add.
+    Full(Full),
+}
+
+/// Of a hello, how many nodes are convicted, and how many leaves and wanted values are named. After Memory a front of that may have
+/// been added.
+#[tactic(auto, using(depot_base::proofs::Writing::texts))]
+pub fn named(alloc: Global, out: &mut Bytes, hello: &Hello) -> Result<(), Memory>
+    ensures { OnOk result (out.new ≡ out.old ++ text_of_named hello.now) }
+{
+    let convicted = hello.convicted.as_slice().len();
+    let leaves = hello.leaves.as_slice().len();
+    let wanted = hello.wanted.as_slice().len();
+    numbered(alloc, out, "convicted", convicted as u64)?;
+    spaced_number(alloc, out, "leaves", leaves as u64)?;
+    spaced_number(alloc, out, "wanted", wanted as u64)
+}
+
+/// Whether a bundle leaves something out.
+fn name_of_more(more: bool) -> &'static str
+    ensures { result.now ≡ name_of_more more }
+{
+    if more { "more" } else { "whole" }
+}
+
+/// How many frames of each sort a bundle has, and whether there is more. After Memory a front of that may have been added.
+#[tactic(auto, using(depot_base::proofs::Writing::texts))]
+pub fn counts(alloc: Global, out: &mut Bytes, counts: &Counts, more: bool) -> Result<(), Memory>
+    ensures { OnOk result (out.new ≡ out.old ++ (text_of_counts counts.now ++ spaced (name_of_more more))) }
+{
+    numbered(alloc, out, "proofs", counts.proofs as u64)?;
+    spaced_number(alloc, out, "vouchers", counts.vouchers as u64)?;
+    spaced_number(alloc, out, "updates", counts.updates as u64)?;
+    spaced_number(alloc, out, "values", counts.values as u64)?;
+    word(out, name_of_more(more).as_bytes())
+}
+
+/// How a stream ended.
+fn ending(alloc: Global, out: &mut Bytes, ending: Ending) -> Result<(), Memory>
+    ensures { OnOk result (out.new ≡ out.old ++ text_of_ending ending) }
+{
+    match ending {
+        Ending::Closed => Ok(()),
+        Ending::Whole => text(out, "whole"),
+        Ending::More => text(out, "more"),
+        Ending::Bare => text(out, "bare"),
+        Ending::Cut(bytes) => numbered(alloc, out, "cut", bytes as u64),
+    }
+}
+
+/// Why a feed was closed, or else how its stream ended.
+fn end(alloc: Global, out: &mut Bytes, closing: Option<Closing>, how: Ending) -> Result<(), Memory>
+    ensures { OnOk result ((s : Feeding) → s.closed ≡ closing_of closing → (report_of s).ending ≡ how → out.new ≡ out.old ++ text_of_end s) }
+{
+    match closing {
+        Some(Closing::IllFormed(at)) => numbered(alloc, out, "ill-formed", at),
+        Some(Closing::Full(what)) => full(alloc, out, &what),
+        None => ending(alloc, out, how),
+    }
+}
+
+/// What became of the frames of a stream: how many were new, known and refused, and how the stream ended. `closing` is why the last
+/// piece closed its feed: where `FeedError::IllFormed` or `Full` answered it, and None where no piece was answered with an error.
+/// After Memory a front of that may have been added.
+#[tactic(auto, using(depot_base::proofs::Writing::texts), unfolding(crate::specs::Answers::text_of_report, depot_model::specs::Feeding::report_of))]
+pub fn report(
+    alloc: Global,
+    out: &mut Bytes,
+    report: &Report,
+    closing: Option<Closing>,
+) -> Result<(), Memory>
+    ensures { OnOk result ((s : Feeding) → report_of s ≡ report.now → s.closed ≡ closing_of closing → out.new ≡ out.old ++ text_of_report s) }
+{
+    let refused = report.refused.as_slice().len();
+    numbered(alloc, out, "accepted", report.accepted as u64)?;
+    spaced_number(alloc, out, "known", report.known as u64)?;
+    spaced_number(alloc, out, "refused", refused as u64)?;
+    text(out, " ")?;
+    end(alloc, out, closing, report.ending)
+}

@@ -1,0 +1,4 @@
+pub mod Endings
+pub mod Completing
+pub mod PrintedLines
+pub mod NodeRuns

@@ -1,0 +1,18 @@
+use Rattle.std.proofs.Common.{Some, inl, refl}
+use Rattle.depot_commands.specs.declared.invocation.Command.TheVariants.{Replay}
+use Rattle.depot_outside.specs.Told.{shelves, loads}
+use Rattle.depot_commands.specs.Runs.{Answers}
+use Rattle.depot_commands.proofs.Endings.{finished_by, replay_ends}
+use Rattle.depot_commands.proofs.replay.replay.Goals as goal
+
+pub returns-in-Ok-Some-clause-ends : goal.returns-in-Ok-Some-clause-ends
+returns-in-Ok-Some-clause-ends g c =
+    let loaded = rw c.in-Ok-Some.field-0-is at c.in-Ok-Some.ensures.loaded in
+    replay_ends _ _ c.args.name.now c.in-Ok-Some.bytes _ c.replay_bytes.result c.load.ensures.loads loaded.0 (rw c.as_slice.ensures at c.replay_bytes.ensures)
+
+pub returns-in-Ok-None-clause-ends : goal.returns-in-Ok-None-clause-ends
+returns-in-Ok-None-clause-ends g c =
+    let shelf = shelves g.F.Shelf c.args.shelf.now c.load.new.shelf in
+    let loaded = loads g.F.Shelf c.args.shelf.now c.load.new.shelf in
+    let lacks = rw c.in-Ok-None.field-0-is at c.in-Ok-None.ensures.loaded in
+    finished_by (Answers shelf loaded (Some (Replay c.args.name.now))) _ _ c.no_file.result _ c.finish.result c.no_file.ensures (c.load.ensures.loads, (lacks, refl)) (inl refl) c.finish.ensures

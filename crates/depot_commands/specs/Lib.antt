@@ -1,0 +1,4 @@
+pub mod Words
+pub mod Runs
+pub mod Statuses
+pub mod Nodes

@@ -1,0 +1,77 @@
+//! The top call.
+ghost use Rattle.std.specs.Prelude.{◌≡◌, ◌⊎◌, Some};
+ghost use Rattle.depot_commands.specs.Words.{command_of};
+ghost use Rattle.depot_outside.specs.Told.{disks, shelves, loads, sinks};
+ghost use Rattle.depot_commands.specs.Nodes.{CompletesNode, IsWellDisk, Results};
+ghost use Rattle.depot_commands.specs.Runs.{EndsAtFault, IsWell, Completes};
+
+use crate::invocation::{Command, parse};
+use crate::judge_command::judge;
+use crate::key_command::key;
+use crate::long_run::summed_up;
+use crate::node_command::node;
+use crate::outcome::{Outcome, finish};
+use crate::replay::replay;
+use crate::scan::scan;
+use crate::status::Status;
+use crate::word::Word;
+use depot_base::Memory;
+use depot_outside::{Disk, Shelf, Sink};
+use std::alloc::Global;
+
+/// Does what a command asks for, and says how the run ended.
+fn run<F: Shelf, D: Disk, S: Sink>(
+    alloc: Global,
+    command: &Command,
+    shelf: &mut F,
+    disk: &mut D,
+    out: &mut S,
+) -> Status
+    ensures results { Results (disks D.Disk disk.old disk.new) (shelves F.Shelf shelf.old shelf.new) (loads F.Shelf shelf.old shelf.new) (sinks S.Sink out.old out.new) (disk.new ≡ disk.old) (F.file shelf.new ≡ F.file shelf.old) (Some command.now) result }
+    ensures first_fault { (result ≡ Status.Sink) ⊎ ((result ≡ Status.Memory) ⊎ EndsAtFault (shelves F.Shelf shelf.old shelf.new) result) }
+{
+    match command {
+        Command::Scan(log, key) => finish(scan(alloc, shelf, log.text(), key), out),
+        Command::Root(seed, height) => finish(key(alloc, seed, *height), out),
+        Command::Judge(roster, proof) => finish(
+            judge(alloc, shelf, roster.text(), proof.text()),
+            out,
+        ),
+        Command::Replay(schedule) => replay(alloc, shelf, schedule.text(), out),
+        Command::Load(number) => finish(summed_up(alloc, *number), out),
+        Command::Node(words) => node(alloc, words, shelf, disk, out),
+    }
+}
+
+/// Runs the program: does what the words ask for, writes its text to `out`, and says how the run ended. The first
+/// fault ends the run.
+///
+/// The commands built so far are `scan LOG KEY`, `key SEED HEIGHT`, `judge ROSTER PROOF`, `replay SCHEDULE`, `load NUMBER`
+/// and `node ROSTER SEED HEIGHT ID SCRIPT`; other words are refused as Words. `docs/FORMATS.md` has each text that is
+/// printed, and `docs/PROMISES.md` the clauses in plain words.
+pub fn depot<F: Shelf, D: Disk, S: Sink>(
+    alloc: Global,
+    words: &[Word],
+    shelf: &mut F,
+    disk: &mut D,
+    out: &mut S,
+) -> Status
+    // The run ends as its command answers, with the whole text written; or for want of memory, with nothing written, or
+    // with a front of the transcript that `replay` writes; or because the sink failed in this run, with a prefix of the
+    // text written. `node` runs its script over the disk, as its record says: images, lines and journal, runs cut short.
+    // Every other command leaves the disk and the shelf's files as they were.
+    ensures results { Results (disks D.Disk disk.old disk.new) (shelves F.Shelf shelf.old shelf.new) (loads F.Shelf shelf.old shelf.new) (sinks S.Sink out.old out.new) (disk.new ≡ disk.old) (F.file shelf.new ≡ F.file shelf.old) (command_of words.now) result }
+
+    // Where no count of faults rises, each file is there and each is in its grammar, the command does what it says.
+    ensures complete { IsWell (shelves F.Shelf shelf.old shelf.new) (sinks S.Sink out.old out.new) → Completes (shelves F.Shelf shelf.old shelf.new) (command_of words.now) result }
+    ensures complete_node { IsWell (shelves F.Shelf shelf.old shelf.new) (sinks S.Sink out.old out.new) → IsWellDisk (disks D.Disk disk.old disk.new) → CompletesNode (disks D.Disk disk.old disk.new) (shelves F.Shelf shelf.old shelf.new) (command_of words.now) result }
+
+    // Where the shelf failed, nothing else is answered.
+    ensures first_fault { (result ≡ Status.Sink) ⊎ ((result ≡ Status.Memory) ⊎ EndsAtFault (shelves F.Shelf shelf.old shelf.new) result) }
+{
+    match parse(alloc, words) {
+        Ok(Some(command)) => run(alloc, &command, shelf, disk, out),
+        Ok(None) => finish(Outcome::words(alloc), out),
+        Err(Memory) => Status::Memory,
+    }
+}

@@ -1,0 +1,16 @@
+mod OfRead
+mod NewStatements
+pub mod Decided
+mod FreshIds
+mod NextOwn
+pub mod PutLaws
+mod Dues
+mod ProofAnswers
+mod ValueAnswers
+mod RecordParts
+pub mod RecordFaultLaws
+mod RecordChecks
+mod RecordFaultExamples
+mod ForeignIds
+mod VoucherGroups
+pub mod VoucherPlans

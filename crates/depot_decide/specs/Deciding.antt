@@ -1,0 +1,65 @@
+-- What a node decides over its journal, and what comes of it.
+use Rattle.std.specs.Prelude.{◌≡◌, ℕ, List, [], ◌∷◌, Some, None, Result, Ok, Err, slice_get}
+use Rattle.depot_base.specs.declared.limits.TheConstants.{MOST_VALUE}
+use Rattle.depot_base.specs.Closed.{Closed, closing, rest_of}
+use Rattle.depot_base.specs.declared.check.Check.{Check}
+use Rattle.depot_base.specs.declared.check.Check.TheVariants as check
+use Rattle.depot_base.specs.declared.record.Record.{Record}
+use Rattle.depot_base.specs.declared.record.Record.TheVariants.{Conviction}
+use Rattle.depot_base.specs.declared.statement.Signed.{Signed}
+use Rattle.depot_model.specs.declared.taken.Taken.{Taken}
+use Rattle.depot_model.specs.declared.taken.TakeError.{TakeError}
+use Rattle.depot_model.specs.declared.taken.TakeError.TheVariants as refused
+use Rattle.depot_model.specs.Checks.{Setting, Given, given_statement, given_proof, given_value, answer_to, growth}
+use Rattle.depot_model.specs.Conviction.{proof_of}
+use Rattle.depot_model.specs.Journal.{foreign}
+use Rattle.depot_model.specs.Limits.{IsCutShort}
+use Rattle.depot_model.specs.Room.{full_by}
+use Rattle.depot_model.specs.Taking.{OfGiven}
+use Rattle.depot_model.specs.Texts.{signed, proof}
+use Rattle.depot_fork.specs.declared.Found.{Found}
+use Rattle.depot_store.specs.RoomByCounts.{HasGrown, HadNoRoom}
+
+-- ---- deciding
+
+-- the answer to what is given, and what the journal grows by where there is room
+pub record IsDecided (here : Setting) (J : List Record) (x : Given) (answer : Result Taken Check) (new : List Record) : Type 0 where
+  pub is : answer_to here J x ≡ answer
+  pub grows : growth here J x ≡ new
+
+-- The same for a text of a form. A text of another form is refused at its first fault, and nothing grows.
+abbrev pub Decides : {V : Type 0} → Closed V → (V → Given) → Setting → List Record → List ℕ → Result Taken Check → List Record → Type 0
+Decides f give here J text (Err (check.IllFormed at)) new = f.fault text at × (new ≡ [])
+Decides f give here J text answer new = OfGiven f give text (λ x. IsDecided here J x answer new)
+
+abbrev pub DecidesStatement : Setting → List Record → List ℕ → Result Taken Check → List Record → Type 0
+DecidesStatement = Decides (closing signed) (λ s. given_statement s)
+
+abbrev pub DecidesProof : Setting → List Record → List ℕ → Result Taken Check → List Record → Type 0
+DecidesProof = Decides (closing proof) (λ p. given_proof p)
+
+abbrev pub DecidesValue : Setting → List Record → List ℕ → Result Taken Check → List Record → Type 0
+DecidesValue = Decides (rest_of MOST_VALUE) (λ v. given_value v)
+
+-- the statement that was found is kept, and the conviction by it stands first in what the journal grows by
+pub record IsDueBy (here : Setting) (J : List Record) (s : Signed) (found : Found) : Type 0 where
+  pub kept : Signed
+  pub more : List Record
+  pub known : slice_get (foreign J) found.index ≡ Some kept
+  pub first : growth here J (given_statement s) ≡ Conviction (proof_of found.kind kept s) ∷ more
+
+-- ---- what comes of it
+
+-- the answer as it is given, a failed check as a refusal
+abbrev pub Answered : Result Taken Check → Result Taken TakeError → Type 0
+Answered (Ok taken) result = result ≡ Ok taken
+Answered (Err c) result = result ≡ Err (refused.Refused c)
+
+-- A decision is carried out: its growth is appended where there is room, and its answer given.
+abbrev pub IsCarriedOut : ℕ → List Record → Result Taken Check → List Record → Result Taken TakeError → List Record → Type 0
+IsCarriedOut me J answer new (Ok taken) then = (answer ≡ Ok taken) × HasGrown me J new then
+IsCarriedOut me J answer new (Err refused.Memory) then = then ≡ J
+IsCarriedOut me J answer new (Err refused.Disk) then = (full_by me J new ≡ None) × IsCutShort J new then
+IsCarriedOut me J answer new (Err refused.Stopped) then = ⊥
+IsCarriedOut me J answer new (Err (refused.Full full)) then = HadNoRoom me J new full then
+IsCarriedOut me J answer new (Err (refused.Refused c)) then = (answer ≡ Err c) × HasGrown me J new then

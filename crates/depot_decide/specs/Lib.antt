@@ -1,0 +1,4 @@
+pub mod Putting
+pub mod Deciding
+pub mod ReadRecords
+pub mod PlannedVouchers

@@ -1,0 +1,154 @@
+//! What is decided of a put.
+ghost use Rattle.std.specs.Prelude.{◌≡◌, ◌<◌, ◌≤◌, ◌↔◌, ◌∷◌, [], List, length, map, IfOk, IfErr, IsTrue, false, nat_lt};
+ghost use Rattle.std.specs.Option.{ForSome};
+ghost use Rattle.std.specs.List.{AllByRecursion};
+ghost use Rattle.depot_base.specs.declared.limits.TheConstants.{MOST_ENTRIES};
+ghost use Rattle.depot_base.specs.declared.record.Record.{Record};
+ghost use Rattle.depot_model.specs.Items.{place_of_prev, updates_at};
+ghost use Rattle.depot_model.specs.Journal.{accepted};
+ghost use Rattle.depot_model.specs.Lawful.{IsLawful, is_empty};
+ghost use Rattle.depot_model.specs.Own.{entry_of, next_own, IsFresh, leaf_count};
+ghost use Rattle.depot_store.specs.Holdings.{standing};
+ghost use Rattle.depot_decide.specs.Putting.{IsPlanned, IsRefused, IsTooWide};
+
+use crate::put_answers::{PutDone, PutError};
+use depot_base::limits::MOST_ENTRIES;
+use depot_base::{Dep, Deps, Hash32, Key, Memory, Record, Update, Value};
+use depot_graph::Graph;
+use depot_history::{changed_leaves, summary};
+use depot_model::{Past, Scheme, hash_of};
+use depot_outside::Disk;
+use depot_store::{Growth, Store};
+use depot_update::encode_own_put;
+use std::alloc::Global;
+
+/// What a put is to append, and what it then tells.
+#[derive(Drop)]
+pub struct Plan {
+    /// What is to be told of the update once its record stands.
+    pub done: PutDone,
+    /// The record that the journal is to grow by, where there is room for it.
+    pub growth: Growth,
+}
+
+/// What is decided of a put of a value under a key: the next own update, unless no leaf is left to sign it (`Spent`), it has more
+/// than 1,024 entries (`Tips`), or its id isn't fresh (`Collides`), asked in this order. Whether there is room for its record is
+/// left open. `Memory` may come in place of each answer; `Disk`, `Stopped` and `Full` never come.
+pub fn decide_put<D: Disk, S: Scheme>(
+    alloc: Global,
+    store: &Store<D, S>,
+    key: Key,
+    value: Value,
+) -> Result<Plan, PutError>
+    requires runs { store.now.stopped ≡ false }
+    requires lawful { IsLawful (standing S.verifies store.now) store.now.records }
+    requires some { is_empty store.now.records ≡ false }
+    ensures planned { IfOk result (λ p. IsPlanned (standing S.verifies store.now) store.now.records key value p.done p.growth) }
+    ensures refused { IfErr result (IsRefused (standing S.verifies store.now) store.now.records key value) }
+{
+    let own = store.totals().own;
+    if !has_leaf(store, own) {
+        return Err(PutError::Spent(own));
+    }
+    let update = next_own(alloc, store, key, &value)?;
+    let made = encode_own_put(alloc, &update, &value)?;
+    if !is_fresh(store.state().graph(), &made.id) {
+        return Err(PutError::Collides(made.id));
+    }
+    let done = PutDone {
+        id: made.id,
+        seq: update.seq,
+        clock: update.clock,
+    };
+    let growth = Growth::of_text(alloc, Record::OwnPut { update, value }, made.id, made.text)?;
+    Ok(Plan { done, growth })
+}
+
+/// Whether the node has a leaf of this number to sign by.
+#[tactic(auto, unfolding(depot_model::specs::Own::leaf_count))]
+pub(crate) fn has_leaf<D: Disk, S: Scheme>(store: &Store<D, S>, leaf: u32) -> bool
+    ensures { result ≡ nat_lt leaf (leaf_count store.now.listed store.now.me) }
+{
+    match store.roster().key_of(store.me()) {
+        Some(key) => key.has_leaf(leaf),
+        None => false,
+    }
+}
+
+/// The next own update. `Tips` comes exactly where it would have more than 1,024 entries, with their number.
+pub(crate) fn next_own<D: Disk, S: Scheme>(
+    alloc: Global,
+    store: &Store<D, S>,
+    key: Key,
+    value: &Value,
+) -> Result<Update, PutError>
+    requires runs { store.now.stopped ≡ false }
+    requires lawful { IsLawful (standing S.verifies store.now) store.now.records }
+    ensures next { IfOk result (λ u. u ≡ next_own store.now.me store.now.records key value.now) }
+    ensures narrow { IfOk result (λ u. length u.deps ≤ MOST_ENTRIES) }
+    ensures wide { IfErr result (IsTooWide (next_own store.now.me store.now.records key value.now)) }
+{
+    let state = store.state();
+    let graph = state.graph();
+    let totals = store.totals();
+    let last = item_of(graph, &totals.last);
+    let items = changed_leaves(alloc, graph, state.me(), last)?;
+    let items = items.as_slice();
+    if items.len() > MOST_ENTRIES as usize {
+        return Err(PutError::Tips(items.len() as u32));
+    }
+    Ok(Update {
+        writer: state.me(),
+        seq: totals.own,
+        clock: totals.clock + 1,
+        prev: totals.last,
+        key,
+        value_hash: hash_of(value.bytes()),
+        value_len: value.bytes().len() as u32,
+        deps: entries_of(alloc, graph, items)?,
+        history: summary(alloc, graph)?,
+    })
+}
+
+/// The item of the update that a prev names, if it names one.
+fn item_of(graph: &Graph, prev: &Hash32) -> Option<u32>
+    ensures item { result ≡ place_of_prev prev.now (⟦<Graph as Past>⟧.updates graph.now) }
+    ensures inside { ForSome result (λ item. item < length (⟦<Graph as Past>⟧.updates graph.now)) }
+{
+    if prev.is_zeros() {
+        return None;
+    }
+    graph.find(prev)
+}
+
+/// The entries that name these items.
+fn entries_of(alloc: Global, graph: &Graph, items: &[u32]) -> Result<Deps, Memory>
+    requires { AllByRecursion (λ item. item < length (⟦<Graph as Past>⟧.updates graph.now)) items.now }
+    ensures { IfOk result (λ deps. deps ≡ map entry_of (updates_at (⟦<Graph as Past>⟧.updates graph.now) items.now)) }
+{
+    let mut deps = Deps::new(alloc);
+    for item in items {
+        deps.push(entry_of(graph, *item))?;
+    }
+    Ok(deps)
+}
+
+/// The entry that names an item.
+fn entry_of(graph: &Graph, item: u32) -> Dep
+    requires { item < length (⟦<Graph as Past>⟧.updates graph.now) }
+    ensures { map entry_of (updates_at (⟦<Graph as Past>⟧.updates graph.now) (item ∷ [])) ≡ result ∷ [] }
+{
+    let update = graph.update(item);
+    Dep {
+        writer: update.writer,
+        clock: update.clock,
+        id: *graph.id(item),
+    }
+}
+
+/// Whether an id is neither 32 zero bytes nor that of an accepted update.
+pub(crate) fn is_fresh(graph: &Graph, id: &Hash32) -> bool
+    ensures { (J : List Record) → accepted J ≡ ⟦<Graph as Past>⟧.updates graph.now → (IsTrue result ↔ IsFresh J id.now) }
+{
+    !id.is_zeros() && graph.find(id).is_none()
+}

@@ -1,0 +1,98 @@
+//! What is decided of the vouchers that a node makes for what it took from others, and which ids it may vouch for.
+ghost use Rattle.std.specs.Prelude.{◌≡◌, ◌<◌, ◌+◌, ◌^◌, length, true, false, not, nat_lt, IfOk, IfErr};
+ghost use Rattle.std.specs.List.{AllByRecursion};
+ghost use Rattle.depot_base.specs.declared.limits.TheConstants.{MOST_IDS};
+ghost use Rattle.depot_model.specs.Journal.{accepted, is_foreign};
+ghost use Rattle.depot_model.specs.Lawful.{IsLawful, is_empty};
+ghost use Rattle.depot_model.specs.Lists.{AreApart};
+ghost use Rattle.depot_model.specs.Own.{leaf_count};
+ghost use Rattle.depot_model.specs.Vouching.{groups_of, numbered, rising};
+ghost use Rattle.depot_store.specs.Holdings.{standing};
+ghost use Rattle.depot_decide.specs.PlannedVouchers.{ArePlanned, AreRefused};
+
+use crate::put_decision::has_leaf;
+use depot_base::limits::MOST_IDS;
+use depot_base::{Hash32, Ids, Memory, NodeId, Voucher};
+use depot_model::{Past, Scheme, VoucherError};
+use depot_outside::Disk;
+use depot_store::{Growth, Store};
+use std::alloc::Global;
+use std::collections::BTreeSet;
+
+/// Whether an accepted update of another node has this id. It takes no memory.
+pub fn is_foreign<D: Disk, S: Scheme>(store: &Store<D, S>, id: &Hash32) -> bool
+    requires runs { store.now.stopped ≡ false }
+    ensures { result ≡ is_foreign store.now.me (accepted store.now.records) id.now }
+{
+    let state = store.state();
+    let graph = state.graph();
+    match graph.find(id) {
+        Some(item) => graph.update(item).writer != state.me(),
+        None => false,
+    }
+}
+
+/// What is decided of ids that the node is to vouch for, which are apart and of accepted updates of others: own vouchers, one for
+/// each 256 ids in the order given, unless too few leaves are left to sign them (`Spent`, with the number of the node's statements).
+/// Whether there is room for their records is left open. `Memory` may come in place of each answer; no other error comes.
+pub fn decide_vouchers<D: Disk, S: Scheme>(
+    alloc: Global,
+    store: &Store<D, S>,
+    ids: &[Hash32],
+) -> Result<Growth, VoucherError>
+    requires runs { store.now.stopped ≡ false }
+    requires lawful { IsLawful (standing S.verifies store.now) store.now.records }
+    requires some { is_empty store.now.records ≡ false }
+    requires apart { AreApart ids.now }
+    requires foreign { AllByRecursion (λ h. is_foreign store.now.me (accepted store.now.records) h ≡ true) ids.now }
+    ensures planned { IfOk result (ArePlanned (standing S.verifies store.now) store.now.records ids.now) }
+    ensures refused { IfErr result (AreRefused (standing S.verifies store.now) store.now.records ids.now) }
+{
+    let own = store.totals().own;
+    let count = ids.len().div_ceil(MOST_IDS as usize) as u32;
+    if !has_leaves(store, own + count) {
+        return Err(VoucherError::Spent(own));
+    }
+    let vouchers = vouchers_for(alloc, store.state().me(), own, ids)?;
+    let growth = Growth::vouchers(alloc, vouchers)?;
+    Ok(growth)
+}
+
+/// Whether the node's tree has so many leaves.
+fn has_leaves<D: Disk, S: Scheme>(store: &Store<D, S>, count: u32) -> bool
+    ensures { result ≡ not (nat_lt (leaf_count store.now.listed store.now.me) count) }
+{
+    count == 0 || has_leaf(store, count - 1)
+}
+
+/// The vouchers of a node for these ids, one for each 256 in the order given, the seqs from `seq` on.
+fn vouchers_for(
+    alloc: Global,
+    node: NodeId,
+    seq: u32,
+    ids: &[Hash32],
+) -> Result<Vec<Voucher>, Memory>
+    requires { seq + length ids.now < 2 ^ 32 }
+    ensures { IfOk result (λ vouchers. vouchers.items ≡ numbered node seq (groups_of MOST_IDS ids.now)) }
+{
+    let mut vouchers = Vec::new(alloc);
+    let mut seq = seq;
+    for group in ids.chunks(MOST_IDS as usize) {
+        let ids = rising(alloc, group)?;
+        vouchers.push(Voucher { node, seq, ids })?;
+        seq += 1;
+    }
+    Ok(vouchers)
+}
+
+/// These ids in rising order, each once.
+fn rising(alloc: Global, ids: &[Hash32]) -> Result<Ids, Memory>
+    ensures { IfOk result (λ sorted. sorted ≡ rising ids.now) }
+{
+    let mut sorted = BTreeSet::new(alloc);
+    for place in (0..ids.len()).rev() {
+        sorted.insert(ids[place])?;
+    }
+    let sorted: Vec<Hash32> = sorted.iter().copied().collect(alloc)?;
+    Ok(Ids::from_vec(sorted))
+}

@@ -1,0 +1,121 @@
+//! Keys, values and digests have their lengths, statements and vouchers are copied, and a count of steps takes no bytes.
+
+ghost use Rattle.std.specs.Prelude.{◌≡◌, ◌<◌};
+
+use depot_base::{
+    Bytes, Deps, Hash32, Ids, Key, LengthError, Memory, NodeId, Signed, Statement, Steps, Update,
+    Value, Voucher,
+};
+use std::alloc::Global;
+use std::marker::Brand;
+use std::sync::ledger::{Blank, Ledger};
+use std::test::Fail;
+
+/// So many bytes.
+fn ones(alloc: Global, count: usize) -> Result<Vec<u8>, Memory> {
+    Ok(vec![in alloc; 1u8; count]?)
+}
+
+/// How many bytes a copy of a key of so many bytes has.
+fn key_length(alloc: Global, length: usize) -> Result<usize, LengthError> {
+    let bytes = ones(alloc, length)?;
+    let key = Key::new(alloc, &bytes)?;
+    Ok(key.copy()?.bytes().len())
+}
+
+/// The same of a value.
+fn value_length(alloc: Global, length: usize) -> Result<usize, LengthError> {
+    let bytes = ones(alloc, length)?;
+    let value = Value::new(alloc, &bytes)?;
+    Ok(value.copy()?.bytes().len())
+}
+
+#[test]
+fn values_have_their_lengths(rt: HostRuntime) {
+    let alloc = rt.alloc();
+    for length in [0, 256] {
+        assert!(rt; key_length(alloc, length) == Err(LengthError::Length(length)));
+    }
+    assert!(rt; key_length(alloc, 255) == Ok(255));
+    assert!(rt; value_length(alloc, 65_536) == Ok(65_536));
+    assert!(rt; value_length(alloc, 65_537) == Err(LengthError::Length(65_537)));
+    assert!(rt; Hash32::from_slice(&[0u8; 32]) == Some(Hash32::zeros()));
+    assert!(rt; Hash32::from_slice(&[0u8; 31]).is_none());
+    assert!(rt; Hash32::zeros().is_zeros());
+    assert!(rt; NodeId::new(0).is_none());
+}
+
+/// An update of node 1, with seq 4.
+fn update(alloc: Global, writer: NodeId) -> Result<Update, LengthError> {
+    Ok(Update {
+        writer,
+        seq: 4,
+        clock: 5,
+        prev: Hash32::zeros(),
+        key: Key::new(alloc, b"log")?,
+        value_hash: Hash32::new([7; 32]),
+        value_len: 6,
+        deps: Deps::new(alloc),
+        history: Hash32::new([8; 32]),
+    })
+}
+
+/// It as a statement, with a signature of 9 bytes.
+fn signed(alloc: Global, writer: NodeId) -> Result<Signed, LengthError> {
+    let signature = Bytes::from_slice(alloc, &[1; 9])?;
+    Ok(Signed {
+        statement: Statement::Update(update(alloc, writer)?),
+        body: Bytes::new(alloc),
+        signature,
+    })
+}
+
+/// Whether a copy of a statement with seq 4 and a signature of 9 bytes is the same.
+fn is_same(signed: &Signed) -> Result<bool, Memory> {
+    let copy = signed.copy()?;
+    Ok(
+        copy.statement.writer() == signed.statement.writer()
+            && copy.statement.seq() == 4
+            && copy.signature.as_slice().len() == 9,
+    )
+}
+
+/// Whether a copy of that statement is the same.
+fn is_copied(alloc: Global, writer: NodeId) -> Result<bool, LengthError> {
+    let signed = signed(alloc, writer)?;
+    Ok(is_same(&signed)?)
+}
+
+/// How many ids a copy of a voucher for one has, and the voucher itself.
+fn ids_of_copy(alloc: Global, node: NodeId) -> Result<[usize; 2], Memory> {
+    let mut ids = Ids::from_vec(Vec::new(alloc));
+    ids.push(Hash32::zeros())?;
+    let voucher = Voucher { node, seq: 11, ids };
+    let copied = voucher.copy()?.ids.as_slice().len();
+    Ok([copied, voucher.ids.into_vec().len()])
+}
+
+#[test]
+fn statements_are_copied(rt: HostRuntime) -> Result<(), Fail> {
+    let node = NodeId::new(1).ok_or("1")?;
+    assert!(rt; is_copied(rt.alloc(), node)?);
+    assert_eq!(rt; ids_of_copy(rt.alloc(), node)?, [1, 1]);
+    Ok(())
+}
+
+/// The size of a count of two steps.
+fn size_of_two<L: Ledger>(blank: Blank) -> usize
+    requires name { blank.name ≡ L.name }
+    requires parts { blank.parts ≡ L.parts }
+    requires some { 0 < blank.parts }
+{
+    let mut steps = Steps::<L>::new(blank);
+    steps.tick();
+    steps.tick();
+    size_of::<Steps<L>>()
+}
+
+#[test]
+fn steps_take_no_bytes(rt: HostRuntime) {
+    assert_eq!(rt; size_of_two::<Brand>(Blank::new(1)), 0);
+}

@@ -1,0 +1,314 @@
+//! Texts and offsets from outside: a worked body, and a table of faults for each format.
+
+use crate::hex::bytes;
+use depot_base::{Bytes, Hash32, Memory};
+use depot_update::*;
+use std::alloc::Global;
+use std::test::Fail;
+
+/// The first update of node 1: key `k`, and the hash and length of the value `abc`.
+pub const UPDATE: &str = "0101 0001 00000000 0000000000000001 \
+    0000000000000000000000000000000000000000000000000000000000000000 016b \
+    ba7816bf8f01cfea414140de5dae2223b00361a396177a9cb410ff61f20015ad 00000003 0000 \
+    e3b0c44298fc1c149afbf4c8996fb92427ae41e4649b934ca495991b7852b855";
+
+/// SHA-256 of it, by another program.
+const UPDATE_ID: &str = "b1b71fe559a0af9d8cd799bec43413803425cbf3ce164fded47cc3300867a6ba";
+
+/// The same with two entries of writer 2, from offset 88 and from 130.
+const JOINING: &str = "0101 0001 00000000 0000000000000001 \
+    0000000000000000000000000000000000000000000000000000000000000000 016b \
+    ba7816bf8f01cfea414140de5dae2223b00361a396177a9cb410ff61f20015ad 00000003 0002 \
+    0002 0000000000000005 1111111111111111111111111111111111111111111111111111111111111111 \
+    0002 0000000000000005 1111111111111111111111111111111111111111111111111111111111111112 \
+    e3b0c44298fc1c149afbf4c8996fb92427ae41e4649b934ca495991b7852b855";
+
+/// SHA-256 of it, by another program.
+const JOINING_ID: &str = "f7c26c5ccec6a769f1b2cb8c2f3730baf44c3ed1f0d42a32235ab57325cf6563";
+
+/// A voucher of node 7 for two updates, whose ids stand from offset 10 and from 42.
+pub const VOUCHER: &str = "0102 0007 00000005 0002 \
+    3333333333333333333333333333333333333333333333333333333333333333 \
+    3333333333333333333333333333333333333333333333333333333333333334";
+
+/// A signed voucher: its body stands from offset 4, its signature from 50.
+pub const SIGNED: &str = "0000002a 0102 0007 00000005 0001 \
+    3333333333333333333333333333333333333333333333333333333333333333 00000002 aabb";
+
+/// A proof of two signed vouchers, which stand from offset 2 and from 54.
+pub const PROOF: &str = "0102 0000002a 0102 0007 00000005 0001 \
+    3333333333333333333333333333333333333333333333333333333333333333 00000002 aabb \
+    0000002a 0102 0007 00000005 0001 \
+    4444444444444444444444444444444444444444444444444444444444444444 00000002 ccdd";
+
+/// The same with another byte at one place. Past its end nothing is changed.
+pub fn changed(alloc: Global, hex: &str, place: usize, byte: u8) -> Result<Vec<u8>, Memory> {
+    let mut out = bytes(alloc, hex)?;
+    if let Some(at) = out.get_mut(place) {
+        *at = byte;
+    }
+    Ok(out)
+}
+
+/// The offset that a decoder tells.
+pub fn fault<V: Drop>(decoded: Result<V, DecodeError>) -> Option<u32> {
+    match decoded {
+        Err(DecodeError::IllFormed(at)) => Some(at),
+        _ => None,
+    }
+}
+
+/// What a text is read as.
+#[derive(Clone, Copy, Debug)]
+enum Kind {
+    Statement,
+    Update,
+    Signed,
+    Proof,
+}
+
+/// The offset at which a text goes wrong.
+fn fault_of(alloc: Global, kind: Kind, text: &[u8]) -> Option<u32> {
+    match kind {
+        Kind::Statement => fault(decode_statement(alloc, text)),
+        Kind::Update => fault(decode_update(alloc, text)),
+        Kind::Signed => fault(decode_signed(alloc, text)),
+        Kind::Proof => fault(decode_proof(alloc, text)),
+    }
+}
+
+/// Where the fields of the worked body start.
+static STARTS: [u32; 12] = [0, 1, 2, 4, 8, 16, 48, 49, 50, 82, 86, 88];
+
+/// The start of the field in which a text goes wrong that is cut to so many bytes.
+pub fn cut_field(starts: &[u32], length: u32) -> u32 {
+    let mut last = 0;
+    for start in starts {
+        if *start <= length {
+            last = *start;
+        }
+    }
+    last
+}
+
+/// Whether a text that is cut to so many bytes goes wrong at the cut field.
+fn tells_cut(alloc: Global, kind: Kind, text: &[u8], length: u32) -> bool {
+    match text.get(..length as usize) {
+        Some(cut) => fault_of(alloc, kind, cut) == Some(cut_field(&STARTS, length)),
+        None => false,
+    }
+}
+
+#[test]
+fn a_body_goes_wrong_where_it_is_cut_or_goes_on(rt: HostRuntime) -> Result<(), Fail> {
+    let mut body = bytes(rt.alloc(), UPDATE)?;
+    assert!(rt; body.len() == 120);
+    for n in 0..120 {
+        for kind in [Kind::Statement, Kind::Update] {
+            assert!(rt;
+                tells_cut(rt.alloc(), kind, &body, n),
+                "{n} bytes of a {kind:?}"
+            );
+        }
+    }
+    body.push(0)?;
+    assert!(rt; fault_of(rt.alloc(), Kind::Statement, &body) == Some(120));
+    Ok(())
+}
+
+/// Texts with another byte at one place, and the offset at which each goes wrong.
+static FAULTS: [(Kind, &str, usize, u8, u32); 65] = [
+    (Kind::Statement, JOINING, 0, 2, 0),
+    (Kind::Statement, JOINING, 1, 0, 1),
+    (Kind::Statement, JOINING, 1, 3, 1),
+    (Kind::Statement, JOINING, 3, 0, 2),
+    (Kind::Statement, JOINING, 15, 0, 8),
+    (Kind::Statement, JOINING, 48, 0, 48),
+    (Kind::Statement, JOINING, 83, 1, 82),
+    (Kind::Statement, JOINING, 86, 5, 86),
+    (Kind::Statement, JOINING, 89, 0, 88),
+    (Kind::Statement, JOINING, 89, 1, 88),
+    (Kind::Statement, JOINING, 89, 3, 130),
+    (Kind::Statement, JOINING, 131, 1, 130),
+    (Kind::Statement, JOINING, 171, 0x11, 130),
+    (Kind::Statement, JOINING, 171, 0x10, 130),
+    (Kind::Statement, JOINING, 87, 3, 182),
+    (Kind::Update, JOINING, 0, 2, 0),
+    (Kind::Update, JOINING, 1, 0, 1),
+    (Kind::Update, JOINING, 1, 3, 1),
+    (Kind::Update, JOINING, 3, 0, 2),
+    (Kind::Update, JOINING, 15, 0, 8),
+    (Kind::Update, JOINING, 48, 0, 48),
+    (Kind::Update, JOINING, 83, 1, 82),
+    (Kind::Update, JOINING, 86, 5, 86),
+    (Kind::Update, JOINING, 89, 0, 88),
+    (Kind::Update, JOINING, 89, 1, 88),
+    (Kind::Update, JOINING, 89, 3, 130),
+    (Kind::Update, JOINING, 131, 1, 130),
+    (Kind::Update, JOINING, 171, 0x11, 130),
+    (Kind::Update, JOINING, 171, 0x10, 130),
+    (Kind::Update, JOINING, 87, 3, 182),
+    (Kind::Update, JOINING, 87, 1, 162),
+    (Kind::Update, VOUCHER, 0, 1, 1),
+    (Kind::Statement, JOINING, 87, 1, 162),
+    (Kind::Statement, VOUCHER, 0, 0, 0),
+    (Kind::Statement, VOUCHER, 1, 3, 1),
+    (Kind::Statement, VOUCHER, 3, 0, 2),
+    (Kind::Statement, VOUCHER, 9, 0, 8),
+    (Kind::Statement, VOUCHER, 8, 1, 8),
+    (Kind::Statement, VOUCHER, 9, 1, 42),
+    (Kind::Statement, VOUCHER, 9, 3, 74),
+    (Kind::Statement, VOUCHER, 73, 0x33, 42),
+    (Kind::Statement, VOUCHER, 73, 0x32, 42),
+    (Kind::Signed, SIGNED, 1, 1, 0),
+    (Kind::Signed, SIGNED, 2, 1, 4),
+    (Kind::Signed, SIGNED, 3, 43, 46),
+    (Kind::Signed, SIGNED, 3, 41, 14),
+    (Kind::Signed, SIGNED, 4, 2, 4),
+    (Kind::Signed, SIGNED, 5, 3, 5),
+    (Kind::Signed, SIGNED, 7, 0, 6),
+    (Kind::Signed, SIGNED, 13, 0, 12),
+    (Kind::Signed, SIGNED, 47, 1, 46),
+    (Kind::Signed, SIGNED, 49, 3, 50),
+    (Kind::Signed, SIGNED, 49, 1, 51),
+    (Kind::Proof, PROOF, 0, 2, 0),
+    (Kind::Proof, PROOF, 1, 0, 1),
+    (Kind::Proof, PROOF, 1, 4, 1),
+    (Kind::Proof, PROOF, 3, 1, 2),
+    (Kind::Proof, PROOF, 4, 1, 6),
+    (Kind::Proof, PROOF, 9, 0, 8),
+    (Kind::Proof, PROOF, 49, 1, 48),
+    (Kind::Proof, PROOF, 55, 1, 54),
+    (Kind::Proof, PROOF, 56, 1, 58),
+    (Kind::Proof, PROOF, 59, 3, 59),
+    (Kind::Proof, PROOF, 103, 3, 104),
+    (Kind::Proof, PROOF, 103, 1, 105),
+];
+
+/// The offset at which a text goes wrong, with this byte at this place.
+fn fault_at(
+    alloc: Global,
+    kind: Kind,
+    hex: &str,
+    place: usize,
+    byte: u8,
+) -> Result<Option<u32>, Memory> {
+    let text = changed(alloc, hex, place, byte)?;
+    Ok(fault_of(alloc, kind, &text))
+}
+
+#[test]
+fn a_faulty_field_is_told(rt: HostRuntime) -> Result<(), Fail> {
+    for (kind, hex, place, byte, at) in FAULTS.iter() {
+        let told = fault_at(rt.alloc(), *kind, hex, *place, *byte)?;
+        assert!(rt; told == Some(*at), "{byte} at {place} of a {kind:?}");
+    }
+    Ok(())
+}
+
+/// Whether this text was written.
+pub fn is_text(written: Result<Bytes, Memory>, text: &[u8]) -> bool {
+    match written {
+        Ok(bytes) => bytes.as_slice() == text,
+        Err(_) => false,
+    }
+}
+
+/// Whether a text is read, and written with the same bytes.
+fn is_kept(alloc: Global, kind: Kind, text: &[u8]) -> bool {
+    match kind {
+        Kind::Statement => match decode_statement(alloc, text) {
+            Ok(statement) => is_text(encode_statement(alloc, &statement), text),
+            Err(_) => false,
+        },
+        Kind::Update => match decode_update(alloc, text) {
+            Ok(update) => is_text(encode_update(alloc, &update), text),
+            Err(_) => false,
+        },
+        Kind::Signed => match decode_signed(alloc, text) {
+            Ok(signed) => is_text(encode_signed(alloc, &signed), text),
+            Err(_) => false,
+        },
+        Kind::Proof => match decode_proof(alloc, text) {
+            Ok(proof) => is_text(encode_proof(alloc, &proof), text),
+            Err(_) => false,
+        },
+    }
+}
+
+/// Texts that are read and written.
+static KEPT: [(Kind, &str); 7] = [
+    (Kind::Statement, UPDATE),
+    (Kind::Statement, JOINING),
+    (Kind::Statement, VOUCHER),
+    (Kind::Update, UPDATE),
+    (Kind::Update, JOINING),
+    (Kind::Signed, SIGNED),
+    (Kind::Proof, PROOF),
+];
+
+#[test]
+fn a_text_is_read_and_written(rt: HostRuntime) -> Result<(), Fail> {
+    for (kind, hex) in KEPT.iter() {
+        let text = bytes(rt.alloc(), hex)?;
+        assert!(rt; is_kept(rt.alloc(), *kind, &text), "a {kind:?} {hex}");
+    }
+    Ok(())
+}
+
+/// Adds what stands before the entries of the longest body: it has a key of 255 bytes.
+fn put_front(text: &mut Bytes) -> Result<(), Memory> {
+    text.push_all(&[1, 1, 0, 1, 0, 0, 0, 0, 0, 0, 0, 0, 0, 0, 0, 1])?;
+    text.push_all(&[0; 32])?;
+    text.push_all(&[255; 256])?;
+    text.push_all(&[7; 32])?;
+    text.push_all(&[0, 1, 0, 0, 4, 0])
+}
+
+/// Adds its entries: 1,024 of writer 2, whose ids rise.
+fn put_entries(text: &mut Bytes) -> Result<(), Memory> {
+    for n in 0..1024 {
+        text.push_all(&[0, 2, 255, 255, 255, 255, 255, 255, 255, 255])?;
+        text.push_u16(n)?;
+        text.push_all(&[0; 30])?;
+    }
+    Ok(())
+}
+
+/// The longest body of an update.
+fn longest(alloc: Global) -> Result<Bytes, Memory> {
+    let mut text = Bytes::new(alloc);
+    put_front(&mut text)?;
+    put_entries(&mut text)?;
+    text.push_all(&[9; 32])?;
+    Ok(text)
+}
+
+#[test]
+fn the_longest_body_is_read_and_written(rt: HostRuntime) -> Result<(), Fail> {
+    let text = longest(rt.alloc())?;
+    assert!(rt; text.as_slice().len() == 43_382);
+    assert!(rt; is_kept(rt.alloc(), Kind::Update, text.as_slice()));
+    Ok(())
+}
+
+/// The id of the update that is read from a text.
+fn id_in(alloc: Global, text: &[u8]) -> Option<Hash32> {
+    match decode_update(alloc, text) {
+        Ok(update) => id_of(alloc, &update).ok(),
+        Err(_) => None,
+    }
+}
+
+#[test]
+fn an_id_is_the_hash_of_the_body(rt: HostRuntime) -> Result<(), Fail> {
+    for (hex, right) in [(UPDATE, UPDATE_ID), (JOINING, JOINING_ID)] {
+        let text = bytes(rt.alloc(), hex)?;
+        let right = bytes(rt.alloc(), right)?;
+        assert!(rt;
+            id_in(rt.alloc(), &text) == Hash32::from_slice(&right),
+            "{hex}"
+        );
+    }
+    Ok(())
+}

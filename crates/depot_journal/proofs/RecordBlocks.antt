@@ -1,0 +1,66 @@
+-- Records in a file, and one that is added.
+use Rattle.std.proofs.Common.{◌≡◌, ◌<◌, ℕ, List, [], ◌∷◌, ◌++◌, ◌+◌, length, length-append, take, drop, refl, ap, ◌∙◌, sym, arith, append_assoc, append-nil}
+use Rattle.std.proofs.lemmas.List.{take_at}
+use Rattle.std.proofs.lemmas.Grind.{common_steps}
+use Rattle.std.specs.Prelude.{Result, Ok, Err, OnOk, OnErr, IfOk, is_err, true, false}
+use Rattle.depot_base.proofs.CallLaws.{framed_long}
+use Rattle.depot_base.specs.Disk.{IsWritten}
+use Rattle.depot_base.specs.File.{blocks, framed, closed_block}
+use Rattle.depot_journal.specs.WriteSteps.{StandsTo}
+
+pub blocks_push : (bodies : List (List ℕ)) (body : List ℕ) → blocks (bodies ++ body ∷ []) ≡ blocks bodies ++ (1 ∷ framed body)
+blocks_push [] body = ap (λ (x : List ℕ). 1 ∷ x) (append-nil (framed body))
+blocks_push (b ∷ bodies) body = ap (λ (x : List ℕ). 1 ∷ (framed b ++ x)) (blocks_push bodies body) ∙ ap (λ (x : List ℕ). 1 ∷ x) (sym (append_assoc (framed b) (blocks bodies) (1 ∷ framed body)))
+
+pub one_more : (file rest after body : List ℕ) (bodies bodies' : List (List ℕ)) → file ≡ blocks bodies ++ rest → rest ≡ 1 ∷ (framed body ++ after) → bodies' ≡ bodies ++ body ∷ [] → file ≡ blocks bodies' ++ after
+one_more file rest after body bodies bodies' read split pushed =
+    read ∙ ap (λ (x : List ℕ). blocks bodies ++ x) split ∙ sym (append_assoc (blocks bodies) (1 ∷ framed body) after) ∙ ap (λ (x : List ℕ). x ++ after) (sym (ap blocks pushed ∙ blocks_push bodies body))
+
+pub one_longer : (end : ℕ) (body : List ℕ) (bodies bodies' : List (List ℕ)) → end ≡ length (blocks bodies) → bodies' ≡ bodies ++ body ∷ [] → end + (5 + length body) ≡ length (blocks bodies')
+one_longer end body bodies bodies' at pushed = omega (arith, ap length (ap blocks pushed ∙ blocks_push bodies body), length-append (blocks bodies) (1 ∷ framed body), framed_long body)
+
+-- the file with a record behind the closed gate, and then with the gate opened
+pub opened : (s0 s1 s2 block : List ℕ) (gate : ℕ) → gate < length s0 → IsWritten s0 (gate + 1) block s1 → IsWritten s1 gate (1 ∷ []) s2 → s2 ≡ take gate s0 ++ (1 ∷ (block ++ drop (gate + 1 + length block) s0))
+opened s0 s1 s2 block gate h w1 w2 =
+    let front : take gate s1 ≡ take gate s0 = ap (take gate) w1 ∙ grind (arith, common_steps) in
+    let behind : drop (gate + 1) s1 ≡ block ++ drop (gate + 1 + length block) s0 = ap (drop (gate + 1)) w1 ∙ grind (arith, common_steps) in
+    w2 ∙ append_assoc (take gate s1) (1 ∷ []) (drop (gate + 1) s1) ∙ ap (λ (x : List ℕ). x ++ (1 ∷ drop (gate + 1) s1)) front ∙ ap (λ (x : List ℕ). take gate s0 ++ (1 ∷ x)) behind
+
+-- the journal after it
+pub appended : (s0 s1 s2 body : List ℕ) (bodies : List (List ℕ)) (end : ℕ) → StandsTo s0 bodies end → IsWritten s0 (end + 1) (closed_block body) s1 → IsWritten s1 end (1 ∷ []) s2 → StandsTo s2 (bodies ++ body ∷ []) (end + (5 + length body))
+appended s0 s1 s2 body bodies end (gate, rest, closed, file, at) w1 w2 =
+    let front : take end s0 ≡ blocks bodies = ap (take end) file ∙ take_at (blocks bodies) (gate ∷ rest) end (sym at) in
+    let more : List ℕ = drop (end + 1 + length (closed_block body)) s0 in
+    let long : end < length s0 = omega (arith, ap length file, length-append (blocks bodies) (gate ∷ rest), at) in
+    let e = opened s0 s1 s2 (closed_block body) end long w1 w2 in (
+      0,
+      more,
+      omega arith,
+      e ∙ ap (λ (x : List ℕ). x ++ (1 ∷ (closed_block body ++ more))) front ∙ ap (λ (x : List ℕ). blocks bodies ++ (1 ∷ x)) (append_assoc (framed body) (0 ∷ []) more)
+          ∙ sym (append_assoc (blocks bodies) (1 ∷ framed body) (0 ∷ more)) ∙ ap (λ (x : List ℕ). x ++ 0 ∷ more) (sym (blocks_push bodies body)),
+      one_longer end body bodies (bodies ++ body ∷ []) at refl,
+    )
+
+pub on_ok : {T E : Type 0} → (r : Result T E) (P Q : Type 0) → OnOk r Q → (Q → P) → OnOk r P
+on_ok (Ok x) P Q q f = f q
+on_ok (Err e) P Q q f = q
+
+pub if_ok : {T E : Type 0} → (r : Result T E) (P Q : T → Type 0) → IfOk r Q → ((x : T) → Q x → P x) → IfOk r P
+if_ok (Ok x) P Q q f = f x q
+if_ok (Err e) P Q q f = q
+
+pub if_not_err : {T E : Type 0} → (r : Result T E) (P : Type 0) → is_err r ≡ false → OnOk r P → P
+if_not_err (Ok x) P ok p = p
+if_not_err (Err e) P ok p = absurd cc
+
+pub on_err : {T E : Type 0} → (r : Result T E) (P : Type 0) → P → OnErr r P
+on_err (Ok x) P p = tt
+on_err (Err e) P p = p
+
+pub on_err_so : {T E : Type 0} → (r : Result T E) (P Q : Type 0) → OnErr r Q → (Q → P) → OnErr r P
+on_err_so (Ok x) P Q q f = q
+on_err_so (Err e) P Q q f = f q
+
+pub if_err : {T E : Type 0} → (r : Result T E) (P : Type 0) → is_err r ≡ true → OnErr r P → P
+if_err (Ok x) P failed p = absurd cc
+if_err (Err e) P failed p = p

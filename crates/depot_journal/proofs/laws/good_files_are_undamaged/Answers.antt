@@ -1,5 +1,0 @@
-use Rattle.depot_journal.proofs.OneList.{not_damaged}
-use Rattle.depot_journal.proofs.laws.good_files_are_undamaged.Goals as goal
-
-pub returns : goal.returns
-returns c = not_damaged

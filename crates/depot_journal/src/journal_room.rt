@@ -1,0 +1,94 @@
+//! The limits of a journal, and the memory that is found before an append.
+ghost use Rattle.std.specs.Prelude.{◌≡◌, ◌++◌, ◌+◌, ◌-◌, ◌*◌, ◌^◌, ◌≤◌, List, [], ℕ, OnOk, IfErr, IsOk, length, min, vec_len, vec_capacity};
+ghost use Rattle.depot_base.specs.Disk.{Elapses, Within};
+ghost use Rattle.depot_base.specs.File.{HasRoom, PassesLimit, blocks};
+ghost use Rattle.depot_journal.specs.JournalView.{IsReserved};
+
+use crate::mirror::Mirror;
+use depot_base::limits::{MOST_JOURNAL, MOST_RECORDS};
+use depot_base::{Bytes, Full, FullOf, Memory};
+use depot_outside::Disk;
+
+/// For how many more records and bytes of bodies there is memory.
+#[derive(Clone, Copy, Debug, PartialEq, Eq)]
+pub struct Room {
+    pub records: u32,
+    pub bytes: u32,
+}
+
+/// How many bytes these records take in the file, with their gates and lengths; the greatest number where it is more.
+#[tactic(auto, using(crate::proofs::Walk::blocks_next, std::proofs::lemmas::List::take_all))]
+pub fn bytes_of(texts: &[Bytes]) -> u64
+    ensures { result ≡ min (length (blocks texts.now)) (2 ^ 64 - 1) }
+{
+    let mut bytes: u64 = 0;
+    for text in texts {
+        bytes = bytes.saturating_add(text.as_slice().len() as u64 + 5);
+    }
+    bytes
+}
+
+/// Whether so many records and bytes more keep to the limits, where there are so many records and bytes without the last
+/// gate.
+pub fn room_for(held: u32, long: u64, records: u64, bytes: u64) -> Result<(), Full>
+    requires held { held ≤ MOST_RECORDS }
+    requires long { 1 + long ≤ MOST_JOURNAL }
+    ensures room { OnOk result ((bodies : List (List ℕ)) → held ≡ length bodies → long ≡ length (blocks bodies) → HasRoom bodies records bytes) }
+    ensures full { IfErr result (λ full. (bodies : List (List ℕ)) → held ≡ length bodies → long ≡ length (blocks bodies) → PassesLimit bodies records bytes full.what full.number) }
+{
+    if records > (MOST_RECORDS - held) as u64 {
+        return Err(Full {
+            what: FullOf::Records,
+            number: held,
+        });
+    }
+    if bytes > MOST_JOURNAL as u64 - 1 - long {
+        return Err(Full {
+            what: FullOf::Bytes,
+            number: long as u32 + 1,
+        });
+    }
+    Ok(())
+}
+
+/// Finds the memory for so many more records and bytes, beside what was found before.
+pub fn find_room<D: Disk>(
+    mirror: &mut Mirror<D>,
+    room: &mut Room,
+    records: u32,
+    bytes: u32,
+) -> Result<(), Memory>
+    requires held { vec_len mirror.old.spans ≤ MOST_RECORDS }
+    requires long { vec_len mirror.old.bytes ≤ MOST_JOURNAL }
+    requires reserved { IsReserved room.old.records room.old.bytes (vec_len mirror.old.spans) (vec_len mirror.old.bytes) (vec_capacity mirror.old.spans) (vec_capacity mirror.old.bytes) (D.room_bytes mirror.old.disk) (D.room_calls mirror.old.disk) }
+    ensures reserved { IsReserved room.new.records room.new.bytes (vec_len mirror.new.spans) (vec_len mirror.new.bytes) (vec_capacity mirror.new.spans) (vec_capacity mirror.new.bytes) (D.room_bytes mirror.new.disk) (D.room_calls mirror.new.disk) }
+    ensures records { OnOk result (records ≤ room.new.records) }
+    ensures bytes { OnOk result (bytes ≤ room.new.bytes) }
+    ensures records_kept { room.old.records ≤ room.new.records }
+    ensures bytes_kept { room.old.bytes ≤ room.new.bytes }
+    ensures found { records ≤ room.old.records → bytes ≤ room.old.bytes → IsOk result }
+    ensures spans_same { mirror.new.spans.items ≡ mirror.old.spans.items }
+    ensures bytes_same { mirror.new.bytes.items ≡ mirror.old.bytes.items }
+    ensures seen { D.seen mirror.new.disk ≡ D.seen mirror.old.disk }
+    ensures images { Within (D.may_leave mirror.old.disk) (D.may_leave mirror.new.disk) }
+    ensures time { Elapses (D.moment mirror.old.disk) (D.moment mirror.new.disk) (D.left_since mirror.old.disk) (D.left_since mirror.new.disk) (D.may_leave mirror.new.disk) }
+    ensures handle { D.handle mirror.new.disk ≡ D.handle mirror.old.disk }
+    ensures tells { D.tells mirror.new.disk ≡ D.tells mirror.old.disk }
+    ensures made { D.after mirror.old.disk [] mirror.new.disk }
+    ensures faults { D.faults mirror.new.disk ≡ D.faults mirror.old.disk }
+    ensures faultless { D.is_faultless mirror.old.disk → D.is_faultless mirror.new.disk }
+{
+    if records <= room.records && bytes <= room.bytes {
+        return Ok(());
+    }
+    let records = records.max(room.records);
+    let bytes = bytes.max(room.bytes);
+    let most = records.min(MOST_RECORDS - mirror.spans.len() as u32);
+    // A record takes its body, a length of 4 bytes and a gate, and the next gate is written with it.
+    let written = 6 * most as u64 + bytes as u64;
+    mirror.spans.reserve(most as usize)?;
+    mirror.bytes.reserve(written as usize)?;
+    mirror.disk.make_room(written, 4 * most)?;
+    *room = Room { records, bytes };
+    Ok(())
+}

@@ -1,0 +1,47 @@
+//! What a node tells others of its journal, and the vouchers that it makes for them.
+
+use crate::node::Node;
+use crate::vouch::own_vouchers;
+use depot_base::{Bytes, Hash32, Ids, Items, Memory, NodeId, Nodes};
+use depot_decide::is_foreign;
+use depot_model::{Peer, Scheme, Signer, VoucherError};
+use depot_outside::Disk;
+use depot_tell::{candidates, convicted, leaf_places, signed_text, wanted};
+
+impl<D: Disk, S: Scheme, G: Signer<Of = S>> Peer for Node<D, S, G> {
+    fn convicted(&self) -> Result<Nodes, Memory> {
+        convicted(self.alloc, &self.store)
+    }
+
+    fn leaf_places(&self) -> Result<Items, Memory> {
+        leaf_places(self.alloc, &self.store)
+    }
+
+    fn wanted(&self) -> Result<Ids, Memory> {
+        wanted(self.alloc, &self.store)
+    }
+
+    fn candidates(&self, leaves: &Ids, reader: NodeId) -> Result<Items, Memory> {
+        candidates(self.alloc, &self.store, leaves, reader)
+    }
+
+    fn signed_text(&self, place: u32) -> Result<Bytes, Memory> {
+        signed_text(self.alloc, &self.store, &self.signer, place)
+    }
+
+    fn held(&self, hash: &Hash32) -> Option<&[u8]> {
+        self.store.value(hash)
+    }
+
+    fn is_foreign(&self, id: &Hash32) -> bool {
+        is_foreign(&self.store, id)
+    }
+
+    fn is_mine_vouched(&self, id: &Hash32) -> bool {
+        self.store.is_mine_vouched(id)
+    }
+
+    fn own_vouchers(&mut self, ids: &Ids) -> Result<(), VoucherError> {
+        own_vouchers(self.alloc, &mut self.store, ids)
+    }
+}

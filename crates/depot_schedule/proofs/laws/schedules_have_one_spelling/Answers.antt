@@ -1,5 +1,0 @@
-use Rattle.depot_schedule.proofs.ParseLaws.{text_of_read}
-use Rattle.depot_schedule.proofs.laws.schedules_have_one_spelling.Goals as goal
-
-pub returns : goal.returns
-returns c = text_of_read

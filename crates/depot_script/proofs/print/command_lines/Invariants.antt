@@ -1,8 +1,0 @@
-use Rattle.std.proofs.Common.{◌≡◌, ◌++◌, take}
-use Rattle.std.specs.List.{flat_map}
-use Rattle.depot_schedule.specs.Schedules.{text_of_line}
-use Rattle.depot_script.specs.Scripts.{command_words}
-use Rattle.depot_script.proofs.print.command_lines.Given as goal
-
-abbrev pub invariant-loop-command : goal.invariant-loop-command
-invariant-loop-command l = l.out ≡ l.initial.out ++ flat_map (λ c. text_of_line (command_words c)) (take l.command-index l.commands)

@@ -1,0 +1,5 @@
+use Rattle.depot_script.proofs.ReadingLaws.{text_of_read}
+use Rattle.depot_script.proofs.script_laws.scripts_have_one_spelling.Goals as goal
+
+pub returns : goal.returns
+returns c = text_of_read

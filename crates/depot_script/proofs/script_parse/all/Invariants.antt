@@ -1,0 +1,15 @@
+use Rattle.std.proofs.Common.{◌≡◌, ◌≤◌, ◌++◌, length, Ok}
+use Rattle.depot_schedule.specs.Language.{◌>>=◌}
+use Rattle.depot_schedule.specs.Schedules.{lines_of, lines_of_parts}
+use Rattle.depot_script.specs.Scripts.{read_lines}
+use Rattle.depot_script.proofs.script_parse.all.Given as goal
+
+abbrev pub decreases-loop-text : goal.decreases-loop-text
+decreases-loop-text l = length (lines_of_parts l.parts)
+
+-- the commands so far, and those that are read behind them, are those of the text
+abbrev pub invariant-loop-text : goal.invariant-loop-text
+invariant-loop-text l = record {
+  few : l.number ≤ 100001;
+  rest : (read_lines l.number (lines_of_parts l.parts) >>= λ commands. Ok (l.script ++ commands)) ≡ read_lines 1 (lines_of l.fn.text);
+}

@@ -1,0 +1,15 @@
+use Rattle.std.proofs.Common.{◌≡◌, ◌++◌, take, IsTrue}
+use Rattle.std.specs.List.{flat_map}
+use Rattle.depot_outside.specs.Told.{shelves, sinks}
+use Rattle.depot_session.specs.Sessions.{Session, loads_of}
+use Rattle.depot_session.specs.Turns.{IsAt}
+use Rattle.depot_session.proofs.PlayedScripts.{AreDone, IsKeptOn}
+use Rattle.depot_session.proofs.whole_script.play.Given as goal
+
+abbrev pub invariant-loop-command : goal.invariant-loop-command
+invariant-loop-command g l = record {
+  kept : IsKeptOn g.R.Replica g.F.Shelf g.K.Sink l.fn.node l.node l.fn.shelf l.shelf l.fn.out l.out;
+  done : (s : Session) → IsTrue (g.F.Shelf.tells l.fn.shelf) → IsAt (g.R.Replica.stands l.fn.node) (g.R.Replica.records l.fn.node) (g.F.Shelf.file l.fn.shelf) s
+      → AreDone g.R.Replica l.node (g.R.Replica.stands l.fn.node) (g.R.Replica.signature_of l.fn.node) s (take l.command-index l.commands) (shelves g.F.Shelf l.fn.shelf l.shelf) (sinks g.K.Sink l.fn.out l.out);
+  loads : g.F.Shelf.loads l.shelf ≡ g.F.Shelf.loads l.fn.shelf ++ flat_map loads_of (take l.command-index l.commands);
+}

@@ -1,0 +1,220 @@
+-- How the run of a script over a disk, a shelf and a sink ends.
+use Rattle.std.specs.Prelude.{◌≡◌, ◌≢◌, ◌<◌, ◌⊎◌, ℕ, List, [], ◌∷◌, ◌++◌, take, IsTrue, Some, None, codes}
+use Rattle.std.specs.List.{flat_map}
+use Rattle.depot_answers.specs.Answers.{numbered, spaced, text_of_record_fault}
+use Rattle.depot_base.specs.declared.key.PublicKey.{PublicKey}
+use Rattle.depot_base.specs.declared.record.Record.{Record}
+use Rattle.depot_model.specs.Bundle.{Signs}
+use Rattle.depot_model.specs.Checks.{Setting}
+use Rattle.depot_model.specs.Lawful.{IsLawful}
+use Rattle.depot_model.specs.Lists.{IsIn}
+use Rattle.depot_model.specs.Roster.{key_of}
+use Rattle.depot_model.specs.Stops.{HasRecords, HasFront}
+use Rattle.depot_model.specs.World.{World, Read, IsRead, IsCorrect, NeverFall}
+use Rattle.depot_node.specs.Starting.{IsNotStarted, LeavesFile}
+use Rattle.depot_node.specs.declared.start_error.StartError.{StartError}
+use Rattle.depot_node.specs.declared.start_error.StartError.TheVariants as refused
+use Rattle.depot_outside.specs.Told.{Disks, HasLoaded, Loads, Shelves, Sinks, Wrote}
+use Rattle.depot_script.specs.declared.command.Command.{Command}
+use Rattle.depot_session.specs.declared.ending.Ending.{Ending}
+use Rattle.depot_session.specs.declared.ending.Ending.TheVariants as ending
+use Rattle.depot_session.specs.Sessions.{Answers, Names, Session, Step, StoresAs, answers_of, loads_of, session_from, shelf_line, step_of}
+use Rattle.depot_session.specs.ScriptTelling.{IsFaultTold, IsUnchanged}
+
+-- ---- what a stop leaves
+
+-- The records of the image are those of a lawful journal that begins with the records of the file.
+pub record GoesOn (here : Setting) (file image : List ℕ) : Type 0 where
+  pub journal : List Record
+  pub read : HasRecords journal file
+  pub more : List Record
+  pub lawful : IsLawful here (journal ++ more)
+  pub has : HasRecords (journal ++ more) image
+
+-- What a stop might have left at some moment of the run it might have left before, or it goes on from the file. As it reads afterwards,
+-- the file is such an image.
+pub record KeepsFile (here : Setting) (disk : Disks) : Type 0 where
+  pub images : (image : List ℕ) → disk.left_in_run image → disk.may_leave image ⊎ GoesOn here disk.file image
+  pub reads : disk.left_in_run disk.file_after
+
+-- ---- the faults by which a run is cut short
+
+-- no memory was found, or the disk failed, or the count of faults of the shelf or the sink rose
+abbrev pub IsCutBy : Type 0 → Shelves → Sinks → Ending → Type 0
+IsCutBy disk_failed shelf sink ending.Memory = Unit {0}
+IsCutBy disk_failed shelf sink ending.Disk = disk_failed
+IsCutBy disk_failed shelf sink ending.Shelf = shelf.faults_before < shelf.faults_after
+IsCutBy disk_failed shelf sink ending.Sink = sink.faults_before < sink.faults_after
+IsCutBy disk_failed shelf sink other = ⊥
+
+-- the count of faults of the disk rose
+abbrev pub HasFailed : Disks → Type 0
+HasFailed disk = disk.faults_before < disk.faults_after
+
+-- the line of a disk that failed
+abbrev pub disk_line : List ℕ
+disk_line = codes "disk\n"
+
+-- ---- a command that was cut short
+
+-- What a command's step made stands: a stop leaves the journal after it, and the files are those after it.
+pub record Stands (left : List ℕ → Type 0) (shelf : Shelves) (step : Step) : Type 0 where
+  pub journal : (image : List ℕ) → left image → HasRecords step.session.correct.journal image
+  pub files : (name : List ℕ) → shelf.file_after name ≡ step.session.files name
+
+-- What the command hands out may stand under this name, or a part of it: it isn't refused, and a stop leaves the journal after it.
+pub record IsHandedOut (left : List ℕ → Type 0) (c : Command) (step : Step) (name : List ℕ) : Type 0 where
+  pub stores : StoresAs c name
+  pub goes_on : step.ending ≡ None
+  pub journal : (image : List ℕ) → left image → HasRecords step.session.correct.journal image
+
+-- What was pending where a run was cut short: the names and the lines of the next command, that what it made stands, and the faults that came.
+pub record Pending : Type 1 where
+  pub names : List ℕ → Type 0
+  pub text : List ℕ
+  pub stands : Type 0
+  pub disk_failed : Type 0
+  pub shelf_failed : Type 0
+
+-- this command was
+abbrev pub pending_for : Command → Step → (List ℕ → Type 0) → Type 0 → Shelves → Pending
+pending_for c step left disk_failed shelf = record { names = Names c; text = step.text; stands = Stands left shelf step; disk_failed = disk_failed; shelf_failed = shelf.faults_before < shelf.faults_after }
+
+-- the first of these commands was, if there is one
+abbrev pub pending_in : Setting → Signs → Session → List Command → (List ℕ → Type 0) → Type 0 → Shelves → Pending
+pending_in here sign s [] left disk_failed shelf = record { names = λ name. ⊥; text = []; stands = ⊥; disk_failed = disk_failed; shelf_failed = shelf.faults_before < shelf.faults_after }
+pending_in here sign s (c ∷ cs) left disk_failed shelf = pending_for c (step_of here sign s c) left disk_failed shelf
+
+-- what the first of these commands hands out may stand under this name
+abbrev pub IsNextHandedOut : Setting → Signs → Session → List Command → (List ℕ → Type 0) → List ℕ → Type 0
+IsNextHandedOut here sign s [] left name = ⊥
+IsNextHandedOut here sign s (c ∷ cs) left name = IsHandedOut left c (step_of here sign s c) name
+
+-- the line of a file that the next command names
+abbrev pub IsShelfLine : Pending → List ℕ → Type 0
+IsShelfLine next line = (name : List ℕ) × (next.names name × (line ≡ shelf_line name))
+
+-- This line was to be written: the lines of the next command, and what it made stands; or the line of a fault of the disk or the shelf that came.
+abbrev pub IsToBeWritten : Pending → List ℕ → Type 0
+IsToBeWritten next line = (next.stands × (line ≡ next.text)) ⊎ ((next.disk_failed × (line ≡ disk_line)) ⊎ (next.shelf_failed × IsShelfLine next line))
+
+-- What stands at last where a run is cut short: the line of a fault of the disk or the shelf, where the sink failed a front of what was to be
+-- written, and without memory nothing.
+abbrev pub IsLast : Pending → Ending → List ℕ → Type 0
+IsLast next ending.Disk last = last ≡ disk_line
+IsLast next ending.Shelf last = IsShelfLine next last
+IsLast next ending.Sink last = (last ≡ []) ⊎ ((line : List ℕ) × (IsToBeWritten next line × ((n : ℕ) × (last ≡ take n line))))
+IsLast next other last = last ≡ []
+
+-- ---- a run of a node that starts
+
+-- the reads of earlier sessions are those of a journal
+pub record AreReadsOf (J : List Record) (reads : List Read) : Type 0 where
+  pub each : (r : Read) → IsIn r reads → IsRead J r
+  pub in_order : NeverFall reads
+
+-- a world with this roster and nothing else
+abbrev pub world_at : Setting → World
+world_at here = record { verifies = here.verifies; listed = here.listed; nodes = []; judged = [] }
+
+-- The run went as the definition says: the lines, the files, the journal and the ending are those, and a stop leaves that journal. The
+-- node is a correct one with its reads.
+pub record GoesWhole (here : Setting) (a : Answers) (disk : Disks) (shelf : Shelves) (sink : Sinks) (ends : Ending) : Type 0 where
+  pub ending_is : ends ≡ a.ending
+  pub wrote : Wrote sink a.text
+  pub files : (name : List ℕ) → shelf.file_after name ≡ a.session.files name
+  pub reads : HasRecords a.session.correct.journal disk.file_after
+  pub leaves : (image : List ℕ) → disk.may_leave_after image → HasRecords a.session.correct.journal image
+  pub correct : IsCorrect (world_at here) a.session.correct
+
+-- The records of the file are these and a front of those; where no command was carried out it may be a file of before, too.
+abbrev pub LeavesFront : List Command → (List ℕ → Type 0) → List Record → List Record → List ℕ → Type 0
+LeavesFront [] before kept more image = before image ⊎ HasFront kept more image
+LeavesFront (c ∷ cs) before kept more image = HasFront kept more image
+
+-- The run of a script from a journal and a session was cut short. Some commands were carried out, and their lines stand whole; and behind
+-- them what stands at last. A stop leaves all records of these commands, and a front of those that the others bring. The files are those after
+-- these commands, but that what the next one hands out may stand under its name. The node is a correct one with the reads that were told whole.
+pub record GoesShort (here : Setting) (sign : Signs) (J : List Record) (s : Session) (commands : List Command) (disk : Disks) (shelf : Shelves) (sink : Sinks) (ends : Ending) : Type 0 where
+  pub cut : IsCutBy (HasFailed disk) shelf sink ends
+  pub done : List Command
+  pub rest : List Command
+  pub parts : commands ≡ done ++ rest
+  pub went_on : (answers_of here sign s done).ending ≡ ending.Done
+  pub correct : IsCorrect (world_at here) (answers_of here sign s done).session.correct
+  pub last : List ℕ
+  pub last_is : IsLast (pending_in here sign (answers_of here sign s done).session rest disk.may_leave_after (HasFailed disk) shelf) ends last
+  pub wrote : Wrote sink ((answers_of here sign s done).text ++ last)
+  pub kept : List Record
+  pub kept_is : (kept ≡ (answers_of here sign s done).session.correct.journal) ⊎ ((done ≡ []) × (kept ≡ J))
+  pub more : List Record
+  pub brings : (answers_of here sign s commands).session.correct.journal ≡ kept ++ more
+  pub leaves : (image : List ℕ) → disk.may_leave_after image → LeavesFront done disk.may_leave kept more image
+  pub reads : LeavesFront done disk.may_leave kept more disk.file_after
+  pub files : (name : List ℕ) → (shelf.file_after name ≡ (answers_of here sign s done).session.files name) ⊎ IsNextHandedOut here sign (answers_of here sign s done).session rest disk.may_leave_after name
+
+-- the run went as the script's answers from this session say, or it was cut short
+abbrev pub Answered : Setting → Signs → List Record → Session → List Command → Disks → Shelves → Sinks → Ending → Type 0
+Answered here sign J s commands disk shelf sink ends = GoesWhole here (answers_of here sign s commands) disk shelf sink ends ⊎ GoesShort here sign J s commands disk shelf sink ends
+
+-- Over a lawful journal of this node, or none, under its key: lines, files, journal and ending are those of the definition, or the run is cut
+-- short. The reads of earlier sessions go on.
+pub record AnswersScript (here : Setting) (key : PublicKey) (sign : Signs) (commands : List Command) (disk : Disks) (shelf : Shelves) (sink : Sinks) (ends : Ending) : Type 0 where
+  pub over : IsTrue disk.tells → IsTrue shelf.tells → key_of here.listed here.me ≡ Some key → (J : List Record) (reads : List Read) → IsLawful here J → HasRecords J disk.file → AreReadsOf J reads
+      → Answered here sign J (session_from here J reads shelf.file) commands disk shelf sink ends
+
+-- ---- a run of a node that doesn't start
+
+-- how the run ends that a start refuses
+abbrev pub ending_of_refusal : StartError → Ending
+ending_of_refusal refused.Memory = ending.Memory
+ending_of_refusal refused.Disk = ending.Disk
+ending_of_refusal (refused.Damaged at) = ending.NotLawful
+ending_of_refusal (refused.NotLawful place fault) = ending.NotLawful
+ending_of_refusal other = ending.Identity
+
+-- the line of a refusal
+abbrev pub line_of_refusal : StartError → List ℕ
+line_of_refusal refused.Memory = []
+line_of_refusal refused.Disk = disk_line
+line_of_refusal refused.UnknownMe = codes "identity UnknownMe\n"
+line_of_refusal (refused.OtherKey roster signer) = codes "identity OtherKey\n"
+line_of_refusal (refused.OtherNode node) = codes "identity OtherNode\n"
+line_of_refusal (refused.OtherRoster kept given) = codes "identity OtherRoster\n"
+line_of_refusal (refused.Damaged at) = numbered (codes "damaged") at ++ codes "\n"
+line_of_refusal (refused.NotLawful place fault) = numbered (codes "not lawful") place ++ spaced (text_of_record_fault fault) ++ codes "\n"
+
+-- A start was refused: the run tells why and ends by it, and no file has changed. Where it is for what the key, the roster or the journal is, the
+-- disk's file reads as before, too.
+pub record IsRefused (here : Setting) (key : PublicKey) (disk : Disks) (shelf : Shelves) (sink : Sinks) (ends : Ending) : Type 0 where
+  pub error : StartError
+  pub is : IsNotStarted here key (IsTrue disk.tells) disk.file error
+  pub told : IsFaultTold sink (line_of_refusal error) (ending_of_refusal error) ends
+  pub disk_failed : error ≡ refused.Disk → HasFailed disk
+  pub unchanged : LeavesFile error → disk.file_after ≡ disk.file
+  pub files : IsUnchanged shelf
+
+-- The node started: the roster has its key for it, and the file has a lawful journal.
+pub record IsStarted (here : Setting) (key : PublicKey) (disk : Disks) (ends : Ending) : Type 0 where
+  pub keyed : key_of here.listed here.me ≡ Some key
+  pub journal : IsTrue disk.tells → (J : List Record) × (IsLawful here J × HasRecords J disk.file)
+  pub is_no_refusal : ends ≢ ending.NotLawful
+
+-- a run begins: the node is refused, or it starts
+abbrev pub Begins : Setting → PublicKey → Disks → Shelves → Sinks → Ending → Type 0
+Begins here key disk shelf sink ends = IsRefused here key disk shelf sink ends ⊎ IsStarted here key disk ends
+
+-- ---- what is left, and what is loaded
+
+-- The run left a lawful journal that begins with the records of the file: the file has it, and so has whatever a stop leaves of it.
+pub record Settles (here : Setting) (disk : Disks) : Type 0 where
+  pub journal : List Record
+  pub read : HasRecords journal disk.file
+  pub more : List Record
+  pub lawful : IsLawful here (journal ++ more)
+  pub has : HasRecords (journal ++ more) disk.file_after
+  pub leaves : (image : List ℕ) → disk.may_leave_after image → HasRecords (journal ++ more) image
+
+-- The files that were loaded are those that some first commands of the script load, in their order, and no others.
+abbrev pub LoadsFiles : List Command → Loads → Type 0
+LoadsFiles commands loads = (n : ℕ) × HasLoaded loads (flat_map loads_of (take n commands))

@@ -1,0 +1,36 @@
+//! A script, command by command.
+ghost use Rattle.std.specs.Prelude.{◌≡◌, IsTrue};
+ghost use Rattle.depot_outside.specs.Told.{loads, shelves, sinks};
+ghost use Rattle.depot_session.specs.SessionRuns.{LoadsFiles};
+ghost use Rattle.depot_session.specs.Sessions.{Session};
+ghost use Rattle.depot_session.specs.ScriptTelling.{TellsShelf};
+ghost use Rattle.depot_session.specs.Turns.{IsAt, IsRunning, Keeps, Plays};
+
+use crate::commands::carry_out;
+use crate::ending::Ending;
+use crate::local::Local;
+use depot_outside::{Shelf, Sink};
+use depot_script::Command;
+use std::alloc::Global;
+
+/// Carries out the commands of a script, one after the other, up to the first that ends the run. Ok where none does.
+pub fn play<R: Local, F: Shelf, K: Sink>(
+    alloc: Global,
+    node: &mut R,
+    commands: &[Command],
+    shelf: &mut F,
+    out: &mut K,
+) -> Result<(), Ending>
+    requires running { IsRunning R.Replica node.old }
+    ensures keeps { Keeps R.Replica node.old node.new (sinks K.Sink out.old out.new) result }
+    ensures plays { (s : Session) → IsTrue (F.tells shelf.old) → IsAt (R.stands node.old) (R.records node.old) (F.file shelf.old) s → Plays R.Replica node.old node.new (R.stands node.old) (R.signature_of node.old) s commands.now (shelves F.Shelf shelf.old shelf.new) (sinks K.Sink out.old out.new) result }
+    ensures loads { LoadsFiles commands.now (loads F.Shelf shelf.old shelf.new) }
+    ensures same { K.tells out.new ≡ K.tells out.old }
+    ensures same_shelf { F.tells shelf.new ≡ F.tells shelf.old }
+    ensures shelf { TellsShelf (F.faults shelf.old) (F.faults shelf.new) result }
+{
+    for command in commands {
+        carry_out(alloc, node, command, shelf, out)?;
+    }
+    Ok(())
+}

@@ -1,0 +1,7 @@
+pub mod CastLaws
+pub mod EntryOrder
+pub mod FlipLaws
+pub mod JudgedLaws
+pub mod LabelTables
+pub mod SeenUpdates
+pub mod SignedLaws

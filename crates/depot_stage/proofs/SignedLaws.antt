@@ -1,0 +1,40 @@
+-- Statements that were just signed, and the halves of a proof, have texts.
+use Rattle.std.proofs.Common.{◌≡◌, ℕ, ◌≤◌, List, length, sym, ap, subst, ◌∙◌, arith}
+use Rattle.depot_base.specs.Format.{number, constant}
+use Rattle.depot_base.specs.Statement.{seq_of}
+use Rattle.depot_base.specs.declared.proof.Kind.{Kind}
+use Rattle.depot_base.specs.declared.statement.Signed.{Signed}
+use Rattle.depot_base.specs.declared.statement.Statement.{Statement}
+use Rattle.depot_model.specs.Bundle.{Signs, signed_with}
+use Rattle.depot_model.specs.Texts.{proof, IsProof, IsSigned, IsStatement, kind_of_number, number_of_kind, text_of_statement}
+use Rattle.depot_laws.proofs.Candidates.{signed_fits}
+use Rattle.depot_model.proofs.JudgementLaws.{kind_fits, kind_back}
+
+-- ---- a statement, signed
+
+-- its text and the signature of that make it
+pub signed_by_parts : (sign : Signs) (s : Statement) (body given signature : List ℕ) (seq : ℕ) → body ≡ text_of_statement s → given ≡ body → seq ≡ seq_of s → signature ≡ sign seq given → record { statement = s; body = body; signature = signature } ≡ signed_with sign s
+unfolding signed_with
+signed_by_parts sign s body given signature seq text same number signed =
+    let signature_is : signature ≡ sign (seq_of s) (text_of_statement s) = signed ∙ ap (λ (n : ℕ). sign n given) number ∙ ap (sign (seq_of s)) (same ∙ text) in
+    λ i. record { statement = s; body = text i; signature = signature_is i }
+
+-- it has a text, where signatures aren't too long
+pub parts_have_text : (sign : Signs) (s : Statement) (body given signature : List ℕ) (seq : ℕ) → body ≡ text_of_statement s → given ≡ body → seq ≡ seq_of s → signature ≡ sign seq given → IsStatement s → ((n : ℕ) (b : List ℕ) → length (sign n b) ≤ 8192)
+    → IsSigned (record { statement = s; body = body; signature = signature })
+unfolding signed_with
+parts_have_text sign s body given signature seq text same number signed fits short =
+    subst (λ (x : Signed). IsSigned x) (sym (signed_by_parts sign s body given signature seq text same number signed)) (signed_fits sign s fits (short (seq_of s) (text_of_statement s)))
+
+-- ---- the halves of a proof
+
+one_fits : (constant 1).fits 1
+unfolding number
+one_fits = (omega arith, omega arith)
+
+-- whatever two signed statements are made the halves of, it has a text
+pub halves_have_text : (k : Kind) (a b first second : Signed) → first ≡ a → second ≡ b → IsSigned a → IsSigned b → IsProof (record { kind = k; first = first; second = second })
+unfolding proof
+halves_have_text k a b first second first_is second_is a_fits b_fits =
+    let back : record { kind = k; first = first; second = second } ≡ record { kind = kind_of_number (number_of_kind k); first = first; second = second } = ap (λ (k : Kind). record { kind = k; first = first; second = second }) (kind_back k) in
+    (one_fits, (kind_fits k, (rw first_is a_fits, (rw second_is b_fits, back))))

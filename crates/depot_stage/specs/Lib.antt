@@ -1,0 +1,5 @@
+pub mod Casting
+pub mod DraftEntries
+pub mod Labels
+pub mod Seen
+pub mod StageTexts

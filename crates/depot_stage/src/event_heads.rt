@@ -1,0 +1,81 @@
+//! The front of an event's line.
+ghost use Rattle.std.specs.Prelude.{◌≡◌, ◌++◌, ◌∷◌, [], OnOk, codes, take, drop};
+ghost use Rattle.std.specs.Fmt.{decimal};
+ghost use Rattle.hex.specs.Hex.{encode_lower};
+ghost use Rattle.depot_schedule.specs.Language.{join};
+ghost use Rattle.depot_schedule.specs.Readers.{behind_spaces};
+ghost use Rattle.depot_schedule.specs.Schedules.{event_words};
+ghost use Rattle.depot_world.specs.Transcript.{head_count};
+
+use depot_base::{Bytes, Key, Memory, NodeId};
+use depot_schedule::lines::{hex, label, node};
+use depot_schedule::{Event, Label};
+use std::alloc::Global;
+
+/// Writes an event's name and the words that stand before the arrow, with spaces between them, and the arrow. After Memory a front of
+/// it may have been written.
+#[tactic(auto, using(depot_base::proofs::Writing::texts, depot_schedule::proofs::WrittenSteps::lines))]
+pub fn event_head(alloc: Global, out: &mut Bytes, event: &Event) -> Result<(), Memory>
+    ensures { OnOk result (out.new ≡ out.old ++ (join 32 (take (head_count event.now) (event_words event.now)) ++ codes " ->")) }
+{
+    out.push_all(event.verb().name().as_bytes())?;
+    words(alloc, out, event)?;
+    out.push_all(b" ->")
+}
+
+/// Writes the words between the name and the arrow, each behind a space.
+#[tactic(auto, unfolding(depot_schedule::specs::EventLines::put, depot_schedule::specs::EventLines::get, depot_schedule::specs::EventLines::hello, depot_schedule::specs::EventLines::bundle, depot_schedule::specs::EventLines::give, depot_schedule::specs::EventLines::restart, depot_schedule::specs::EventLines::update, depot_schedule::specs::EventLines::voucher, depot_schedule::specs::EventLines::proof, depot_schedule::specs::EventLines::judge, depot_schedule::specs::EventLines::raw, depot_schedule::specs::EventLines::cut, depot_schedule::specs::EventLines::flip, depot_schedule::specs::EventLines::join, depot_schedule::specs::EventLines::stop))]
+fn words(alloc: Global, out: &mut Bytes, event: &Event) -> Result<(), Memory>
+    ensures { OnOk result (out.new ≡ out.old ++ behind_spaces (drop 1 (take (head_count event.now) (event_words event.now)))) }
+{
+    match event {
+        Event::Put { node, key, .. } => node_and_key(alloc, out, *node, key),
+        Event::Get { node, key } => node_and_key(alloc, out, *node, key),
+        Event::Hello { node, label } => node_and_label(alloc, out, *node, label),
+        Event::Bundle { node, hello, label } => node_and_labels(alloc, out, *node, hello, label),
+        Event::Give { node, label, .. } => node_and_label(alloc, out, *node, label),
+        Event::Restart { node: id } => node(alloc, out, *id),
+        Event::Update { label: name, .. } => label(out, name),
+        Event::Voucher { label: name, .. } => label(out, name),
+        Event::Proof { label: name, .. } => label(out, name),
+        Event::Judge { label: name } => label(out, name),
+        Event::Raw { label: name, .. } => label(out, name),
+        Event::Cut { label: name, .. } => label(out, name),
+        Event::Flip { label: name, .. } => label(out, name),
+        Event::Join { label: name, .. } => label(out, name),
+        Event::Stop { node: id, .. } => node(alloc, out, *id),
+    }
+}
+
+/// A node's number and a key.
+#[tactic(auto, using(depot_base::proofs::Writing::texts))]
+fn node_and_key(alloc: Global, out: &mut Bytes, id: NodeId, key: &Key) -> Result<(), Memory>
+    ensures { OnOk result (out.new ≡ out.old ++ behind_spaces (decimal id ∷ encode_lower key.now ∷ [])) }
+{
+    node(alloc, out, id)?;
+    hex(alloc, out, key.bytes())
+}
+
+/// A node's number and a label.
+#[tactic(auto, using(depot_base::proofs::Writing::texts))]
+fn node_and_label(alloc: Global, out: &mut Bytes, id: NodeId, name: &Label) -> Result<(), Memory>
+    ensures { OnOk result (out.new ≡ out.old ++ behind_spaces (decimal id ∷ name.now ∷ [])) }
+{
+    node(alloc, out, id)?;
+    label(out, name)
+}
+
+/// A node's number and two labels.
+#[tactic(auto, using(depot_base::proofs::Writing::texts))]
+fn node_and_labels(
+    alloc: Global,
+    out: &mut Bytes,
+    id: NodeId,
+    first: &Label,
+    second: &Label,
+) -> Result<(), Memory>
+    ensures { OnOk result (out.new ≡ out.old ++ behind_spaces (decimal id ∷ first.now ∷ second.now ∷ [])) }
+{
+    node_and_label(alloc, out, id, first)?;
+    label(out, second)
+}

@@ -1,0 +1,85 @@
+//! Statements that are signed for faulty nodes, and the halves of a proof.
+ghost use Rattle.std.specs.Prelude.{◌≡◌, ◌++◌, ◌^◌, ◌<◌, IfOk, OnOk};
+ghost use Rattle.depot_base.specs.Statement.{seq_of};
+ghost use Rattle.depot_model.specs.Bundle.{proof_frame, signed_with, statement_frame, value_frame};
+ghost use Rattle.depot_model.specs.Frames.{text_of_frame};
+ghost use Rattle.depot_model.specs.Texts.{IsProof, IsSigned, IsStatement};
+ghost use Rattle.depot_world.specs.FaultySigning.{proof_by};
+
+use depot_base::{Bytes, Kind, Memory, Proof, Signed, Statement, Value};
+use depot_gossip::put_frame;
+use depot_model::Signer;
+use depot_update::{encode_proof, encode_signed, encode_statement};
+use std::alloc::Global;
+
+/// The statement with its text, and the signature of that by the leaf of its number.
+#[tactic(auto, using(crate::proofs::SignedLaws::signed_by_parts))]
+pub fn signed<G: Signer>(alloc: Global, signer: &G, statement: Statement) -> Result<Signed, Memory>
+    requires fits { IsStatement statement }
+    requires leaf { seq_of statement < 2 ^ (G.key_of signer.now).height }
+    ensures made { IfOk result (λ s. s ≡ signed_with (G.signature_of signer.now) statement) }
+    ensures fits { IfOk result IsSigned }
+    ensures statement { IfOk result (λ s. s.statement ≡ statement) }
+{
+    let body = encode_statement(alloc, &statement)?;
+    let signature = signer.sign(statement.seq(), body.as_slice())?;
+    Ok(Signed {
+        statement,
+        body,
+        signature,
+    })
+}
+
+/// Writes the frame of a signed statement. After Memory a front of it may have been written.
+pub fn put_signed(alloc: Global, out: &mut Bytes, signed: &Signed) -> Result<(), Memory>
+    requires { IsSigned signed.now }
+    ensures { OnOk result (out.new ≡ out.old ++ text_of_frame (statement_frame signed.now)) }
+{
+    let text = encode_signed(alloc, signed)?;
+    put_frame(out, 2, text.as_slice())
+}
+
+/// Writes the frame of a value. After Memory a front of it may have been written.
+pub fn put_value(out: &mut Bytes, value: &Value) -> Result<(), Memory>
+    ensures { OnOk result (out.new ≡ out.old ++ text_of_frame (value_frame value.now)) }
+{
+    put_frame(out, 3, value.bytes())
+}
+
+/// Writes the frame of a proof. After Memory a front of it may have been written.
+pub fn put_proof(alloc: Global, out: &mut Bytes, proof: &Proof) -> Result<(), Memory>
+    requires { IsProof proof.now }
+    ensures { OnOk result (out.new ≡ out.old ++ text_of_frame (proof_frame proof.now)) }
+{
+    let text = encode_proof(alloc, proof)?;
+    put_frame(out, 1, text.as_slice())
+}
+
+/// Two signed statements as the halves of a proof of this kind.
+#[tactic(auto, using(crate::proofs::SignedLaws::halves_have_text))]
+fn proof_from(kind: Kind, first: &Signed, second: &Signed) -> Result<Proof, Memory>
+    requires first { IsSigned first.now }
+    requires second { IsSigned second.now }
+    ensures made { IfOk result (λ p. p ≡ record { kind = kind; first = first.now; second = second.now }) }
+    ensures fits { IfOk result IsProof }
+{
+    Ok(Proof {
+        kind,
+        first: first.copy()?,
+        second: second.copy()?,
+    })
+}
+
+/// The same, the one with the smaller body first. Nothing is asked of whether they contradict each other.
+pub fn proof_of(kind: Kind, a: &Signed, b: &Signed) -> Result<Proof, Memory>
+    requires first { IsSigned a.now }
+    requires second { IsSigned b.now }
+    ensures made { IfOk result (λ p. p ≡ proof_by kind a.now b.now) }
+    ensures fits { IfOk result IsProof }
+{
+    if b.body.as_slice().cmp(a.body.as_slice()).is_lt() {
+        proof_from(kind, b, a)
+    } else {
+        proof_from(kind, a, b)
+    }
+}

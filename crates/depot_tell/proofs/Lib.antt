@@ -1,0 +1,6 @@
+mod LackingValues
+mod StatementTexts
+mod CoveredItems
+mod BesidePlaces
+mod JoinedRows
+mod LeafInserts

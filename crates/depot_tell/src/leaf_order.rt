@@ -1,0 +1,72 @@
+//! The leaves of what a node accepted, by the places of their records.
+ghost use Rattle.std.specs.Prelude.{◌≡◌, false, ◌<◌, length, map, IfOk};
+ghost use Rattle.depot_model.specs.Hello.{AreLeafPlaces};
+ghost use Rattle.depot_model.specs.History.{by_id, leaves_of};
+ghost use Rattle.depot_model.specs.Items.{at};
+ghost use Rattle.depot_model.specs.Lawful.{IsLawful};
+ghost use Rattle.depot_model.specs.Texts.{id_of_update};
+ghost use Rattle.depot_model.specs.Journal.{accepted};
+ghost use Rattle.depot_tell.specs.Telling.{leaf_in};
+ghost use Rattle.depot_store.specs.Holdings.{standing};
+
+use depot_base::{Hash32, Items, Memory, NodeId};
+use depot_graph::Graph;
+use depot_model::{Past, Scheme};
+use depot_outside::Disk;
+use depot_store::Store;
+use std::alloc::Global;
+use std::collections::BTreeSet;
+
+/// A leaf, and the place of the record that accepted it. Leaves are in order by writer and then by id, which no two share.
+#[derive(Clone, Copy, Debug, PartialEq, Eq, PartialOrd, Ord)]
+struct Leaf {
+    writer: NodeId,
+    id: Hash32,
+    place: u32,
+}
+
+/// The places of the records that accepted the leaves, in rising order of the leaves' (writer, id).
+pub fn leaf_places<D: Disk, S: Scheme>(alloc: Global, store: &Store<D, S>) -> Result<Items, Memory>
+    requires runs { store.now.stopped ≡ false }
+    requires lawful { IsLawful (standing S.verifies store.now) store.now.records }
+    ensures { IfOk result (λ places. AreLeafPlaces store.now.records places) }
+{
+    let leaves = leaves(alloc, store)?;
+    places_of(alloc, &leaves)
+}
+
+/// The leaves in their order.
+fn leaves<D: Disk, S: Scheme>(alloc: Global, store: &Store<D, S>) -> Result<BTreeSet<Leaf>, Memory>
+    requires runs { store.now.stopped ≡ false }
+    ensures { IfOk result (λ leaves. leaves.keys ≡ map (leaf_in store.now.records) (by_id (leaves_of (accepted store.now.records)))) }
+{
+    let graph = store.state().graph();
+    let places = store.places();
+    let mut leaves = BTreeSet::new(alloc);
+    for item in (0..graph.count()).rev() {
+        if graph.children(item).is_empty() {
+            leaves.insert(leaf_at(graph, item, places[item as usize]))?;
+        }
+    }
+    Ok(leaves)
+}
+
+/// Their places.
+fn places_of(alloc: Global, leaves: &BTreeSet<Leaf>) -> Result<Items, Memory>
+    ensures { IfOk result (λ places. places ≡ map (λ leaf. leaf.place) leaves.now.keys) }
+{
+    let places: Vec<u32> = leaves.iter().map(|leaf| leaf.place).collect(alloc)?;
+    Ok(Items::from_vec(places))
+}
+
+/// The leaf of an item whose record stands at this place.
+fn leaf_at(graph: &Graph, item: u32, place: u32) -> Leaf
+    requires { item < length (⟦<Graph as Past>⟧.updates graph.now) }
+    ensures { at (⟦<Graph as Past>⟧.updates graph.now) item (λ t. result ≡ record { writer = t.writer; id = id_of_update t; place = place }) }
+{
+    Leaf {
+        writer: graph.update(item).writer,
+        id: *graph.id(item),
+        place,
+    }
+}

@@ -1,0 +1,19 @@
+//! What a node tells others of what it has, read off its `Store`.
+//!
+//! A store is seen as the list of the records of its journal (`depot_store`), and each answer is the definition's of that list: whom
+//! the node convicted and which values it lacks (`tell`), the places of its leaves (`leaf_order`), the places of the updates that a
+//! reader with given leaves lacks (`candidate_places`), and the signed statement of a place (`signed_places`).
+//!
+//! Each call reads a store that runs and leaves it as it is. Nothing is decided here and nothing is sent: which of what is told goes
+//! into a bundle is `depot_gossip`'s to say.
+#![tactic(auto)]
+
+mod candidate_places;
+mod leaf_order;
+mod signed_places;
+mod tell;
+
+pub use candidate_places::candidates;
+pub use leaf_order::leaf_places;
+pub use signed_places::signed_text;
+pub use tell::{convicted, wanted};

@@ -1,8 +1,0 @@
-use Rattle.std.proofs.Common.{◌≡◌, take}
-use Rattle.std.specs.List.{flat_map}
-use Rattle.depot_tool.specs.Bodies.{updates}
-use Rattle.depot_tool.specs.Lines.{line_of_write}
-use Rattle.depot_tool.proofs.lines.lines_of.Given as goal
-
-abbrev pub invariant-loop-body : goal.invariant-loop-body
-invariant-loop-body l = l.text ≡ flat_map line_of_write (updates (take l.body-index l.bodies))

@@ -1,7 +1,0 @@
-use Rattle.depot_base.proofs.Combined.{prefix_free}
-use Rattle.depot_model.specs.Texts.{statement}
-use Rattle.depot_model.proofs.TextLaws.{statement_lawful}
-use Rattle.depot_update.proofs.laws.statements_are_prefix_free.Goals as goal
-
-pub returns : goal.returns
-returns c = λ v w x y fits_v fits_w e. prefix_free statement _ statement_lawful v w x y fits_v fits_w e

@@ -1,0 +1,7 @@
+use Rattle.depot_base.proofs.Combined.{prefix_free}
+use Rattle.depot_model.specs.Texts.{signed}
+use Rattle.depot_model.proofs.TextLaws.{signed_lawful}
+use Rattle.depot_update.proofs.update_laws.signed_are_prefix_free.Goals as goal
+
+pub returns : goal.returns
+returns c = λ v w x y fits_v fits_w e. prefix_free signed _ signed_lawful v w x y fits_v fits_w e

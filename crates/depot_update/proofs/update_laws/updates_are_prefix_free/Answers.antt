@@ -1,0 +1,7 @@
+use Rattle.depot_base.proofs.Combined.{prefix_free}
+use Rattle.depot_model.specs.Texts.{update_body}
+use Rattle.depot_model.proofs.TextLaws.{update_body_lawful}
+use Rattle.depot_update.proofs.update_laws.updates_are_prefix_free.Goals as goal
+
+pub returns : goal.returns
+returns c = λ v w x y fits_v fits_w e. prefix_free update_body _ update_body_lawful v w x y fits_v fits_w e

@@ -1,0 +1,5 @@
+use Rattle.depot_world.proofs.LatestWrites.{latest_are_listed}
+use Rattle.depot_world.proofs.world_laws.latest_writes_are_listed.Goals as goal
+
+pub returns : goal.returns
+returns c key us causal = latest_are_listed key us causal

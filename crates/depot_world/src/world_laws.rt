@@ -1,0 +1,32 @@
+//! What holds of the worlds of schedules. Each law is a function that does nothing; its contract is the law.
+ghost use Rattle.std.specs.Prelude.{ℕ, List, []};
+ghost use Rattle.depot_base.specs.declared.update.Update.{Update};
+ghost use Rattle.depot_model.specs.Causality.{IsForkJoinCausal, ConvictsNoCorrectNode};
+ghost use Rattle.depot_model.specs.Order.{IsCausal, AreLatestIn};
+ghost use Rattle.depot_model.specs.Texts.{IsRoster};
+ghost use Rattle.depot_model.specs.World.{IsWorld, IsAuthentic, IsCollisionFree};
+ghost use Rattle.depot_schedule.specs.Schedules.{IsSchedule};
+ghost use Rattle.depot_schedule.specs.declared.schedule.Schedule.{Schedule};
+ghost use Rattle.depot_world.specs.ShownLatest.{latest_in};
+ghost use Rattle.depot_world.specs.Transcript.{world_of};
+
+/// In a list of updates in which each parent stands before its children, the list `latest_in` of a key has the latest writes of
+/// that key, in the listed order.
+pub fn latest_writes_are_listed()
+    ensures { (key : List ℕ) (us : List Update) → IsCausal [] us → AreLatestIn key us (latest_in key us) }
+{}
+
+/// What a schedule makes happen is a world: its correct nodes are distinct and in the roster, each has a lawful journal and the
+/// reads of that journal, and each proof that it judged with a verdict has one. So it is whatever its faulty nodes sign and send,
+/// and wherever its disks stop. Its roster is one.
+pub fn schedules_make_worlds()
+    ensures world { (s : Schedule) → IsSchedule s → IsWorld (world_of s) }
+    ensures roster { (s : Schedule) → IsSchedule s → IsRoster (world_of s).listed }
+{}
+
+/// So what holds of worlds holds of a schedule's. While no correct node's signature was forged and no two hashed texts collide, it
+/// is fork-join causal. No conviction and no judged proof of it names a correct node, whether hashes collide or not.
+pub fn worlds_of_schedules_are_causal()
+    ensures causal { (s : Schedule) → IsSchedule s → IsAuthentic (world_of s) → IsCollisionFree (world_of s) → IsForkJoinCausal (world_of s) }
+    ensures convicts { (s : Schedule) → IsSchedule s → IsAuthentic (world_of s) → ConvictsNoCorrectNode (world_of s) }
+{}
