@@ -15,7 +15,7 @@ use Rattle.depot_model.specs.Roster.{Verifies, key_of, has_node, is_signed}
 use Rattle.depot_model.specs.Checks.{Setting, given_statement, is_kept, statement_checks, first_failed_check, is_known, answer_by, answer_to, exposed, growth_by, growth}
 use Rattle.depot_fork.specs.declared.Found.{Found}
 use Rattle.depot_accept.specs.StateView.{View, setting}
-use Rattle.depot_accept.specs.Answers.{AreDue, IsNew, IsChecked}
+use Rattle.depot_accept.specs.CheckResults.{AreDue, IsNew, IsChecked}
 use Rattle.depot_accept.specs.AfterSignature.{failed_after_signature, Passes, IsCheckedAfterSignature}
 use Rattle.depot_accept.specs.declared.answer.Pass.{Pass}
 use Rattle.depot_accept.specs.declared.answer.Pass.TheVariants as pass
@@ -69,7 +69,7 @@ new_by_passing here J s found answer is =
 by_later_checks : (here : Setting) (J : List Record) (s : Signed) (r : Result Pass CheckError) → answer_to here J (given_statement s) ≡ answer_by false (failed_after_signature J s.statement) → IsCheckedAfterSignature J s r → IsChecked here J s r
 unfolding growth
 by_later_checks here J s (Ok pass.Known) answer is = absurd is
-by_later_checks here J s (Ok (pass.Update found)) answer is = (is.0, (is.1.0, new_by_passing here J s found answer is.1.1))
+by_later_checks here J s (Ok (pass.Update found items)) answer is = (is.0, new_by_passing here J s found answer is.1)
 by_later_checks here J s (Ok pass.Voucher) answer is = (is.0, (is.1.0, new_by_passing here J s None answer is.1.1))
 by_later_checks here J s (Err failed.Memory) answer is = is
 by_later_checks here J s (Err (failed.Refused c found)) answer is =

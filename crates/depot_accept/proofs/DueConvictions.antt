@@ -13,7 +13,9 @@ use Rattle.depot_base.specs.declared.statement.Statement.{Statement}
 use Rattle.depot_base.specs.declared.statement.Statement.TheVariants as statements
 use Rattle.depot_base.specs.declared.update.Update.{Update}
 use Rattle.depot_base.specs.declared.voucher.Voucher.{Voucher}
+use Rattle.depot_model.specs.Items.{AreItemsOf}
 use Rattle.depot_model.specs.Lists.{first, is_among, is_one_of}
+use Rattle.depot_model.specs.Order.{parents}
 use Rattle.depot_model.specs.Texts.{id_of_statement, id_of_update}
 use Rattle.depot_model.specs.Journal.{foreign, vouched, is_convicted, is_vouched}
 use Rattle.depot_model.specs.Conviction.{proof_of}
@@ -24,7 +26,7 @@ use Rattle.depot_fork.proofs.KindLaws.{update_id}
 use Rattle.std.proofs.Math.Bool.{or-false}
 use Rattle.depot_model.proofs.DueLaws.{none_due, no_fork_vouched, no_fork_alone}
 use Rattle.depot_accept.specs.StateView.{View, IsStateOf}
-use Rattle.depot_accept.specs.Answers.{AreDue}
+use Rattle.depot_accept.specs.CheckResults.{AreDue, IsUpdateBehind}
 use Rattle.depot_accept.specs.AfterSignature.{IsOpponent, failed_after_signature, Passes, IsCheckedAfterSignature}
 use Rattle.depot_accept.specs.declared.answer.CheckError.{CheckError}
 use Rattle.depot_accept.specs.declared.answer.CheckError.TheVariants as failed
@@ -39,6 +41,10 @@ writer_convicted {S = S} J v w s n b seen st is e =
     ∙ ap (λ (m : ℕ). is_one_of m w.convicted) is
     ∙ ap (λ (x : View S). is_one_of n x.convicted) (sym seen)
     ∙ sym e
+
+-- where the parents of an update stand
+pub behind_parents : {S : Type 0} (J : List Record) (w : View S) (s : Signed) (u : Update) (items : List ℕ) → s.statement ≡ statements.Update u → IsStateOf J w → AreItemsOf w.accepted (parents u) items → IsUpdateBehind J s items
+behind_parents J w s u items is st are = record { update = u; is = is; behind = subst (λ (us : List Update). AreItemsOf us (parents u) items) (sym st.accepted) are }
 
 -- whether someone vouched for an update
 pub update_vouched : {S : Type 0} (J : List Record) (v w : View S) (s : Statement) (u : Update) (id : List ℕ) (b : Bool) → v ≡ w → IsStateOf J w → s ≡ statements.Update u → id ≡ id_of_statement s → b ≡ is_among id v.vouched → is_vouched J s ≡ b

@@ -17,7 +17,7 @@ use Rattle.depot_model.specs.Journal.{named, prev_of}
 use Rattle.depot_model.specs.Items.{place_of_id}
 use Rattle.depot_model.specs.Order.{parents}
 use Rattle.depot_model.specs.Checks.{sight, lost, wrong_entry, wrong_entries}
-use Rattle.depot_history.proofs.ItemPlaces.{has_place}
+use Rattle.depot_graph.proofs.ItemPlaces.{has_place}
 use Rattle.depot_base.proofs.GeneralLaws.{when_none}
 use Rattle.depot_accept.proofs.FirstFound.{first_one}
 

@@ -1,6 +1,6 @@
 -- The items of the parents of an update.
 use Rattle.std.proofs.Common.{◌≡◌, ℕ, zero, suc, ◌+◌, ◌<◌, ◌≤◌, Bool, true, false, cond, not, List, [], ◌∷◌, ◌++◌, length, map, drop, get_or, Some, None, refl, sym, ap, subst, ◌∙◌, arith}
-use Rattle.std.specs.Prelude.{Option, slice_get, IfSome, nat_le, nat_lt}
+use Rattle.std.specs.Prelude.{Option, slice_get, nat_le, nat_lt}
 use Rattle.std.specs.List.{AllByRecursion}
 use Rattle.std.specs.Option.{option_to_list}
 use Rattle.std.specs.Str.{bytes_eq}
@@ -22,7 +22,7 @@ use Rattle.depot_model.specs.Journal.{named, prev_of}
 use Rattle.depot_model.specs.Items.{at, place_of_id, updates_at, places_of, AreItemsOf}
 use Rattle.depot_model.specs.Checks.{Sight, sight, lost, missing, not_above, clock_low, greatest_of, clock_far, bad_history}
 use Rattle.depot_history.specs.Closure.{reached, closure_of}
-use Rattle.depot_history.proofs.ItemPlaces.{has_place, places_within}
+use Rattle.depot_graph.proofs.ItemPlaces.{has_place, places_within}
 use Rattle.depot_history.proofs.Reaching.{past_is_reached}
 use Rattle.depot_accept.proofs.FirstFound.{first_front, first_behind, none_front, none_behind}
 use Rattle.depot_accept.proofs.NamedUpdates.{named_found, named_lost, prev_named, each_parent}

@@ -12,7 +12,7 @@ use Rattle.depot_base.specs.declared.check.Check.{Check}
 use Rattle.depot_model.specs.Lists.{first}
 use Rattle.depot_model.specs.Checks.{given_statement, content_of, forked, refused_as_convicted, added, exposed}
 use Rattle.depot_fork.specs.declared.Found.{Found}
-use Rattle.depot_accept.specs.Answers.{AreDue}
+use Rattle.depot_accept.specs.CheckResults.{AreDue, IsUpdateBehind}
 use Rattle.depot_accept.specs.declared.answer.Pass.{Pass}
 use Rattle.depot_accept.specs.declared.answer.Pass.TheVariants as pass
 use Rattle.depot_accept.specs.declared.answer.CheckError.{CheckError}
@@ -37,7 +37,7 @@ pub record Passes (J : List Record) (s : Signed) (found : Option Found) : Type 0
 -- what they make of a statement that is new, and was signed by another node of the roster
 abbrev pub IsCheckedAfterSignature : List Record → Signed → Result Pass CheckError → Type 0
 IsCheckedAfterSignature J s (Ok pass.Known) = ⊥
-IsCheckedAfterSignature J s (Ok (pass.Update found)) = (u : Update) × ((s.statement ≡ statements.Update u) × Passes J s found)
+IsCheckedAfterSignature J s (Ok (pass.Update found items)) = IsUpdateBehind J s items.items × Passes J s found
 IsCheckedAfterSignature J s (Ok pass.Voucher) = (v : Voucher) × ((s.statement ≡ statements.Voucher v) × Passes J s None)
 IsCheckedAfterSignature J s (Err failed.Memory) = (u : Update) × (s.statement ≡ statements.Update u)
 IsCheckedAfterSignature J s (Err (failed.Refused check found)) = (failed_after_signature J s.statement ≡ Some check) × AreDue J s found (exposed J (given_statement s) check)

@@ -2,5 +2,5 @@ pub mod StateView
 pub mod Convicts
 pub mod OwnVouchers
 pub mod Content
-pub mod Answers
+pub mod CheckResults
 pub mod AfterSignature

@@ -4,11 +4,16 @@ use depot_base::Check;
 use depot_fork::Found;
 
 /// A statement that is taken.
-#[derive(Clone, Copy, Debug, PartialEq, Eq)]
+#[derive(Drop)]
 pub enum Pass {
-    /// An update that is new. Where it contradicts a kept statement, and its writer isn't convicted yet, the conviction by
-    /// that statement is due before it.
-    Update(Option<Found>),
+    /// An update that is new.
+    Update {
+        /// The kept statement that it contradicts, where its writer isn't convicted yet: the conviction by that one is due
+        /// before it.
+        against: Option<Found>,
+        /// The items of its parents, that of its prev first.
+        parents: Vec<u32>,
+    },
     /// A voucher that is new.
     Voucher,
     /// It was here before.

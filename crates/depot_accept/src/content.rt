@@ -234,18 +234,20 @@ fn bad_history(
     Ok(None)
 }
 
-/// The first check of an update's content that fails among the accepted updates, and None where none does. The past is
-/// hashed only where all checks before it hold.
+/// The first check of an update's content that fails among the accepted updates, and None where none does: then the items of
+/// its parents stand in the list, which is given empty. The past is hashed only where all checks before it hold.
 pub(crate) fn failed_content(
     alloc: Global,
     graph: &Graph,
     update: &Update,
+    items: &mut Vec<u32>,
 ) -> Result<Option<Check>, Memory>
     requires few { length update.now.deps ≤ MOST_ENTRIES }
-    ensures { IfOk result (λ failed. failed ≡ first (content_checks update.now (sight (⟦<Graph as Past>⟧.updates graph.now) update.now))) }
+    requires empty { items.old.items ≡ [] }
+    ensures first { IfOk result (λ failed. failed ≡ first (content_checks update.now (sight (⟦<Graph as Past>⟧.updates graph.now) update.now))) }
+    ensures parents { result ≡ Ok None → AreItemsOf (⟦<Graph as Past>⟧.updates graph.now) (parents update.now) items.new.items }
 {
-    let mut items = Vec::new(alloc);
-    if let Some(check) = find_parents(graph, update, &mut items)? {
+    if let Some(check) = find_parents(graph, update, items)? {
         return Ok(Some(check));
     }
     if let Some(check) = failed_by_parents(graph, update, items.as_slice()) {

@@ -113,8 +113,9 @@ impl<S: Scheme> State<S> {
 
     /// Keeps the record of another's statement, whose id is at hand. After Memory the state is as before. The record may
     /// also be one that is lawful only behind the conviction of its writer, which is then the next change. That the updates
-    /// stay causal follows from the record being lawful, by `lawful_journals_are_causal` of depot_laws.
-    pub fn add_foreign(&mut self, signed: Signed, id: Hash32) -> Result<(), Memory>
+    /// stay causal follows from the record being lawful, by `lawful_journals_are_causal` of depot_laws. The items of an
+    /// update's parents are given as they were found, for `Graph::add`.
+    pub fn add_foreign(&mut self, signed: Signed, parents: &[u32], id: Hash32) -> Result<(), Memory>
         requires text { IsSigned signed }
         requires id { id ≡ id_of_statement signed.statement }
         requires fits { IsCausal [] (self.old.accepted ++ update_in signed.statement) }
@@ -130,7 +131,7 @@ impl<S: Scheme> State<S> {
         match &signed.statement {
             Statement::Update(update) => {
                 let update = update.copy()?;
-                self.graph.add_uncounted(update, id)?;
+                self.graph.add_uncounted(update, parents, id)?;
                 self.seen.add(signed, id)
             }
             Statement::Voucher(voucher) => {
@@ -153,8 +154,14 @@ impl<S: Scheme> State<S> {
     }
 
     /// Keeps the record of an own statement, whose id is at hand. A voucher takes one of the room for vouchers and can't fail
-    /// where there is some; where there was none, any room may be left. After Memory the state is as before.
-    pub fn add_own(&mut self, statement: Statement, id: Hash32) -> Result<(), Memory>
+    /// where there is some; where there was none, any room may be left. After Memory the state is as before. The items of an
+    /// update's parents are given as they were found, for `Graph::add`.
+    pub fn add_own(
+        &mut self,
+        statement: Statement,
+        parents: &[u32],
+        id: Hash32,
+    ) -> Result<(), Memory>
         requires text { IsStatement statement }
         requires id { id ≡ id_of_statement statement }
         requires mine { writer_of statement ≡ self.old.me }
@@ -169,7 +176,7 @@ impl<S: Scheme> State<S> {
     {
         match statement {
             Statement::Update(update) => {
-                self.graph.add_uncounted(update, id)?;
+                self.graph.add_uncounted(update, parents, id)?;
                 Ok(())
             }
             Statement::Voucher(voucher) => add_voucher(&mut self.own_vouchers, voucher),

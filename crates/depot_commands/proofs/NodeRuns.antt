@@ -1,5 +1,5 @@
 -- How `node` ends, by what its roster and its script come to.
-use Rattle.std.proofs.Common.{◌≡◌, ◌≢◌, ◌⊎◌, ℕ, List, [], ◌∷◌, ◌++◌, take, Option, Some, None, Result, Ok, Err, refl, sym, ap, subst, ◌∙◌, arith, inl, inr, codes}
+use Rattle.std.proofs.Common.{◌≡◌, ◌≢◌, ◌⊎◌, ℕ, List, [], ◌∷◌, ◌++◌, take, Option, Some, Result, Ok, Err, refl, sym, ap, subst, ◌∙◌, arith, inl, inr, codes}
 use Rattle.std.specs.List.{flat_map}
 use Rattle.depot_base.proofs.Decoding.{in_one_way}
 use Rattle.depot_base.specs.declared.key.RosterEntry.{RosterEntry}
@@ -46,12 +46,7 @@ pub ends_at_fault : (shelf : Shelves) (e : Ending) (status : Status) → status 
 ends_at_fault shelf ending.Sink status is quiet = inl is
 ends_at_fault shelf ending.Memory status is quiet = inr (inl is)
 ends_at_fault shelf ending.Shelf status is quiet = inr (inr (inl is))
-ends_at_fault shelf ending.Done status is quiet = inr (inr (inr (quiet tt)))
-ends_at_fault shelf ending.Input status is quiet = inr (inr (inr (quiet tt)))
-ends_at_fault shelf ending.Disk status is quiet = inr (inr (inr (quiet tt)))
-ends_at_fault shelf ending.Limit status is quiet = inr (inr (inr (quiet tt)))
-ends_at_fault shelf ending.NotLawful status is quiet = inr (inr (inr (quiet tt)))
-ends_at_fault shelf ending.Identity status is quiet = inr (inr (inr (quiet tt)))
+ends_at_fault shelf other status is quiet = inr (inr (inr (quiet tt)))
 
 -- a fault of the later part of a run is one of the whole
 pub later_fault : (first whole : Shelves) (status : Status) → whole.faults_after ≡ first.faults_after → whole.faults_before ≡ first.faults_before → (status ≡ Sink) ⊎ ((status ≡ Memory) ⊎ EndsAtFault first status) → (status ≡ Sink) ⊎ ((status ≡ Memory) ⊎ EndsAtFault whole status)
@@ -123,13 +118,8 @@ file_run listed n disk behind shelf first loads sink same_disk same_mid same_fil
 
 -- what another command than `node` comes to completes it
 pub results_complete : (disk : Disks) (shelf : Shelves) (loads : Loads) (sink : Sinks) (same_disk same_files : Type 0) (command : Option Command) (status : Status) → Results disk shelf loads sink same_disk same_files command status → IsWell shelf sink → Completes shelf command status
-results_complete disk shelf loads sink same_disk same_files None status r well = ends_complete shelf loads sink None status r.1 well
-results_complete disk shelf loads sink same_disk same_files (Some (asked.Scan log key)) status r well = ends_complete shelf loads sink (Some (asked.Scan log key)) status r.1 well
-results_complete disk shelf loads sink same_disk same_files (Some (asked.Root seed height)) status r well = ends_complete shelf loads sink (Some (asked.Root seed height)) status r.1 well
-results_complete disk shelf loads sink same_disk same_files (Some (asked.Load number)) status r well = ends_complete shelf loads sink (Some (asked.Load number)) status r.1 well
-results_complete disk shelf loads sink same_disk same_files (Some (asked.Judge name proof)) status r well = ends_complete shelf loads sink (Some (asked.Judge name proof)) status r.1 well
-results_complete disk shelf loads sink same_disk same_files (Some (asked.Replay name)) status r well = ends_complete shelf loads sink (Some (asked.Replay name)) status r.1 well
 results_complete disk shelf loads sink same_disk same_files (Some (asked.Node n)) status r well = tt
+results_complete disk shelf loads sink same_disk same_files other status r well = ends_complete shelf loads sink other status r.1 well
 
 no_script : (shelf : Shelves) (name text : List ℕ) (commands : List line.Command) → HasFile shelf name (λ bytes. script.IsTextOf bytes commands) → HasFile shelf name (IsNoScript name text) → ⊥
 no_script shelf name text commands good broken =
@@ -163,11 +153,7 @@ cut_by_memory disk shelf sink ending.Memory status well disk_well is cut = is
 cut_by_memory disk shelf sink ending.Disk status well disk_well is cut = absurd (omega (arith, cut, disk_well.is_well))
 cut_by_memory disk shelf sink ending.Shelf status well disk_well is cut = absurd (omega (arith, cut, well.shelf_is_well))
 cut_by_memory disk shelf sink ending.Sink status well disk_well is cut = absurd (omega (arith, cut, well.sink_is_well))
-cut_by_memory disk shelf sink ending.Done status well disk_well is cut = absurd cut
-cut_by_memory disk shelf sink ending.Input status well disk_well is cut = absurd cut
-cut_by_memory disk shelf sink ending.Limit status well disk_well is cut = absurd cut
-cut_by_memory disk shelf sink ending.NotLawful status well disk_well is cut = absurd cut
-cut_by_memory disk shelf sink ending.Identity status well disk_well is cut = absurd cut
+cut_by_memory disk shelf sink other status well disk_well is cut = absurd cut
 
 -- the run of a node over a lawful journal completes it, where nothing fails
 node_completes : (disk : Disks) (shelf : Shelves) (loads : Loads) (sink : Sinks) (same_disk same_files : Type 0) (n : NodeWords) (status : Status) → Results disk shelf loads sink same_disk same_files (Some (asked.Node n)) status → IsWell shelf sink → IsWellDisk disk → CompletesNode disk shelf (Some (asked.Node n)) status
@@ -190,10 +176,5 @@ node_completes disk shelf loads sink same_disk same_files n status (inr r) well 
     ]
 
 pub results_complete_node : (disk : Disks) (shelf : Shelves) (loads : Loads) (sink : Sinks) (same_disk same_files : Type 0) (command : Option Command) (status : Status) → Results disk shelf loads sink same_disk same_files command status → IsWell shelf sink → IsWellDisk disk → CompletesNode disk shelf command status
-results_complete_node disk shelf loads sink same_disk same_files None status r well disk_well = tt
-results_complete_node disk shelf loads sink same_disk same_files (Some (asked.Scan log key)) status r well disk_well = tt
-results_complete_node disk shelf loads sink same_disk same_files (Some (asked.Root seed height)) status r well disk_well = tt
-results_complete_node disk shelf loads sink same_disk same_files (Some (asked.Load number)) status r well disk_well = tt
-results_complete_node disk shelf loads sink same_disk same_files (Some (asked.Judge name proof)) status r well disk_well = tt
-results_complete_node disk shelf loads sink same_disk same_files (Some (asked.Replay name)) status r well disk_well = tt
 results_complete_node disk shelf loads sink same_disk same_files (Some (asked.Node n)) status r well disk_well = node_completes disk shelf loads sink same_disk same_files n status r well disk_well
+results_complete_node disk shelf loads sink same_disk same_files other status r well disk_well = tt

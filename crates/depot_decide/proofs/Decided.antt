@@ -76,7 +76,7 @@ decided_may_grow here J x answer new lawful some text d = subst (λ (rs : List R
 
 given_may_grow : {V : Type 0} (f : Closed V) (give : V → Given) (here : Setting) (J : List Record) (text : List ℕ) (answer : Result Taken Check) (new : List Record)
     → ((v : V) → f.fits v → HasText (give v)) → IsLawful here J → is_empty J ≡ false → OfGiven f give text (λ x. IsDecided here J x answer new) → MayGrow here J new
-given_may_grow f give here J text answer new has lawful some g = decided_may_grow here J (give g.0) answer new lawful some (has g.0 g.1.0) g.1.1.1
+given_may_grow f give here J text answer new has lawful some (v, (fits, (is, d))) = decided_may_grow here J (give v) answer new lawful some (has v fits) d
 
 nothing_may_grow : (here : Setting) (J new : List Record) → IsLawful here J → new ≡ [] → MayGrow here J new
 nothing_may_grow here J new lawful none = subst (λ (rs : List Record). MayGrow here J rs) (sym none) (record {
@@ -100,7 +100,7 @@ answered here J x answer new then d grown = record {
 
 given_answered : {V : Type 0} (f : Closed V) (give : V → Given) (here : Setting) (J : List Record) (text : List ℕ) (answer : Result Taken Check) (new then : List Record)
     → OfGiven f give text (λ x. IsDecided here J x answer new) → HasGrown here.me J new then → OfGiven f give text (λ x. IsAnswered here J x answer then)
-given_answered f give here J text answer new then g grown = (g.0, (g.1.0, (g.1.1.0, answered here J (give g.0) answer new then g.1.1.1 grown)))
+given_answered f give here J text answer new then (v, (fits, (is, d))) grown = (v, (fits, (is, answered here J (give v) answer new then d grown)))
 
 -- the text is refused as ill-formed, and what grows by nothing stays
 same_grown : (me : ℕ) (J new then : List Record) → new ≡ [] → HasGrown me J new then → then ≡ J
@@ -120,14 +120,14 @@ refused_answered f give here J text c new then d grown = given_answered f give h
 -- there is no room for what was decided
 no_room : {V : Type 0} (f : Closed V) (give : V → Given) (here : Setting) (J : List Record) (text : List ℕ) (answer : Result Taken Check) (new then : List Record) (full : _)
     → Decides f give here J text answer new → HadNoRoom here.me J new full then → OfGiven f give text (λ x. IsFull here J x full then)
-no_room f give here J text (Ok taken) new then full g none = (g.0, (g.1.0, (g.1.1.0, record { is = ap (full_by here.me J) g.1.1.1.grows ∙ none.0; same = none.1 })))
+no_room f give here J text (Ok taken) new then full (v, (fits, (is, d))) none = (v, (fits, (is, record { is = ap (full_by here.me J) d.grows ∙ none.0; same = none.1 })))
 no_room f give here J text (Err (check.IllFormed at)) new then full d none = let never : None ≡ Some full = sym (ap (full_by here.me J) d.1) ∙ none.0 in absurd cc
-no_room f give here J text (Err c) new then full g none = (g.0, (g.1.0, (g.1.1.0, record { is = ap (full_by here.me J) g.1.1.1.grows ∙ none.0; same = none.1 })))
+no_room f give here J text (Err c) new then full (v, (fits, (is, d))) none = (v, (fits, (is, record { is = ap (full_by here.me J) d.grows ∙ none.0; same = none.1 })))
 
 -- the disk cut what was decided short
 given_broken : {V : Type 0} (f : Closed V) (give : V → Given) (here : Setting) (J : List Record) (text : List ℕ) (answer : Result Taken Check) (new then : List Record)
     → OfGiven f give text (λ x. IsDecided here J x answer new) → full_by here.me J new ≡ None → IsCutShort J new then → OfGiven f give text (λ x. IsBroken here J x then)
-given_broken f give here J text answer new then g room cut = (g.0, (g.1.0, (g.1.1.0, record { room = ap (full_by here.me J) g.1.1.1.grows ∙ room; cut = subst (λ (rs : List Record). IsCutShort J rs then) (sym g.1.1.1.grows) cut })))
+given_broken f give here J text answer new then (v, (fits, (is, d))) room cut = (v, (fits, (is, record { room = ap (full_by here.me J) d.grows ∙ room; cut = subst (λ (rs : List Record). IsCutShort J rs then) (sym d.grows) cut })))
 
 none_cut : (J new then : List Record) → new ≡ [] → IsCutShort J new then → ⊥
 none_cut J new then none cut = omega (arith, cut.fewer, ap length none)

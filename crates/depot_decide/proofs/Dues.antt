@@ -22,7 +22,7 @@ use Rattle.depot_model.proofs.BodyLaws.{body_is_text}
 use Rattle.depot_model.proofs.ContradictionLaws.{contradicts_comm}
 use Rattle.depot_laws.proofs.Contrary.{IsOpponent, opponent_is, named_opponent_is, of_proof_of}
 use Rattle.depot_fork.specs.declared.Found.{Found}
-use Rattle.depot_accept.specs.Answers.{IsChecked}
+use Rattle.depot_accept.specs.CheckResults.{IsChecked}
 use Rattle.depot_accept.specs.declared.answer.CheckError.{CheckError}
 use Rattle.depot_accept.specs.declared.answer.Pass.{Pass}
 use Rattle.depot_decide.specs.Deciding.{IsDueBy}

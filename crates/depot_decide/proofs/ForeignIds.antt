@@ -12,7 +12,7 @@ use Rattle.depot_model.specs.Journal.{is_foreign}
 use Rattle.depot_model.proofs.Elements.{in_at}
 use Rattle.depot_model.proofs.Members.{any_from, any_to}
 use Rattle.depot_model.proofs.Orders.{one_of_id}
-use Rattle.depot_history.proofs.ItemPlaces.{has_place, has_no_place}
+use Rattle.depot_graph.proofs.ItemPlaces.{has_place, has_no_place}
 use Rattle.depot_base.proofs.GeneralLaws.{same_test}
 
 -- the update that has the id tells

@@ -7,10 +7,6 @@ pub mod PutLaws
 mod Dues
 mod ProofAnswers
 mod ValueAnswers
-mod RecordParts
-pub mod RecordFaultLaws
-mod RecordChecks
-mod RecordFaultExamples
 mod ForeignIds
 mod VoucherGroups
 pub mod VoucherPlans

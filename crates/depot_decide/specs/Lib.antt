@@ -1,4 +1,3 @@
 pub mod Putting
 pub mod Deciding
-pub mod ReadRecords
 pub mod PlannedVouchers

@@ -6,27 +6,25 @@
 //!
 //! A statement, a proof and a value of others come to a `Decision` (`statement_decision`, `proof_decision`, `value`), a put to a
 //! `Plan` or the limit that it meets (`put_decision`), ids that the node is to vouch for to own vouchers (`voucher_decision`, which
-//! also says of an id whether another's accepted update has it). A record that is read from a disk is decided as if it came now
-//! (`record_check`): it may follow those before it, or it has a fault.
+//! also says of an id whether another's accepted update has it). By the same calls `depot_records` decides of a record that is
+//! read from a disk, as if it came now.
 //!
-//! The store is read alone, and only while it runs: what is decided here a node carries out by `Store::commit` or `Store::read`,
-//! which look for the room.
+//! The store is read alone, and only while it runs: what is decided here a node carries out by `Store::commit`, which looks for
+//! the room.
 #![tactic(auto)]
 
 mod decision;
 mod proof_decision;
 mod put_answers;
 mod put_decision;
-mod record_check;
 mod statement_decision;
 mod value;
 mod voucher_decision;
 
 pub use decision::{Decision, answered};
-pub use proof_decision::decide_proof;
+pub use proof_decision::{decide_decoded, decide_proof};
 pub use put_answers::{PutDone, PutError};
-pub use put_decision::{Plan, decide_put};
-pub use record_check::{ReadError, check_record};
-pub use statement_decision::decide_statement;
-pub use value::decide_value;
+pub use put_decision::{Next, Plan, decide_put, has_leaf, is_fresh, next_own};
+pub use statement_decision::{decide_signed, decide_statement};
+pub use value::{decide_short, decide_value};
 pub use voucher_decision::{decide_vouchers, is_foreign};

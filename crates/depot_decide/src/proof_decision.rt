@@ -34,7 +34,7 @@ pub fn decide_proof<D: Disk, S: Scheme>(
 }
 
 /// What is decided of a proof of this text. Its record is the text as it came after a tag.
-pub(crate) fn decide_decoded<D: Disk, S: Scheme>(
+pub fn decide_decoded<D: Disk, S: Scheme>(
     alloc: Global,
     store: &Store<D, S>,
     proof: Proof,

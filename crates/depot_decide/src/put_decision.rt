@@ -1,6 +1,6 @@
 //! What is decided of a put.
-ghost use Rattle.std.specs.Prelude.{◌≡◌, ◌<◌, ◌≤◌, ◌↔◌, ◌∷◌, [], List, length, map, IfOk, IfErr, IsTrue, false, nat_lt};
-ghost use Rattle.std.specs.Option.{ForSome};
+ghost use Rattle.std.specs.Prelude.{◌≡◌, ◌<◌, ◌≤◌, ◌↔◌, ◌∷◌, ◌++◌, [], List, length, map, IfOk, IfErr, IsTrue, false, nat_lt};
+ghost use Rattle.std.specs.Option.{ForSome, option_to_list};
 ghost use Rattle.std.specs.List.{AllByRecursion};
 ghost use Rattle.depot_base.specs.declared.limits.TheConstants.{MOST_ENTRIES};
 ghost use Rattle.depot_base.specs.declared.record.Record.{Record};
@@ -50,23 +50,25 @@ pub fn decide_put<D: Disk, S: Scheme>(
     if !has_leaf(store, own) {
         return Err(PutError::Spent(own));
     }
-    let update = next_own(alloc, store, key, &value)?;
-    let made = encode_own_put(alloc, &update, &value)?;
+    let next = next_own(alloc, store, key, &value)?;
+    let made = encode_own_put(alloc, &next.update, &value)?;
     if !is_fresh(store.state().graph(), &made.id) {
         return Err(PutError::Collides(made.id));
     }
     let done = PutDone {
         id: made.id,
-        seq: update.seq,
-        clock: update.clock,
+        seq: next.update.seq,
+        clock: next.update.clock,
     };
-    let growth = Growth::of_text(alloc, Record::OwnPut { update, value }, made.id, made.text)?;
+    let Next { update, parents } = next;
+    let item = Record::OwnPut { update, value };
+    let growth = Growth::of_statement(alloc, item, made.id, made.text, parents)?;
     Ok(Plan { done, growth })
 }
 
 /// Whether the node has a leaf of this number to sign by.
 #[tactic(auto, unfolding(depot_model::specs::Own::leaf_count))]
-pub(crate) fn has_leaf<D: Disk, S: Scheme>(store: &Store<D, S>, leaf: u32) -> bool
+pub fn has_leaf<D: Disk, S: Scheme>(store: &Store<D, S>, leaf: u32) -> bool
     ensures { result ≡ nat_lt leaf (leaf_count store.now.listed store.now.me) }
 {
     match store.roster().key_of(store.me()) {
@@ -75,17 +77,27 @@ pub(crate) fn has_leaf<D: Disk, S: Scheme>(store: &Store<D, S>, leaf: u32) -> bo
     }
 }
 
+/// What a put makes, before it is encoded.
+#[derive(Drop)]
+pub struct Next {
+    /// The next own update.
+    pub update: Update,
+    /// The items at which its parents were found, that of its prev first, as `Growth::of_statement` takes them. No clause speaks of
+    /// them, since none rests on them.
+    pub parents: Vec<u32>,
+}
+
 /// The next own update. `Tips` comes exactly where it would have more than 1,024 entries, with their number.
-pub(crate) fn next_own<D: Disk, S: Scheme>(
+pub fn next_own<D: Disk, S: Scheme>(
     alloc: Global,
     store: &Store<D, S>,
     key: Key,
     value: &Value,
-) -> Result<Update, PutError>
+) -> Result<Next, PutError>
     requires runs { store.now.stopped ≡ false }
     requires lawful { IsLawful (standing S.verifies store.now) store.now.records }
-    ensures next { IfOk result (λ u. u ≡ next_own store.now.me store.now.records key value.now) }
-    ensures narrow { IfOk result (λ u. length u.deps ≤ MOST_ENTRIES) }
+    ensures next { IfOk result (λ n. n.update ≡ next_own store.now.me store.now.records key value.now) }
+    ensures narrow { IfOk result (λ n. length n.update.deps ≤ MOST_ENTRIES) }
     ensures wide { IfErr result (IsTooWide (next_own store.now.me store.now.records key value.now)) }
 {
     let state = store.state();
@@ -97,17 +109,32 @@ pub(crate) fn next_own<D: Disk, S: Scheme>(
     if items.len() > MOST_ENTRIES as usize {
         return Err(PutError::Tips(items.len() as u32));
     }
-    Ok(Update {
-        writer: state.me(),
-        seq: totals.own,
-        clock: totals.clock + 1,
-        prev: totals.last,
-        key,
-        value_hash: hash_of(value.bytes()),
-        value_len: value.bytes().len() as u32,
-        deps: entries_of(alloc, graph, items)?,
-        history: summary(alloc, graph)?,
+    Ok(Next {
+        update: Update {
+            writer: state.me(),
+            seq: totals.own,
+            clock: totals.clock + 1,
+            prev: totals.last,
+            key,
+            value_hash: hash_of(value.bytes()),
+            value_len: value.bytes().len() as u32,
+            deps: entries_of(alloc, graph, items)?,
+            history: summary(alloc, graph)?,
+        },
+        parents: with_prev(alloc, last, items)?,
     })
+}
+
+/// The item of a prev, if there is one, and behind it those of the entries.
+fn with_prev(alloc: Global, prev: Option<u32>, entries: &[u32]) -> Result<Vec<u32>, Memory>
+    ensures { IfOk result (λ items. items.items ≡ option_to_list prev ++ entries.now) }
+{
+    let mut items = Vec::new(alloc);
+    if let Some(item) = prev {
+        items.push(item)?;
+    }
+    items.extend_from_slice(entries)?;
+    Ok(items)
 }
 
 /// The item of the update that a prev names, if it names one.
@@ -147,7 +174,7 @@ fn entry_of(graph: &Graph, item: u32) -> Dep
 }
 
 /// Whether an id is neither 32 zero bytes nor that of an accepted update.
-pub(crate) fn is_fresh(graph: &Graph, id: &Hash32) -> bool
+pub fn is_fresh(graph: &Graph, id: &Hash32) -> bool
     ensures { (J : List Record) → accepted J ≡ ⟦<Graph as Past>⟧.updates graph.now → (IsTrue result ↔ IsFresh J id.now) }
 {
     !id.is_zeros() && graph.find(id).is_none()

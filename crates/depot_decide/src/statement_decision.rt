@@ -3,7 +3,7 @@ ghost use Rattle.std.specs.Prelude.{◌≡◌, false, [], ◌∷◌, IfOk, Err, 
 ghost use Rattle.depot_base.specs.declared.record.Record.TheVariants.{Conviction};
 ghost use Rattle.depot_model.specs.Checks.{given_statement, answer_to, growth};
 ghost use Rattle.depot_model.specs.Texts.{IsSigned, IsProof, id_of_statement, text_of_signed};
-ghost use Rattle.depot_accept.specs.Answers.{IsNew, AreDue};
+ghost use Rattle.depot_accept.specs.CheckResults.{IsNew, AreDue};
 ghost use Rattle.depot_store.specs.Holdings.{standing};
 ghost use Rattle.depot_decide.specs.Deciding.{DecidesStatement, IsDecided, IsDueBy};
 
@@ -34,7 +34,7 @@ pub fn decide_statement<D: Disk, S: Scheme>(
 }
 
 /// What is decided of a signed statement of this text. Its body is hashed once.
-pub(crate) fn decide_signed<D: Disk, S: Scheme>(
+pub fn decide_signed<D: Disk, S: Scheme>(
     alloc: Global,
     store: &Store<D, S>,
     signed: Signed,
@@ -48,8 +48,10 @@ pub(crate) fn decide_signed<D: Disk, S: Scheme>(
     let id = hash_of(signed.body.as_slice());
     match store.state().check(&signed, &id) {
         Ok(Pass::Known) => Ok(Decision::of(alloc, Ok(Taken::Known))),
-        Ok(Pass::Voucher) => accept(alloc, store, signed, id, text, None),
-        Ok(Pass::Update(found)) => accept(alloc, store, signed, id, text, found),
+        Ok(Pass::Voucher) => accept(alloc, store, signed, id, text, Vec::new(alloc), None),
+        Ok(Pass::Update { against, parents }) => {
+            accept(alloc, store, signed, id, text, parents, against)
+        }
         Err(CheckError::Memory) => Err(Memory),
         Err(CheckError::Refused { check, against }) => {
             refuse(alloc, store, &signed, check, against)
@@ -58,13 +60,14 @@ pub(crate) fn decide_signed<D: Disk, S: Scheme>(
 }
 
 /// A new statement of this text is kept, after the conviction of its writer if one is due. Its record is the text as it came
-/// after a tag.
+/// after a tag. The items of an update's parents go with it.
 fn accept<D: Disk, S: Scheme>(
     alloc: Global,
     store: &Store<D, S>,
     signed: Signed,
     id: Hash32,
     text: &[u8],
+    parents: Vec<u32>,
     found: Option<Found>,
 ) -> Result<Decision, Memory>
     requires runs { store.now.stopped ≡ false }
@@ -77,7 +80,8 @@ fn accept<D: Disk, S: Scheme>(
     let text = foreign_of_text(alloc, text)?;
     match found {
         None => {
-            let growth = Growth::of_text(alloc, Record::Foreign { signed }, id, text)?;
+            let item = Record::Foreign { signed };
+            let growth = Growth::of_statement(alloc, item, id, text, parents)?;
             Ok(Decision {
                 answer: Ok(Taken::New),
                 growth,
@@ -85,7 +89,7 @@ fn accept<D: Disk, S: Scheme>(
         }
         Some(found) => {
             let proof = proof_by(store, found, &signed)?;
-            let growth = Growth::convicting(alloc, proof, signed, id, text)?;
+            let growth = Growth::convicting(alloc, proof, signed, id, text, parents)?;
             Ok(Decision {
                 answer: Ok(Taken::New),
                 growth,

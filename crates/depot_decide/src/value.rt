@@ -30,7 +30,7 @@ pub fn decide_value<D: Disk, S: Scheme>(
 }
 
 /// What is decided of a value of at most 65,536 bytes. It is hashed once.
-pub(crate) fn decide_short<D: Disk, S: Scheme>(
+pub fn decide_short<D: Disk, S: Scheme>(
     alloc: Global,
     store: &Store<D, S>,
     bytes: &[u8],

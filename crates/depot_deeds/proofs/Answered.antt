@@ -5,9 +5,9 @@ use Rattle.std.proofs.lemmas.List.{append-nil}
 use Rattle.depot_base.specs.declared.record.Record.{Record}
 use Rattle.depot_answers.specs.Answers.{name_of_more, spaced, text_of_counts, text_of_refusal, text_of_report}
 use Rattle.depot_gossip.specs.Bundling.{Bundles}
-use Rattle.depot_gossip.specs.declared.gossip_error.BundleError.{BundleError}
-use Rattle.depot_gossip.specs.declared.gossip_error.BundleError.TheVariants as error
-use Rattle.depot_gossip.specs.declared.own_bundle.Bundled.{Bundled}
+use Rattle.depot_offers.specs.declared.bundle_error.BundleError.{BundleError}
+use Rattle.depot_offers.specs.declared.bundle_error.BundleError.TheVariants as error
+use Rattle.depot_offers.specs.declared.bundle_stream.Bundled.{Bundled}
 use Rattle.depot_model.specs.Bundle.{BundleAnswer, Signs, bundle_answer}
 use Rattle.depot_model.specs.Checks.{Setting}
 use Rattle.depot_model.specs.Feeding.{Feeding}

@@ -6,14 +6,14 @@ use Rattle.depot_base.specs.Calls.{Made}
 use Rattle.depot_base.specs.declared.check.Full.{Full}
 use Rattle.depot_base.specs.declared.record.Record.{Record}
 use Rattle.depot_answers.specs.declared.exchange_answers.Closing.TheVariants as closing
-use Rattle.depot_gossip.specs.Lasting.{CallsFed, LastsIn}
-use Rattle.depot_gossip.specs.NodeCalls.{says_stopped}
-use Rattle.depot_gossip.specs.Pieces.{AreOf, Feeds, Stream, at_work, stream_of, told_of}
-use Rattle.depot_gossip.specs.declared.gossip_error.FeedError.{FeedError}
-use Rattle.depot_gossip.specs.declared.gossip_error.FeedError.TheVariants as error
-use Rattle.depot_gossip.proofs.FeedRecords.{chunk_brings}
+use Rattle.depot_feeds.specs.Lasting.{CallsFed, LastsIn}
+use Rattle.depot_feeds.specs.NodeCalls.{says_stopped}
+use Rattle.depot_feeds.specs.Pieces.{AreOf, Feeds, Stream, at_work, stream_of, told_of}
+use Rattle.depot_feeds.specs.declared.feed_error.FeedError.{FeedError}
+use Rattle.depot_feeds.specs.declared.feed_error.FeedError.TheVariants as error
+use Rattle.depot_feeds.proofs.FeedRecords.{chunk_brings}
 use Rattle.depot_model.proofs.FeedGrowth.{IsGrown}
-use Rattle.depot_gossip.proofs.PieceLaws.{IsUnderWay, at_work_again}
+use Rattle.depot_feeds.proofs.PieceLaws.{IsUnderWay, at_work_again}
 use Rattle.depot_model.specs.Checks.{Setting}
 use Rattle.depot_model.specs.Feeding.{Feeding, ending_of, fed, report_of}
 use Rattle.depot_model.specs.Replicas.{StopsBy}

@@ -1,18 +1,18 @@
 -- What is printed of what a node does.
 use Rattle.std.specs.Prelude.{◌≡◌, ℕ, List, ◌++◌, map, Bool, true, false, Option, Some, None, Result, Ok, Err, codes}
 use Rattle.std.specs.List.{flat_map}
-use Rattle.depot_gossip.specs.declared.gossip_error.BundleError.{BundleError}
-use Rattle.depot_gossip.specs.declared.gossip_error.BundleError.TheVariants as bundle_error
-use Rattle.depot_gossip.specs.declared.gossip_error.FeedError.{FeedError}
-use Rattle.depot_gossip.specs.declared.gossip_error.FeedError.TheVariants as feed_error
-use Rattle.depot_gossip.specs.declared.own_bundle.Bundled.{Bundled}
+use Rattle.depot_offers.specs.declared.bundle_error.BundleError.{BundleError}
+use Rattle.depot_offers.specs.declared.bundle_error.BundleError.TheVariants as bundle_error
+use Rattle.depot_feeds.specs.declared.feed_error.FeedError.{FeedError}
+use Rattle.depot_feeds.specs.declared.feed_error.FeedError.TheVariants as feed_error
+use Rattle.depot_offers.specs.declared.bundle_stream.Bundled.{Bundled}
 use Rattle.depot_model.specs.Feeding.{Feeding, report_of}
 use Rattle.depot_model.specs.Limits.{full, spent}
 use Rattle.depot_model.specs.World.{Shown}
 use Rattle.depot_answers.specs.Answers.{numbered, spaced, text_of_limit, text_of_refusal, text_of_report, text_of_write}
 use Rattle.depot_answers.specs.Closings.{closing_of}
 use Rattle.depot_world.specs.ScheduleStops.{Deed}
-use Rattle.depot_world.specs.Transcript.{ended}
+use Rattle.depot_world.specs.Transcript.{lines_after_arrow}
 use Rattle.depot_deeds.specs.declared.feeds.Fed.{Fed}
 use Rattle.depot_deeds.specs.declared.printed.Printed.{Printed}
 
@@ -20,11 +20,11 @@ use Rattle.depot_deeds.specs.declared.printed.Printed.{Printed}
 
 -- the lines of an event that goes as it goes
 abbrev pub lines_of_deed : Deed → List ℕ
-lines_of_deed d = ended d.answer ++ flat_map ended d.behind
+lines_of_deed d = lines_after_arrow d.answer d.behind
 
 -- the lines of a stream that was fed
 abbrev pub fed_lines : Feeding → List ℕ
-fed_lines s = ended (spaced (text_of_report s)) ++ flat_map ended (map text_of_refusal s.refused)
+fed_lines s = lines_after_arrow (spaced (text_of_report s)) (map text_of_refusal s.refused)
 
 -- what is printed of the writes that a read shows
 abbrev pub shown_text : List Shown → List ℕ

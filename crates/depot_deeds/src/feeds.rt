@@ -7,8 +7,8 @@ ghost use Rattle.depot_model.specs.Feeding.{Feeding, fed, feed_of, feeding_from}
 ghost use Rattle.depot_model.specs.Replicas.{IsSameNode, KeepsDisk};
 ghost use Rattle.depot_model.specs.Stops.{LeavesAll};
 ghost use Rattle.depot_answers.specs.Answers.{text_of_refusal};
-ghost use Rattle.depot_gossip.specs.Lasting.{CallsFed, LastsFed, LastsIn};
-ghost use Rattle.depot_gossip.specs.Pieces.{Feeds};
+ghost use Rattle.depot_feeds.specs.Lasting.{CallsFed, LastsFed, LastsIn};
+ghost use Rattle.depot_feeds.specs.Pieces.{Feeds};
 ghost use Rattle.depot_model.specs.World.{Correct};
 ghost use Rattle.depot_world.specs.Deeds.{fed_by};
 ghost use Rattle.depot_world.specs.Transcript.{ended};

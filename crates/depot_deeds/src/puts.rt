@@ -1,5 +1,5 @@
 //! What is printed of a put.
-ghost use Rattle.std.specs.Prelude.{◌≡◌, ◌++◌, ◌↔◌, ℕ, None, List, OnOk, IfOk, IsErrOf};
+ghost use Rattle.std.specs.Prelude.{◌≡◌, ◌↔◌, ℕ, None, List, OnOk, IfOk, IsErrOf};
 ghost use Rattle.depot_base.specs.Sized.{IsKey, IsValue};
 ghost use Rattle.depot_base.specs.declared.record.Record.{Record};
 ghost use Rattle.depot_base.specs.declared.update.Update.{Update};

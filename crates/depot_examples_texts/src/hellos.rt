@@ -4,7 +4,8 @@
 use crate::hex::bytes;
 use crate::text_tests::{changed, cut_field, fault, is_text};
 use depot_base::Memory;
-use depot_gossip::*;
+use depot_feeds::Feed;
+use depot_frames::{decode_hello, encode_hello};
 use depot_model::Ending;
 use std::alloc::Global;
 use std::test::Fail;

@@ -1,10 +1,9 @@
 -- The ids that a bundle makes vouchers for are apart, and each is that of an accepted update of another.
-use Rattle.std.proofs.Common.{◌≡◌, ℕ, ◌+◌, ◌<◌, length, take, get_or, List, [], ◌∷◌, ◌++◌, map, Bool, true, false, not, cond, eqb, ◌&&◌, sym, ap, subst, ◌∙◌, inl, inr}
+use Rattle.std.proofs.Common.{◌≡◌, ℕ, List, [], ◌∷◌, ◌++◌, map, Bool, true, false, not, cond, eqb, ◌&&◌, sym, ap, subst, ◌∙◌, inl, inr}
 use Rattle.std.specs.List.{AllByRecursion, filter, flat_map}
 use Rattle.std.specs.Str.{bytes_eq}
-use Rattle.std.proofs.lemmas.List.{map-append, append-nil}
-use Rattle.std.proofs.lemmas.List.Elements.{filter-append}
-use Rattle.std.proofs.lemmas.Grind.{flat_map-append, take_at_read}
+use Rattle.std.proofs.lemmas.List.{map-append}
+use Rattle.std.proofs.lemmas.Grind.{flat_map-append}
 use Rattle.std.proofs.lemmas.Bool.{and_from}
 use Rattle.std.proofs.lemmas.Slice.Eq.{bytes_eq-Decides}
 use Rattle.depot_base.specs.declared.update.Update.{Update}
@@ -119,19 +118,3 @@ fresh_one me J xs i on = fails_from_not _ (from_filter (λ (k : List ℕ). not (
 
 pub unvouched_fresh : (me : ℕ) (J : List Record) (xs : List Parcel) → AllByRecursion (λ i. is_mine_vouched J i ≡ false) (unvouched me J xs)
 unvouched_fresh me J xs = all_from (λ i. is_mine_vouched J i ≡ false) (unvouched me J xs) (fresh_one me J xs)
-
--- ---- the ids that no own voucher names
-
-abbrev left_of : List Record → List (List ℕ) → List (List ℕ)
-left_of J hs = filter (λ (i : List ℕ). not (is_mine_vouched J i)) hs
-
-pub left_same : (J : List Record) (left : List (List ℕ)) (i : List ℕ) → is_mine_vouched J i ≡ true → left ≡ left ++ left_of J (i ∷ [])
-left_same J left i e = sym (append-nil left) ∙ ap (λ (b : Bool). left ++ cond (not b) (i ∷ []) []) (sym e)
-
-pub left_more : (J : List Record) (left new : List (List ℕ)) (i : List ℕ) → is_mine_vouched J i ≡ false → new ≡ left ++ i ∷ [] → new ≡ left ++ left_of J (i ∷ [])
-left_more J left new i e is = is ∙ ap (λ (b : Bool). left ++ cond (not b) (i ∷ []) []) (sym e)
-
-pub left_push : (J : List Record) (xs left new : List (List ℕ)) (i : ℕ) (x : List ℕ) → i < length xs → x ≡ get_or xs i x → left ≡ left_of J (take i xs) → new ≡ left ++ left_of J (x ∷ []) → new ≡ left_of J (take (i + 1) xs)
-left_push J xs left new i x lt is before more =
-    let front : take (i + 1) xs ≡ take i xs ++ x ∷ [] = (take_at_read xs i x lt).1 ∙ ap (λ (y : List ℕ). take i xs ++ y ∷ []) (sym is) in
-    more ∙ ap (λ (hs : List (List ℕ)). hs ++ left_of J (x ∷ [])) before ∙ sym (ap (left_of J) front ∙ filter-append (λ (k : List ℕ). not (is_mine_vouched J k)) (take i xs) (x ∷ []))

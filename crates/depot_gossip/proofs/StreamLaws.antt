@@ -14,31 +14,19 @@ use Rattle.depot_model.specs.Replicas.{StopsBy, KeepsDisk}
 use Rattle.depot_model.specs.Vouching.{Vouches, new_vouchers, limit_of_vouchers}
 use Rattle.depot_model.specs.Bundle.{Signs, Parcel, frames_of, proof_frame, end_frame, proofs_for, vouchers_for, sent_foreign, sent_for, parcels, unvouched, with_vouchers, bundled_within, bundle_of, bundle_frames, bundle_answer}
 use Rattle.depot_base.proofs.GeneralLaws.{flat_push}
-use Rattle.depot_gossip.specs.declared.front.Front.{Front}
-use Rattle.depot_gossip.specs.declared.sending.Sending.{Sending}
-use Rattle.depot_gossip.specs.declared.own_bundle.Bundled.{Bundled}
-use Rattle.depot_gossip.specs.declared.own_bundle.Prepared.{Prepared}
-use Rattle.depot_gossip.specs.declared.gossip_error.BundleError.{BundleError}
-use Rattle.depot_gossip.specs.declared.gossip_error.BundleError.TheVariants as error
-use Rattle.depot_gossip.specs.Errors.{from_vouching}
-use Rattle.depot_gossip.specs.Choosing.{Holds}
-use Rattle.depot_gossip.specs.Fronts.{IsFront, IsStream, IsJoined, voucher_frame}
-use Rattle.depot_gossip.specs.Bundling.{Bundles, IsPrepared, Prepares}
+use Rattle.depot_frames.specs.declared.sending.Sending.{Sending}
+use Rattle.depot_offers.specs.declared.bundle_stream.Bundled.{Bundled}
+use Rattle.depot_offers.specs.declared.preparing.Prepared.{Prepared}
+use Rattle.depot_offers.specs.declared.bundle_error.BundleError.{BundleError}
+use Rattle.depot_offers.specs.declared.bundle_error.BundleError.TheVariants as error
+use Rattle.depot_offers.specs.Errors.{from_vouching}
+use Rattle.depot_frames.specs.Sendings.{Holds}
+use Rattle.depot_offers.specs.Fronts.{voucher_frame}
+use Rattle.depot_offers.specs.BundleStreams.{IsStream}
+use Rattle.depot_offers.specs.Preparing.{IsPrepared, Prepares}
+use Rattle.depot_gossip.specs.Bundling.{Bundles}
 
 -- ---- the stream
-
--- the front and what is sent make up the stream
-pub joined_is_stream : (sign : Signs) (K : List Record) (h : Hello) (s : Sending) (f : Front) (b : Bundled) → IsFront sign K h s.ids f → IsJoined f s b → IsStream sign K h s b
-joined_is_stream sign K h s f b front joined =
-    let rest = s.frames ++ text_of_frame (end_frame s.more) in
-    record {
-      bytes = joined.bytes ∙ ap (λ (p : List ℕ). p ++ (f.vouchers ++ rest)) front.proofs ∙ ap (λ (v : List ℕ). flat_map text_of_frame (map proof_frame (proofs_for K h)) ++ (v ++ rest)) front.vouchers;
-      proofs = joined.proofs ∙ front.proof_count;
-      vouchers = joined.vouchers ∙ front.voucher_count;
-      updates = joined.updates;
-      values = joined.values;
-      more = joined.more;
-    }
 
 text_parts : (A B C : List Frame) (e : Frame) → flat_map text_of_frame (A ++ (B ++ (C ++ e ∷ []))) ≡ flat_map text_of_frame A ++ (flat_map text_of_frame B ++ (flat_map text_of_frame C ++ text_of_frame e))
 text_parts A B C e =

@@ -1,20 +1,26 @@
--- What the vouchers of a bundle bring a journal, all of which or a front of which was appended.
+-- What the vouchers of a bundle bring a journal, all of which or a front of which was appended, and by which calls on the disk.
 use Rattle.std.proofs.Common.{◌≡◌, ℕ, List, [], ◌++◌, Bool, true, false, Option, None, Ok, Err, refl, sym, ap, subst, ◌∙◌}
+use Rattle.std.specs.Prelude.{IsErrOf}
+use Rattle.depot_base.specs.Calls.{Made}
 use Rattle.depot_base.specs.declared.record.Record.{Record}
 use Rattle.depot_model.specs.declared.bundle.VoucherError.{VoucherError}
 use Rattle.depot_model.specs.declared.bundle.VoucherError.TheVariants as refused
 use Rattle.depot_model.specs.Checks.{Setting}
 use Rattle.depot_model.specs.Lawful.{IsLawful, is_empty}
 use Rattle.depot_model.specs.Limits.{Limit}
-use Rattle.depot_model.specs.Stops.{Lasts}
+use Rattle.depot_model.specs.Stops.{CallsDisk, Lasts}
 use Rattle.depot_model.specs.Vouching.{Vouches, new_vouchers, records_of, limit_of_vouchers}
 use Rattle.depot_model.specs.Bundle.{Signs, bundled_within, bundle_of, bundle_answer}
-use Rattle.depot_gossip.specs.declared.own_bundle.Bundled.{Bundled}
-use Rattle.depot_gossip.specs.declared.own_bundle.Prepared.{Prepared}
-use Rattle.depot_gossip.specs.Errors.{from_vouching}
-use Rattle.depot_gossip.specs.Bundling.{IsPrepared, finds_disk, journaled_for}
-use Rattle.depot_gossip.specs.Lasting.{LastsIn}
-use Rattle.depot_gossip.proofs.LastingStreams.{all_of, cut_of, none_in, to_append, lasts_longer, lasts_alike, IsPart}
+use Rattle.depot_model.proofs.CallsOnDisk.{called_well, calls_alike}
+use Rattle.depot_offers.specs.declared.bundle_error.BundleError.TheVariants as error
+use Rattle.depot_offers.specs.declared.bundle_stream.Bundled.{Bundled}
+use Rattle.depot_offers.specs.declared.preparing.Prepared.{Prepared}
+use Rattle.depot_offers.specs.Errors.{from_vouching}
+use Rattle.depot_gossip.specs.Bundling.{finds_disk, journaled_for}
+use Rattle.depot_offers.specs.Preparing.{IsPrepared}
+use Rattle.depot_feeds.specs.Lasting.{LastsIn}
+use Rattle.depot_feeds.proofs.LastingStreams.{all_of, cut_of, none_in, to_append, lasts_longer, lasts_alike, IsPart}
+use Rattle.depot_gossip.proofs.StreamLaws.{same_fault}
 use Rattle.depot_gossip.proofs.ToldLaws.{bundle_is_lawful}
 
 -- the journal is lawful with vouchers that meet no limit
@@ -77,3 +83,16 @@ not_vouched_lasts here sign ran text p refused.Memory old new is v lasts idle = 
 not_vouched_lasts here sign ran text p refused.Stopped old new is v lasts idle = lasts_longer old new [] _ (idle (λ e. cc))
 not_vouched_lasts here sign ran text p (refused.Spent n) old new is v lasts idle = lasts_longer old new [] _ (idle (λ e. cc))
 not_vouched_lasts here sign ran text p (refused.Full what) old new is v lasts idle = lasts_longer old new [] _ (idle (λ e. cc))
+
+-- ---- which calls it makes on its disk
+
+-- the vouchers weren't made: the disk failed, or none was appended
+pub not_vouched_calls : {N : Type 0} {after : N → List Made → N → Type 0} {reads : N → List ℕ} {stopped : N → Bool} {records : N → List Record}
+    → (here : Setting) (sign : Signs) (ran : Bool) (text : List ℕ) (p : Prepared) (e : VoucherError) (old new : N) → IsPrepared here sign (records old) ran text p → Vouches here (records old) p.unvouched (Err e) (records new)
+    → CallsDisk after reads stopped records old new (records_of (new_vouchers here.me (records old) p.unvouched)) (IsErrOf {T = Unit {0}} (Err e) refused.Disk)
+    → CallsDisk after reads stopped records old new (journaled_for (bundle_answer here sign (records old) text)) (IsErrOf {T = Bundled} (Err (from_vouching e)) error.Disk)
+not_vouched_calls {records = records} here sign ran text p refused.Disk old new is v calls = let f = same_fault refused.Disk in calls_alike old new _ _ f.was_disk f.disk (are_journaled here sign (records old) ran text p is v.0) calls
+not_vouched_calls here sign ran text p refused.Memory old new is v calls = called_well old new _ _ (λ e. cc) (λ e. cc) calls
+not_vouched_calls here sign ran text p refused.Stopped old new is v calls = called_well old new _ _ (λ e. cc) (λ e. cc) calls
+not_vouched_calls here sign ran text p (refused.Spent n) old new is v calls = called_well old new _ _ (λ e. cc) (λ e. cc) calls
+not_vouched_calls here sign ran text p (refused.Full what) old new is v calls = called_well old new _ _ (λ e. cc) (λ e. cc) calls

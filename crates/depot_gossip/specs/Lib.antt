@@ -1,10 +1,2 @@
 pub mod Bundling
-pub mod NodeCalls
-pub mod Choosing
-pub mod Errors
-pub mod FrameHeads
-pub mod Fronts
-pub mod Pieces
-pub mod RecordLeaves
 pub mod ToldStatements
-pub mod Lasting

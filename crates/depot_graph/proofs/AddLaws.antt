@@ -27,7 +27,7 @@ use Rattle.depot_graph.specs.Kept.{updates_in, child_lists, leaf_places, prev_pl
 use Rattle.depot_graph.specs.Kin.{is_place, siblings_of, with_siblings}
 use Rattle.depot_graph.proofs.Front.{apart}
 use Rattle.depot_graph.specs.OrderLaws.{one_place}
-use Rattle.depot_graph.proofs.PastLaws.{none_has}
+use Rattle.depot_graph.proofs.ItemPlaces.{has_no_place}
 
 -- ---- the map
 
@@ -58,11 +58,11 @@ in_place (y ∷ ys) zero v e = let same : y ≡ v = cc in inl same
 in_place (y ∷ ys) (suc n) v e = inr (in_place ys n v e)
 
 apart_places : (us : List Update) (p k : ℕ) (w t : Update) → IsCausal [] us → slice_get us p ≡ Some w → slice_get us k ≡ Some t → id_of_update w ≡ id_of_update t → (p < k) ⊎ (k < p) → ⊥
-apart_places us p k w t c at_p at_k e (inl lt) = one_place us p k w t c at_p at_k e lt
-apart_places us p k w t c at_p at_k e (inr gt) = one_place us k p t w c at_k at_p (sym e) gt
+apart_places us p k w t c at_p at_k e (inl lt) = let same = one_place [] us p k w t c at_p at_k e in omega (arith, lt, same)
+apart_places us p k w t c at_p at_k e (inr gt) = let same = one_place [] us p k w t c at_p at_k e in omega (arith, gt, same)
 
 is_it : (h : List ℕ) (us : List Update) (k : ℕ) (t : Update) → IsCausal [] us → slice_get us k ≡ Some t → (o : Option ℕ) → place_of_id h us ≡ o → (bytes_eq (id_of_update t) h || false) ≡ is_place o k
-is_it h us k t c at_k None none = or_from (bytes_eq (id_of_update t) h) false (false_from_ne_true _ (λ e. none_has h us none t (in_place us k t at_k) ((bytes_eq-Decides (id_of_update t) h).0 e))) refl
+is_it h us k t c at_k None none = or_from (bytes_eq (id_of_update t) h) false (false_from_ne_true _ (λ e. has_no_place h us t none (in_place us k t at_k) ((bytes_eq-Decides (id_of_update t) h).0 e))) refl
 is_it h us k t c at_k (Some p) found =
     let at = position-Some (λ (u : Update). bytes_eq (id_of_update u) h) us p t found in
     let w = get_or us p t in

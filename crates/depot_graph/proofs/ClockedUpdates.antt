@@ -1,20 +1,17 @@
 -- The items of updates, one update more at a time.
-use Rattle.std.proofs.Common.{◌≡◌, ℕ, ◌-◌, ◌<◌, ◌≤◌, List, [], ◌∷◌, ◌++◌, length, map, get_or, Option, Some, None, Bool, true, false, cond, refl, sym, ap, subst, ◌∙◌, arith, inl, inr, Contains, All, IsTrue, slice_get, append_assoc, append-nil}
+use Rattle.std.proofs.Common.{◌≡◌, ℕ, ◌-◌, ◌<◌, ◌≤◌, List, [], ◌∷◌, ◌++◌, length, map, Option, Some, None, Bool, true, false, cond, refl, sym, ap, subst, ◌∙◌, arith, inl, inr, Contains, All, IsTrue, slice_get, append_assoc, append-nil}
 use Rattle.std.specs.List.{flat_map}
 use Rattle.std.specs.Option.{option_to_list}
 use Rattle.std.specs.Str.{bytes_eq}
-use Rattle.std.proofs.lemmas.Bool.{cases_order}
 use Rattle.std.proofs.lemmas.List.{map-append}
 use Rattle.std.proofs.lemmas.List.Quantifiers.{position-Some}
-use Rattle.std.proofs.lemmas.Option.{slice_get-get_or, same_Some}
-use Rattle.std.proofs.lemmas.Slice.Eq.{bytes_eq-Decides}
+use Rattle.std.proofs.lemmas.Option.{same_Some}
 use Rattle.depot_base.specs.Zeros.{zeros}
 use Rattle.depot_base.specs.declared.update.Update.{Update}
 use Rattle.depot_model.specs.Lists.{IsIn}
 use Rattle.depot_model.specs.Texts.{id_of_update}
 use Rattle.depot_model.specs.Order.{parents, IsCausal}
 use Rattle.depot_model.specs.Items.{place_of_id, place_of_prev, PrecedesAt}
-use Rattle.depot_model.proofs.Elements.{in_at}
 use Rattle.depot_model.proofs.Orders.{causal_front}
 use Rattle.depot_virtual.specs.declared.Spot.{Spot}
 use Rattle.depot_virtual.specs.Spots.{next_spot, spots, spots_behind, chains_of}
@@ -24,8 +21,7 @@ use Rattle.depot_clocks.specs.ChainItems.{ChainItem, IsLinked, chain_length, num
 use Rattle.depot_index.proofs.ItemLists.{IsIn as InList, from_contains, to_contains, all_of_in}
 use Rattle.depot_graph.specs.Kept.{prev_places}
 use Rattle.depot_graph.specs.Clocked.{parent_places, clock_item, clock_items_behind, clock_items}
-use Rattle.depot_graph.specs.OrderLaws.{one_place}
-use Rattle.depot_graph.proofs.PastLaws.{none_has}
+use Rattle.depot_graph.proofs.ItemPlaces.{has_place, own_place}
 use Rattle.depot_graph.proofs.AddLaws.{prev_places-push}
 use Rattle.depot_graph.proofs.ClockedItems.{AreClocked, AreSpotted, clocked_none, clocked_next, spotted_length, spotted_number, spotted_at, clocked_precedes}
 
@@ -52,25 +48,7 @@ flat_in f (k ∷ hs) h a (inr on) e = behind (f k) (flat_in f hs h a on e) where
 
 -- the place of an id is that of its update
 id_at : (h : List ℕ) (us : List Update) (a : ℕ) (t : Update) → slice_get us a ≡ Some t → place_of_id h us ≡ Some a → id_of_update t ≡ h
-id_at h us a t at e =
-    let found = position-Some (λ (u : Update). bytes_eq (id_of_update u) h) us a t e in
-    let is : get_or us a t ≡ t = same_Some (get_or us a t) t (sym (slice_get-get_or us a t found.0) ∙ at) in
-    ap id_of_update (sym is) ∙ (bytes_eq-Decides (id_of_update (get_or us a t)) h).0 found.1
-
-at_id : (h : List ℕ) (us : List Update) (a : ℕ) (t : Update) → IsCausal [] us → slice_get us a ≡ Some t → id_of_update t ≡ h → (o : Option ℕ) → place_of_id h us ≡ o → o ≡ Some a
-at_id h us a t c at named None e = absurd (none_has h us e t (in_at us a t at) named)
-at_id h us a t c at named (Some p) e =
-    let found = position-Some (λ (u : Update). bytes_eq (id_of_update u) h) us p t e in
-    let w = get_or us p t in
-    let at_p : slice_get us p ≡ Some w = slice_get-get_or us p t found.0 in
-    let same : id_of_update w ≡ id_of_update t = id_at h us p w at_p e ∙ sym named in
-    elim (cases_order p a) [
-      | inl here ↦ ap (λ (n : ℕ). Some n) here
-      | inr other ↦ elim other [
-        | inl lt ↦ absurd (one_place us p a w t c at_p at same lt)
-        | inr gt ↦ absurd (one_place us a p t w c at at_p (sym same) gt)
-      ]
-    ]
+id_at h us a t at e = let p = has_place h us a e in ap id_of_update (same_Some t p.0 (sym at ∙ p.1.0)) ∙ p.1.1
 
 pub parents_low : (us : List Update) (u : Update) (p : ℕ) → Contains (parent_places us u) p → p < length us
 parents_low us u p on =
@@ -82,7 +60,7 @@ parents_named us u t a c at = (
   (λ on.
       let r = in_flat (λ h. place_of_id h us) (parents u) a (from_contains (parent_places us u) a on) in
       subst (λ (h : List ℕ). IsIn h (parents u)) (sym (id_at r.0 us a t at r.1.1)) r.1.0),
-  (λ named. to_contains (parent_places us u) a (flat_in (λ h. place_of_id h us) (parents u) (id_of_update t) a named (at_id (id_of_update t) us a t c at refl (place_of_id (id_of_update t) us) refl))),
+  (λ named. to_contains (parent_places us u) a (flat_in (λ h. place_of_id h us) (parents u) (id_of_update t) a named (own_place us a t c at))),
 )
 
 -- the prev is one of the parents

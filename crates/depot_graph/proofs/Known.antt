@@ -14,7 +14,8 @@ use Rattle.depot_model.specs.Items.{place_of_id}
 use Rattle.depot_model.proofs.Members.{in_map, from_map, in_parts}
 use Rattle.depot_model.proofs.Orders.{causal_push}
 use Rattle.depot_model.proofs.Elements.{in_at}
-use Rattle.depot_graph.proofs.PastLaws.{none_has, mapped_more}
+use Rattle.depot_graph.proofs.ItemPlaces.{has_no_place}
+use Rattle.depot_graph.proofs.MappedFronts.{mapped_more}
 
 -- an id that is found is one of the ids
 found_is_in : (h : List ℕ) (us : List Update) (place : ℕ) → place_of_id h us ≡ Some place → IsIn h (map id_of_update us)
@@ -55,4 +56,4 @@ pub fits_behind : (us : List Update) (u : Update) (id : List ℕ) (o : Option �
 fits_behind us u id o c own found none prev entries =
     let absent : place_of_id (id_of_update u) us ≡ None = ap (λ (h : List ℕ). place_of_id h us) (sym own) ∙ (sym found ∙ is_none o none) in
     causal_push [] us u c (λ h on. elim (in_parts h (prevs u) (map (λ d. d.id) u.deps) on) [ inl own ↦ inr (prev h own) | inr entry ↦ inr (entries h entry) ]) (λ never. never)
-    (λ on. let t = from_map id_of_update (id_of_update u) us on in none_has (id_of_update u) us absent t.0 t.1.0 t.1.1)
+    (λ on. let t = from_map id_of_update (id_of_update u) us on in has_no_place (id_of_update u) us t.0 absent t.1.0 t.1.1)

@@ -1,6 +1,7 @@
+pub mod ItemPlaces
 pub mod Front
 pub mod KinLaws
-pub mod PastLaws
+pub mod MappedFronts
 pub mod RisingLaws
 pub mod GraphLatest
 pub mod PlaceLaws

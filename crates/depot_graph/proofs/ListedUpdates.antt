@@ -3,7 +3,6 @@ use Rattle.std.proofs.Common.{◌≡◌, ℕ, List, [], ◌∷◌, ◌++◌, Opt
 use Rattle.std.specs.List.{AllByRecursion}
 use Rattle.std.specs.Option.{option_to_list}
 use Rattle.std.specs.Ordering.{is_lt}
-use Rattle.std.proofs.lemmas.Bool.{cases_order}
 use Rattle.depot_base.specs.declared.update.Update.{Update}
 use Rattle.depot_model.specs.Lists.{IsIn}
 use Rattle.depot_model.specs.Contents.{Writes}
@@ -45,13 +44,7 @@ in_places us (m ∷ ns) u on = go (slice_get us m) refl on (in_places us ns u) w
 
 -- two places of one update are one
 same_place : (us : List Update) (a b : ℕ) (t : Update) → IsCausal [] us → slice_get us a ≡ Some t → slice_get us b ≡ Some t → a ≡ b
-same_place us a b t c at_a at_b = elim (cases_order a b) [
-  | inl same ↦ same
-  | inr other ↦ elim other [
-    | inl lt ↦ absurd (one_place us a b t t c at_a at_b refl lt)
-    | inr gt ↦ absurd (one_place us b a t t c at_b at_a refl gt)
-  ]
-]
+same_place us a b t c at_a at_b = one_place [] us a b t t c at_a at_b refl
 
 listed_all : (us : List Update) (n : ℕ) (t : Update) (ns : List ℕ) → slice_get us n ≡ Some t → ((m : ℕ) → InList m ns → (u : Update) × (slice_get us m ≡ Some u)) → AllByRecursion (λ u. is_lt (listed t u) ≡ true) (updates_at us ns) → AllByRecursion (ListedAt us n) ns
 listed_all us n t [] e there all = tt

@@ -1,5 +1,5 @@
 -- The latest writes by their places.
-use Rattle.std.proofs.Common.{◌≡◌, ℕ, zero, suc, ◌<◌, ◌+◌, List, [], ◌∷◌, ◌++◌, length, get_or, filter, Option, Some, option_map, Bool, true, false, not, cond, refl, sym, ap, subst, ◌∙◌, arith, slice_get, append_assoc, append-nil}
+use Rattle.std.proofs.Common.{◌≡◌, ℕ, zero, suc, ◌<◌, ◌+◌, List, [], ◌∷◌, ◌++◌, length, get_or, filter, Option, Some, Bool, true, false, not, cond, refl, sym, ap, subst, ◌∙◌, arith, slice_get, append_assoc, append-nil}
 use Rattle.std.specs.List.{AllByRecursion}
 use Rattle.std.specs.Option.{option_to_list, option_map_or}
 use Rattle.std.specs.Ordering.{is_lt}

@@ -13,7 +13,7 @@ use Rattle.depot_model.specs.Order.{IsParent, Precedes, listed, IsCausal}
 use Rattle.depot_model.specs.Items.{PrecedesAt}
 use Rattle.depot_model.proofs.Elements.{in_at, both_at}
 use Rattle.depot_model.proofs.LatestLaws.{rank, listed_one_way}
-use Rattle.depot_model.proofs.Orders.{fresh, leads_trans, precedes_irreflexive}
+use Rattle.depot_model.proofs.Orders.{fresh, causal_behind, leads_trans, precedes_irreflexive}
 use Rattle.depot_base.proofs.GeneralLaws.{at_place}
 use Rattle.std.proofs.lemmas.Option.{same_Some}
 use Rattle.depot_graph.specs.Listing.{ListedAt}
@@ -66,17 +66,17 @@ turned o Greater e n ne = ap is_lt e
 pub listed_back : (u t : Update) → is_lt (listed u t) ≡ false → (id_of_update t ≡ id_of_update u → ⊥) → is_lt (listed t u) ≡ true
 listed_back u t n ne = turned (listed t u) (listed u t) (nat_list_cmp_total.antisymm (rank t) (rank u)) n (λ e. ne (sym (tied_ids u t e)))
 
--- an id stands at one place
-one_place_behind : (ids : List (List ℕ)) (us : List Update) (k p : ℕ) (t w : Update) → IsCausal ids us → slice_get us k ≡ Some t → slice_get us p ≡ Some w → id_of_update t ≡ id_of_update w → k < p → ⊥
-unfolding IsCausal
-one_place_behind ids [] k p t w c at_k at_p e lt = absurd cc
-one_place_behind ids (x ∷ xs) zero zero t w c at_k at_p e lt = omega (arith, lt)
-one_place_behind ids (x ∷ xs) (suc k) zero t w c at_k at_p e lt = omega (arith, lt)
-one_place_behind ids (x ∷ xs) zero (suc p) t w c at_k at_p e lt = fresh (id_of_update x ∷ ids) xs w c.1.1 (in_at xs p w at_p) (inl (ap id_of_update (same_Some x t at_k) ∙ e))
-one_place_behind ids (x ∷ xs) (suc k) (suc p) t w c at_k at_p e lt = one_place_behind (id_of_update x ∷ ids) xs k p t w c.1.1 at_k at_p e (omega (arith, lt))
-
-pub one_place : (us : List Update) (k p : ℕ) (t w : Update) → IsCausal [] us → slice_get us k ≡ Some t → slice_get us p ≡ Some w → id_of_update t ≡ id_of_update w → k < p → ⊥
-one_place us k p t w c at_k at_p e lt = one_place_behind [] us k p t w c at_k at_p e lt
+-- no id stands at two places
+pub one_place : (ids : List (List ℕ)) (us : List Update) (i j : ℕ) (t u : Update) → IsCausal ids us → slice_get us i ≡ Some t → slice_get us j ≡ Some u → id_of_update t ≡ id_of_update u → i ≡ j
+one_place ids [] i j t u c at also same = absurd cc
+one_place ids (x ∷ xs) zero zero t u c at also same = refl
+one_place ids (x ∷ xs) zero (suc j) t u c at also same =
+    let first : x ≡ t = cc in
+    absurd (fresh (id_of_update x ∷ ids) xs u (causal_behind ids x xs c) (in_at xs j u also) (inl (ap id_of_update first ∙ same)))
+one_place ids (x ∷ xs) (suc i) zero t u c at also same =
+    let first : x ≡ u = cc in
+    absurd (fresh (id_of_update x ∷ ids) xs t (causal_behind ids x xs c) (in_at xs i t at) (inl (ap id_of_update first ∙ sym same)))
+one_place ids (x ∷ xs) (suc i) (suc j) t u c at also same = ap suc (one_place (id_of_update x ∷ ids) xs i j t u (causal_behind ids x xs c) at also same)
 
 -- ---- as they are listed
 
@@ -112,8 +112,7 @@ lists_all us a b c low_a low_b =
     let u = at_place us b low_b in
     elim (cases_order a b) [
       | inl same ↦ inl same
-      | inr other ↦ inr (lists_either (is_lt (listed t.0 u.0)) us a b t.0 u.0 refl t.1 u.1 (λ one. elim other [
-        | inl lt ↦ one_place us a b t.0 u.0 c t.1 u.1 (sym one) lt
-        | inr gt ↦ one_place us b a u.0 t.0 c u.1 t.1 one gt
-      ]))
+      | inr other ↦ inr (lists_either (is_lt (listed t.0 u.0)) us a b t.0 u.0 refl t.1 u.1 (λ one.
+          let same = one_place [] us a b t.0 u.0 c t.1 u.1 (sym one) in
+          elim other [ inl lt ↦ omega (arith, lt, same) | inr gt ↦ omega (arith, gt, same) ]))
     ]

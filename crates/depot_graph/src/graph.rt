@@ -8,7 +8,7 @@ ghost use Rattle.depot_base.specs.declared.update.Update.{Update};
 ghost use Rattle.depot_model.specs.Contents.{key_written};
 ghost use Rattle.depot_model.specs.Order.{IsCausal, AreLatestIn};
 ghost use Rattle.depot_model.specs.Texts.{id_of_update};
-ghost use Rattle.depot_model.specs.Items.{place_of_prev, updates_at};
+ghost use Rattle.depot_model.specs.Items.{place_of_id, place_of_prev, updates_at};
 ghost use Rattle.depot_virtual.specs.Spots.{spots, number_of_chains, IsTip};
 ghost use Rattle.depot_clocks.specs.ChainItems.{IsTrueOf};
 ghost use Rattle.depot_index.specs.KeyLists.{latest_of, room_of};
@@ -82,10 +82,12 @@ impl Graph {
     /// of the update's key.
     ///
     /// The id is the update's. Its parents are here, and no update with its id is. Fewer than 4,294,967,295 updates are
-    /// here.
+    /// here. The items of its parents are given as they were found, that of its prev first: each is looked at in place of a
+    /// search by its id. One that isn't the parent's, or isn't given, costs that search, and changes nothing.
     pub fn add<L: Ledger>(
         &mut self,
         update: Update,
+        parents: &[u32],
         id: Hash32,
         steps: &mut Steps<L>,
     ) -> Result<u32, Memory>
@@ -99,13 +101,18 @@ impl Graph {
     {
         let number = self.count();
         self.reserve(update.key_written())?;
-        let change = self.change_by(&update)?;
+        let change = self.change_by(&update, parents)?;
         self.commit(update, id, change, steps)?;
         Ok(number)
     }
 
     /// Adds an update as `add` does, with the same conditions; its steps are counted for nobody.
-    pub fn add_uncounted(&mut self, update: Update, id: Hash32) -> Result<u32, Memory>
+    pub fn add_uncounted(
+        &mut self,
+        update: Update,
+        parents: &[u32],
+        id: Hash32,
+    ) -> Result<u32, Memory>
         requires id { id ≡ id_of_update update }
         requires fits { IsCausal [] (⟦<Graph as Past>⟧.updates self.old ++ update ∷ []) }
         requires room { length (⟦<Graph as Past>⟧.updates self.old) < 4294967295 }
@@ -113,13 +120,14 @@ impl Graph {
         ensures added { OnOk result (⟦<Graph as Past>⟧.updates self.new ≡ ⟦<Graph as Past>⟧.updates self.old ++ update ∷ []) }
         ensures err { OnErr result (⟦<Graph as Past>⟧.updates self.new ≡ ⟦<Graph as Past>⟧.updates self.old) }
     {
-        self.add_with::<Brand>(update, id, Blank::new(1))
+        self.add_with::<Brand>(update, parents, id, Blank::new(1))
     }
 
     /// The same, where the steps go into a ledger that is still blank.
     fn add_with<L: Ledger>(
         &mut self,
         update: Update,
+        parents: &[u32],
         id: Hash32,
         blank: Blank,
     ) -> Result<u32, Memory>
@@ -134,7 +142,7 @@ impl Graph {
         ensures err { OnErr result (⟦<Graph as Past>⟧.updates self.new ≡ ⟦<Graph as Past>⟧.updates self.old) }
     {
         let mut steps = Steps::<L>::new(blank);
-        self.add(update, id, &mut steps)
+        self.add(update, parents, id, &mut steps)
     }
 
     /// The items of the latest writes of a key, in rising order of clock, writer, seq and id, and none for a key that no
@@ -209,24 +217,49 @@ impl Graph {
         self.clocks.joined(items)
     }
 
-    /// The item of the update's prev, if it has one.
-    fn prev_of(&self, update: &Update) -> Option<u32>
+    /// The item with an id, as `find` tells it. It is looked at where it was found before, and searched only where it isn't
+    /// there. It takes no memory.
+    pub fn find_at(&self, id: &Hash32, item: Option<u32>) -> Option<u32>
+        ensures { result ≡ place_of_id id.now (⟦<Graph as Past>⟧.updates self.now) }
+    {
+        match item {
+            Some(item) if self.is_at(item, id) => Some(item),
+            _ => self.find(id),
+        }
+    }
+
+    /// Whether the update of an item has this id.
+    fn is_at(&self, item: u32, id: &Hash32) -> bool
+        ensures { IsTrue result → place_of_id id.now (updates_in self.now.items.entries) ≡ Some item }
+    {
+        item < self.count() && self.id(item) == id
+    }
+
+    /// The item of the update's prev, if it has one. It was found before at the first of these items.
+    fn prev_of(&self, update: &Update, found: &[u32]) -> Option<u32>
         ensures { result ≡ place_of_prev update.now.prev (updates_in self.now.items.entries) }
     {
         if update.prev.is_zeros() {
             return None;
         }
-        self.find(&update.prev)
+        self.find_at(&update.prev, found.first().copied())
     }
 
-    /// The items of the parents of an update.
-    fn parents_of(&self, update: &Update) -> Result<Vec<u32>, Memory>
+    /// The items of the parents of an update, where its prev has this one. They were found before at these items.
+    fn parents_of(
+        &self,
+        update: &Update,
+        prev: Option<u32>,
+        found: &[u32],
+    ) -> Result<Vec<u32>, Memory>
+        requires { prev ≡ place_of_prev update.now.prev (updates_in self.now.items.entries) }
         ensures { IfOk result (λ list. list.items ≡ parent_places (updates_in self.now.items.entries) update.now) }
     {
         let mut parents = Vec::new(*self.leaves.allocator());
-        push_found(&mut parents, self.prev_of(update))?;
+        push_found(&mut parents, prev)?;
         for dep in update.deps.as_slice() {
-            push_found(&mut parents, self.find(&dep.id))?;
+            let item = self.find_at(&dep.id, found.get(parents.len()).copied());
+            push_found(&mut parents, item)?;
         }
         Ok(parents)
     }
@@ -274,19 +307,19 @@ impl Graph {
         self.chains.reserve()
     }
 
-    /// What an update that fits behind them all changes.
-    fn change_by(&self, update: &Update) -> Result<Change, Memory>
+    /// What an update that fits behind them all changes. Its parents were found before at these items.
+    fn change_by(&self, update: &Update, found: &[u32]) -> Result<Change, Memory>
         requires fits { IsCausal [] (updates_in self.now.items.entries ++ update.now ∷ []) }
         requires count { length (updates_in self.now.items.entries) < 4294967295 }
         ensures { IfOk result (IsChangeBy update.now (updates_in self.now.items.entries)) }
     {
         let alloc = *self.leaves.allocator();
         let number = self.count();
-        let prev = self.prev_of(update);
+        let prev = self.prev_of(update, found);
         Ok(Change {
             prev,
             spot: self.chains.next(prev),
-            parents: self.parents_of(update)?,
+            parents: self.parents_of(update, prev, found)?,
             leaves: self.leaves_with(prev, number)?,
             siblings: self.siblings_with(prev, number)?,
             none: Vec::new(alloc),

@@ -26,7 +26,7 @@ use Rattle.depot_graph.proofs.ClockedItems.{place_of}
 use Rattle.depot_history.specs.Closure.{closure_of}
 use Rattle.depot_history.specs.PastLeaves.{standing}
 use Rattle.depot_history.specs.PastChains.{IsCovered, IsLast, IsLastCounted}
-use Rattle.depot_history.proofs.ItemPlaces.{has_place, own_place, below_more}
+use Rattle.depot_graph.proofs.ItemPlaces.{has_place, own_place, below_more}
 use Rattle.depot_history.proofs.Reaching.{closure_in, closure_precedes, precedes_closure}
 use Rattle.depot_history.proofs.Sorting.{of_place, at_its_place, standing_is, is_standing}
 

@@ -28,7 +28,7 @@ use Rattle.depot_graph.proofs.ClockedItems.{place_of}
 use Rattle.depot_history.specs.Closure.{closure_of}
 use Rattle.depot_history.specs.PastLeaves.{row_of, leaf_in, standing, IsUnseen}
 use Rattle.depot_history.specs.declared.leaf.Leaf.{Leaf}
-use Rattle.depot_history.proofs.ItemPlaces.{has_place, own_place}
+use Rattle.depot_graph.proofs.ItemPlaces.{has_place, own_place}
 use Rattle.depot_history.proofs.ChainLeaves.{leaves_stand}
 use Rattle.depot_history.proofs.Reaching.{reached_apart}
 use Rattle.depot_history.proofs.Sorting.{of_place, at_its_place, standing_is, is_standing, standing_apart}

@@ -1,5 +1,4 @@
 pub mod HistoryRows
-pub mod ItemPlaces
 pub mod ChainLeaves
 pub mod Sorting
 pub mod Leaving

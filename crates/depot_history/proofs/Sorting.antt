@@ -24,7 +24,7 @@ use Rattle.depot_model.proofs.RisingLists.{HaveSame}
 use Rattle.depot_model.proofs.RisingUpdates.{AreApart, apart_from_causal, apart_filter, Rises, rises_by_id, from_by_id, in_by_id, same_by_id}
 use Rattle.depot_history.specs.declared.leaf.Leaf.{Leaf}
 use Rattle.depot_history.specs.PastLeaves.{leaf_in, standing}
-use Rattle.depot_history.proofs.ItemPlaces.{own_place}
+use Rattle.depot_graph.proofs.ItemPlaces.{own_place}
 use Rattle.depot_history.proofs.Reaching.{of_places, at_places}
 
 -- the order of leaves

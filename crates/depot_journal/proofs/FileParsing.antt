@@ -6,7 +6,7 @@ use Rattle.depot_base.specs.declared.limits.TheConstants.{MOST_JOURNAL}
 use Rattle.depot_journal.specs.declared.journal_error.JournalError.{JournalError}
 use Rattle.depot_journal.specs.declared.journal_error.JournalError.TheVariants as journal_error
 use Rattle.depot_journal.specs.declared.span.Span.{Span}
-use Rattle.depot_journal.specs.Answers.{IsDamage}
+use Rattle.depot_journal.specs.JournalAnswers.{IsDamage}
 use Rattle.depot_base.specs.File.{IsDamagedAt, blocks, framed}
 use Rattle.depot_journal.specs.Mirrored.{EndWithin, IsMirror, bodies_at, cut}
 use Rattle.depot_journal.specs.WriteSteps.{StandsTo}

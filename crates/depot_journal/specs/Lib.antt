@@ -1,4 +1,4 @@
-pub mod Answers
+pub mod JournalAnswers
 pub mod Mirrored
 pub mod Stable
 pub mod WriteSteps

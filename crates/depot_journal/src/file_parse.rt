@@ -1,6 +1,6 @@
 //! The records of a file.
 ghost use Rattle.std.specs.Prelude.{◌≡◌, ◌≢◌, ◌++◌, ◌≤◌, ◌∷◌, [], List, ℕ, false, IsTrue, IfOk, IfErr, IfSome, IfNone, IsErrOf, length};
-ghost use Rattle.depot_journal.specs.Answers.{IsDamage};
+ghost use Rattle.depot_journal.specs.JournalAnswers.{IsDamage};
 ghost use Rattle.depot_base.specs.File.{AreWithinLimits, framed};
 ghost use Rattle.depot_journal.specs.Mirrored.{EndWithin, bodies_at};
 ghost use Rattle.depot_journal.specs.WriteSteps.{HoldsNoRecord, StandsTo};

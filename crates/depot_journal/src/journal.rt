@@ -5,7 +5,7 @@ ghost use Rattle.depot_base.specs.Faults.{HasCause};
 ghost use Rattle.depot_base.specs.Disk.{Elapses, LeavesOnly, Only, Within};
 ghost use Rattle.depot_base.specs.File.{AreWithinLimits, HasFront, HasRoom, IsCutShort, IsFileOf, PassesLimit, StartLeaves, blocks};
 ghost use Rattle.depot_journal.specs.JournalView.{Covers};
-ghost use Rattle.depot_journal.specs.Answers.{IsDamage, KeepsLimits, SaysDamaged, UnlessDisk};
+ghost use Rattle.depot_journal.specs.JournalAnswers.{IsDamage, KeepsLimits, SaysDamaged, UnlessDisk};
 ghost use Rattle.depot_journal.specs.Stable.{IsStarted, LeavesAll};
 
 use crate::journal_error::{AppendError, JournalError};

@@ -3,7 +3,7 @@ ghost use Rattle.std.specs.Prelude.{◌≡◌, ◌≢◌, ◌++◌, ◌+◌, ◌
 ghost use Rattle.depot_base.specs.Calls.{FailsAmong, asks_length, calls_to_start, made, reads_at, syncs};
 ghost use Rattle.depot_base.specs.Faults.{HasCause};
 ghost use Rattle.depot_base.specs.Disk.{LeavesOnly, Only};
-ghost use Rattle.depot_journal.specs.Answers.{IsDamage, SaysDamaged};
+ghost use Rattle.depot_journal.specs.JournalAnswers.{IsDamage, SaysDamaged};
 ghost use Rattle.depot_base.specs.File.{AreWithinLimits, IsFileOf, StartLeaves};
 ghost use Rattle.depot_journal.specs.Mirrored.{IsMirror, bodies_at};
 ghost use Rattle.depot_journal.specs.Stable.{IsStarted};

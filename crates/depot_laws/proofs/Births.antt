@@ -41,6 +41,6 @@ born here fits known =
       first = refl;
       text = text;
       may = (refl, refl);
-      room = room_from_within here.me [] (Birth here.me (hash_of_roster here.listed) ∷ []) (record { records = omega arith; bytes = omega (arith, short_birth here.me (hash_of_roster here.listed) (roster_hash_is_digest here.listed)); writers = refl });
+      room = room_from_within here.me [] (Birth here.me (hash_of_roster here.listed) ∷ []) (record { records = omega arith; bytes = omega (arith, short_birth here.me (hash_of_roster here.listed) (roster_hash_is_digest here.listed)); writers = λ takes. absurd cc });
     } in
     lawful_push here [] (Birth here.me (hash_of_roster here.listed)) (lawful_none here) allowed

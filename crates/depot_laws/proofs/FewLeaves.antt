@@ -1,8 +1,8 @@
 -- A lawful journal has at most 4,097 leaves: 4,096 of others, and one of its own.
-use Rattle.std.proofs.Common.{◌≡◌, ℕ, ◌≤◌, ◌==◌, List, [], ◌∷◌, ◌++◌, length, Bool, true, false, not, ltb, refl, sym, ap, ◌∙◌, inl, inr, arith}
+use Rattle.std.proofs.Common.{◌≡◌, ℕ, ◌≤◌, ◌==◌, List, [], ◌∷◌, ◌++◌, length, Bool, true, false, not, refl, sym, ap, ◌∙◌, inl, inr, arith}
 use Rattle.std.specs.List.{filter}
 use Rattle.std.proofs.lemmas.List.Filters.{length-filter_both}
-use Rattle.std.proofs.lemmas.Bool.{eqb-true, both_ways, ltb-false}
+use Rattle.std.proofs.lemmas.Bool.{eqb-true, both_ways}
 use Rattle.depot_base.specs.declared.update.Update.{Update}
 use Rattle.depot_base.specs.declared.statement.Statement.{Statement}
 use Rattle.depot_base.specs.declared.statement.Statement.TheVariants as statement
@@ -18,7 +18,6 @@ use Rattle.depot_model.specs.Checks.{Setting}
 use Rattle.depot_model.specs.Room.{foreign_leaves, take_an_update, HasRoom}
 use Rattle.depot_model.specs.Lawful.{IsAllowed, IsLawful}
 use Rattle.depot_model.proofs.Members.{any_from, among_from, from_filter}
-use Rattle.depot_base.proofs.GeneralLaws.{second_fails}
 use Rattle.depot_laws.proofs.Splits.{lawful_from_end}
 use Rattle.depot_laws.proofs.Tests.{fails_from_not}
 use Rattle.depot_laws.proofs.JournalLimits.{within_from_room}
@@ -33,7 +32,7 @@ use Rattle.depot_laws.proofs.Follows.{in_prevs, in_line}
 taken_few : (here : Setting) (J : List Record) (s : Signed) (u : Update) → s.statement ≡ statement.Update u → HasRoom here.me J (Foreign s ∷ []) → length (foreign_leaves here.me (J ++ Foreign s ∷ [])) ≤ 4096
 taken_few here J s u is room =
     let takes : take_an_update (Foreign s ∷ []) ≡ true = let told : update_in s.statement ≡ u ∷ [] = ap update_in is in rw told refl in
-    ltb-false _ _ (second_fails (take_an_update (Foreign s ∷ [])) (ltb 4096 (length (foreign_leaves here.me (J ++ Foreign s ∷ [])))) takes (within_from_room here.me J (Foreign s ∷ []) room).writers)
+    (within_from_room here.me J (Foreign s ∷ []) room).writers takes
 
 few_more : (here : Setting) (J : List Record) (r : Record) → IsLawful here J → IsAllowed here J r → length (foreign_leaves here.me J) ≤ 4096 → length (foreign_leaves here.me (J ++ r ∷ [])) ≤ 4096
 few_more here J (OwnPut u value) l allowed before = omega (arith, before, put_count here J u u.key value l allowed.may.next allowed.may.fresh)

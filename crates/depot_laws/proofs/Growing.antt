@@ -19,7 +19,7 @@ use Rattle.depot_model.specs.Lists.{first}
 use Rattle.depot_model.specs.Texts.{IsSigned}
 use Rattle.depot_model.specs.Conviction.{proof_of}
 use Rattle.depot_model.specs.Journal.{accepted, accepted_by, foreign, foreign_by, proof_by, voucher_by, accused, vouched, is_convicted, is_vouched}
-use Rattle.depot_model.specs.Checks.{Setting, Given, given_statement, given_proof, given_value, opponent, named_opponent, forked, refused_as_convicted, content_of, proof_checks, first_failed_check, is_kept, is_known, answer_to, due, added, exposed, growth_by, growth}
+use Rattle.depot_model.specs.Checks.{Setting, Given, given_statement, given_proof, given_value, opponent, named_opponent, refused_as_convicted, content_of, proof_checks, first_failed_check, is_kept, is_known, answer_to, due, added, exposed, growth_by, growth}
 use Rattle.depot_model.specs.Room.{full_by, HasRoom}
 use Rattle.depot_model.specs.Lawful.{IsLawful, is_empty}
 use Rattle.depot_model.proofs.JudgementLaws.{IsProof-proof_of}

@@ -12,7 +12,7 @@ use Rattle.depot_base.specs.declared.record.Record.{Record}
 use Rattle.depot_base.proofs.Numbers.{number_within}
 use Rattle.depot_model.specs.declared.hello.HelloLeaf.{HelloLeaf}
 use Rattle.depot_model.specs.Lists.{IsIn}
-use Rattle.depot_model.specs.Texts.{roster, IsRoster, IsUpdate, hash_of_roster}
+use Rattle.depot_model.specs.Texts.{IsRoster, IsUpdate, hash_of_roster}
 use Rattle.depot_model.specs.History.{leaves_of, by_id, is_lower}
 use Rattle.depot_model.specs.Journal.{accepted, is_convicted, holds}
 use Rattle.depot_model.specs.Checks.{Setting}

@@ -80,7 +80,7 @@ one_has_room : (here : Setting) (J : List Record) (v : Voucher) (vs : List Vouch
 one_has_room here J v vs r = room_from_within here.me J (OwnVoucher v ∷ []) (record {
   records = omega (arith, r.records, length-append J (OwnVoucher v ∷ []), length-append J (OwnVoucher v ∷ records_of vs));
   bytes = omega (arith, r.bytes, bytes_front J (OwnVoucher v ∷ []) (records_of vs));
-  writers = refl;
+  writers = λ takes. absurd cc;
 })
 
 others_have_room : (here : Setting) (J : List Record) (v : Voucher) (vs : List Voucher) → HasRoomForAll here J (v ∷ vs) → HasRoomForAll here (J ++ OwnVoucher v ∷ []) vs

@@ -2,7 +2,6 @@
 use Rattle.std.proofs.Common.{◌≡◌, ℕ, List, [], ◌∷◌, ◌++◌, get_or, Bool, true, false, refl, sym, ap, subst, arith, inl, inr}
 use Rattle.depot_base.specs.Calls.{Made, made, syncs, writes_at}
 use Rattle.depot_base.specs.Cursor.{numeral}
-use Rattle.depot_base.specs.Faults.{HasCause}
 use Rattle.depot_base.specs.File.{framed, StandsFor}
 use Rattle.depot_base.specs.declared.key.PublicKey.{PublicKey}
 use Rattle.depot_base.specs.declared.record.Record.{Record}

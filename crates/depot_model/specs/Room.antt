@@ -1,5 +1,5 @@
 -- How much a journal takes.
-use Rattle.std.specs.Prelude.{◌≡◌, ℕ, List, [], ◌∷◌, ◌++◌, length, filter, Bool, not, ◌&&◌, ◌==◌, nat_lt, Option, None}
+use Rattle.std.specs.Prelude.{◌≡◌, ℕ, List, [], ◌∷◌, ◌++◌, length, filter, Bool, not, ◌==◌, nat_lt, Option, Some, None}
 use Rattle.std.specs.List.{flat_map}
 use Rattle.depot_base.specs.declared.limits.TheConstants.{MOST_RECORDS, MOST_JOURNAL, MOST_FOREIGN_LEAVES}
 use Rattle.depot_base.specs.declared.update.Update.{Update}
@@ -24,13 +24,27 @@ takes_update r = []
 abbrev pub take_an_update : List Record → Bool
 take_an_update new = nat_lt 0 (length (flat_map takes_update new))
 
--- The limit that a journal would pass with these records behind it, the first of records, bytes and writers, with the
--- number now; none where there is room.
+-- how many leaves of other writers count with these records behind a journal: all that there are then, where one of the
+-- records takes an update of another, and else none
+abbrev pub leaves_counted : ℕ → List Record → List Record → Option ℕ
+leaves_counted me J new = when (take_an_update new) (length (foreign_leaves me (J ++ new)))
+
+-- the limit of leaves, where so many count then, with the number now
+abbrev pub leaves_passed : ℕ → Option ℕ → Option Full
+leaves_passed leaves None = None
+leaves_passed leaves (Some leaves_then) = when (nat_lt MOST_FOREIGN_LEAVES leaves_then) (record { what = full_of.Writers; number = leaves })
+
+-- The first limit that is passed, of records, bytes and leaves of other writers, where a journal has so many of each now and
+-- will have so many then; with the number now. None where all are kept.
+abbrev pub limit_passed : ℕ → ℕ → ℕ → ℕ → ℕ → Option ℕ → Option Full
+limit_passed records bytes leaves records_then bytes_then leaves_then = first (
+    when (nat_lt MOST_RECORDS records_then) (record { what = full_of.Records; number = records }) ∷
+    when (nat_lt MOST_JOURNAL bytes_then) (record { what = full_of.Bytes; number = bytes }) ∷
+    leaves_passed leaves leaves_then ∷ [])
+
+-- the limit that a journal would pass with these records behind it; none where there is room
 unfoldable pub full_with : ℕ → List Record → List Record → Option Full
-full_with me J new = first (
-    when (nat_lt MOST_RECORDS (length (J ++ new))) (record { what = full_of.Records; number = length J }) ∷
-    when (nat_lt MOST_JOURNAL (journal_bytes (J ++ new))) (record { what = full_of.Bytes; number = journal_bytes J }) ∷
-    when (take_an_update new && nat_lt MOST_FOREIGN_LEAVES (length (foreign_leaves me (J ++ new)))) (record { what = full_of.Writers; number = length (foreign_leaves me J) }) ∷ [])
+full_with me J new = limit_passed (length J) (journal_bytes J) (length (foreign_leaves me J)) (length (J ++ new)) (journal_bytes (J ++ new)) (leaves_counted me J new)
 
 -- the same for what a call appends: where that is nothing, no limit is passed
 abbrev pub full_by : ℕ → List Record → List Record → Option Full

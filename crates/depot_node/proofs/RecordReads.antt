@@ -10,7 +10,7 @@ use Rattle.depot_model.specs.Roster.{Verifies}
 use Rattle.depot_laws.proofs.Splits.{lawful_none, lawful_push}
 use Rattle.depot_store.specs.Holdings.{Holding, standing, with_records}
 use Rattle.depot_node.specs.Starting.{AreTextsOf}
-use Rattle.depot_decide.specs.ReadRecords.{IsReadFrom}
+use Rattle.depot_records.specs.ReadRecords.{IsReadFrom}
 use Rattle.depot_node.specs.StartReading.{IsReadOn, IsNextWrong, AreWrong}
 use Rattle.depot_node.specs.declared.start_error.StartError.{StartError}
 use Rattle.depot_node.specs.declared.start_error.StartError.TheVariants as stopped
@@ -88,14 +88,14 @@ reading_runs here old now r runs = ap (λ (v : Holding _). v.stopped) r.same ∙
 -- at a text that is refused
 pub reading_stops : {D : Type 0} (here there : Setting) (old now : Holding D) (e : StartError) → IsReading here old now → IsNextWrong there now.records now.unread e → there ≡ here → AreWrong here old.unread e
 reading_stops here there old now stopped.Memory r w stands = tt
-reading_stops here there old now (stopped.NotLawful place f) r w stands = record {
+reading_stops here there old now (stopped.NotLawful place f) r (at, (text, (rest, (parts, wrong)))) stands = record {
   before = now.records;
-  text = w.1.0;
-  after = w.1.1.0;
-  parts = r.texts ∙ ap (λ (texts : List (List ℕ)). map text_of_record now.records ++ texts) w.1.1.1.0;
+  text = text;
+  after = rest;
+  parts = r.texts ∙ ap (λ (texts : List (List ℕ)). map text_of_record now.records ++ texts) parts;
   lawful = r.lawful;
-  at = w.0;
-  wrong = subst (λ (s : Setting). IsFault s now.records w.1.0 f) stands w.1.1.1.1;
+  at = at;
+  wrong = subst (λ (s : Setting). IsFault s now.records text f) stands wrong;
 }
 reading_stops here there old now e r w stands = absurd w
 

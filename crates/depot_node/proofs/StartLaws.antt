@@ -3,6 +3,7 @@ use Rattle.std.proofs.Common.{◌≡◌, ℕ, Bool, IsTrue, List, [], ◌∷◌,
 use Rattle.std.specs.List.{AllByRecursion}
 use Rattle.std.proofs.lemmas.Bool.{both_ways}
 use Rattle.std.proofs.lemmas.List.{append-nil}
+use Rattle.depot_base.specs.File.{IsFileOf}
 use Rattle.depot_base.specs.declared.key.PublicKey.{PublicKey}
 use Rattle.depot_base.specs.declared.record.Record.{Record}
 use Rattle.depot_base.specs.declared.record.Record.TheVariants.{Birth}
@@ -17,10 +18,10 @@ use Rattle.depot_model.specs.Stops.{HasRecords}
 use Rattle.depot_model.specs.Texts.{hash_of_roster}
 use Rattle.depot_store.specs.RecordTexts.{records_of}
 use Rattle.depot_store.proofs.RecordTextLaws.{records_of_texts}
-use Rattle.depot_node.specs.Starting.{BeginWithBirth, HaveFaultAt, IsNotStarted, IsStartedFrom, LeavesFile, started}
+use Rattle.depot_node.specs.Starting.{BeginWithBirth, HaveFaultAt, IsNotStarted, IsStartedFrom, LeavesFile, OfFile, started}
 use Rattle.depot_node.specs.declared.start_error.StartError.{StartError}
 use Rattle.depot_node.specs.declared.start_error.StartError.TheVariants as refused
-use Rattle.depot_decide.proofs.RecordFaultLaws.{one_record, no_fault}
+use Rattle.depot_records.proofs.RecordFaultLaws.{one_record, no_fault}
 
 -- ---- births
 
@@ -73,6 +74,18 @@ no_fault_at here J place f l w =
     let s = stands_behind here [] w.before J w.text w.after l w.lawful (sym w.parts) in
     no_fault here w.before s.one f (l.each w.before s.one s.after s.is) (subst (λ (t : List ℕ). IsFault here w.before t f) s.text_is w.wrong)
 
+-- where the file of a lawful journal begins with a birth, it is the node's own
+own_birth : (here : Setting) (file : List ℕ) (J : List Record) (node : ℕ) (roster : List ℕ) (texts : List (List ℕ)) → HasRecords J file → IsLawful here J → IsFileOf file texts → BeginWithBirth texts node roster → (node ≡ here.me) × (roster ≡ hash_of_roster here.listed)
+own_birth here file J node roster texts has l is begins = first_is_own here J node roster l (subst (λ (ts : List (List ℕ)). BeginWithBirth ts node roster) (one_list file texts (map text_of_record J) is has) begins)
+
+-- so it isn't another node's
+other_node : (here : Setting) (file : List ℕ) (J : List Record) (node : ℕ) → HasRecords J file → IsLawful here J → OfFile file (λ texts. (roster : List ℕ) × BeginWithBirth texts node roster) → node ≡ here.me
+other_node here file J node has l (texts, (is, (roster, begins))) = (own_birth here file J node roster texts has l is begins).0
+
+-- nor that under another roster
+other_roster : (here : Setting) (file : List ℕ) (J : List Record) (roster : List ℕ) → HasRecords J file → IsLawful here J → OfFile file (λ texts. BeginWithBirth texts here.me roster) → roster ≡ hash_of_roster here.listed
+other_roster here file J roster has l (texts, (is, begins)) = (own_birth here file J here.me roster texts has l is begins).1
+
 -- ---- starts
 
 -- a start from the file of a lawful journal, with the node's key, is refused for want of memory or by the disk alone
@@ -83,11 +96,9 @@ lawful_file_starts here key told file J refused.UnknownMe tells keyed has l w le
 lawful_file_starts here key told file J (refused.OtherKey other own) tells keyed has l w leaves = let both : Some other ≡ Some key = sym w.0 ∙ keyed in w.1.1 cc
 lawful_file_starts here key told file J (refused.Damaged at) tells keyed has l w leaves = not_damaged file (map text_of_record J) at has (w.1 tells)
 lawful_file_starts here key told file J (refused.OtherNode node) tells keyed has l w leaves =
-    let of = w.1.1 tells in
-    w.1.0 (first_is_own here J node of.1.1.0 l (subst (λ (texts : List (List ℕ)). BeginWithBirth texts node of.1.1.0) (one_list file of.0 (map text_of_record J) of.1.0 has) of.1.1.1)).0
-lawful_file_starts here key told file J (refused.OtherRoster kept given) tells keyed has l w leaves =
-    let of = w.1.1.1 tells in
-    w.1.1.0 ((first_is_own here J here.me kept l (subst (λ (texts : List (List ℕ)). BeginWithBirth texts here.me kept) (one_list file of.0 (map text_of_record J) of.1.0 has) of.1.1)).1 ∙ sym w.1.0)
+    w.1.0 (other_node here file J node has l (w.1.1 tells))
+lawful_file_starts here key told file J (refused.OtherRoster kept given) tells keyed has l (own, (is, (apart, of))) leaves =
+    apart (other_roster here file J kept has l (of tells) ∙ sym is)
 lawful_file_starts here key told file J (refused.NotLawful place f) tells keyed has l w leaves =
     let of = w.1 tells in
     no_fault_at here J place f l (subst (λ (texts : List (List ℕ)). HaveFaultAt here texts place f) (one_list file of.0 (map text_of_record J) of.1.0 has) of.1.1.at)

@@ -4,7 +4,7 @@ use Rattle.std.specs.Result.{IfErr, OnOk}
 use Rattle.std.proofs.lemmas.List.{append-nil}
 use Rattle.depot_base.specs.Disk.{LeavesOnly}
 use Rattle.depot_base.specs.File as files
-use Rattle.depot_base.specs.File.{IsFileOf, IsDamagedAt}
+use Rattle.depot_base.specs.File.{IsFileOf}
 use Rattle.depot_base.specs.declared.record.Record.{Record}
 use Rattle.depot_base.specs.declared.record.Record.TheVariants.{Birth}
 use Rattle.depot_model.specs.Checks.{Setting}
@@ -74,9 +74,9 @@ other_begins here text item node roster (Err (refused.OtherNode by)) fits is bir
   subst (λ (n : ℕ). n ≢ here.me) (sym other.0) other.1,
   (roster, subst (λ (n : ℕ). BeginWithBirth (text ∷ rest) n roster) (sym other.0) (begins text item node roster rest fits is birth)),
 )
-other_begins here text item node roster (Err (refused.OtherRoster kept given)) fits is birth other = λ rest. (
-  other.1.1.0,
-  (other.1.1.1, subst (λ (r : List ℕ). BeginWithBirth (text ∷ rest) here.me r) (sym other.1.0) (subst (λ (n : ℕ). BeginWithBirth (text ∷ rest) n roster) other.0 (begins text item node roster rest fits is birth))),
+other_begins here text item node roster (Err (refused.OtherRoster kept given)) fits is birth (mine, (same, (right, apart))) = λ rest. (
+  right,
+  (apart, subst (λ (r : List ℕ). BeginWithBirth (text ∷ rest) here.me r) (sym same) (subst (λ (n : ℕ). BeginWithBirth (text ∷ rest) n roster) mine (begins text item node roster rest fits is birth))),
 )
 other_begins here text item node roster (Err e) fits is birth other = absurd other
 

@@ -14,9 +14,9 @@ ghost use Rattle.depot_node.specs.StartReading.{IsReadOn, IsNextWrong, AreWrong,
 
 use crate::start_error::StartError;
 use depot_base::{DecodeError, Hash32, NodeId, Record};
-use depot_decide::{ReadError, check_record};
 use depot_model::Scheme;
 use depot_outside::Disk;
+use depot_records::{ReadError, check_record};
 use depot_store::{Growth, Store, WriteError};
 use depot_update::decode_record;
 use std::alloc::Global;

@@ -2,6 +2,9 @@
 use Rattle.std.proofs.Common.{◌≡◌, ◌<◌, ◌⊎◌, ℕ, suc, ◌+◌, ◌-◌, ◌*◌, ◌/◌, ◌%◌, List, [], ◌∷◌, ◌++◌, length, take, ◌&&◌, ◌==◌, nat_le, if◌then◌else◌, refl, sym, ap, subst, ◌∙◌, inl, inr, arith, append_assoc, append-nil}
 use Rattle.depot_base.specs.Calls.{Call, made, FailsAmong, calls_to_append, calls_to_append_all, writes_at, syncs}
 use Rattle.depot_base.specs.File.{StandsFor, blocks, closed_block}
+use Rattle.depot_journal.specs.WriteSteps.{StandsTo}
+use Rattle.depot_journal.proofs.RecordBlocks.{appended}
+use Rattle.depot_journal.proofs.Walk.{stands_of}
 use Rattle.depot_outside.specs.Images.{Moment, synced_as, written_at}
 use Rattle.depot_outside.specs.StopImages.{left_by, overwritten}
 use Rattle.depot_outside.specs.Stopping.{State, Leads, done_before_stop, done_by}
@@ -11,7 +14,7 @@ use Rattle.depot_world.specs.Run.{Armed}
 use Rattle.depot_world.specs.ScheduleStops.{standing_after}
 use Rattle.depot_replay.specs.Disks.{IsAtRest, StoppedAppending, number_of}
 use Rattle.depot_replay.proofs.DiskLaws.{FailsIn, Gone, StoppedIn, failed_on, fails_in, led_on}
-use Rattle.depot_replay.proofs.DiskFiles.{StandsTo, appended, block_left, gate_left, opened_in, stands_for, stands_to}
+use Rattle.depot_replay.proofs.DiskFiles.{block_left, gate_left, opened_in, stands_to}
 use Rattle.depot_replay.proofs.DiskStops.{StopsAt, stopped_at, stops_later, stops_now}
 
 -- ---- writes and syncs
@@ -77,7 +80,7 @@ appends_rest s t gate (text ∷ texts) rest led =
     appends_rest u t (gate + (5 + length text)) texts one.at_rest more
 
 grown_by : (s t : State) (bodies : List (List ℕ)) (end : ℕ) (texts : List (List ℕ)) → IsAtRest s → StandsTo s.file bodies end → Leads s (made (calls_to_append_all end texts)) t → StandsFor t.file (bodies ++ texts)
-grown_by s t bodies end [] rest stands led = rw (append-nil bodies) (subst (λ (x : State). StandsFor x.file bodies) (sym led) (stands_for s.file bodies end stands))
+grown_by s t bodies end [] rest stands led = rw (append-nil bodies) (subst (λ (x : State). StandsFor x.file bodies) (sym led) (stands_of s.file bodies end stands))
 grown_by s t bodies end (text ∷ texts) rest stands led =
     let (u, one, more) = append_led s t end text (calls_to_append_all (end + (5 + length text)) texts) rest.faultless led in
     subst (StandsFor t.file) (append_assoc bodies (text ∷ []) texts) (grown_by u t (bodies ++ text ∷ []) (end + (5 + length text)) texts one.at_rest (one.grown bodies stands) more)
@@ -121,7 +124,7 @@ in_block : (s t : State) (bodies : List (List ℕ)) (body : List ℕ) (texts : L
     → t.file ≡ left_by image (written_at (synced_as s.file) s.file (end + 1) (length (closed_block body))) (overwritten s.file (end + 1) (closed_block body))
     → place < 4 → standing_at place (number_of image) ≡ 0 → StopsAt s t place image → StopsAppending s t bodies (body ∷ texts)
 in_block s t bodies body texts end place image stands left h none stops =
-    let kept : StandsFor t.file bodies = stands_for t.file bodies end (subst (λ (x : List ℕ). StandsTo x bodies end) (sym left) (block_left image s.file (closed_block body) bodies end stands)) in
+    let kept : StandsFor t.file bodies = stands_of t.file bodies end (subst (λ (x : List ℕ). StandsTo x bodies end) (sym left) (block_left image s.file (closed_block body) bodies end stands)) in
     record {
       place = place;
       image = image;

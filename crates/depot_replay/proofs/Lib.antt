@@ -1,21 +1,10 @@
-pub mod BegunRuns
 pub mod DiskAppends
 pub mod DiskExamples
 pub mod DiskFiles
 pub mod DiskStarts
 pub mod DiskStops
 pub mod DiskLaws
-pub mod DraftTexts
-pub mod JournalGrowth
-pub mod MadeTexts
-pub mod LabelledUpdates
-pub mod NewUpdates
-pub mod NodeEvents
 pub mod OwnUpdates
-pub mod SeatPlaces
-pub mod PlayedEvents
-pub mod Remembered
-pub mod RememberedRuns
 pub mod SeatCalls
 pub mod SeatEvents
 pub mod SeatLaws
@@ -23,4 +12,3 @@ pub mod SeatPuts
 pub mod SeatReads
 pub mod SeatStarts
 pub mod SeatTurns
-pub mod SignedUpdates

@@ -7,11 +7,11 @@ use Rattle.depot_base.specs.Calls.{Made, made, FailsAmong}
 use Rattle.depot_base.specs.Format.{whole}
 use Rattle.depot_base.specs.declared.record.Record.{Record}
 use Rattle.depot_gossip.specs.Bundling.{Bundles, journaled_for}
-use Rattle.depot_gossip.specs.declared.gossip_error.BundleError.{BundleError}
-use Rattle.depot_gossip.specs.declared.gossip_error.BundleError.TheVariants as error
-use Rattle.depot_gossip.specs.declared.gossip_error.FeedError.{FeedError}
-use Rattle.depot_gossip.specs.declared.gossip_error.FeedError.TheVariants as feed_error
-use Rattle.depot_gossip.specs.declared.own_bundle.Bundled.{Bundled}
+use Rattle.depot_offers.specs.declared.bundle_error.BundleError.{BundleError}
+use Rattle.depot_offers.specs.declared.bundle_error.BundleError.TheVariants as error
+use Rattle.depot_feeds.specs.declared.feed_error.FeedError.{FeedError}
+use Rattle.depot_feeds.specs.declared.feed_error.FeedError.TheVariants as feed_error
+use Rattle.depot_offers.specs.declared.bundle_stream.Bundled.{Bundled}
 use Rattle.depot_laws.proofs.LawfulFeeds.{feed_keeps}
 use Rattle.depot_laws.proofs.NewVouchers.{new_are_lawful}
 use Rattle.depot_laws.specs.Streams.{AreBytes}
@@ -33,7 +33,7 @@ use Rattle.depot_world.specs.Run.{Station}
 use Rattle.depot_world.specs.ScheduleStops.{Deed}
 use Rattle.depot_world.specs.Suite.{Stage, signs_on, stands_on}
 use Rattle.depot_world.proofs.ByteBundles.{unvouched_are_foreign}
-use Rattle.depot_replay.specs.Acting.{IsSeated, View}
+use Rattle.depot_plays.specs.Acting.{IsSeated, View}
 use Rattle.depot_replay.specs.Disks.{armed_of}
 use Rattle.depot_deeds.specs.Printing.{SettlesBundle, SettlesFeed}
 use Rattle.depot_replay.specs.Seats.{Appends, IsBegunOn, IsCalled}

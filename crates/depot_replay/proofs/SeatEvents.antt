@@ -14,7 +14,7 @@ use Rattle.depot_outside.specs.Stopping.{State, Leads}
 use Rattle.depot_world.specs.Run.{Armed, Station}
 use Rattle.depot_world.specs.ScheduleStops.{Deed, Went, left_of, standing_after, went}
 use Rattle.depot_world.specs.Suite.{Stage}
-use Rattle.depot_replay.specs.Acting.{CameTo, IsSeated, View}
+use Rattle.depot_plays.specs.Acting.{CameTo, IsSeated, View}
 use Rattle.depot_replay.specs.Disks.{Stopped, armed_of}
 use Rattle.depot_replay.specs.PrintedRuns.{EndsAs}
 use Rattle.depot_replay.specs.SeatFacts.{lawful_there}

@@ -18,7 +18,7 @@ use Rattle.depot_decide.specs.declared.put_answers.PutError.TheVariants as refus
 use Rattle.depot_outside.specs.Stopping.{State}
 use Rattle.depot_world.specs.Deeds.{grown, put_by}
 use Rattle.depot_world.specs.ScheduleStops.{Deed}
-use Rattle.depot_replay.specs.Acting.{View}
+use Rattle.depot_plays.specs.Acting.{View}
 use Rattle.depot_replay.specs.Disks.{armed_of}
 use Rattle.depot_deeds.specs.PutPrinting.{SettlesPut}
 use Rattle.depot_replay.specs.Seats.{Appends, IsBegunOn, IsCalled}

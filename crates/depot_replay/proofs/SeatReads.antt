@@ -14,7 +14,7 @@ use Rattle.depot_world.specs.Run.{Armed, Station}
 use Rattle.depot_world.specs.ScheduleStops.{Deed, left_of, standing_after, went}
 use Rattle.depot_world.specs.Suite.{Stage, stands_on}
 use Rattle.depot_world.specs.Transcript.{ended}
-use Rattle.depot_replay.specs.Acting.{CameTo, IsSeated, View}
+use Rattle.depot_plays.specs.Acting.{CameTo, IsSeated, View}
 use Rattle.depot_replay.specs.Disks.{StoppedReading, armed_of}
 use Rattle.depot_deeds.specs.Printing.{lines_of_deed, shown_text}
 use Rattle.depot_replay.specs.Seats.{stopped_line}

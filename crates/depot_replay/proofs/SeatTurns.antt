@@ -5,11 +5,11 @@ use Rattle.depot_base.specs.Sized.{IsKey, IsValue}
 use Rattle.depot_base.specs.declared.key.RosterEntry.{RosterEntry}
 use Rattle.depot_base.specs.declared.record.Record.{Record}
 use Rattle.depot_gossip.specs.Bundling.{Bundles, journaled_for}
-use Rattle.depot_gossip.specs.declared.gossip_error.BundleError.{BundleError}
-use Rattle.depot_gossip.specs.declared.gossip_error.BundleError.TheVariants as bundle_error
-use Rattle.depot_gossip.specs.declared.gossip_error.FeedError.{FeedError}
-use Rattle.depot_gossip.specs.declared.gossip_error.FeedError.TheVariants as feed_error
-use Rattle.depot_gossip.specs.declared.own_bundle.Bundled.{Bundled}
+use Rattle.depot_offers.specs.declared.bundle_error.BundleError.{BundleError}
+use Rattle.depot_offers.specs.declared.bundle_error.BundleError.TheVariants as bundle_error
+use Rattle.depot_feeds.specs.declared.feed_error.FeedError.{FeedError}
+use Rattle.depot_feeds.specs.declared.feed_error.FeedError.TheVariants as feed_error
+use Rattle.depot_offers.specs.declared.bundle_stream.Bundled.{Bundled}
 use Rattle.depot_laws.specs.Streams.{AreBytes}
 use Rattle.depot_model.specs.Bundle.{Signs, bundle_answer}
 use Rattle.depot_model.specs.Checks.{Setting}
@@ -25,7 +25,7 @@ use Rattle.depot_world.specs.Deeds.{bundle_by, fed_by, give_by, put_by}
 use Rattle.depot_world.specs.Run.{Station}
 use Rattle.depot_world.specs.ScheduleStops.{went}
 use Rattle.depot_world.specs.Suite.{Stage, signs_on, stands_on}
-use Rattle.depot_replay.specs.Acting.{CameTo, IsSeated, View}
+use Rattle.depot_plays.specs.Acting.{CameTo, IsSeated, View}
 use Rattle.depot_replay.specs.Disks.{armed_of}
 use Rattle.depot_deeds.specs.Printing.{IsPrintOf, IsToldOf, SettlesBundle, SettlesFeed}
 use Rattle.depot_replay.specs.PrintedRuns.{EndsAs}

@@ -6,7 +6,7 @@ use Rattle.depot_deeds.specs.declared.printed.Printed.{Printed}
 use Rattle.depot_world.specs.Run.{Station}
 use Rattle.depot_world.specs.ScheduleStops.{Deed, went}
 use Rattle.depot_world.specs.Suite.{Stage}
-use Rattle.depot_replay.specs.Acting.{CameTo, IsSeated, View}
+use Rattle.depot_plays.specs.Acting.{CameTo, IsSeated, View}
 use Rattle.depot_replay.specs.Seats.{Appends}
 
 -- What an event comes to that was to make the journal of a node a longer one: the node after it, the lines, and the bytes for a label. It is

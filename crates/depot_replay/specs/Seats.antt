@@ -13,7 +13,7 @@ use Rattle.depot_answers.specs.Answers.{numbered}
 use Rattle.depot_world.specs.Run.{Armed}
 use Rattle.depot_world.specs.ScheduleStops.{Deed, calls_to_append}
 use Rattle.depot_world.specs.Transcript.{ended}
-use Rattle.depot_replay.specs.Acting.{View}
+use Rattle.depot_plays.specs.Acting.{View}
 use Rattle.depot_replay.specs.Disks.{IsAtRest, armed_of}
 
 -- ---- its disk

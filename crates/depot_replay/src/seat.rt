@@ -10,14 +10,14 @@ ghost use Rattle.depot_node.specs.Starting.{IsStartedFrom, calls_to_start_node};
 ghost use Rattle.depot_node.specs.declared.start_error.StartError.TheVariants as start_error;
 ghost use Rattle.depot_outside.specs.Stopping.{State, Leads, state_of};
 ghost use Rattle.depot_world.specs.Run.{own_update};
-ghost use Rattle.depot_replay.specs.Acting.{View};
+ghost use Rattle.depot_plays.specs.Acting.{View};
 ghost use Rattle.depot_replay.specs.Disks.{armed_of};
 ghost use Rattle.depot_replay.specs.PrintedRuns.{EndsAs};
 ghost use Rattle.depot_replay.specs.SeatFacts.{IsKeptOn-prop, is_node-prop, is_roster-prop, same_signs-prop, lawful_there};
 ghost use Rattle.depot_replay.specs.Seats.{IsBegunOn, IsCalled, IsKeptOn, IsSeatedAgain, WasCalled};
 
-use crate::actor::{Actor, Told};
 use depot_base::{Bytes, Items, Key, Memory, NodeId, Update, Value};
+use depot_cast::Numbered;
 use depot_deeds::{
     Printed, bundle_printed, counted_line, fed_printed, feed_all, have_sizes, hello_line,
     put_printed, shown_line,
@@ -26,8 +26,9 @@ use depot_gossip::{bundle, hello};
 use depot_model::{Replica, Scheme, Signer};
 use depot_node::{Node, StartError};
 use depot_outside::{Back, MemDisk};
+use depot_plays::{Actor, Begins, Told};
 use depot_sign::Roster;
-use depot_stage::{Numbered, is_by};
+use depot_stage::is_by;
 use std::alloc::Global;
 
 /// How many calls on a disk start a node from a journal that has begun.
@@ -264,4 +265,16 @@ impl<S: Scheme + Copy, G: Signer<Of = S> + Copy> Actor for Seat<S, G> {
     ghost named = { λ a. refl };
 
     ghost lawful = { λ a. lawful_there S.verifies a.node.store.me a.means.me a.node.store.listed a.means.roster a.node.store.records a.is_me a.is_listed a.node.lawful };
+}
+
+impl<S: Scheme + Copy, G: Signer<Of = S> + Copy> Begins<S, G> for Seat<S, G> {
+    fn born(
+        alloc: Global,
+        roster: &Roster,
+        scheme: S,
+        signer: G,
+        node: NodeId,
+    ) -> Result<Seat<S, G>, Memory> {
+        Seat::born(alloc, roster, scheme, signer, node)
+    }
 }

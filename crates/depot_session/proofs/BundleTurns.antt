@@ -1,20 +1,19 @@
 -- How the command of a bundle turns out.
-use Rattle.std.proofs.Common.{◌≡◌, ◌<◌, ◌≤◌, ℕ, false, IsTrue, List, [], ◌++◌, Option, Some, None, Result, Ok, Err, refl, sym, ap, subst, ◌∙◌, codes, take, inl, inr}
+use Rattle.std.proofs.Common.{◌≡◌, ◌<◌, ◌≤◌, ℕ, true, false, is_some, IsTrue, List, ◌++◌, Option, Some, None, Result, Ok, Err, refl, sym, ap, subst, ◌∙◌, inl}
 use Rattle.std.specs.Prelude.{IsErrOf}
+use Rattle.std.specs.Result.{IsErrAnd}
 use Rattle.std.proofs.lemmas.List.{append-nil}
 use Rattle.depot_base.specs.declared.record.Record.{Record}
-use Rattle.depot_model.specs.Bundle.{Signs, BundleAnswer, bundled, bad_hello, other_roster, limited, bundle_answer}
+use Rattle.depot_model.specs.Bundle.{Signs, BundleAnswer, bundled, bundle_answer}
 use Rattle.depot_model.specs.Checks.{Setting}
 use Rattle.depot_model.specs.Stops.{HasFront, Lasts}
 use Rattle.depot_model.specs.World.{Correct}
 use Rattle.depot_model.specs.declared.replica.Replica.{Ghosts}
 use Rattle.depot_gossip.specs.Bundling.{Bundles, finds_disk, journaled_for}
-use Rattle.depot_gossip.specs.declared.gossip_error.BundleError.{BundleError}
-use Rattle.depot_gossip.specs.declared.gossip_error.BundleError.TheVariants as error
-use Rattle.depot_gossip.specs.declared.own_bundle.Bundled.{Bundled}
-use Rattle.depot_outside.specs.Told.{Shelves, Sinks, Wrote}
-use Rattle.depot_schedule.specs.Language.{join}
-use Rattle.depot_script.specs.Scripts.{command_words}
+use Rattle.depot_offers.specs.declared.bundle_error.BundleError.{BundleError}
+use Rattle.depot_offers.specs.declared.bundle_error.BundleError.TheVariants as error
+use Rattle.depot_offers.specs.declared.bundle_stream.Bundled.{Bundled}
+use Rattle.depot_outside.specs.Told.{Shelves, Sinks}
 use Rattle.depot_script.specs.declared.command.Command.TheVariants as command
 use Rattle.depot_world.specs.Deeds.{bundle_by, bundle_with}
 use Rattle.depot_world.specs.ScheduleStops.{Deed}
@@ -22,13 +21,14 @@ use Rattle.depot_deeds.specs.Printing.{SettlesBundle, lines_of_deed}
 use Rattle.depot_session.specs.declared.ending.Ending.{Ending}
 use Rattle.depot_session.specs.declared.ending.Ending.TheVariants as ending
 use Rattle.depot_session.specs.SessionRuns.{disk_line}
-use Rattle.depot_session.specs.Sessions.{Session, Step, absent, bundle_step, bundle_to, ending_of_bundle, lines_of_command, printed_count, step_of, stored}
+use Rattle.depot_session.specs.Sessions.{Session, Step, absent, bundle_step, bundle_to, ending_of_bundle, lines_of_command, step_of, stored}
 use Rattle.depot_session.specs.ScriptTelling.{IsFaultTold, IsUnchanged, Stores, Tells}
 use Rattle.depot_session.specs.Turns.{IsAt, Turns}
-use Rattle.depot_session.proofs.KeptFaults.{NeedsNone}
 use Rattle.depot_session.proofs.LeftJournals.{leaves_front}
-use Rattle.depot_session.proofs.Stepping.{stored_alike, stored_told}
-use Rattle.depot_session.proofs.Turning.{disk_told, told, without_memory}
+use Rattle.depot_session.proofs.StoredFiles.{stored_alike, stored_told}
+use Rattle.depot_session.proofs.ToldFaults.{EndsCalmly}
+use Rattle.depot_session.proofs.Turning.{command_text, disk_told, told, without_memory}
+use Rattle.depot_session.proofs.UnwrittenTexts.{nothing_written}
 
 -- ---- the answer
 
@@ -38,28 +38,28 @@ bundled_whole here sign J text (Ok b) then settled not is = is.grown ∙ ap (λ 
 bundled_whole here sign J text (Err error.Memory) then settled not is = absurd settled
 bundled_whole here sign J text (Err error.Disk) then settled not is = absurd (not refl)
 bundled_whole here sign J text (Err error.Stopped) then settled not is = absurd settled
-bundled_whole here sign J text (Err (error.IllFormed at)) then settled not is = is.1 ∙ sym (append-nil J) ∙ ap (λ (a : BundleAnswer). J ++ journaled_for a) (sym is.0)
 bundled_whole here sign J text (Err (error.OtherRoster given mine)) then settled not is = is.1.1 ∙ sym (append-nil J) ∙ ap (λ (a : BundleAnswer). J ++ journaled_for a) (sym is.0)
-bundled_whole here sign J text (Err (error.Spent n)) then settled not is = is.1 ∙ sym (append-nil J) ∙ ap (λ (a : BundleAnswer). J ++ journaled_for a) (sym is.0)
-bundled_whole here sign J text (Err (error.Full what)) then settled not is = is.1 ∙ sym (append-nil J) ∙ ap (λ (a : BundleAnswer). J ++ journaled_for a) (sym is.0)
+bundled_whole here sign J text (Err other) then settled not is = is.1 ∙ sym (append-nil J) ∙ ap (λ (a : BundleAnswer). J ++ journaled_for a) (sym is.0)
 
--- it ends the run by no fault of the disk or the sink
-pub bundle_needs_none : (a : BundleAnswer) → NeedsNone (ending_of_bundle a)
-bundle_needs_none (bundled b) = tt
-bundle_needs_none (bad_hello at) = tt
-bundle_needs_none (other_roster given) = tt
-bundle_needs_none (limited limit) = tt
+-- it ends the run for no fault
+pub bundle_ends_calmly : (a : BundleAnswer) → EndsCalmly (ending_of_bundle a)
+bundle_ends_calmly (bundled b) = tt
+bundle_ends_calmly other = tt
+
+-- there is nothing
+pub is_nothing : {X : Type 0} (o : Option X) → is_some o ≡ false → o ≡ None
+is_nothing None none = refl
+is_nothing (Some x) none = cc
+
+-- there is something
+pub isnt_nothing : {X : Type 0} (o : Option X) → is_some o ≡ true → o ≡ None → ⊥
+isnt_nothing None some none = cc
+isnt_nothing (Some x) some none = cc
 
 -- it is an answer for which the disk didn't fail
 pub finds_none : (made : Result Bundled BundleError) → (IsErrOf made error.Disk → ⊥) → finds_disk made ≡ false
-finds_none (Ok b) not = refl
-finds_none (Err error.Memory) not = refl
 finds_none (Err error.Disk) not = absurd (not refl)
-finds_none (Err error.Stopped) not = refl
-finds_none (Err (error.IllFormed at)) not = refl
-finds_none (Err (error.OtherRoster given mine)) not = refl
-finds_none (Err (error.Spent n)) not = refl
-finds_none (Err (error.Full what)) not = refl
+finds_none other not = refl
 
 -- ---- the step
 
@@ -75,41 +75,29 @@ bundles_text here sign s hello file text some = ap (bundle_to here sign s hello 
 -- its parts, whatever the answer is
 step_journal : (s : Session) (hello file : List ℕ) (d : Deed) (a : BundleAnswer) → (bundle_step s hello file d a).session.correct.journal ≡ d.journal
 step_journal s hello file d (bundled b) = refl
-step_journal s hello file d (bad_hello at) = refl
-step_journal s hello file d (other_roster given) = refl
-step_journal s hello file d (limited limit) = refl
+step_journal s hello file d other = refl
 
 step_text : (s : Session) (hello file : List ℕ) (d : Deed) (a : BundleAnswer) → (bundle_step s hello file d a).text ≡ lines_of_command (command.Bundle hello file) d
 step_text s hello file d (bundled b) = refl
-step_text s hello file d (bad_hello at) = refl
-step_text s hello file d (other_roster given) = refl
-step_text s hello file d (limited limit) = refl
+step_text s hello file d other = refl
 
 step_ending : (s : Session) (hello file : List ℕ) (d : Deed) (a : BundleAnswer) → (bundle_step s hello file d a).ending ≡ ending_of_bundle a
 step_ending s hello file d (bundled b) = refl
-step_ending s hello file d (bad_hello at) = refl
-step_ending s hello file d (other_roster given) = refl
-step_ending s hello file d (limited limit) = refl
+step_ending s hello file d other = refl
 
 -- where it goes on the bundle is stored
 step_stores : (s : Session) (hello file : List ℕ) (d : Deed) (a : BundleAnswer) (other : List ℕ) → ending_of_bundle a ≡ None → (bundle_step s hello file d a).session.files other ≡ stored s.files file d.bytes other
 step_stores s hello file d (bundled b) other goes = refl
-step_stores s hello file d (bad_hello at) other goes = cc
-step_stores s hello file d (other_roster given) other goes = cc
-step_stores s hello file d (limited limit) other goes = cc
+step_stores s hello file d none other goes = cc
 
 -- else nothing is
 step_stores_none : (s : Session) (hello file : List ℕ) (d : Deed) (a : BundleAnswer) (other : List ℕ) → (ending_of_bundle a ≡ None → ⊥) → (bundle_step s hello file d a).session.files other ≡ s.files other
 step_stores_none s hello file d (bundled b) other ends = absurd (ends refl)
-step_stores_none s hello file d (bad_hello at) other ends = refl
-step_stores_none s hello file d (other_roster given) other ends = refl
-step_stores_none s hello file d (limited limit) other ends = refl
+step_stores_none s hello file d none other ends = refl
 
 answer_journal : (c : Correct) (a : BundleAnswer) → (bundle_with c a).journal ≡ c.journal ++ journaled_for a
 answer_journal c (bundled b) = refl
-answer_journal c (bad_hello at) = sym (append-nil c.journal)
-answer_journal c (other_roster given) = sym (append-nil c.journal)
-answer_journal c (limited limit) = sym (append-nil c.journal)
+answer_journal c other = sym (append-nil c.journal)
 
 deed_journal : (here : Setting) (sign : Signs) (c : Correct) (text : List ℕ) → (bundle_by here sign c text).journal ≡ c.journal ++ journaled_for (bundle_answer here sign c.journal text)
 unfolding bundle_by
@@ -149,27 +137,27 @@ module _ {N O : Type 0} (g : Ghosts N O) (counts_now : (v : N) (t : ℕ) (image 
   leaves = leaves_front counts_now old new (journaled_for answer) runs lasts
 
   -- no memory was found behind the call
-  pub made_without_memory : (sink : Sinks) → IsUnchanged shelf → Wrote sink [] → Turns g old new (command.Bundle hello file) made_step shelf sink (Err ending.Memory)
-  made_without_memory sink unchanged wrote = inr (without_memory g old new (command.Bundle hello file) made_step shelf sink (journaled_for answer) journal leaves (λ name. inl (unchanged name)) wrote)
+  pub made_without_memory : (sink : Sinks) → IsUnchanged shelf → (r : Result (Unit {0}) Ending) → IsErrAnd r (λ e. e ≡ ending.Memory) → sink.after ≡ sink.before → Turns g old new (command.Bundle hello file) made_step shelf sink r
+  made_without_memory sink unchanged r none same = without_memory g old new (command.Bundle hello file) made_step shelf sink (journaled_for answer) journal leaves (λ name. inl (unchanged name)) r none (nothing_written sink same)
 
   -- the disk failed in the call
   pub made_to_disk : (sink : Sinks) (e : Ending) → IsUnchanged shelf → g.faults old < g.faults new → IsFaultTold sink disk_line ending.Disk e → Turns g old new (command.Bundle hello file) made_step shelf sink (Err e)
-  made_to_disk sink e unchanged rose t = inr (disk_told g old new (command.Bundle hello file) made_step shelf sink (journaled_for answer) journal leaves (λ name. inl (unchanged name)) e rose t)
+  made_to_disk sink e unchanged = disk_told g old new (command.Bundle hello file) made_step shelf sink (journaled_for answer) journal leaves (λ name. inl (unchanged name)) e
 
   -- no bundle was made, and it was told or not
   pub refused_told : (sink : Sinks) (ends : Option Ending) (lines : List ℕ) (r : Result (Unit {0}) Ending) → IsUnchanged shelf → g.stopped new ≡ false → g.records new ≡ g.records old ++ journaled_for answer → ends ≡ ending_of_bundle answer → (ends ≡ None → ⊥) → lines ≡ lines_of_deed deed
-      → Tells sink (join 32 (take (printed_count (command.Bundle hello file)) (command_words (command.Bundle hello file))) ++ codes " ->" ++ lines) ends r → Turns g old new (command.Bundle hello file) made_step shelf sink r
+      → Tells sink (command_text (command.Bundle hello file) lines) ends r → Turns g old new (command.Bundle hello file) made_step shelf sink r
   refused_told sink ends lines r unchanged goes grown ends_is not lines_is t =
       told g old new (command.Bundle hello file) made_step shelf sink (journaled_for answer) journal leaves (λ name. inl (unchanged name)) goes (grown ∙ sym journal)
       (λ other. unchanged other ∙ at.same_files other ∙ sym (step_stores_none s hello file deed answer other (λ none. not (ends_is ∙ none))) ∙ ap (λ (x : Step). x.session.files other) (sym is)) lasts.stable ends r
       (ap (λ (x : Step). x.ending) is ∙ step_ending s hello file deed answer ∙ sym ends_is)
-      (subst (λ (x : List ℕ). Tells sink x ends r) (ap (λ (x : List ℕ). join 32 (take (printed_count (command.Bundle hello file)) (command_words (command.Bundle hello file))) ++ codes " ->" ++ x) lines_is ∙ sym text_is) t)
+      (subst (λ (x : List ℕ). Tells sink x ends r) (ap (command_text (command.Bundle hello file)) lines_is ∙ sym text_is) t)
 
   -- a bundle was made and stored, and it was told or not
   pub bundle_told : (sink : Sinks) (lines bytes : List ℕ) (r : Result (Unit {0}) Ending) → g.stopped new ≡ false → g.records new ≡ g.records old ++ journaled_for answer → ending_of_bundle answer ≡ None → lines ≡ lines_of_deed deed → bytes ≡ deed.bytes → IsTrue shelf.tells
-      → Stores shelf sink (join 32 (take (printed_count (command.Bundle hello file)) (command_words (command.Bundle hello file))) ++ codes " ->" ++ lines) file bytes r → Turns g old new (command.Bundle hello file) made_step shelf sink r
+      → Stores shelf sink (command_text (command.Bundle hello file) lines) file bytes r → Turns g old new (command.Bundle hello file) made_step shelf sink r
   bundle_told sink lines bytes r goes grown goes_on lines_is bytes_is tells st =
       stored_told g old new (command.Bundle hello file) made_step shelf sink (journaled_for answer) journal leaves file bytes (λ other same. same)
       (ap (λ (x : Step). x.ending) is ∙ step_ending s hello file deed answer ∙ goes_on) goes (grown ∙ sym journal) lasts.stable r
       (λ other. ap (λ (x : Step). x.session.files other) is ∙ step_stores s hello file deed answer other goes_on ∙ stored_alike s.files shelf.file file deed.bytes bytes (λ name. sym (at.same_files name)) (sym bytes_is) other) tells
-      (subst (λ (x : List ℕ). Stores shelf sink x file bytes r) (ap (λ (x : List ℕ). join 32 (take (printed_count (command.Bundle hello file)) (command_words (command.Bundle hello file))) ++ codes " ->" ++ x) lines_is ∙ sym text_is) st)
+      (subst (λ (x : List ℕ). Stores shelf sink x file bytes r) (ap (command_text (command.Bundle hello file)) lines_is ∙ sym text_is) st)

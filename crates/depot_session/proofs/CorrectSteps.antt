@@ -1,7 +1,7 @@
 -- A command leaves a correct node a correct one.
 use Rattle.std.proofs.Common.{◌≡◌, ℕ, List, [], ◌∷◌, ◌++◌, Option, Some, None, refl, sym, ap, subst, ◌∙◌, inl, inr}
 use Rattle.depot_base.specs.declared.record.Record.TheVariants.{OwnPut}
-use Rattle.depot_model.specs.Bundle.{Signs, BundleAnswer, bundled, bad_hello, other_roster, limited, bundle_answer}
+use Rattle.depot_model.specs.Bundle.{Signs, BundleAnswer, bundled, bundle_answer}
 use Rattle.depot_model.specs.Checks.{Setting}
 use Rattle.depot_model.specs.Lawful.{IsLawful}
 use Rattle.depot_model.specs.Limits.{Limit, limit_of_put}
@@ -40,9 +40,7 @@ hello_reads here c = refl
 
 answer_reads : (c : Correct) (a : BundleAnswer) → (bundle_with c a).reads ≡ c.reads
 answer_reads c (bundled b) = refl
-answer_reads c (bad_hello at) = refl
-answer_reads c (other_roster given) = refl
-answer_reads c (limited limit) = refl
+answer_reads c other = refl
 
 bundle_reads : (here : Setting) (sign : Signs) (c : Correct) (hello : List ℕ) → (bundle_by here sign c hello).reads ≡ c.reads
 unfolding bundle_by
@@ -54,9 +52,7 @@ give_reads here c stream = refl
 
 bundle_step_reads : (s : Session) (hello file : List ℕ) (d : Deed) (a : BundleAnswer) → d.reads ≡ s.correct.reads → (bundle_step s hello file d a).session.correct.reads ≡ s.correct.reads
 bundle_step_reads s hello file d (bundled b) e = e
-bundle_step_reads s hello file d (bad_hello at) e = e
-bundle_step_reads s hello file d (other_roster given) e = e
-bundle_step_reads s hello file d (limited limit) e = e
+bundle_step_reads s hello file d other e = e
 
 -- ---- correct nodes
 

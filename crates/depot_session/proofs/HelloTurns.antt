@@ -1,5 +1,5 @@
 -- How the command of a hello turns out.
-use Rattle.std.proofs.Common.{◌≡◌, ℕ, IsTrue, List, ◌++◌, Option, None, Result, refl, sym, ap, subst, ◌∙◌, codes, take}
+use Rattle.std.proofs.Common.{◌≡◌, ℕ, IsTrue, List, Option, None, Result, refl, sym, ap, subst, ◌∙◌}
 use Rattle.std.proofs.lemmas.List.{append-nil}
 use Rattle.depot_base.specs.declared.record.Record.{Record}
 use Rattle.depot_model.specs.Bundle.{Signs}
@@ -8,24 +8,23 @@ use Rattle.depot_model.specs.Hello.{hello_of, text_of_hello}
 use Rattle.depot_model.specs.declared.replica.Replica.{Ghosts}
 use Rattle.depot_answers.specs.Answers.{spaced, text_of_named}
 use Rattle.depot_outside.specs.Told.{Shelves, Sinks}
-use Rattle.depot_schedule.specs.Language.{join}
-use Rattle.depot_script.specs.Scripts.{command_words}
 use Rattle.depot_script.specs.declared.command.Command.TheVariants as command
 use Rattle.depot_world.specs.Deeds.{hello_by}
 use Rattle.depot_world.specs.Transcript.{ended}
 use Rattle.depot_session.specs.declared.ending.Ending.{Ending}
-use Rattle.depot_session.specs.Sessions.{Session, printed_count, step_of, stored}
+use Rattle.depot_session.specs.Sessions.{Session, step_of, stored}
 use Rattle.depot_session.specs.ScriptTelling.{Stores}
 use Rattle.depot_session.specs.Turns.{IsAt, IsRunning, Turns}
-use Rattle.depot_session.proofs.StepGrowth.{step_grows}
-use Rattle.depot_session.proofs.Stepping.{brings_uncalled, leaves_uncalled, stable, stored_alike, stored_told}
+use Rattle.depot_session.proofs.StoredFiles.{stored_alike}
+use Rattle.depot_session.proofs.Turning.{command_text}
+use Rattle.depot_session.proofs.Uncalled.{uncalled_stored}
 
 -- the text of the step is that of the command and the line of the hello
 hello_text : (here : Setting) (sign : Signs) (s : Session) (J : List Record) (file line : List ℕ) → s.correct.journal ≡ J → line ≡ ended (spaced (text_of_named (hello_of here J)))
-    → join 32 (take (printed_count (command.Hello file)) (command_words (command.Hello file))) ++ codes " ->" ++ line ≡ (step_of here sign s (command.Hello file)).text
+    → command_text (command.Hello file) line ≡ (step_of here sign s (command.Hello file)).text
 unfolding step_of hello_by
 hello_text here sign s J file line journal is =
-    ap (λ (x : List ℕ). join 32 (take (printed_count (command.Hello file)) (command_words (command.Hello file))) ++ codes " ->" ++ x) (is ∙ ap (λ (K : List Record). ended (spaced (text_of_named (hello_of here K)))) (sym journal) ∙ sym (append-nil (ended (spaced (text_of_named (hello_of here s.correct.journal))))))
+    ap (command_text (command.Hello file)) (is ∙ ap (λ (K : List Record). ended (spaced (text_of_named (hello_of here K)))) (sym journal) ∙ sym (append-nil (ended (spaced (text_of_named (hello_of here s.correct.journal))))))
 
 -- the files after the step
 hello_files : (here : Setting) (sign : Signs) (s : Session) (J : List Record) (file text : List ℕ) (files : List ℕ → Option (List ℕ)) → s.correct.journal ≡ J → text ≡ text_of_hello (hello_of here J) → ((name : List ℕ) → files name ≡ s.files name) → (other : List ℕ)
@@ -37,19 +36,16 @@ hello_goes_on : (here : Setting) (sign : Signs) (s : Session) (file : List ℕ) 
 unfolding step_of
 hello_goes_on here sign s file = refl
 
-hello_keeps : (here : Setting) (sign : Signs) (s : Session) (file : List ℕ) → s.correct.journal ≡ (step_of here sign s (command.Hello file)).session.correct.journal
+hello_stays : (here : Setting) (sign : Signs) (s : Session) (file : List ℕ) → (step_of here sign s (command.Hello file)).session.correct.journal ≡ s.correct.journal
 unfolding step_of hello_by
-hello_keeps here sign s file = refl
+hello_stays here sign s file = refl
 
 -- the hello was stored and its line told, or not
 pub hello_turns : {N O : Type 0} (g : Ghosts N O) (v : N) (s : Session) (file text line : List ℕ) (shelf : Shelves) (sink : Sinks) (r : Result (Unit {0}) Ending) → IsRunning g v → IsAt (g.stands v) (g.records v) shelf.file s
-    → text ≡ text_of_hello (hello_of (g.stands v) (g.records v)) → line ≡ ended (spaced (text_of_named (hello_of (g.stands v) (g.records v)))) → IsTrue shelf.tells
-    → Stores shelf sink (join 32 (take (printed_count (command.Hello file)) (command_words (command.Hello file))) ++ codes " ->" ++ line) file text r → Turns g v v (command.Hello file) (step_of (g.stands v) (g.signature_of v) s (command.Hello file)) shelf sink r
-hello_turns g v s file text line shelf sink r running at text_is line_is tells st =
+    → text ≡ text_of_hello (hello_of (g.stands v) (g.records v)) → line ≡ ended (spaced (text_of_named (hello_of (g.stands v) (g.records v)))) → IsTrue shelf.tells → Stores shelf sink (command_text (command.Hello file) line) file text r
+    → Turns g v v (command.Hello file) (step_of (g.stands v) (g.signature_of v) s (command.Hello file)) shelf sink r
+hello_turns g v s file text line shelf sink r running at text_is line_is tells stores =
     let here = g.stands v in
     let sign = g.signature_of v in
-    let c = command.Hello file in
-    let step = step_of here sign s c in
-    let grown = step_grows here sign s c in
-    stored_told g v v c step shelf sink grown.more (brings_uncalled g v s running at.journal c step grown) (leaves_uncalled g v s running at.journal c step grown) file text (λ other is. is) (hello_goes_on here sign s file) running.runs (sym at.journal ∙ hello_keeps here sign s file)
-    (stable g v s running at.journal c step grown) r (hello_files here sign s (g.records v) file text shelf.file at.journal text_is at.same_files) tells (subst (λ (x : List ℕ). Stores shelf sink x file text r) (hello_text here sign s (g.records v) file line at.journal line_is) st)
+    uncalled_stored g v running s (command.Hello file) shelf sink at file text (λ other is. is) (hello_goes_on here sign s file) (hello_stays here sign s file ∙ at.journal) r
+    (hello_files here sign s (g.records v) file text shelf.file at.journal text_is at.same_files) tells (subst (λ (x : List ℕ). Stores shelf sink x file text r) (hello_text here sign s (g.records v) file line at.journal line_is) stores)

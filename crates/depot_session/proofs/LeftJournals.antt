@@ -6,7 +6,7 @@ use Rattle.depot_base.specs.declared.record.Record.{Record}
 use Rattle.depot_model.specs.Checks.{Setting}
 use Rattle.depot_model.specs.Records.{text_of_record}
 use Rattle.depot_model.specs.Stops.{HasAll, HasFront, HasRecords, Lasts}
-use Rattle.depot_gossip.specs.Lasting.{IsToAppend, LastsIn}
+use Rattle.depot_feeds.specs.Lasting.{LastsIn}
 
 -- all records of a node that runs
 pub all_there : (J : List Record) (file : List ℕ) → HasAll J false file → HasRecords J file
@@ -24,10 +24,7 @@ module _ {N : Type 0} {tells stopped : N → Bool} {records : N → List Record}
       let only = lasts.any_moment t runs in
       only.each file (counts_now new (moment old) file only.later left)
 
--- what a call was to append it was to append, failed or not
-pub appended_so : (here : Setting) (J new then : List Record) (failed : Bool) → IsToAppend here J new then false → IsToAppend here J new then failed
-appended_so here J new then failed a = record { lawful = a.lawful; count = a.count; front = a.front; all = λ _. a.all refl }
-
+-- what a call was to append it was to append, where more failed than the call
 pub lasts_so : {N : Type 0} {tells stopped : N → Bool} {records : N → List Record} {moment : N → ℕ} {left_since : N → ℕ → List ℕ → Type 0} {may_leave : N → List ℕ → Type 0}
-    → (here : Setting) (failed : Bool) (old new : N) → LastsIn tells stopped records moment left_since may_leave here false old new → LastsIn tells stopped records moment left_since may_leave here failed old new
-lasts_so {records = records} here failed old new l = record { appends = l.appends; is = appended_so here (records old) l.appends (records new) failed l.is; lasts = l.lasts }
+    → (here : Setting) (was failed : Bool) (old new : N) → (failed ≡ false → was ≡ false) → LastsIn tells stopped records moment left_since may_leave here was old new → LastsIn tells stopped records moment left_since may_leave here failed old new
+lasts_so here was failed old new so l = record { appends = l.appends; is = record { lawful = l.is.lawful; count = l.is.count; front = l.is.front; all = λ well. l.is.all (so well) }; lasts = l.lasts }

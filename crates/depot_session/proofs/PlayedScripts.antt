@@ -1,18 +1,17 @@
 -- A script that is played, command by command.
-use Rattle.std.proofs.Common.{◌≡◌, ◌≤◌, ◌<◌, ◌⊎◌, ℕ, suc, ◌+◌, Bool, false, IsTrue, List, [], ◌∷◌, ◌++◌, append_assoc, length, get_or, take, drop, take-append-drop, drop-cons, Some, None, Result, Ok, Err, refl, sym, ap, subst, ◌∙◌, arith, inl, inr}
+use Rattle.std.proofs.Common.{◌≡◌, ◌≤◌, ◌<◌, ℕ, suc, ◌+◌, Bool, false, IsTrue, List, [], ◌∷◌, ◌++◌, append_assoc, length, get_or, take, drop, take-append-drop, drop-cons, Some, None, Result, Ok, Err, refl, sym, ap, subst, ◌∙◌, arith, inl, inr}
 use Rattle.std.specs.Prelude.{is_err}
-use Rattle.std.proofs.lemmas.List.{append-nil, take_all, take_more, take-append-le}
-use Rattle.std.proofs.Math.Seq.{take-append_seam}
+use Rattle.std.proofs.lemmas.List.{append-nil, take_all, take_more}
 use Rattle.std.proofs.lemmas.List.Concat.{flat_map-append}
 use Rattle.std.specs.List.{flat_map}
 use Rattle.depot_base.specs.declared.record.Record.{Record}
-use Rattle.depot_gossip.specs.Lasting.{LastsIn}
-use Rattle.depot_gossip.proofs.LastingStreams.{joined_in, nothing_in}
+use Rattle.depot_feeds.specs.Lasting.{LastsIn}
+use Rattle.depot_feeds.proofs.LastingStreams.{front_longer, joined_in, nothing_in}
 use Rattle.depot_model.specs.Bundle.{Signs}
 use Rattle.depot_model.specs.Checks.{Setting}
 use Rattle.depot_model.specs.Lawful.{IsLawful}
 use Rattle.depot_model.specs.Replicas.{IsSameNode}
-use Rattle.depot_model.specs.Stops.{HasFront, HasRecords, LeavesAll}
+use Rattle.depot_model.specs.Stops.{HasFront, LeavesAll}
 use Rattle.depot_model.specs.World.{IsCorrect}
 use Rattle.depot_model.specs.declared.replica.Replica.{Ghosts}
 use Rattle.depot_outside.specs.Told.{Shelves, Sinks, Wrote, shelves, sinks}
@@ -28,6 +27,7 @@ use Rattle.depot_session.specs.Turns.{IsAt, IsBroken, IsPlayed, IsPlayedInPart, 
 use Rattle.depot_session.proofs.CorrectSteps.{step_is_correct}
 use Rattle.depot_session.proofs.StepGrowth.{step_stays}
 use Rattle.depot_session.proofs.GoingOn.{GoOn, all_done, ended_answers, go_on_more, more_answers, script_grows}
+use Rattle.depot_session.proofs.Uncalled.{leaves_all}
 
 -- ---- what holds between two commands
 
@@ -62,28 +62,14 @@ command_between cs i c within is = sym (take-append-drop i cs) ∙ ap (λ (x : L
 
 -- ---- fronts and faults
 
--- a front of some records is a front of these and more
-pub front_longer : (J a b : List Record) (file : List ℕ) → HasFront J a file → HasFront J (a ++ b) file
-front_longer J a b file front = by_count (less_or_more front.count (length a)) where
-  less_or_more : (m n : ℕ) → (m ≤ n) ⊎ (n ≤ m)
-  less_or_more m n = grind arith
-
-  by_count : (front.count ≤ length a) ⊎ (length a ≤ front.count) → HasFront J (a ++ b) file
-  by_count (inl le) = record { count = front.count; has = subst (λ (x : List Record). HasRecords (J ++ x) file) (sym (take-append-le front.count a b le)) front.has }
-  by_count (inr ge) = record { count = length a; has = subst (λ (x : List Record). HasRecords (J ++ x) file) (take_all front.count a ge ∙ sym (take-append_seam a b)) front.has }
-
--- a cause that came after a later moment came after an earlier one
-cut_from : (late early : Type 0) (shelf_late shelf_early : Shelves) (sink_late sink_early : Sinks) (e : Ending) → (late → early) → (shelf_late.faults_before < shelf_late.faults_after → shelf_early.faults_before < shelf_early.faults_after)
+-- what cut a run short where less had failed cut it short
+pub cut_so : (late early : Type 0) (shelf_late shelf_early : Shelves) (sink_late sink_early : Sinks) (e : Ending) → (late → early) → (shelf_late.faults_before < shelf_late.faults_after → shelf_early.faults_before < shelf_early.faults_after)
     → (sink_late.faults_before < sink_late.faults_after → sink_early.faults_before < sink_early.faults_after) → IsCutBy late shelf_late sink_late e → IsCutBy early shelf_early sink_early e
-cut_from late early shelf_late shelf_early sink_late sink_early ending.Memory disk shelf sink cut = tt
-cut_from late early shelf_late shelf_early sink_late sink_early ending.Disk disk shelf sink cut = disk cut
-cut_from late early shelf_late shelf_early sink_late sink_early ending.Shelf disk shelf sink cut = shelf cut
-cut_from late early shelf_late shelf_early sink_late sink_early ending.Sink disk shelf sink cut = sink cut
-cut_from late early shelf_late shelf_early sink_late sink_early ending.Done disk shelf sink cut = absurd cut
-cut_from late early shelf_late shelf_early sink_late sink_early ending.Input disk shelf sink cut = absurd cut
-cut_from late early shelf_late shelf_early sink_late sink_early ending.Limit disk shelf sink cut = absurd cut
-cut_from late early shelf_late shelf_early sink_late sink_early ending.NotLawful disk shelf sink cut = absurd cut
-cut_from late early shelf_late shelf_early sink_late sink_early ending.Identity disk shelf sink cut = absurd cut
+cut_so late early shelf_late shelf_early sink_late sink_early ending.Memory disk shelf sink cut = tt
+cut_so late early shelf_late shelf_early sink_late sink_early ending.Disk disk shelf sink cut = disk cut
+cut_so late early shelf_late shelf_early sink_late sink_early ending.Shelf disk shelf sink cut = shelf cut
+cut_so late early shelf_late shelf_early sink_late sink_early ending.Sink disk shelf sink cut = sink cut
+cut_so late early shelf_late shelf_early sink_late sink_early other disk shelf sink cut = absurd cut
 
 -- what was to be written where less had failed, and where less stood, was to be written
 to_be_written_so : (a b : Pending) → ((name : List ℕ) → a.names name → b.names name) → a.text ≡ b.text → (a.stands → b.stands) → (a.disk_failed → b.disk_failed) → (a.shelf_failed → b.shelf_failed) → (line : List ℕ) → IsToBeWritten a line → IsToBeWritten b line
@@ -96,13 +82,7 @@ pub last_so : (a b : Pending) → ((name : List ℕ) → a.names name → b.name
 last_so a b names text stands disk shelf ending.Sink last (inl none) = inl none
 last_so a b names text stands disk shelf ending.Sink last (inr front) = inr (front.0, (to_be_written_so a b names text stands disk shelf front.0 front.1.0, front.1.1))
 last_so a b names text stands disk shelf ending.Shelf last is = (is.0, (names is.0 is.1.0, is.1.1))
-last_so a b names text stands disk shelf ending.Disk last is = is
-last_so a b names text stands disk shelf ending.Memory last is = is
-last_so a b names text stands disk shelf ending.Done last is = is
-last_so a b names text stands disk shelf ending.Input last is = is
-last_so a b names text stands disk shelf ending.Limit last is = is
-last_so a b names text stands disk shelf ending.NotLawful last is = is
-last_so a b names text stands disk shelf ending.Identity last is = is
+last_so a b names text stands disk shelf other last is = is
 
 -- a text behind another one
 text_behind : (told told_now : Bool) (old mid new a b : List ℕ) → told_now ≡ told → (IsTrue told → mid ≡ old ++ a) → (IsTrue told_now → new ≡ mid ++ b) → IsTrue told → new ≡ old ++ (a ++ b)
@@ -203,7 +183,7 @@ module _ {N O F K : Type 0} (g : Ghosts N O) (f : shelf_of.Ghosts F) (k : sink_o
         let step = step_of here sign was.session c in
         let grown = script_grows here sign s done c rest are.go_on in
         record {
-          cut = cut_from (g.faults mid < g.faults new) (g.faults first < g.faults new) (shelves f shelf_mid shelf_new) (shelves f shelf_first shelf_new) (sinks k out_mid out_new) (sinks k out_first out_new) e
+          cut = cut_so (g.faults mid < g.faults new) (g.faults first < g.faults new) (shelves f shelf_mid shelf_new) (shelves f shelf_first shelf_new) (sinks k out_mid out_new) (sinks k out_first out_new) e
               (λ rose. omega (arith, kept.disk_later, rose)) (λ rose. omega (arith, kept.quiet, rose)) (λ rose. omega (arith, kept.sink_later, rose)) b.cut;
           done = done;
           rest = c ∷ rest;
@@ -259,7 +239,7 @@ module _ {N O F K : Type 0} (g : Ghosts N O) (f : shelf_of.Ghosts F) (k : sink_o
     same = record { stands = refl; key = refl; signs = refl };
     handle = refl;
     running = running;
-    lasts = nothing_in only_now (g.stands v) false v lawful (λ t. subst (λ (x : Bool). LeavesAll (g.records v) x (g.may_leave v)) (sym running.runs) (running.stable t));
+    lasts = nothing_in only_now (g.stands v) false v lawful (leaves_all g v running);
     disk_later = omega arith;
     sink_later = omega arith;
     same_sink = refl;

@@ -1,6 +1,7 @@
 -- What a put makes of a node, of the shelf and of the sink.
-use Rattle.std.proofs.Common.{◌≡◌, ◌<◌, ◌≤◌, ◌⊎◌, ℕ, Bool, true, false, IsTrue, List, [], ◌∷◌, ◌++◌, take, Option, Some, None, Result, Ok, Err, refl, sym, ap, subst, ◌∙◌, ◌↔◌, ⊎_elim, codes, inl}
+use Rattle.std.proofs.Common.{◌≡◌, ◌<◌, ◌≤◌, ◌⊎◌, ℕ, Bool, true, false, IsTrue, List, [], ◌∷◌, ◌++◌, Option, Some, None, Result, Ok, Err, refl, sym, ap, subst, ◌∙◌, ◌↔◌, inl}
 use Rattle.std.specs.Prelude.{IfErr, IsErrOf, is_err}
+use Rattle.std.specs.Result.{IsErrAnd}
 use Rattle.std.proofs.lemmas.List.{append-nil}
 use Rattle.depot_base.specs.Sized.{IsKey, IsValue}
 use Rattle.depot_base.specs.declared.record.Record.{Record}
@@ -8,9 +9,10 @@ use Rattle.depot_base.specs.declared.record.Record.TheVariants.{OwnPut}
 use Rattle.depot_deeds.specs.declared.printed.Printed.{Printed}
 use Rattle.depot_deeds.specs.Printing.{IsPrintOf, lines_of_deed}
 use Rattle.depot_deeds.specs.PutPrinting.{SettlesPut}
+use Rattle.depot_deeds.proofs.FedStreams.{runs_on}
 use Rattle.depot_deeds.proofs.PutTexts.{deed_within, put_lawful}
-use Rattle.depot_gossip.specs.Lasting.{LastsIn}
-use Rattle.depot_gossip.proofs.LastingStreams.{all_of, cut_of, lasts_alike, lasts_longer, none_in, to_append, IsPart}
+use Rattle.depot_feeds.specs.Lasting.{LastsIn}
+use Rattle.depot_feeds.proofs.LastingStreams.{all_of, cut_of, lasts_alike, lasts_longer, none_in, to_append, IsPart}
 use Rattle.depot_model.specs.Bundle.{Signs}
 use Rattle.depot_model.specs.Checks.{Setting}
 use Rattle.depot_model.specs.Lawful.{IsLawful, is_empty}
@@ -24,20 +26,20 @@ use Rattle.depot_decide.specs.Putting.{Puts, put_records}
 use Rattle.depot_decide.specs.declared.put_answers.PutDone.{PutDone}
 use Rattle.depot_decide.specs.declared.put_answers.PutError.{PutError}
 use Rattle.depot_decide.specs.declared.put_answers.PutError.TheVariants as refused
-use Rattle.depot_outside.specs.Told.{Shelves, Sinks, Wrote}
-use Rattle.depot_schedule.specs.Language.{join}
-use Rattle.depot_script.specs.Scripts.{command_words}
+use Rattle.depot_outside.specs.Told.{Shelves, Sinks}
 use Rattle.depot_script.specs.declared.command.Command.{Command}
 use Rattle.depot_script.specs.declared.command.Command.TheVariants as command
 use Rattle.depot_session.specs.declared.ending.Ending.{Ending}
 use Rattle.depot_session.specs.declared.ending.Ending.TheVariants as ending
 use Rattle.depot_session.specs.SessionRuns.{IsHandedOut, disk_line}
-use Rattle.depot_session.specs.Sessions.{Session, Step, ending_of_put, printed_count, step_of}
+use Rattle.depot_session.specs.Sessions.{Session, Step, ending_of_put, step_of}
 use Rattle.depot_session.specs.ScriptTelling.{IsFaultTold, IsUnchanged, Tells}
-use Rattle.depot_session.specs.Turns.{HasNoFault, IsAt, IsBroken, IsRunning, Keeps, LeftBy, Turns}
+use Rattle.depot_session.specs.Turns.{HasNoFault, IsAt, IsRunning, Keeps, LeftBy, Turns}
+use Rattle.depot_session.proofs.Called.{keeps_called, not_where_some}
 use Rattle.depot_session.proofs.LeftJournals.{leaves_front}
 use Rattle.depot_session.proofs.ToldFaults.{EndsCalmly, NamesFaults}
-use Rattle.depot_session.proofs.Turning.{disk_told, told, without_memory}
+use Rattle.depot_session.proofs.Turning.{command_text, disk_told, told, without_memory}
+use Rattle.depot_session.proofs.UnwrittenTexts.{nothing_written}
 use Rattle.depot_world.specs.Deeds.{idle, put_by}
 use Rattle.depot_world.specs.ScheduleStops.{Deed}
 
@@ -57,13 +59,6 @@ ends_of_put (Err e) = Some ending.Limit
 pub put_ends_calmly : (done : Result PutDone PutError) → EndsCalmly (ends_of_put done)
 put_ends_calmly (Ok d) = tt
 put_ends_calmly (Err e) = tt
-
--- A node runs on where it ran and its disk didn't fail.
-pub runs_by : (before now : Bool) (stopped failed : Type 0) → before ≡ false → (failed → ⊥) → StopsBy before now stopped failed → now ≡ false
-runs_by before false stopped failed ran well stops = refl
-runs_by before true stopped failed ran well stops = absurd (⊎_elim (λ was. untrue (sym was ∙ ran)) well (stops.left.0 refl)) where
-  untrue : true ≡ false → ⊥
-  untrue e = cc
 
 -- where a run without fault means that the disk didn't fail, one after which it failed ended
 pub ends_failed : (r : Result (Unit {0}) Ending) (failed : Type 0) → (HasNoFault r → failed → ⊥) → failed → is_err r ≡ true
@@ -88,9 +83,9 @@ put_journal here sign s key value (Some limit) same is = ap (λ (x : Deed). x.jo
 
 -- what is printed of it
 put_text : (here : Setting) (sign : Signs) (s : Session) (key value line : List ℕ) → line ≡ lines_of_deed (put_by here s.correct key value)
-    → join 32 (take (printed_count (command.Put key value)) (command_words (command.Put key value))) ++ codes " ->" ++ line ≡ (step_of here sign s (command.Put key value)).text
+    → command_text (command.Put key value) line ≡ (step_of here sign s (command.Put key value)).text
 unfolding step_of
-put_text here sign s key value line is = ap (λ (x : List ℕ). join 32 (take (printed_count (command.Put key value)) (command_words (command.Put key value))) ++ codes " ->" ++ x) is
+put_text here sign s key value line is = ap (command_text (command.Put key value)) is
 
 -- how it ends the run
 put_ends : (here : Setting) (sign : Signs) (s : Session) (key value : List ℕ) → (step_of here sign s (command.Put key value)).ending ≡ ending_of_put (limit_of_put here s.correct.journal key value)
@@ -103,10 +98,6 @@ unfolding step_of
 put_files here sign s key value name = refl
 
 -- ---- the call on the node
-
--- something isn't nothing
-pub some_there : {A : Type 0} (o : Option A) (x : A) → o ≡ Some x → o ≡ None → ⊥
-some_there o x some none = cc
 
 module _ {N O : Type 0} (g : Ghosts N O) (old new : N) (key value : List ℕ) (done : Result PutDone PutError) (running : IsRunning g old) (puts : Puts (g.stands old) (g.records old) key value done (g.records new))
     (lasts : Lasts g.tells g.stopped g.records g.moment g.left_since g.may_leave old new (put_records (g.stands old) (g.records old) key value))
@@ -139,25 +130,12 @@ module _ {N O : Type 0} (g : Ghosts N O) (old new : N) (key value : List ℕ) (d
       by_answer (Err refused.Disk) is p idle = put_appends failed p.0 (subst (λ (b : Bool). IsPart J (put_records here J key value) (g.records new) b) (sym (fails is)) (cut_of J (put_records here J key value) (g.records new) p.1))
       by_answer (Err refused.Memory) is p idle = none_in here failed old new lawful p (idle (λ e. cc))
       by_answer (Err refused.Stopped) is p idle = none_in here failed old new lawful p (idle (λ e. cc))
-      by_answer (Err (refused.Spent n)) is p idle = none_in here failed old new lawful p.1 (idle (λ e. cc))
-      by_answer (Err (refused.Tips n)) is p idle = none_in here failed old new lawful p.1 (idle (λ e. cc))
-      by_answer (Err (refused.Collides h)) is p idle = none_in here failed old new lawful p.1 (idle (λ e. cc))
-      by_answer (Err (refused.Full what)) is p idle = none_in here failed old new lawful p.1 (idle (λ e. cc))
+      by_answer (Err other) is p idle = none_in here failed old new lawful p.1 (idle (λ e. cc))
 
     -- what the put leaves of the node
     pub put_keeps : (sink : Sinks) (r : Result (Unit {0}) Ending) → IsSameNode (g.stands old) (g.stands new) (g.key old) (g.key new) (g.signature_of old) (g.signature_of new) → StopsBy (g.stopped old) (g.stopped new) (IsErrOf done refused.Stopped) (IsErrOf done refused.Disk)
-        → KeepsDisk (g.handle old) (g.handle new) (g.faults old) (g.faults new) (g.is_faultless old) (g.is_faultless new) (IsErrOf done refused.Disk) → (HasNoFault r → IsErrOf done refused.Disk → ⊥) → sink.faults_before ≤ sink.faults_after → NamesFaults (g.faults old < g.faults new) sink r → Keeps g old new sink r
-    put_keeps sink r stays stops disk settles later names = record {
-      same = stays;
-      handle = disk.same;
-      lasts = put_lasts (is_err r) (ends_failed r (IsErrOf done refused.Disk) settles);
-      runs_on = λ calm. runs_by _ _ _ _ running.runs (settles calm) stops;
-      disk_later = disk.cause.never_falls;
-      disk_failed = names.of_disk;
-      sink_later = later;
-      sink_failed = names.of_sink;
-      no_refusal = names.no_refusal;
-    }
+        → KeepsDisk (g.handle old) (g.handle new) (g.faults old) (g.faults new) (g.is_faultless old) (g.is_faultless new) (IsErrOf done refused.Disk) → (HasNoFault r → IsErrOf done refused.Disk → ⊥) → NamesFaults (g.faults old < g.faults new) sink r → Keeps g old new sink r
+    put_keeps sink r stays stops disk settles = keeps_called g old new sink r (IsErrOf done refused.Disk) stays disk (put_lasts (is_err r) (ends_failed r (IsErrOf done refused.Disk) settles)) (λ calm. runs_on _ _ _ _ stops running.runs (settles calm))
 
   -- ---- what it came to
 
@@ -176,18 +154,10 @@ module _ {N O : Type 0} (g : Ghosts N O) (old new : N) (key value : List ℕ) (d
   -- a stop leaves a front of them
   lasts_more : Lasts g.tells g.stopped g.records g.moment g.left_since g.may_leave old new more
   lasts_more = by_answer done puts without where
-    none : Lasts g.tells g.stopped g.records g.moment g.left_since g.may_leave old new [] → Lasts g.tells g.stopped g.records g.moment g.left_since g.may_leave old new more
-    none idle = lasts_longer old new [] more idle
-
     by_answer : (r : Result PutDone PutError) → Puts here J key value r (g.records new) → IfErr r (λ e. (e ≡ refused.Disk → ⊥) → Lasts g.tells g.stopped g.records g.moment g.left_since g.may_leave old new []) → Lasts g.tells g.stopped g.records g.moment g.left_since g.may_leave old new more
     by_answer (Ok d) p idle = lasts_alike old new (put_records here J key value) more (sym (whole p.0)) lasts
     by_answer (Err refused.Disk) p idle = lasts_alike old new (put_records here J key value) more (sym (whole p.0)) lasts
-    by_answer (Err refused.Memory) p idle = none (idle (λ e. cc))
-    by_answer (Err refused.Stopped) p idle = none (idle (λ e. cc))
-    by_answer (Err (refused.Spent n)) p idle = none (idle (λ e. cc))
-    by_answer (Err (refused.Tips n)) p idle = none (idle (λ e. cc))
-    by_answer (Err (refused.Collides h)) p idle = none (idle (λ e. cc))
-    by_answer (Err (refused.Full what)) p idle = none (idle (λ e. cc))
+    by_answer (Err other) p idle = lasts_longer old new [] more (idle (λ e. cc))
 
   -- where neither the disk failed nor memory was wanting, the journal has grown by what the put brings
   grown_by : SettlesPut done → (IsErrOf done refused.Disk → ⊥) → g.records new ≡ J ++ more
@@ -200,10 +170,7 @@ module _ {N O : Type 0} (g : Ghosts N O) (old new : N) (key value : List ℕ) (d
     by_answer (Err refused.Disk) p settled well = absurd (well refl)
     by_answer (Err refused.Memory) p settled well = absurd settled
     by_answer (Err refused.Stopped) p settled well = absurd settled
-    by_answer (Err (refused.Spent n)) p settled well = none _ p.0 p.1
-    by_answer (Err (refused.Tips n)) p settled well = none _ p.0 p.1
-    by_answer (Err (refused.Collides h)) p settled well = none _ p.0 p.1
-    by_answer (Err (refused.Full what)) p settled well = none _ p.0 p.1
+    by_answer (Err other) p settled well = none _ p.0 p.1
 
   -- then the run ends where the put met a limit
   ends_by : SettlesPut done → (IsErrOf done refused.Disk → ⊥) → ending_of_put (limit_of_put here J key value) ≡ ends_of_put done
@@ -213,13 +180,13 @@ module _ {N O : Type 0} (g : Ghosts N O) (old new : N) (key value : List ℕ) (d
     by_answer (Err refused.Disk) p settled well = absurd (well refl)
     by_answer (Err refused.Memory) p settled well = absurd settled
     by_answer (Err refused.Stopped) p settled well = absurd settled
-    by_answer (Err (refused.Spent n)) p settled well = ap ending_of_put p.0
-    by_answer (Err (refused.Tips n)) p settled well = ap ending_of_put p.0
-    by_answer (Err (refused.Collides h)) p settled well = ap ending_of_put p.0
-    by_answer (Err (refused.Full what)) p settled well = ap ending_of_put p.0
+    by_answer (Err other) p settled well = ap ending_of_put p.0
 
-  module _ (counts_now : (v : N) (t : ℕ) (file : List ℕ) → t ≤ g.moment v → g.may_leave v file → g.left_since v t file) (sign : Signs) (c : Command) (is_put : c ≡ command.Put key value) (shelf : Shelves) (sink : Sinks) (s : Session) (unchanged : IsUnchanged shelf)
+  module _ (counts_now : (v : N) (t : ℕ) (file : List ℕ) → t ≤ g.moment v → g.may_leave v file → g.left_since v t file) (c : Command) (is_put : c ≡ command.Put key value) (shelf : Shelves) (sink : Sinks) (s : Session) (unchanged : IsUnchanged shelf)
       (at : IsAt (g.stands old) (g.records old) shelf.file s) where
+    abbrev sign : Signs
+    sign = g.signature_of old
+
     -- what it is to come to
     abbrev step : Step
     step = step_of here sign s (command.Put key value)
@@ -240,31 +207,35 @@ module _ {N O : Type 0} (g : Ghosts N O) (old new : N) (key value : List ℕ) (d
     others : (name : List ℕ) → (shelf.file_after name ≡ shelf.file name) ⊎ IsHandedOut (LeftBy g old new) (command.Put key value) step name
     others name = inl (unchanged name)
 
+    -- of equal commands one turns out as the other
+    as_put : (r : Result (Unit {0}) Ending) → Turns g old new (command.Put key value) step shelf sink r → Turns g old new c (step_of here sign s c) shelf sink r
+    as_put r turns = subst (λ (x : Command). Turns g old new x (step_of here sign s x) shelf sink r) (sym is_put) turns
+
     -- no memory was found for what is printed of it
-    pub put_unprinted : Wrote sink [] → IsBroken g old new c (step_of here sign s c) shelf sink ending.Memory
-    put_unprinted wrote = subst (λ (x : Command). IsBroken g old new x (step_of here sign s x) shelf sink ending.Memory) (sym is_put) (without_memory g old new (command.Put key value) step shelf sink more brings leaves others wrote)
+    pub put_without_memory : (r : Result (Unit {0}) Ending) → IsErrAnd r (λ e. e ≡ ending.Memory) → sink.after ≡ sink.before → Turns g old new c (step_of here sign s c) shelf sink r
+    put_without_memory r is same = as_put r (without_memory g old new (command.Put key value) step shelf sink more brings leaves others r is (nothing_written sink same))
 
     -- the disk failed, and it was told, or not
-    pub put_failed : (e : Ending) → g.faults old < g.faults new → IsFaultTold sink disk_line ending.Disk e → IsBroken g old new c (step_of here sign s c) shelf sink e
-    put_failed e rose fault = subst (λ (x : Command). IsBroken g old new x (step_of here sign s x) shelf sink e) (sym is_put) (disk_told g old new (command.Put key value) step shelf sink more brings leaves others e rose fault)
+    pub put_to_disk : (e : Ending) → g.faults old < g.faults new → IsFaultTold sink disk_line ending.Disk e → Turns g old new c (step_of here sign s c) shelf sink (Err e)
+    put_to_disk e rose fault = as_put (Err e) (disk_told g old new (command.Put key value) step shelf sink more brings leaves others e rose fault)
 
     -- its lines were written, or not
     pub put_told : (ends : Option Ending) (r : Result (Unit {0}) Ending) (o : Option Printed) (p : Printed) → o ≡ Some p → (o ≡ None) ↔ IsErrOf done refused.Disk → SettlesPut done
         → ((there : Setting) (k : Correct) (x y : List ℕ) (then : List Record) → there.me ≡ k.node → Puts there k.journal x y done then → IsPrintOf o (put_by there k x y)) → ends ≡ ends_of_put done → StopsBy (g.stopped old) (g.stopped new) (IsErrOf done refused.Stopped) (IsErrOf done refused.Disk)
-        → Tells sink (join 32 (take (printed_count c) (command_words c)) ++ codes " ->" ++ p.lines) ends r → Turns g old new c (step_of here sign s c) shelf sink r
-    put_told ends r o p is stopped settled printed ends_so stops tells = subst (λ (x : Command). Turns g old new x (step_of here sign s x) shelf sink r) (sym is_put) so where
+        → Tells sink (command_text c p.lines) ends r → Turns g old new c (step_of here sign s c) shelf sink r
+    put_told ends r o p is stopped settled printed ends_so stops tells = as_put r so where
       well : IsErrOf done refused.Disk → ⊥
-      well failed = some_there o p is (stopped.1 failed)
+      well = not_where_some o p (IsErrOf done refused.Disk) is stopped.1
 
       lines : p.lines ≡ lines_of_deed (put_by here s.correct key value)
       lines = (subst (λ (x : Option Printed). IsPrintOf x (put_by here s.correct key value)) is (printed here s.correct key value (g.records new) (sym at.node) (subst (λ (K : List Record). Puts here K key value done (g.records new)) (sym at.journal) puts))).0
 
       tells_so : Tells sink step.text ends r
-      tells_so = subst (λ (text : List ℕ). Tells sink text ends r) (put_text here sign s key value p.lines lines) (subst (λ (x : Command). Tells sink (join 32 (take (printed_count x) (command_words x)) ++ codes " ->" ++ p.lines) ends r) is_put tells)
+      tells_so = subst (λ (text : List ℕ). Tells sink text ends r) (put_text here sign s key value p.lines lines) (subst (λ (x : Command). Tells sink (command_text x p.lines) ends r) is_put tells)
 
       ends_as : step.ending ≡ ends
       ends_as = put_ends here sign s key value ∙ ap ending_of_put same_limit ∙ ends_by settled well ∙ sym ends_so
 
       so : Turns g old new (command.Put key value) step shelf sink r
-      so = told g old new (command.Put key value) step shelf sink more brings leaves others (runs_by _ _ _ _ running.runs well stops) (grown_by settled well ∙ sym brings)
+      so = told g old new (command.Put key value) step shelf sink more brings leaves others (runs_on _ _ _ _ stops running.runs well) (grown_by settled well ∙ sym brings)
           (λ name. unchanged name ∙ at.same_files name ∙ sym (put_files here sign s key value name)) lasts.stable ends r ends_as tells_so

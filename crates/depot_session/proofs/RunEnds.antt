@@ -1,5 +1,5 @@
 -- How a run ends, by its start and its script.
-use Rattle.std.proofs.Common.{◌≡◌, ◌≢◌, ◌<◌, ◌⊎◌, ℕ, zero, suc, Bool, true, false, IsTrue, List, [], ◌∷◌, ◌++◌, append_assoc, take, Result, Ok, Err, refl, sym, ap, subst, ◌∙◌, inl, inr}
+use Rattle.std.proofs.Common.{◌≡◌, ◌≢◌, ◌<◌, ◌⊎◌, ℕ, zero, suc, Bool, true, IsTrue, List, [], ◌∷◌, ◌++◌, append_assoc, take, Result, Ok, Err, refl, sym, ap, subst, ◌∙◌, inl, inr}
 use Rattle.std.specs.Prelude.{IsErrOf}
 use Rattle.depot_base.specs.File.{IsFileOf}
 use Rattle.depot_base.specs.declared.record.Record.{Record}
@@ -15,7 +15,7 @@ use Rattle.depot_node.specs.Starting.{LeavesFile, birth_after, started}
 use Rattle.depot_node.specs.declared.start_error.StartError.{StartError}
 use Rattle.depot_node.specs.declared.start_error.StartError.TheVariants as refused
 use Rattle.depot_node.proofs.Started.{started_has_one, started_is_lawful}
-use Rattle.depot_outside.specs.Told.{Disks, Shelves, Sinks, Wrote, WroteFront}
+use Rattle.depot_outside.specs.Told.{Disks, Shelves, Sinks, Wrote}
 use Rattle.depot_script.specs.declared.command.Command.{Command}
 use Rattle.depot_world.proofs.GoodNodes.{read_grows}
 use Rattle.depot_session.specs.declared.ending.Ending.{Ending}
@@ -25,18 +25,10 @@ use Rattle.depot_session.specs.Sessions.{Files, Session, answers_of, session_fro
 use Rattle.depot_session.specs.ScriptTelling.{IsFaultTold, IsUnchanged, IsUnwritten}
 use Rattle.depot_session.specs.Turns.{HasNoFault, IsPlayed, IsPlayedInPart, LeftBy, Plays, ending_by}
 use Rattle.depot_session.proofs.LeftJournals.{all_there}
-use Rattle.depot_session.proofs.PlayedScripts.{last_so}
+use Rattle.depot_session.proofs.PlayedScripts.{cut_so, last_so}
 use Rattle.depot_session.proofs.RunImages.{birth_front}
 use Rattle.depot_session.proofs.StepGrowth.{answers_grow}
-
--- a front of a line was written, where the sink tells it
-front_written : (sink : Sinks) (line : List ℕ) → WroteFront sink line → (n : ℕ) × Wrote sink (take n line)
-front_written sink line front = by_tells sink.tells front where
-  by_tells : (b : Bool) → (IsTrue b → (n : ℕ) × (sink.after ≡ sink.before ++ take n line)) → (n : ℕ) × (IsTrue b → sink.after ≡ sink.before ++ take n line)
-  by_tells true f = ((f refl).0, λ _. (f refl).1)
-  by_tells false f = (0, λ told. absurd (untold told)) where
-    untold : IsTrue false → ⊥
-    untold e = cc
+use Rattle.depot_session.proofs.UnwrittenTexts.{front_written, of_unwritten}
 
 -- ---- a run that doesn't start, over a lawful journal
 
@@ -55,12 +47,19 @@ module _ (here : Setting) (sign : Signs) (J : List Record) (reads : List Read) (
   disk_pending [] failed = failed
   disk_pending (c ∷ cs) failed = failed
 
-  cut_at_start : (e : Ending) (last : List ℕ) → IsCutBy (HasFailed disk) shelf sink e → IsLast first e last → Wrote sink last → GoesShort here sign J (session_from here J reads shelf.file) commands disk shelf sink e
+  -- the run was cut short
+  abbrev IsShort : Ending → Type 0
+  IsShort e = GoesShort here sign J s commands disk shelf sink e
+
+  -- what a start leaves, the run leaves
+  front_at_start : (image : List ℕ) → disk.may_leave image ⊎ (IsFileOf disk.file [] × HasFront [] (birth_after here []) image) → LeavesFront [] disk.may_leave J (birth_after here J ++ (answers_grow here sign s commands).more) image
+  front_at_start image (inl was) = inl was
+  front_at_start image (inr p) = inr (birth_front here J (answers_grow here sign s commands).more disk.file image has p.0 p.1 (λ a b. longer a b image))
+
+  cut_at_start : (e : Ending) (last : List ℕ) → IsCutBy (HasFailed disk) shelf sink e → IsLast first e last → Wrote sink last → IsShort e
   unfolding answers_of
   cut_at_start e last cut last_is wrote =
       let g = answers_grow here sign s commands in
-      let birth = birth_after here J in
-      let left : (image : List ℕ) → disk.may_leave image ⊎ (IsFileOf disk.file [] × HasFront [] (birth_after here []) image) → LeavesFront [] disk.may_leave J (birth ++ g.more) image = by_image in
       record {
         cut = cut;
         done = [];
@@ -73,56 +72,31 @@ module _ (here : Setting) (sign : Signs) (J : List Record) (reads : List Read) (
         wrote = wrote;
         kept = J;
         kept_is = inr (refl, refl);
-        more = birth ++ g.more;
-        brings = g.is ∙ append_assoc J birth g.more;
-        leaves = λ image left_there. left image (images image left_there);
-        reads = left disk.file_after (images disk.file_after reads_as);
+        more = birth_after here J ++ g.more;
+        brings = g.is ∙ append_assoc J (birth_after here J) g.more;
+        leaves = λ image left. front_at_start image (images image left);
+        reads = front_at_start disk.file_after (images disk.file_after reads_as);
         files = λ name. inl (same_files name);
       }
-    where
-      by_image : (image : List ℕ) → disk.may_leave image ⊎ (IsFileOf disk.file [] × HasFront [] (birth_after here []) image) → LeavesFront [] disk.may_leave J (birth_after here J ++ (answers_grow here sign s commands).more) image
-      by_image image (inl was) = inl was
-      by_image image (inr p) = inr (birth_front here J (answers_grow here sign s commands).more disk.file image has p.0 p.1 (λ a b. longer a b image))
 
-  unwritten_at_start : (line : List ℕ) (e : Ending) → HasFailed disk → (line ≡ disk_line) → IsUnwritten sink line e → GoesShort here sign J (session_from here J reads shelf.file) commands disk shelf sink e
-  unwritten_at_start line ending.Memory failed is u = cut_at_start ending.Memory [] tt refl u
-  unwritten_at_start line ending.Sink failed is u = let f = front_written sink line u.1 in cut_at_start ending.Sink (take f.0 line) u.0 (inr (line, (inr (inl (disk_pending commands failed, is)), (f.0, refl)))) f.1
-  unwritten_at_start line ending.Done failed is u = absurd u
-  unwritten_at_start line ending.Input failed is u = absurd u
-  unwritten_at_start line ending.Shelf failed is u = absurd u
-  unwritten_at_start line ending.Disk failed is u = absurd u
-  unwritten_at_start line ending.Limit failed is u = absurd u
-  unwritten_at_start line ending.NotLawful failed is u = absurd u
-  unwritten_at_start line ending.Identity failed is u = absurd u
+  -- a line wasn't written of which each front may stand at last
+  unwritten_at_start : (line : List ℕ) → ((n : ℕ) → IsLast first ending.Sink (take n line)) → (e : Ending) → IsUnwritten sink line e → IsShort e
+  unwritten_at_start line fronts = of_unwritten sink line IsShort (cut_at_start ending.Memory [] tt refl) (λ rose front. let f = front_written sink line front in cut_at_start ending.Sink (take f.0 line) rose (fronts f.0) f.1)
 
-  nothing_at_start : (e : Ending) → IsUnwritten sink [] e → GoesShort here sign J (session_from here J reads shelf.file) commands disk shelf sink e
-  nothing_at_start ending.Memory u = cut_at_start ending.Memory [] tt refl u
-  nothing_at_start ending.Sink u =
-      let f = front_written sink [] u.1 in
-      cut_at_start ending.Sink [] u.0 (inl refl) (subst (λ (x : List ℕ). Wrote sink x) (none_of f.0) f.1)
-    where
-      none_of : (n : ℕ) → take {A = ℕ} n [] ≡ []
-      none_of zero = refl
-      none_of (suc n) = refl
-  nothing_at_start ending.Done u = absurd u
-  nothing_at_start ending.Input u = absurd u
-  nothing_at_start ending.Shelf u = absurd u
-  nothing_at_start ending.Disk u = absurd u
-  nothing_at_start ending.Limit u = absurd u
-  nothing_at_start ending.NotLawful u = absurd u
-  nothing_at_start ending.Identity u = absurd u
+  -- a fault was told of a start, or not
+  told_at_start : (line : List ℕ) (fault e : Ending) → IsCutBy (HasFailed disk) shelf sink fault → IsLast first fault line → ((n : ℕ) → IsLast first ending.Sink (take n line)) → IsFaultTold sink line fault e → IsShort e
+  told_at_start line fault e cut last_is fronts (inl t) = subst IsShort (sym t.0) (cut_at_start fault line cut last_is t.1)
+  told_at_start line fault e cut last_is fronts (inr u) = unwritten_at_start line fronts e u
+
+  -- a front of nothing is nothing
+  none_of : (n : ℕ) → take {A = ℕ} n [] ≡ []
+  none_of zero = refl
+  none_of (suc n) = refl
 
   pub not_started : (error : StartError) (e : Ending) → (LeavesFile error → ⊥) → (error ≡ refused.Disk → HasFailed disk) → IsFaultTold sink (line_of_refusal error) (ending_of_refusal error) e → GoesShort here sign J (session_from here J reads shelf.file) commands disk shelf sink e
-  not_started refused.Memory e fault failed (inl t) = subst (GoesShort here sign J (session_from here J reads shelf.file) commands disk shelf sink) (sym t.0) (cut_at_start ending.Memory [] tt refl t.1)
-  not_started refused.Memory e fault failed (inr u) = nothing_at_start e u
-  not_started refused.Disk e fault failed (inl t) = subst (GoesShort here sign J (session_from here J reads shelf.file) commands disk shelf sink) (sym t.0) (cut_at_start ending.Disk disk_line (failed refl) refl t.1)
-  not_started refused.Disk e fault failed (inr u) = unwritten_at_start disk_line e (failed refl) refl u
-  not_started (refused.Damaged at) e fault failed t = absurd (fault tt)
-  not_started (refused.NotLawful place f) e fault failed t = absurd (fault tt)
-  not_started refused.UnknownMe e fault failed t = absurd (fault tt)
-  not_started (refused.OtherKey roster signer) e fault failed t = absurd (fault tt)
-  not_started (refused.OtherNode node) e fault failed t = absurd (fault tt)
-  not_started (refused.OtherRoster kept given) e fault failed t = absurd (fault tt)
+  not_started refused.Memory e fault failed = told_at_start [] ending.Memory e tt refl (λ n. inl (none_of n))
+  not_started refused.Disk e fault failed = told_at_start disk_line ending.Disk e (failed refl) refl (λ n. inr (disk_line, (inr (inl (disk_pending commands (failed refl), refl)), (n, refl))))
+  not_started other e fault failed = absurd (fault tt)
 
 -- ---- a run of a node that started
 
@@ -135,17 +109,6 @@ start_is_correct here J reads files formed member lawful are = record {
   reads = λ r on. read_grows J (started here J) r (record { more = birth_after here J; is = refl }) (are.each r on);
   in_order = are.in_order;
 }
-
-cut_so : (failed failed' : Type 0) (shelf : Shelves) (sink : Sinks) (e : Ending) → (failed → failed') → IsCutBy failed shelf sink e → IsCutBy failed' shelf sink e
-cut_so failed failed' shelf sink ending.Disk so c = so c
-cut_so failed failed' shelf sink ending.Memory so c = tt
-cut_so failed failed' shelf sink ending.Shelf so c = c
-cut_so failed failed' shelf sink ending.Sink so c = c
-cut_so failed failed' shelf sink ending.Done so c = absurd c
-cut_so failed failed' shelf sink ending.Input so c = absurd c
-cut_so failed failed' shelf sink ending.Limit so c = absurd c
-cut_so failed failed' shelf sink ending.NotLawful so c = absurd c
-cut_so failed failed' shelf sink ending.Identity so c = absurd c
 
 front_left : (done : List Command) (before : List ℕ → Type 0) (kept more : List Record) (image : List ℕ) → HasFront kept more image → LeavesFront done before kept more image
 front_left [] before kept more image front = inr front
@@ -184,7 +147,7 @@ module _ {N O : Type 0} (g : Ghosts N O) (old new : N) (here : Setting) (sign : 
       let kept = (answers_of here sign s p.done).session.correct.journal in
       let there : (image : List ℕ) → disk.may_leave_after image → LeavesFront p.done disk.may_leave kept p.more image = λ image left. front_left p.done disk.may_leave kept p.more image (p.leaves told image (leaves image left)) in
       record {
-        cut = cut_so (g.faults old < g.faults new) (HasFailed disk) shelf sink e rose p.cut;
+        cut = cut_so (g.faults old < g.faults new) (HasFailed disk) shelf shelf sink sink e rose (λ failed. failed) (λ failed. failed) p.cut;
         done = p.done;
         rest = p.rest;
         parts = p.parts;
@@ -223,18 +186,8 @@ answered g old new there here by sign J s commands disk shelf sink r e stands si
 -- an ending by the script's end or by a limit is that of a node that runs
 pub calm_end : (r : Result (Unit {0}) Ending) → (ending_by r ≡ ending.Done) ⊎ (ending_by r ≡ ending.Limit) → HasNoFault r
 calm_end (Ok done) is = tt
-calm_end (Err ending.Done) is = tt
-calm_end (Err ending.Input) is = tt
-calm_end (Err ending.Shelf) is = tt
-calm_end (Err ending.Limit) is = tt
-calm_end (Err ending.NotLawful) is = tt
-calm_end (Err ending.Identity) is = tt
-calm_end (Err ending.Disk) (inl is) = absurd cc
-calm_end (Err ending.Disk) (inr is) = absurd cc
-calm_end (Err ending.Sink) (inl is) = absurd cc
-calm_end (Err ending.Sink) (inr is) = absurd cc
-calm_end (Err ending.Memory) (inl is) = absurd cc
-calm_end (Err ending.Memory) (inr is) = absurd cc
+calm_end (Err e) (inl is) = subst (λ (x : Ending). HasNoFault (Err x)) (sym is) tt
+calm_end (Err e) (inr is) = subst (λ (x : Ending). HasNoFault (Err x)) (sym is) tt
 
 -- what is answered at the end was answered by the script
 pub ended_by : (r : Result (Unit {0}) Ending) (e : Ending) → e ≢ ending.Done → ending_by r ≡ e → IsErrOf r e

@@ -29,12 +29,7 @@ has_from_key here key keyed = ap is_some keyed
 pub key_or_disk : (here : Setting) (key : PublicKey) (told : Type 0) (file : List ℕ) (e : StartError) → IsNotStarted here key told file e → IsKeyFault here.listed here.me key e ⊎ (key_of here.listed here.me ≡ Some key)
 key_or_disk here key told file refused.UnknownMe n = inl n
 key_or_disk here key told file (refused.OtherKey other own) n = inl n
-key_or_disk here key told file refused.Memory n = inr n.0
-key_or_disk here key told file refused.Disk n = inr n.0
-key_or_disk here key told file (refused.Damaged at) n = inr n.0
-key_or_disk here key told file (refused.OtherNode node) n = inr n.0
-key_or_disk here key told file (refused.OtherRoster kept given) n = inr n.0
-key_or_disk here key told file (refused.NotLawful place fault) n = inr n.0
+key_or_disk here key told file other n = inr n.0
 
 -- a front of a birth goes on from a file without records
 birth_goes_on : (here : Setting) (file image : List ℕ) → IsRoster here.listed → has_node here.listed here.me ≡ true → IsFileOf file [] → HasFront [] (birth_after here []) image → GoesOn here file image

@@ -1,6 +1,6 @@
 -- Whatever a script makes a node do, its journal keeps its records, and the node stays who it is.
 use Rattle.std.proofs.Common.{◌≡◌, ℕ, List, [], ◌∷◌, Option, Some, None, refl}
-use Rattle.depot_model.specs.Bundle.{Signs, BundleAnswer, bundled, bad_hello, other_roster, limited, bundle_answer}
+use Rattle.depot_model.specs.Bundle.{Signs, BundleAnswer, bundled, bundle_answer}
 use Rattle.depot_model.specs.Checks.{Setting}
 use Rattle.depot_model.proofs.FeedGrowth.{IsGrown, grown_none, grown_twice}
 use Rattle.depot_script.specs.declared.command.Command.{Command}
@@ -15,9 +15,7 @@ use Rattle.depot_session.specs.Sessions.{Answers, Session, Step, answers_of, bun
 
 bundle_step_grows : (s : Session) (hello file : List ℕ) (d : Deed) (a : BundleAnswer) → IsGrown s.correct.journal d.journal → IsGrown s.correct.journal (bundle_step s hello file d a).session.correct.journal
 bundle_step_grows s hello file d (bundled b) g = g
-bundle_step_grows s hello file d (bad_hello at) g = g
-bundle_step_grows s hello file d (other_roster given) g = g
-bundle_step_grows s hello file d (limited limit) g = g
+bundle_step_grows s hello file d other g = g
 
 pub step_grows : (here : Setting) (sign : Signs) (s : Session) (c : Command) → IsGrown s.correct.journal (step_of here sign s c).session.correct.journal
 unfolding step_of
@@ -35,9 +33,7 @@ step_grows here sign s (command.Take file) = by_file (s.files file) where
 
 bundle_step_stays : (s : Session) (hello file : List ℕ) (d : Deed) (a : BundleAnswer) → (bundle_step s hello file d a).session.correct.node ≡ s.correct.node
 bundle_step_stays s hello file d (bundled b) = refl
-bundle_step_stays s hello file d (bad_hello at) = refl
-bundle_step_stays s hello file d (other_roster given) = refl
-bundle_step_stays s hello file d (limited limit) = refl
+bundle_step_stays s hello file d other = refl
 
 pub step_stays : (here : Setting) (sign : Signs) (s : Session) (c : Command) → (step_of here sign s c).session.correct.node ≡ s.correct.node
 unfolding step_of

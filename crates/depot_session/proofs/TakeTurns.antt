@@ -1,18 +1,17 @@
 -- How the command of a stream turns out.
-use Rattle.std.proofs.Common.{◌≡◌, ◌<◌, ◌≤◌, ℕ, false, IsTrue, List, [], ◌++◌, Option, Some, None, Result, Ok, Err, refl, sym, ap, subst, ◌∙◌, codes, take, inl, inr}
+use Rattle.std.proofs.Common.{◌≡◌, ◌<◌, ◌≤◌, ℕ, false, IsTrue, List, Option, Some, None, Result, Ok, Err, refl, sym, ap, subst, ◌∙◌, inl}
 use Rattle.std.specs.Prelude.{IfOk, IsErrOf}
+use Rattle.std.specs.Result.{IsErrAnd}
 use Rattle.depot_base.specs.declared.record.Record.{Record}
 use Rattle.depot_model.specs.Bundle.{Signs}
 use Rattle.depot_model.specs.Checks.{Setting}
 use Rattle.depot_model.specs.Feeding.{Closing, Feeding, feed_of, feeding_from, ill_formed, out_of_room}
 use Rattle.depot_model.specs.Stops.{HasFront}
 use Rattle.depot_model.specs.declared.replica.Replica.{Ghosts}
-use Rattle.depot_gossip.specs.Lasting.{LastsFed}
-use Rattle.depot_gossip.specs.declared.gossip_error.FeedError.{FeedError}
-use Rattle.depot_gossip.specs.declared.gossip_error.FeedError.TheVariants as error
-use Rattle.depot_outside.specs.Told.{Shelves, Sinks, Wrote}
-use Rattle.depot_schedule.specs.Language.{join}
-use Rattle.depot_script.specs.Scripts.{command_words}
+use Rattle.depot_feeds.specs.Lasting.{LastsFed}
+use Rattle.depot_feeds.specs.declared.feed_error.FeedError.{FeedError}
+use Rattle.depot_feeds.specs.declared.feed_error.FeedError.TheVariants as error
+use Rattle.depot_outside.specs.Told.{Shelves, Sinks}
 use Rattle.depot_script.specs.declared.command.Command.TheVariants as command
 use Rattle.depot_world.specs.Deeds.{fed_by, give_by}
 use Rattle.depot_deeds.specs.Printing.{IsToldOf, SettlesFeed, lines_of_deed}
@@ -20,12 +19,13 @@ use Rattle.depot_deeds.specs.declared.feeds.Fed.{Fed}
 use Rattle.depot_session.specs.declared.ending.Ending.{Ending}
 use Rattle.depot_session.specs.declared.ending.Ending.TheVariants as ending
 use Rattle.depot_session.specs.SessionRuns.{disk_line}
-use Rattle.depot_session.specs.Sessions.{Session, Step, absent, ending_of_take, lines_of_command, printed_count, step_of, take_from}
+use Rattle.depot_session.specs.Sessions.{Session, Step, absent, ending_of_take, lines_of_command, step_of, take_from}
 use Rattle.depot_session.specs.ScriptTelling.{IsFaultTold, IsUnchanged, Tells}
 use Rattle.depot_session.specs.Turns.{IsAt, Turns}
-use Rattle.depot_session.proofs.KeptFaults.{NeedsNone}
 use Rattle.depot_session.proofs.LeftJournals.{leaves_front}
-use Rattle.depot_session.proofs.Turning.{disk_told, told, without_memory}
+use Rattle.depot_session.proofs.ToldFaults.{EndsCalmly}
+use Rattle.depot_session.proofs.Turning.{command_text, disk_told, told, without_memory}
+use Rattle.depot_session.proofs.UnwrittenTexts.{nothing_written}
 
 -- ---- the answer
 
@@ -33,10 +33,7 @@ use Rattle.depot_session.proofs.Turning.{disk_told, told, without_memory}
 pub is_fed : (fed : Result Fed FeedError) → SettlesFeed fed → (IsErrOf fed error.Disk → ⊥) → (f : Fed) × (fed ≡ Ok f)
 is_fed (Ok f) settled not = (f, refl)
 is_fed (Err error.Disk) settled not = absurd (not refl)
-is_fed (Err error.Memory) settled not = absurd settled
-is_fed (Err error.Stopped) settled not = absurd settled
-is_fed (Err (error.Full what)) settled not = absurd settled
-is_fed (Err (error.IllFormed at)) settled not = absurd settled
+is_fed other settled not = absurd settled
 
 -- what holds of a stream that was taken whole
 pub of_fed : (fed : Result Fed FeedError) (P : Type 0) → SettlesFeed fed → (IsErrOf fed error.Disk → ⊥) → IfOk fed (λ _. P) → P
@@ -49,11 +46,11 @@ ends_fed (Err e) x ends settled not t h = let whole = is_fed (Err e) settled not
   no_error : (e : FeedError) (f : Fed) → Err e ≡ Ok f → ⊥
   no_error e f is = cc
 
--- it ends by no fault of the disk or the sink
-pub take_needs_none : (o : Option Closing) → NeedsNone (ending_of_take o)
-take_needs_none None = tt
-take_needs_none (Some (ill_formed at)) = tt
-take_needs_none (Some (out_of_room what)) = tt
+-- it ends the run for no fault
+pub take_ends_calmly : (o : Option Closing) → EndsCalmly (ending_of_take o)
+take_ends_calmly None = tt
+take_ends_calmly (Some (ill_formed at)) = tt
+take_ends_calmly (Some (out_of_room what)) = tt
 
 -- ---- the step
 
@@ -95,19 +92,19 @@ module _ {N O : Type 0} (g : Ghosts N O) (counts_now : (v : N) (t : ℕ) (image 
   leaves = leaves_front counts_now old new fed.appends runs fed.lasts
 
   -- no memory was found behind the call
-  pub taken_without_memory : (sink : Sinks) → Wrote sink [] → Turns g old new (command.Take file) taken_step shelf sink (Err ending.Memory)
-  taken_without_memory sink wrote = inr (without_memory g old new (command.Take file) taken_step shelf sink fed.appends (journal ∙ fed.brings) leaves (λ name. inl (unchanged name)) wrote)
+  pub taken_without_memory : (sink : Sinks) (r : Result (Unit {0}) Ending) → IsErrAnd r (λ e. e ≡ ending.Memory) → sink.after ≡ sink.before → Turns g old new (command.Take file) taken_step shelf sink r
+  taken_without_memory sink r none same = without_memory g old new (command.Take file) taken_step shelf sink fed.appends (journal ∙ fed.brings) leaves (λ name. inl (unchanged name)) r none (nothing_written sink same)
 
   -- the disk failed in the call
   pub taken_to_disk : (sink : Sinks) (e : Ending) → g.faults old < g.faults new → IsFaultTold sink disk_line ending.Disk e → Turns g old new (command.Take file) taken_step shelf sink (Err e)
-  taken_to_disk sink e rose t = inr (disk_told g old new (command.Take file) taken_step shelf sink fed.appends (journal ∙ fed.brings) leaves (λ name. inl (unchanged name)) e rose t)
+  taken_to_disk sink = disk_told g old new (command.Take file) taken_step shelf sink fed.appends (journal ∙ fed.brings) leaves (λ name. inl (unchanged name))
 
   -- the stream was taken, and its lines told or not
   pub taken_told : (sink : Sinks) (ends : Option Ending) (lines : List ℕ) (r : Result (Unit {0}) Ending) → g.stopped new ≡ false → g.records new ≡ (feed_of (g.stands old) (g.records old) stream).journal → ends ≡ ending_of_take (feed_of (g.stands old) (g.records old) stream).closed
-      → lines ≡ lines_of_deed (fed_by s.correct (feed_of (g.stands old) (g.records old) stream)) → Tells sink (join 32 (take (printed_count (command.Take file)) (command_words (command.Take file))) ++ codes " ->" ++ lines) ends r → Turns g old new (command.Take file) taken_step shelf sink r
+      → lines ≡ lines_of_deed (fed_by s.correct (feed_of (g.stands old) (g.records old) stream)) → Tells sink (command_text (command.Take file) lines) ends r → Turns g old new (command.Take file) taken_step shelf sink r
   taken_told sink ends lines r goes grown ends_is lines_is t =
       let here = g.stands old in
       let text_is : taken_step.text ≡ lines_of_command (command.Take file) (fed_by s.correct (feed_of here (g.records old) stream)) = ap (λ (x : Step). x.text) is ∙ take_text here s (g.records old) file stream at.journal in
       told g old new (command.Take file) taken_step shelf sink fed.appends (journal ∙ fed.brings) leaves (λ name. inl (unchanged name)) goes (grown ∙ sym journal) (λ other. unchanged other ∙ at.same_files other ∙ ap (λ (x : Step). x.session.files other) (sym is)) fed.lasts.stable ends r
       (ap (λ (x : Step). x.ending) is ∙ ap (λ (K : List Record). ending_of_take (feed_of here K stream).closed) at.journal ∙ sym ends_is)
-      (subst (λ (x : List ℕ). Tells sink x ends r) (ap (λ (x : List ℕ). join 32 (take (printed_count (command.Take file)) (command_words (command.Take file))) ++ codes " ->" ++ x) lines_is ∙ sym text_is) t)
+      (subst (λ (x : List ℕ). Tells sink x ends r) (ap (command_text (command.Take file)) lines_is ∙ sym text_is) t)

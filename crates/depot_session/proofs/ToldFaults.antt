@@ -1,17 +1,26 @@
 -- Which faults a command names, by what was told of it.
-use Rattle.std.proofs.Common.{◌≡◌, ◌<◌, ℕ, List, Option, Some, Result, Ok, Err, sym, subst, inl, inr}
-use Rattle.std.specs.Prelude.{IsErrOf}
-use Rattle.depot_outside.specs.Told.{Sinks}
+use Rattle.std.proofs.Common.{◌≡◌, ◌<◌, ◌≤◌, ℕ, false, List, Option, Some, Result, Ok, Err, sym, subst, inl, inr}
+use Rattle.std.specs.Prelude.{is_err}
+use Rattle.std.specs.Result.{IsErrAnd}
+use Rattle.depot_outside.specs.Told.{Shelves, Sinks}
 use Rattle.depot_session.specs.declared.ending.Ending.{Ending}
 use Rattle.depot_session.specs.declared.ending.Ending.TheVariants as ending
-use Rattle.depot_session.specs.ScriptTelling.{IsFaultTold, IsUnwritten, Tells}
+use Rattle.depot_session.specs.Sessions.{shelf_line}
+use Rattle.depot_session.specs.ScriptTelling.{IsFaultTold, IsUnwritten, Stores, Tells}
 use Rattle.depot_session.specs.Turns.{HasNoFault}
+use Rattle.depot_session.proofs.UnwrittenTexts.{of_unwritten}
 
--- A fault of the disk or the sink is answered only where it came, and no journal is refused.
+-- what is answered came, where it is a fault of the disk or the sink; and no journal is refused
+abbrev pub HasCome : Type 0 → Sinks → Result (Unit {0}) Ending → Type 0
+HasCome disk_failed sink (Err ending.Disk) = disk_failed
+HasCome disk_failed sink (Err ending.Sink) = sink.faults_before < sink.faults_after
+HasCome disk_failed sink (Err ending.NotLawful) = ⊥
+HasCome disk_failed sink other = Unit {0}
+
+-- The sink's count of faults doesn't fall, and what is answered came.
 pub record NamesFaults (disk_failed : Type 0) (sink : Sinks) (r : Result (Unit {0}) Ending) : Type 0 where
-  pub of_disk : IsErrOf r ending.Disk → disk_failed
-  pub of_sink : IsErrOf r ending.Sink → sink.faults_before < sink.faults_after
-  pub no_refusal : IsErrOf r ending.NotLawful → ⊥
+  pub later : sink.faults_before ≤ sink.faults_after
+  pub came : HasCome disk_failed sink r
 
 -- a command that goes as it goes ends the run for no fault
 abbrev pub EndsCalmly : Option Ending → Type 0
@@ -20,72 +29,59 @@ EndsCalmly (Some ending.Sink) = ⊥
 EndsCalmly (Some ending.NotLawful) = ⊥
 EndsCalmly other = Unit {0}
 
--- ---- which ending it is
-
--- an answer gives one ending
-same_ending : (e f : Ending) → IsErrOf {T = Unit {0}} {E = Ending} (Err e) f → e ≡ f
-same_ending e f is = cc
-
--- and one after which the run goes on gives none
-never_so : (done : Unit {0}) (f : Ending) → IsErrOf {T = Unit {0}} {E = Ending} (Ok done) f → ⊥
-never_so done f is = cc
-
 -- ---- what was told
 
--- the run goes on
-pub names_none : (disk_failed : Type 0) (sink : Sinks) (done : Unit {0}) → NamesFaults disk_failed sink (Ok done)
-names_none disk_failed sink done = record { of_disk = λ is. absurd (never_so done ending.Disk is); of_sink = λ is. absurd (never_so done ending.Sink is); no_refusal = never_so done ending.NotLawful }
+module _ (disk_failed : Type 0) (sink : Sinks) (later : sink.faults_before ≤ sink.faults_after) where
+  -- an ending for no fault
+  names_calmly : (e : Ending) → EndsCalmly (Some e) → NamesFaults disk_failed sink (Err e)
+  names_calmly ending.Disk calm = absurd calm
+  names_calmly ending.Sink calm = absurd calm
+  names_calmly other calm = record { later = later; came = calm }
 
--- the run ends for no fault
-pub names_calmly : (disk_failed : Type 0) (sink : Sinks) (e : Ending) → EndsCalmly (Some e) → NamesFaults disk_failed sink (Err e)
-names_calmly disk_failed sink e calm = record {
-  of_disk = λ is. absurd (so ending.Disk is);
-  of_sink = λ is. absurd (so ending.Sink is);
-  no_refusal = λ is. so ending.NotLawful is;
-} where
-  so : (f : Ending) → IsErrOf {T = Unit {0}} {E = Ending} (Err e) f → EndsCalmly (Some f)
-  so f is = subst (λ (x : Ending). EndsCalmly (Some x)) (same_ending e f is) calm
+  -- this one
+  names_so : (e named : Ending) → e ≡ named → HasCome disk_failed sink (Err named) → NamesFaults disk_failed sink (Err e)
+  names_so e named is came = record { later = later; came = subst (λ (x : Ending). HasCome disk_failed sink (Err x)) (sym is) came }
 
--- no memory was found
-pub names_memory : (disk_failed : Type 0) (sink : Sinks) → NamesFaults disk_failed sink (Err ending.Memory)
-names_memory disk_failed sink = names_calmly disk_failed sink ending.Memory tt
+  -- no memory was found
+  pub names_memory : (r : Result (Unit {0}) Ending) → IsErrAnd r (λ e. e ≡ ending.Memory) → NamesFaults disk_failed sink r
+  names_memory (Ok done) is = absurd is
+  names_memory (Err e) is = names_so e ending.Memory is tt
 
--- a text wasn't written
-pub names_unwritten : (disk_failed : Type 0) (sink : Sinks) (text : List ℕ) (e : Ending) → IsUnwritten sink text e → NamesFaults disk_failed sink (Err e)
-names_unwritten disk_failed sink text e unwritten = record {
-  of_disk = λ is. absurd (so ending.Disk is);
-  of_sink = λ is. (so ending.Sink is).0;
-  no_refusal = λ is. so ending.NotLawful is;
-} where
-  so : (f : Ending) → IsErrOf {T = Unit {0}} {E = Ending} (Err e) f → IsUnwritten sink text f
-  so f is = subst (λ (x : Ending). IsUnwritten sink text x) (same_ending e f is) unwritten
+  -- a text wasn't written
+  pub names_unwritten : (text : List ℕ) (e : Ending) → IsUnwritten sink text e → NamesFaults disk_failed sink (Err e)
+  names_unwritten text = of_unwritten sink text (λ e. NamesFaults disk_failed sink (Err e)) (λ none. record { later = later; came = tt }) (λ rose front. record { later = later; came = rose })
 
--- the lines of a command were written, or not
-pub names_told : (disk_failed : Type 0) (sink : Sinks) (text : List ℕ) (ends : Option Ending) (r : Result (Unit {0}) Ending) → EndsCalmly ends → Tells sink text ends r → NamesFaults disk_failed sink r
-names_told disk_failed sink text ends (Ok done) calm told = names_none disk_failed sink done
-names_told disk_failed sink text ends (Err e) calm (inl told) = names_calmly disk_failed sink e (subst (λ (o : Option Ending). EndsCalmly o) told.0 calm)
-names_told disk_failed sink text ends (Err e) calm (inr unwritten) = names_unwritten disk_failed sink text e unwritten
+  -- a fault came and was told, or not
+  pub names_fault : (line : List ℕ) (fault e : Ending) → HasCome disk_failed sink (Err fault) → IsFaultTold sink line fault e → NamesFaults disk_failed sink (Err e)
+  names_fault line fault e came (inl told) = names_so e fault told.0 came
+  names_fault line fault e came (inr unwritten) = names_unwritten line e unwritten
 
--- the disk failed, and it was told, or not
-pub names_disk : (disk_failed : Type 0) (sink : Sinks) (line : List ℕ) (e : Ending) → disk_failed → IsFaultTold sink line ending.Disk e → NamesFaults disk_failed sink (Err e)
-names_disk disk_failed sink line e failed (inl told) = subst (λ (x : Ending). NamesFaults disk_failed sink (Err x)) (sym told.0) (record { of_disk = λ is. failed; of_sink = λ is. cc; no_refusal = λ is. cc })
-names_disk disk_failed sink line e failed (inr unwritten) = names_unwritten disk_failed sink line e unwritten
+  -- the lines of a command were told, or not
+  pub names_told : (text : List ℕ) (ends : Option Ending) (r : Result (Unit {0}) Ending) → EndsCalmly ends → Tells sink text ends r → NamesFaults disk_failed sink r
+  names_told text ends (Ok done) calm told = record { later = later; came = tt }
+  names_told text ends (Err e) calm (inl told) = names_calmly e (subst EndsCalmly told.0 calm)
+  names_told text ends (Err e) calm (inr unwritten) = names_unwritten text e unwritten
 
--- ---- a run that doesn't go on
+  -- bytes were stored, and then the lines told, or not
+  pub names_stored : (shelf : Shelves) (text name bytes : List ℕ) (r : Result (Unit {0}) Ending) → Stores shelf sink text name bytes r → NamesFaults disk_failed sink r
+  names_stored shelf text name bytes (Ok done) stores = record { later = later; came = tt }
+  names_stored shelf text name bytes (Err e) (others, inl stored) = names_unwritten text e stored.1
+  names_stored shelf text name bytes (Err e) (others, inr (inl idle)) = names_so e ending.Memory idle.1.0 tt
+  names_stored shelf text name bytes (Err e) (others, inr (inr failed)) = names_fault (shelf_line name) ending.Shelf e tt failed.told
 
--- where a text wasn't written there was a fault
-unwritten_is_fault : (sink : Sinks) (line : List ℕ) (e : Ending) → IsUnwritten sink line e → HasNoFault (Err e) → ⊥
-unwritten_is_fault sink line ending.Memory u calm = calm
-unwritten_is_fault sink line ending.Sink u calm = calm
-unwritten_is_fault sink line ending.Disk u calm = calm
-unwritten_is_fault sink line ending.Done u calm = u
-unwritten_is_fault sink line ending.Input u calm = u
-unwritten_is_fault sink line ending.Shelf u calm = u
-unwritten_is_fault sink line ending.Limit u calm = u
-unwritten_is_fault sink line ending.NotLawful u calm = u
-unwritten_is_fault sink line ending.Identity u calm = u
+-- ---- a run that goes on
+
+-- an answer that is no error is no fault
+pub ok_is_calm : (r : Result (Unit {0}) Ending) → is_err r ≡ false → HasNoFault r
+ok_is_calm (Ok done) ok = tt
+ok_is_calm (Err e) ok = absurd cc
+
+-- where no memory was found there was a fault
+pub memory_is_fault : (r : Result (Unit {0}) Ending) → IsErrAnd r (λ e. e ≡ ending.Memory) → HasNoFault r → ⊥
+memory_is_fault (Ok done) is calm = is
+memory_is_fault (Err e) is calm = subst (λ (x : Ending). HasNoFault (Err x)) is calm
 
 -- where a fault of the disk was told, or not, there was a fault
 pub disk_is_fault : (sink : Sinks) (line : List ℕ) (e : Ending) → IsFaultTold sink line ending.Disk e → HasNoFault (Err e) → ⊥
 disk_is_fault sink line e (inl told) calm = subst (λ (x : Ending). HasNoFault (Err x)) told.0 calm
-disk_is_fault sink line e (inr unwritten) calm = unwritten_is_fault sink line e unwritten calm
+disk_is_fault sink line e (inr unwritten) calm = of_unwritten sink line (λ x. HasNoFault (Err x) → ⊥) (λ none never. never) (λ rose front never. never) e unwritten calm

@@ -1,22 +1,25 @@
 -- What a command came to, from what was told of it.
-use Rattle.std.proofs.Common.{◌≡◌, ◌<◌, ◌⊎◌, ℕ, Bool, true, false, IsTrue, List, [], ◌++◌, take, Option, Some, Result, Ok, Err, refl, sym, ap, subst, ◌∙◌, inl, inr}
-use Rattle.std.proofs.lemmas.List.{append-nil}
+use Rattle.std.proofs.Common.{◌≡◌, ◌<◌, ◌⊎◌, ℕ, Bool, false, IsTrue, List, [], ◌++◌, take, codes, Option, Some, Result, Ok, Err, refl, sym, ap, subst, ◌∙◌, inl, inr}
+use Rattle.std.specs.Result.{IsErrAnd}
 use Rattle.depot_base.specs.declared.record.Record.{Record}
 use Rattle.depot_model.specs.Stops.{HasAll, HasFront, HasRecords, LeavesAll}
 use Rattle.depot_model.specs.declared.replica.Replica.{Ghosts}
 use Rattle.depot_outside.specs.Told.{Shelves, Sinks, Wrote, WroteFront}
+use Rattle.depot_schedule.specs.Language.{join}
+use Rattle.depot_script.specs.Scripts.{command_words}
 use Rattle.depot_script.specs.declared.command.Command.{Command}
 use Rattle.depot_session.specs.declared.ending.Ending.{Ending}
 use Rattle.depot_session.specs.declared.ending.Ending.TheVariants as ending
-use Rattle.depot_session.specs.Sessions.{Names, Step, shelf_line}
-use Rattle.depot_session.specs.SessionRuns.{IsHandedOut, IsToBeWritten, Stands, disk_line, pending_for}
+use Rattle.depot_session.specs.Sessions.{Names, Step, printed_count, shelf_line}
+use Rattle.depot_session.specs.SessionRuns.{IsCutBy, IsHandedOut, IsLast, IsToBeWritten, Stands, disk_line, pending_for}
 use Rattle.depot_session.specs.ScriptTelling.{IsFaultTold, IsUnwritten, Tells}
 use Rattle.depot_session.specs.Turns.{IsBroken, LeftBy, Steps, Turns}
 use Rattle.depot_session.proofs.LeftJournals.{all_there}
+use Rattle.depot_session.proofs.UnwrittenTexts.{front_written, of_unwritten}
 
--- nothing was written
-pub nothing_written : (sink : Sinks) → sink.after ≡ sink.before → Wrote sink []
-nothing_written sink same told = same ∙ sym (append-nil sink.before)
+-- what is printed of a command: its words but for a value, and these lines behind the arrow
+abbrev pub command_text : Command → List ℕ → List ℕ
+command_text c lines = join 32 (take (printed_count c) (command_words c)) ++ codes " ->" ++ lines
 
 -- a stop leaves the journal of a node that runs
 pub leaves_journal : {N O : Type 0} (g : Ghosts N O) (old new : N) (J : List Record) → g.stopped new ≡ false → g.records new ≡ J → (IsTrue (g.tells old) → LeavesAll (g.records new) (g.stopped new) (g.may_leave new)) → (image : List ℕ) → LeftBy g old new image → HasRecords J image
@@ -26,8 +29,12 @@ leaves_journal g old new J runs journal stable image left =
 module _ {N O : Type 0} (g : Ghosts N O) (old new : N) (c : Command) (step : Step) (shelf : Shelves) (sink : Sinks) (more : List Record) (brings : step.session.correct.journal ≡ g.records old ++ more)
     (leaves : IsTrue (g.tells old) → (image : List ℕ) → g.may_leave new image → HasFront (g.records old) more image) (others : (name : List ℕ) → (shelf.file_after name ≡ shelf.file name) ⊎ IsHandedOut (LeftBy g old new) c step name) where
   -- no memory was found before anything was written
-  pub without_memory : Wrote sink [] → IsBroken g old new c step shelf sink ending.Memory
-  without_memory wrote = record { cut = tt; last = []; last_is = refl; wrote = wrote; more = more; brings = brings; leaves = leaves; files = others }
+  idle : Wrote sink [] → IsBroken g old new c step shelf sink ending.Memory
+  idle wrote = record { cut = tt; last = []; last_is = refl; wrote = wrote; more = more; brings = brings; leaves = leaves; files = others }
+
+  pub without_memory : (r : Result (Unit {0}) Ending) → IsErrAnd r (λ e. e ≡ ending.Memory) → Wrote sink [] → Turns g old new c step shelf sink r
+  without_memory (Ok done) is wrote = absurd is
+  without_memory (Err e) is wrote = inr (subst (IsBroken g old new c step shelf sink) (sym is) (idle wrote))
 
   -- the line was to be written
   abbrev IsPending : List ℕ → Type 0
@@ -35,35 +42,27 @@ module _ {N O : Type 0} (g : Ghosts N O) (old new : N) (c : Command) (step : Ste
 
   -- the sink failed while a line was written
   sink_failed : (line : List ℕ) → IsPending line → sink.faults_before < sink.faults_after → WroteFront sink line → IsBroken g old new c step shelf sink ending.Sink
-  sink_failed line to rose front = by_tells sink.tells refl where
-    so_many : (n : ℕ) → (IsTrue sink.tells → sink.after ≡ sink.before ++ take n line) → IsBroken g old new c step shelf sink ending.Sink
-    so_many n wrote = record { cut = rose; last = take n line; last_is = inr (line, (to, (n, refl))); wrote = wrote; more = more; brings = brings; leaves = leaves; files = others }
-
-    by_tells : (b : Bool) → sink.tells ≡ b → IsBroken g old new c step shelf sink ending.Sink
-    by_tells true is = so_many (front is).0 (λ _. (front is).1)
-    by_tells false is = so_many 0 (λ told. cc)
+  sink_failed line to rose front =
+      let f = front_written sink line front in
+      record { cut = rose; last = take f.0 line; last_is = inr (line, (to, (f.0, refl))); wrote = f.1; more = more; brings = brings; leaves = leaves; files = others }
 
   -- a line wasn't written
-  pub unwritten : (line : List ℕ) (e : Ending) → IsPending line → IsUnwritten sink line e → IsBroken g old new c step shelf sink e
-  unwritten line ending.Memory to u = without_memory u
-  unwritten line ending.Sink to u = sink_failed line to u.0 u.1
-  unwritten line ending.Done to u = absurd u
-  unwritten line ending.Input to u = absurd u
-  unwritten line ending.Shelf to u = absurd u
-  unwritten line ending.Disk to u = absurd u
-  unwritten line ending.Limit to u = absurd u
-  unwritten line ending.NotLawful to u = absurd u
-  unwritten line ending.Identity to u = absurd u
+  unwritten : (line : List ℕ) → IsPending line → (e : Ending) → IsUnwritten sink line e → IsBroken g old new c step shelf sink e
+  unwritten line to = of_unwritten sink line (IsBroken g old new c step shelf sink) idle (sink_failed line to)
 
-  -- the disk failed
-  pub disk_told : (e : Ending) → g.faults old < g.faults new → IsFaultTold sink disk_line ending.Disk e → IsBroken g old new c step shelf sink e
-  disk_told e rose (inl t) = subst (IsBroken g old new c step shelf sink) (sym t.0) (record { cut = rose; last = disk_line; last_is = refl; wrote = t.1; more = more; brings = brings; leaves = leaves; files = others })
-  disk_told e rose (inr u) = unwritten disk_line e (inr (inl (rose, refl))) u
+  -- a fault came that cuts the run short, and its line was written, or not
+  fault_told : (line : List ℕ) (fault e : Ending) → IsPending line → IsCutBy (g.faults old < g.faults new) shelf sink fault → IsLast (pending_for c step (LeftBy g old new) (g.faults old < g.faults new) shelf) fault line → IsFaultTold sink line fault e
+      → Turns g old new c step shelf sink (Err e)
+  fault_told line fault e to cut last_is (inl t) = inr (subst (IsBroken g old new c step shelf sink) (sym t.0) (record { cut = cut; last = line; last_is = last_is; wrote = t.1; more = more; brings = brings; leaves = leaves; files = others }))
+  fault_told line fault e to cut last_is (inr u) = inr (unwritten line to e u)
 
-  -- the shelf failed
-  pub shelf_told : (name : List ℕ) (e : Ending) → Names c name → shelf.faults_before < shelf.faults_after → IsFaultTold sink (shelf_line name) ending.Shelf e → IsBroken g old new c step shelf sink e
-  shelf_told name e named rose (inl t) = subst (IsBroken g old new c step shelf sink) (sym t.0) (record { cut = rose; last = shelf_line name; last_is = (name, (named, refl)); wrote = t.1; more = more; brings = brings; leaves = leaves; files = others })
-  shelf_told name e named rose (inr u) = unwritten (shelf_line name) e (inr (inr (rose, (name, (named, refl))))) u
+  -- that of the disk
+  pub disk_told : (e : Ending) → g.faults old < g.faults new → IsFaultTold sink disk_line ending.Disk e → Turns g old new c step shelf sink (Err e)
+  disk_told e rose = fault_told disk_line ending.Disk e (inr (inl (rose, refl))) rose refl
+
+  -- that of the shelf
+  pub shelf_told : (name : List ℕ) (e : Ending) → Names c name → shelf.faults_before < shelf.faults_after → IsFaultTold sink (shelf_line name) ending.Shelf e → Turns g old new c step shelf sink (Err e)
+  shelf_told name e named rose = fault_told (shelf_line name) ending.Shelf e (inr (inr (rose, (name, (named, refl))))) rose (name, (named, refl))
 
   module _ (runs : g.stopped new ≡ false) (journal : g.records new ≡ step.session.correct.journal) (files : (name : List ℕ) → shelf.file_after name ≡ step.session.files name) (stable : IsTrue (g.tells old) → LeavesAll (g.records new) (g.stopped new) (g.may_leave new)) where
     -- what its step made stands
@@ -71,8 +70,8 @@ module _ {N O : Type 0} (g : Ghosts N O) (old new : N) (c : Command) (step : Ste
     stands = record { journal = leaves_journal g old new step.session.correct.journal runs journal stable; files = files }
 
     -- its lines weren't written
-    pub untold : (e : Ending) → IsUnwritten sink step.text e → IsBroken g old new c step shelf sink e
-    untold e u = unwritten step.text e (inl (stands, refl)) u
+    pub untold : (e : Ending) → IsUnwritten sink step.text e → Turns g old new c step shelf sink (Err e)
+    untold e u = inr (unwritten step.text (inl (stands, refl)) e u)
 
     steps : Wrote sink step.text → Steps g new step shelf sink
     steps wrote = record { runs = runs; journal = journal; files = files; wrote = wrote }
@@ -81,9 +80,9 @@ module _ {N O : Type 0} (g : Ghosts N O) (old new : N) (c : Command) (step : Ste
     pub told : (ends : Option Ending) (r : Result (Unit {0}) Ending) → step.ending ≡ ends → Tells sink step.text ends r → Turns g old new c step shelf sink r
     told ends (Ok done) is t = (is ∙ t.0, steps t.1)
     told ends (Err e) is (inl t) = inl (is ∙ t.0, steps t.1)
-    told ends (Err e) is (inr u) = inr (untold e u)
+    told ends (Err e) is (inr u) = untold e u
 
     -- an absent file was told, or not
     pub absent_told : (e : Ending) → step.ending ≡ Some ending.Shelf → IsFaultTold sink step.text ending.Shelf e → Turns g old new c step shelf sink (Err e)
     absent_told e is (inl t) = inl (is ∙ ap (λ (x : Ending). Some x) (sym t.0), steps t.1)
-    absent_told e is (inr u) = inr (untold e u)
+    absent_told e is (inr u) = untold e u

@@ -1,7 +1,7 @@
 -- What a command makes of a node, of the shelf and of the sink.
 use Rattle.std.specs.Prelude.{◌≡◌, ◌<◌, ◌≤◌, ◌⊎◌, ℕ, List, ◌++◌, false, IsTrue, Some, None, Result, Ok, Err, is_err, IsErrOf}
 use Rattle.depot_base.specs.declared.record.Record.{Record}
-use Rattle.depot_gossip.specs.Lasting.{LastsIn}
+use Rattle.depot_feeds.specs.Lasting.{LastsIn}
 use Rattle.depot_model.specs.Checks.{Setting}
 use Rattle.depot_model.specs.Replicas.{IsSameNode}
 use Rattle.depot_model.specs.Stops.{HasFront, LeavesAll}

@@ -5,7 +5,7 @@
 //! by a fault of the disk, the shelf or the sink; `specs/SessionRuns.antt` says what stands then, on the disk at any stop too.
 //!
 //! The node is known as a `Local`, a `Peer` that writes and reads. `commands` has the commands, each of which changes the node, then the
-//! shelf, and tells of it last; `telling` writes lines, `heads` the words of a command, `script` a whole script, and `running` the run with
+//! shelf, and tells of it last; `telling` writes lines, `command_heads` the words of a command, `whole_script` a whole script, and `running` the run with
 //! its start.
 #![tactic(auto)]
 

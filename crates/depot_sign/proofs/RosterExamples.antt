@@ -1,11 +1,10 @@
 -- Worked examples of texts that are no rosters, and for which cause.
-use Rattle.std.proofs.Common.{◌≡◌, ℕ, List, [], ◌∷◌, ◌++◌, Result, Err, refl, ap, subst, arith, inl, inr}
+use Rattle.std.proofs.Common.{◌≡◌, ℕ, List, [], ◌∷◌, ◌++◌, Err, refl, ap, subst, arith, inl, inr}
 use Rattle.std.specs.Int.{w16}
 use Rattle.std.specs.List.{flat_map}
 use Rattle.depot_base.specs.Cursor.{numeral}
-use Rattle.depot_base.specs.Format.{number, bytes_of, FirstFault}
+use Rattle.depot_base.specs.Format.{number, bytes_of}
 use Rattle.depot_base.specs.Parts.{roster_entry}
-use Rattle.depot_base.specs.declared.key.RosterEntry.{RosterEntry}
 use Rattle.depot_model.specs.RosterText.{HasGreatCount, RepeatsNode, GoesWrongAt, IsRefusedFor, ParsesRoster}
 use Rattle.depot_model.specs.Texts.{roster}
 use Rattle.depot_model.specs.declared.roster_format.RosterError.{RosterError}

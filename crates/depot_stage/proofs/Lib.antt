@@ -1,5 +1,3 @@
-pub mod CastLaws
-pub mod EntryOrder
 pub mod FlipLaws
 pub mod JudgedLaws
 pub mod LabelTables

@@ -15,7 +15,7 @@ use Rattle.depot_model.proofs.Elements.{in_at}
 use Rattle.depot_model.proofs.Members.{all_at, from_map, in_map, in_right}
 use Rattle.depot_model.proofs.Orders.{causal_push}
 use Rattle.depot_history.specs.Closure.{closure_of, reached}
-use Rattle.depot_history.proofs.ItemPlaces.{has_no_place, has_place}
+use Rattle.depot_graph.proofs.ItemPlaces.{has_no_place, has_place}
 use Rattle.depot_history.proofs.Reaching.{past_is_reached}
 use Rattle.depot_model.proofs.NamedIds.{has_id_from, has_id_to}
 use Rattle.depot_world.specs.Run.{seen_with}

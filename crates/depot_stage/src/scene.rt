@@ -2,10 +2,11 @@
 ghost use Rattle.std.specs.Prelude.{◌≡◌, true};
 ghost use Rattle.depot_schedule.specs.Vocabulary.{is_declared};
 ghost use Rattle.depot_world.specs.Suite.{Stage};
-ghost use Rattle.depot_stage.specs.Casting.{IsOn, IsOnSome, hand_of};
+ghost use Rattle.depot_cast.specs.Hands.{hand_of};
+ghost use Rattle.depot_stage.specs.Casting.{IsOn, IsOnSome};
 
-use crate::stage::signer_of;
 use depot_base::NodeId;
+use depot_cast::signer_of;
 use depot_model::{Scheme, Signer};
 use depot_schedule::Member;
 use depot_sign::Roster;

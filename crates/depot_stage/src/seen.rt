@@ -51,7 +51,7 @@ impl Seen {
         if self.graph.count() == u32::MAX {
             return Err(Memory);
         }
-        self.graph.add_uncounted(update.copy()?, id)?;
+        self.graph.add_uncounted(update.copy()?, &[], id)?;
         Ok(())
     }
 

@@ -7,7 +7,7 @@ ghost use Rattle.depot_model.specs.Texts.{IsProof, IsSigned, IsStatement};
 ghost use Rattle.depot_world.specs.FaultySigning.{proof_by};
 
 use depot_base::{Bytes, Kind, Memory, Proof, Signed, Statement, Value};
-use depot_gossip::put_frame;
+use depot_frames::put_frame;
 use depot_model::Signer;
 use depot_update::{encode_proof, encode_signed, encode_statement};
 use std::alloc::Global;

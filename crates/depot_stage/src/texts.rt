@@ -102,14 +102,25 @@ pub fn proof(alloc: Global, kind: Kind, a: &Signed, b: &Signed) -> Result<Text, 
     requires second { IsSigned b.now }
     ensures { IfOk result (λ t. IsText t (record { bytes = text_of_frame (proof_frame (proof_by kind a.now b.now)); signed = None; answer = name_of_kind kind })) }
 {
-    let proof = proof_of(kind, a, b)?;
-    let mut bytes = Bytes::new(alloc);
-    put_proof(alloc, &mut bytes, &proof)?;
+    let bytes = proof_bytes(alloc, kind, a, b)?;
+    let answer = Bytes::from_slice(alloc, name_of_kind(kind).as_bytes())?;
     Ok(Text {
         bytes,
         signed: None,
-        answer: Bytes::from_slice(alloc, name_of_kind(kind).as_bytes())?,
+        answer,
     })
+}
+
+/// The bytes of that frame.
+fn proof_bytes(alloc: Global, kind: Kind, a: &Signed, b: &Signed) -> Result<Bytes, Memory>
+    requires first { IsSigned a.now }
+    requires second { IsSigned b.now }
+    ensures { IfOk result (λ bytes. bytes ≡ text_of_frame (proof_frame (proof_by kind a.now b.now))) }
+{
+    let proof = proof_of(kind, a, b)?;
+    let mut bytes = Bytes::new(alloc);
+    put_proof(alloc, &mut bytes, &proof)?;
+    Ok(bytes)
 }
 
 /// A reference names nothing: the label holds no bytes.

@@ -13,7 +13,7 @@ use Rattle.depot_model.specs.Limits.{IsCutShort}
 use Rattle.depot_model.specs.Replicas.{KeepsDisk}
 use Rattle.depot_model.specs.Roster.{Verifies}
 use Rattle.depot_model.specs.Stops.{HasFront, LeavesAll}
-use Rattle.depot_journal.specs.Answers.{KeepsLimits}
+use Rattle.depot_journal.specs.JournalAnswers.{KeepsLimits}
 use Rattle.depot_journal.specs.Stable as stable
 use Rattle.depot_journal.specs.JournalView.{View, Covers}
 use Rattle.depot_journal.specs.declared.journal_error.AppendError.{AppendError}

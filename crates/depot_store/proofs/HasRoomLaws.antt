@@ -8,16 +8,16 @@ use Rattle.depot_model.specs.Checks.{Setting}
 use Rattle.depot_model.specs.Journal.{accepted}
 use Rattle.depot_model.specs.Lawful.{IsLawful}
 use Rattle.depot_model.specs.Records.{journal_bytes, text_of_record}
-use Rattle.depot_model.specs.Room.{foreign_leaves, full_with, full_by}
+use Rattle.depot_model.specs.Room.{foreign_leaves, leaves_counted, leaves_passed, full_with, full_by}
 use Rattle.depot_base.proofs.Blocks.{blocks-append}
 use Rattle.depot_base.proofs.CallLaws.{framed_long}
 use Rattle.depot_laws.proofs.Counts.{bytes_more}
 use Rattle.depot_accept.proofs.FirstFound.{first_one}
 use Rattle.depot_store.specs.NewRecords.{AreNew, AreTextsFor}
 use Rattle.depot_store.specs.RecordTexts.{AreTexts, records_of}
-use Rattle.depot_store.specs.RoomByCounts.{leaves_with, writers_full}
+use Rattle.depot_store.specs.RoomByCounts.{leaves_with}
 use Rattle.depot_store.proofs.JournalTexts.{as_many, journal_long, texts_for}
-use Rattle.depot_store.proofs.RoomLaws.{writers, writers_with}
+use Rattle.depot_store.proofs.RoomLaws.{counted_with_one}
 
 -- ---- records and bytes
 
@@ -44,14 +44,14 @@ next_within J r texts rest all t split within = record {
 -- ---- leaves
 
 only_leaves : (here : Setting) (J : List Record) (r : Record) (leaves : Option ℕ) → IsLawful here J → AreNew here J (r ∷ []) → IsWithin J r → leaves ≡ leaves_with (accepted J) (length (foreign_leaves here.me J)) (r ∷ [])
-    → full_with here.me J (r ∷ []) ≡ writers_full (length (foreign_leaves here.me J)) leaves
+    → full_with here.me J (r ∷ []) ≡ leaves_passed (length (foreign_leaves here.me J)) leaves
 unfolding full_with
 only_leaves here J r leaves l new within counted =
-    rw (le-ltb _ _ within.records, le-ltb _ _ within.bytes) (first_one (writers here.me J (r ∷ [])) ∙ writers_with here J r l new ∙ ap (writers_full (length (foreign_leaves here.me J))) (sym counted))
+    rw (le-ltb _ _ within.records, le-ltb _ _ within.bytes) (first_one (leaves_passed (length (foreign_leaves here.me J)) (leaves_counted here.me J (r ∷ []))) ∙ ap (leaves_passed (length (foreign_leaves here.me J))) (counted_with_one here J r l new ∙ sym counted))
 
-few_or_many : (n leaves : ℕ) → leb leaves 4096 ≡ is_none (writers_full n (Some leaves))
+few_or_many : (n leaves : ℕ) → leb leaves 4096 ≡ is_none (leaves_passed n (Some leaves))
 few_or_many n leaves = by_test (leb leaves 4096) refl where
-  by_test : (b : Bool) → leb leaves 4096 ≡ b → b ≡ is_none (writers_full n (Some leaves))
+  by_test : (b : Bool) → leb leaves 4096 ≡ b → b ≡ is_none (leaves_passed n (Some leaves))
   by_test true few = rw (le-ltb _ _ (leb-true leaves 4096 few)) refl
   by_test false many = rw (lt-ltb _ _ (leb-false leaves 4096 many)) refl
 
@@ -64,16 +64,16 @@ texts_read J read all t is = subst (λ (rs : List Record). AreTextsFor rs (take 
 -- the same of a store of which so many records were read, and in which these texts are unread
 pub read_room : (here : Setting) (J new : List Record) (read : ℕ) (all unread : List (List ℕ)) (leaves : Option ℕ) → IsLawful here J → AreNew here J new → AreTextsFor J (take read all) → AreWithinLimits all → drop read all ≡ unread
     → ((r : Record) × ((rest : List (List ℕ)) × ((new ≡ r ∷ []) × (unread ≡ text_of_record r ∷ rest)))) → leaves ≡ leaves_with (accepted J) (length (foreign_leaves here.me J)) new
-    → full_by here.me J new ≡ writers_full (length (foreign_leaves here.me J)) leaves
+    → full_by here.me J new ≡ leaves_passed (length (foreign_leaves here.me J)) leaves
 read_room here J new read all unread leaves l fresh t within behind (r, (rest, (one, next))) counted =
     let split : all ≡ take read all ++ (text_of_record r ∷ rest) = sym (take-append-drop read all) ∙ ap (λ (x : List (List ℕ)). take read all ++ x) (behind ∙ next) in
     ap (full_by here.me J) one
     ∙ only_leaves here J r leaves l (subst (λ (rs : List Record). AreNew here J rs) one fresh) (next_within J r (take read all) rest all t split within) (counted ∙ ap (λ (rs : List Record). leaves_with (accepted J) (length (foreign_leaves here.me J)) rs) one)
 
 -- there are so many leaves with it
-pub room_of_leaves : (me n leaves : ℕ) (J new : List Record) → full_by me J new ≡ writers_full n (Some leaves) → leb leaves 4096 ≡ is_none (full_by me J new)
+pub room_of_leaves : (me n leaves : ℕ) (J new : List Record) → full_by me J new ≡ leaves_passed n (Some leaves) → leb leaves 4096 ≡ is_none (full_by me J new)
 room_of_leaves me n leaves J new is = few_or_many n leaves ∙ ap is_none (sym is)
 
 -- and where none comes
-pub room_of_none : (me n : ℕ) (J new : List Record) → full_by me J new ≡ writers_full n None → true ≡ is_none (full_by me J new)
+pub room_of_none : (me n : ℕ) (J new : List Record) → full_by me J new ≡ leaves_passed n None → true ≡ is_none (full_by me J new)
 room_of_none me n J new is = ap is_none (sym is)

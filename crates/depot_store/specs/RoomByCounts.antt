@@ -1,31 +1,16 @@
--- The limits of a journal, by counts.
-use Rattle.std.specs.Prelude.{◌≡◌, ◌++◌, Result, Ok, Err, ℕ, ◌+◌, List, [], ◌∷◌, nat_lt, Option, Some, None, if◌then◌else◌}
-use Rattle.depot_base.specs.declared.limits.TheConstants.{MOST_RECORDS, MOST_JOURNAL, MOST_FOREIGN_LEAVES}
+-- What a journal comes to with records that it grows by: how many leaves of other writers, and whether there was room.
+use Rattle.std.specs.Prelude.{◌≡◌, ◌++◌, Result, Ok, Err, ℕ, ◌+◌, List, [], ◌∷◌, Option, Some, None, if◌then◌else◌}
 use Rattle.depot_base.specs.declared.check.Full.{Full}
-use Rattle.depot_base.specs.declared.check.FullOf.TheVariants as full_of
 use Rattle.depot_base.specs.declared.record.Record.{Record}
 use Rattle.depot_base.specs.declared.record.Record.TheVariants.{Foreign}
 use Rattle.depot_base.specs.declared.statement.Statement.{Statement}
 use Rattle.depot_base.specs.declared.statement.Statement.TheVariants as statements
 use Rattle.depot_base.specs.declared.update.Update.{Update}
 use Rattle.depot_model.specs.Limits.{IsCutShort}
-use Rattle.depot_model.specs.Lists.{when, first}
 use Rattle.depot_model.specs.Room.{full_by}
 use Rattle.depot_laws.specs.Leaves.{follows_leaf}
 use Rattle.depot_store.specs.declared.room.CommitError.{CommitError}
 use Rattle.depot_store.specs.declared.room.CommitError.TheVariants as refused
-
-abbrev pub writers_full : ℕ → Option ℕ → Option Full
-writers_full leaves None = None
-writers_full leaves (Some after) = when (nat_lt MOST_FOREIGN_LEAVES after) (record { what = full_of.Writers; number = leaves })
-
--- The first limit that is passed where there were so many records, bytes and leaves of other writers, and there are so
--- many then; of leaves only where an update of another comes.
-abbrev pub limit : ℕ → ℕ → ℕ → ℕ → ℕ → Option ℕ → Option Full
-limit records bytes leaves records_after bytes_after leaves_after = first (
-    when (nat_lt MOST_RECORDS records_after) (record { what = full_of.Records; number = records }) ∷
-    when (nat_lt MOST_JOURNAL bytes_after) (record { what = full_of.Bytes; number = bytes }) ∷
-    writers_full leaves leaves_after ∷ [])
 
 -- How many leaves of other writers there are with a new statement of another after these accepted updates, where it is an update.
 abbrev pub leaves_then : List Update → ℕ → Statement → Option ℕ

@@ -15,10 +15,12 @@ use std::alloc::Global;
 use std::marker::Model;
 
 /// What a journal grows by in one call: up to two records, or own vouchers. Each comes decoded, with its text and with the hash that keeping it
-/// needs, so that nothing is encoded or hashed again when it is appended. It is seen as the list of the records.
+/// needs, so that nothing is encoded or hashed again when it is appended, and where the parents of an update were found, so that they aren't
+/// searched again. It is seen as the list of the records.
 #[derive(Drop)]
 pub struct Growth {
     pub(crate) news: News,
+    pub(crate) parents: Vec<u32>,
     pub(crate) texts: Vec<Bytes>,
     pub(crate) bytes: u64,
 }
@@ -62,6 +64,7 @@ impl Growth {
     {
         Growth {
             news: News::Nothing,
+            parents: Vec::new(alloc),
             texts: Vec::new(alloc),
             bytes: 0,
         }
@@ -91,22 +94,41 @@ impl Growth {
         requires hash { IsHashOf item hash }
         ensures { IfOk result (λ g. g ≡ item ∷ []) }
     {
+        Growth::of_statement(alloc, item, hash, text, Vec::new(alloc))
+    }
+
+    /// The same of a record that may bring an update: the items of its parents are given as they were found, and looked at where
+    /// leaves are counted and where it is added to the graph. A record that brings none takes any.
+    pub fn of_statement(
+        alloc: Global,
+        item: Record,
+        hash: Hash32,
+        text: Bytes,
+        parents: Vec<u32>,
+    ) -> Result<Growth, Memory>
+        requires text { IsTextOf item text }
+        requires hash { IsHashOf item hash }
+        ensures { IfOk result (λ g. g ≡ item ∷ []) }
+    {
         let bytes = size_of(&text);
         let texts = vec![in alloc; text]?;
         Ok(Growth {
             news: News::One(item, hash),
+            parents,
             texts,
             bytes,
         })
     }
 
-    /// The conviction of a writer, and after it a statement, whose id and record's text are at hand.
+    /// The conviction of a writer, and after it a statement, whose id and record's text are at hand. The items of an update's
+    /// parents are given as `of_statement` takes them.
     pub fn convicting(
         alloc: Global,
         proof: Proof,
         signed: Signed,
         id: Hash32,
         text: Bytes,
+        parents: Vec<u32>,
     ) -> Result<Growth, Memory>
         requires proof { IsProof proof }
         requires id { id ≡ id_of_statement signed.statement }
@@ -118,6 +140,7 @@ impl Growth {
         let texts = vec![in alloc; proof_text, text]?;
         Ok(Growth {
             news: News::Convicting(proof, signed, id),
+            parents,
             texts,
             bytes,
         })
@@ -140,6 +163,7 @@ impl Growth {
         }
         Ok(Growth {
             news: News::Vouchers(Sequence::from_vec(items)),
+            parents: Vec::new(alloc),
             texts,
             bytes,
         })

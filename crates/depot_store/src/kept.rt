@@ -36,10 +36,11 @@ pub struct Kept<S: Scheme> {
 
 impl<S: Scheme> Kept<S> {
     /// Keeps the records of a growth, and the ids that its own vouchers name: all, or after Memory none. With them there are so
-    /// many leaves of other writers, where they bring an update of another.
+    /// many leaves of other writers, where they bring an update of another. The parents of an update were found at these items.
     pub(crate) fn keep(
         &mut self,
         news: News,
+        parents: &[u32],
         leaves: Option<u32>,
         mine: &mut VouchedIds,
     ) -> Result<(), Memory>
@@ -54,8 +55,10 @@ impl<S: Scheme> Kept<S> {
     {
         match news {
             News::Nothing => Ok(()),
-            News::One(item, hash) => self.keep_one(item, hash, leaves, mine),
-            News::Convicting(proof, signed, id) => self.keep_convicting(&proof, signed, id, leaves),
+            News::One(item, hash) => self.keep_one(item, hash, parents, leaves, mine),
+            News::Convicting(proof, signed, id) => {
+                self.keep_convicting(&proof, signed, id, parents, leaves)
+            }
             News::Vouchers(vouchers) => self.keep_vouchers(vouchers, mine),
         }
     }
@@ -65,6 +68,7 @@ impl<S: Scheme> Kept<S> {
         &mut self,
         item: Record,
         hash: Hash32,
+        parents: &[u32],
         leaves: Option<u32>,
         mine: &mut VouchedIds,
     ) -> Result<(), Memory>
@@ -79,11 +83,11 @@ impl<S: Scheme> Kept<S> {
     {
         match item {
             Record::Birth { .. } => Ok(()),
-            Record::OwnPut { update, value } => self.keep_put(update, hash, value),
+            Record::OwnPut { update, value } => self.keep_put(update, hash, value, parents),
             Record::OwnVoucher { voucher } => {
                 self.keep_voucher(NewVoucher { voucher, id: hash }, mine)
             }
-            Record::Foreign { signed } => self.keep_foreign(signed, hash, leaves),
+            Record::Foreign { signed } => self.keep_foreign(signed, hash, parents, leaves),
             Record::Conviction { proof } => {
                 self.convict(&proof);
                 Ok(())
@@ -93,7 +97,13 @@ impl<S: Scheme> Kept<S> {
     }
 
     /// Keeps an own update and its value.
-    fn keep_put(&mut self, update: Update, id: Hash32, value: Value) -> Result<(), Memory>
+    fn keep_put(
+        &mut self,
+        update: Update,
+        id: Hash32,
+        value: Value,
+        parents: &[u32],
+    ) -> Result<(), Memory>
         requires id { id ≡ id_of_update update }
         requires may { MayKeep S.verifies self.old.state self.old.values self.old.totals (OwnPut update value ∷ []) }
         ensures ok { OnOk result (Keeps S.verifies self.old.state self.old.values self.old.totals (OwnPut update value ∷ []) self.new.state self.new.values self.new.totals) }
@@ -103,7 +113,7 @@ impl<S: Scheme> Kept<S> {
         let hash = update.value_named().hash;
         self.values.reserve(&hash)?;
         let clock = update.clock;
-        self.state.add_own(Statement::Update(update), id)?;
+        self.state.add_own(Statement::Update(update), parents, id)?;
         let _ = self.values.add_hashed(hash, value);
         self.totals.own += 1;
         self.totals.clock = clock.max(self.totals.clock);
@@ -177,7 +187,7 @@ impl<S: Scheme> Kept<S> {
     {
         let NewVoucher { voucher, id } = item;
         let _ = mine.add(&voucher.ids);
-        let _ = self.state.add_own(Statement::Voucher(voucher), id);
+        let _ = self.state.add_own(Statement::Voucher(voucher), &[], id);
         self.totals.own += 1;
     }
 
@@ -186,6 +196,7 @@ impl<S: Scheme> Kept<S> {
         &mut self,
         signed: Signed,
         id: Hash32,
+        parents: &[u32],
         leaves: Option<u32>,
     ) -> Result<(), Memory>
         requires id { id ≡ id_of_statement signed.statement }
@@ -196,7 +207,7 @@ impl<S: Scheme> Kept<S> {
         ensures stays { setting S.verifies self.new.state ≡ setting S.verifies self.old.state }
     {
         let totals = self.totals_with(&signed.statement, leaves);
-        self.state.add_foreign(signed, id)?;
+        self.state.add_foreign(signed, parents, id)?;
         self.totals = totals;
         Ok(())
     }
@@ -207,6 +218,7 @@ impl<S: Scheme> Kept<S> {
         proof: &Proof,
         signed: Signed,
         id: Hash32,
+        parents: &[u32],
         leaves: Option<u32>,
     ) -> Result<(), Memory>
         requires id { id ≡ id_of_statement signed.statement }
@@ -217,7 +229,7 @@ impl<S: Scheme> Kept<S> {
         ensures stays { setting S.verifies self.new.state ≡ setting S.verifies self.old.state }
     {
         let totals = self.totals_with(&signed.statement, leaves);
-        self.state.add_foreign(signed, id)?;
+        self.state.add_foreign(signed, parents, id)?;
         self.state.convict(proof.accused());
         self.totals = totals;
         Ok(())
@@ -260,40 +272,41 @@ impl<S: Scheme> Kept<S> {
         totals
     }
 
-    /// How many leaves of other writers there are once a growth is taken, where it takes an update of another.
+    /// How many leaves of other writers there are once a growth is taken, where it takes an update of another. The parents of that
+    /// one were found at these items.
     #[tactic(auto, using(crate::proofs::VoucherRecords::no_leaves))]
-    pub(crate) fn leaves_with(&self, news: &News) -> Option<u32>
+    pub(crate) fn leaves_with(&self, news: &News, parents: &[u32]) -> Option<u32>
         requires { self.now.totals.leaves ≤ MOST_RECORDS }
         ensures { result ≡ leaves_with self.now.state.accepted self.now.totals.leaves (records_in news.now) }
     {
         match news {
             News::Nothing => None,
-            News::One(item, _) => self.leaves_with_record(item),
-            News::Convicting(_, signed, _) => self.leaves_then(&signed.statement),
+            News::One(item, _) => self.leaves_with_record(item, parents),
+            News::Convicting(_, signed, _) => self.leaves_then(&signed.statement, parents),
             News::Vouchers(_) => None,
         }
     }
 
     /// The same of a record.
-    fn leaves_with_record(&self, item: &Record) -> Option<u32>
+    fn leaves_with_record(&self, item: &Record, parents: &[u32]) -> Option<u32>
         requires { self.now.totals.leaves ≤ MOST_RECORDS }
         ensures { result ≡ leaves_with_record self.now.state.accepted self.now.totals.leaves item.now }
     {
         let Record::Foreign { signed } = item else {
             return None;
         };
-        self.leaves_then(&signed.statement)
+        self.leaves_then(&signed.statement, parents)
     }
 
     /// The same of a statement.
-    fn leaves_then(&self, statement: &Statement) -> Option<u32>
+    fn leaves_then(&self, statement: &Statement, parents: &[u32]) -> Option<u32>
         requires { self.now.totals.leaves ≤ MOST_RECORDS }
         ensures { result ≡ leaves_then self.now.state.accepted self.now.totals.leaves statement.now }
     {
         let Statement::Update(update) = statement else {
             return None;
         };
-        if follows_leaf(self.state.graph(), update) {
+        if follows_leaf(self.state.graph(), update, parents) {
             Some(self.totals.leaves)
         } else {
             Some(self.totals.leaves + 1)
@@ -312,14 +325,14 @@ fn reserve_ids(mine: &mut VouchedIds, vouchers: &[NewVoucher]) -> Result<(), Mem
     Ok(())
 }
 
-/// Whether the prev of an update is a leaf.
-fn follows_leaf(graph: &Graph, update: &Update) -> bool
+/// Whether the prev of an update, whose parents were found at these items, is a leaf.
+fn follows_leaf(graph: &Graph, update: &Update, parents: &[u32]) -> bool
     ensures { result ≡ follows_leaf (⟦<Graph as Past>⟧.updates graph.now) update.now }
 {
     if update.prev.is_zeros() {
         return false;
     }
-    match graph.find(&update.prev) {
+    match graph.find_at(&update.prev, parents.first().copied()) {
         Some(item) => graph.children(item).is_empty(),
         None => false,
     }

@@ -6,8 +6,8 @@
 //! node's own statements and of the leaves of other writers, and the greatest clock.
 //!
 //! A store starts on a journal of which nothing was read, and reads it record by record (`read`). From then on it grows by one call
-//! alone, `append`, whatever it grows by: a `Growth` is up to two records, or own vouchers, decoded, with their texts and hashes. All
-//! memory is found before the first write; after Memory all is as before. After a failed write the store is stopped: it tells the texts of
+//! alone, `append`, whatever it grows by: a `Growth` is up to two records, or own vouchers, decoded, with their texts and hashes and
+//! with the items at which the parents of an update were found. All memory is found before the first write; after Memory all is as before. After a failed write the store is stopped: it tells the texts of
 //! its records, and no more. `commit` looks for room first, and tells the limit that a growth would pass.
 //!
 //! A record is appended or read only where the journal stays lawful with it, which the calls have as their condition: this crate decides

@@ -51,8 +51,14 @@ impl<S: Scheme> Readings<S> {
     }
 
     /// Reads the records of a growth behind so many others: all, or after Memory none. With them there are so many leaves of other
-    /// writers, where they bring an update of another.
-    pub(crate) fn read(&mut self, news: News, count: u32, leaves: Option<u32>) -> Result<(), Memory>
+    /// writers, where they bring an update of another. The parents of an update were found at these items.
+    pub(crate) fn read(
+        &mut self,
+        news: News,
+        parents: &[u32],
+        count: u32,
+        leaves: Option<u32>,
+    ) -> Result<(), Memory>
         requires hashed { AreHashed news }
         requires leaves { leaves ≡ leaves_with self.old.kept.state.accepted self.old.kept.totals.leaves (records_in news) }
         requires may { (J : List Record) × (AreReadings J self.old.kept.state self.old.kept.values self.old.kept.totals self.old.named self.old.places.places self.old.mine.ids × ((count ≡ length J) × IsLawful (setting S.verifies self.old.kept.state) (J ++ records_in news))) }
@@ -64,7 +70,7 @@ impl<S: Scheme> Readings<S> {
         let place = accept_place(&news, count);
         self.named.reserve(&name)?;
         self.places.reserve(place)?;
-        self.kept.keep(news, leaves, &mut self.mine)?;
+        self.kept.keep(news, parents, leaves, &mut self.mine)?;
         self.named.add(name);
         self.places.add(place);
         Ok(())

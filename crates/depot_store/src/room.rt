@@ -6,10 +6,10 @@ ghost use Rattle.depot_model.specs.Journal.{accepted};
 ghost use Rattle.depot_model.specs.Lawful.{IsLawful, is_empty};
 ghost use Rattle.depot_model.specs.Records.{journal_bytes};
 ghost use Rattle.depot_model.specs.Replicas.{KeepsDisk};
-ghost use Rattle.depot_model.specs.Room.{full_by, foreign_leaves};
+ghost use Rattle.depot_model.specs.Room.{full_by, foreign_leaves, limit_passed};
 ghost use Rattle.depot_model.specs.Stops.{CallsDisk, Lasts};
 ghost use Rattle.depot_store.specs.NewRecords.{AreNew, MayGrow};
-ghost use Rattle.depot_store.specs.RoomByCounts.{Commits, leaves_with, limit};
+ghost use Rattle.depot_store.specs.RoomByCounts.{Commits, leaves_with};
 ghost use Rattle.depot_store.specs.Holdings.{standing, IsWhole};
 
 use crate::append::WriteError;
@@ -88,7 +88,7 @@ impl<D: Disk, S: Scheme> Store<D, S> {
         requires bytes { journal_bytes self.now.records ≤ MOST_JOURNAL }
         requires few { records ≤ 2 ^ 40 }
         requires small { bytes ≤ 2 ^ 40 }
-        ensures { result ≡ limit (length self.now.records) (journal_bytes self.now.records) (length (foreign_leaves self.now.me self.now.records)) (length self.now.records + records) (journal_bytes self.now.records + bytes) leaves }
+        ensures { result ≡ limit_passed (length self.now.records) (journal_bytes self.now.records) (length (foreign_leaves self.now.me self.now.records)) (length self.now.records + records) (journal_bytes self.now.records + bytes) leaves }
     {
         let count = self.count() as u64;
         if count + records > MOST_RECORDS as u64 {

@@ -173,6 +173,8 @@ impl<D: Disk, S: Scheme> Store<D, S> {
         requires short { length self.now.records ≤ MOST_RECORDS }
         ensures { result ≡ leaves_with (accepted self.now.records) (length (foreign_leaves self.now.me self.now.records)) new.now }
     {
-        self.readings.kept.leaves_with(&new.news)
+        self.readings
+            .kept
+            .leaves_with(&new.news, new.parents.as_slice())
     }
 }

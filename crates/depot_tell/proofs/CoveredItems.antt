@@ -12,14 +12,15 @@ use Rattle.depot_model.specs.Bundle.{is_covered}
 use Rattle.depot_model.specs.Items.{place_of_id, places_of}
 use Rattle.depot_model.specs.Journal.{has_id}
 use Rattle.depot_model.specs.Lists.{IsIn, is_among}
-use Rattle.depot_model.specs.Order.{IsCausal, Precedes, past}
+use Rattle.depot_model.specs.Order.{IsCausal, past}
 use Rattle.depot_model.specs.Texts.{id_of_update}
 use Rattle.depot_model.proofs.Elements.{in_at}
 use Rattle.depot_model.proofs.Members.{any_from, any_to, among_from, among_to}
 use Rattle.depot_model.proofs.Pasts.{past_of_listed}
 use Rattle.depot_graph.specs.UpdateRows.{IsUpToAt}
 use Rattle.depot_graph.proofs.Front.{has_past, is_past}
-use Rattle.depot_history.proofs.ItemPlaces.{has_place, own_place, one_place}
+use Rattle.depot_graph.specs.OrderLaws.{at_both, one_place}
+use Rattle.depot_graph.proofs.ItemPlaces.{has_place, own_place}
 use Rattle.depot_laws.proofs.Splits.{flat_gives, given_by}
 use Rattle.depot_laws.proofs.Worlds.{giver_in}
 use Rattle.depot_base.proofs.GeneralLaws.{flat_push}
@@ -80,10 +81,7 @@ covered us ids item n u c at on how =
           let is : u ≡ l = same_at us n u l (ap (slice_get us) (sym same) ∙ at) named.at in
           or_left _ _ ((bytes_eq-Decides (id_of_update u) (id_of_update l)).1 (ap id_of_update is))
       | inr p ↦
-          let first : p.0 ≡ u = same_at us item p.0 u p.1.0 at in
-          let second : p.1.1.0 ≡ l = same_at us n p.1.1.0 l p.1.1.1.0 named.at in
-          let precedes : Precedes us u l = subst (λ (x : Update). Precedes us u x) second (subst (λ (x : Update). Precedes us x p.1.1.0) first p.1.1.1.1) in
-          or_right _ _ (is_past us u l ((past_of_listed us l u c l_in).1 precedes))
+          or_right _ _ (is_past us u l ((past_of_listed us l u c l_in).1 ((at_both us item n u l at named.at).0 p)))
     ] in
     any_from (λ (x : Update). is_among (id_of_update x) ids && (bytes_eq (id_of_update u) (id_of_update x) || has_id (past x us) (id_of_update u))) l us l_in
     (and_from _ _ (among_from (id_of_update l) ids named.on) up)

@@ -25,7 +25,7 @@ use Rattle.depot_model.proofs.Elements.{in_at, from_place}
 use Rattle.depot_model.proofs.Members.{from_filter, in_filter}
 use Rattle.depot_model.proofs.Orders.{fresh, causal_behind}
 use Rattle.depot_graph.proofs.Front.{apart, in_take}
-use Rattle.depot_history.proofs.ItemPlaces.{own_place}
+use Rattle.depot_graph.proofs.ItemPlaces.{own_place}
 use Rattle.depot_laws.proofs.Causes.{none_or_one, leaf_is_on, lawful_is_causal}
 use Rattle.depot_model.proofs.RisingUpdates.{from_by_id}
 use Rattle.depot_model.proofs.NamedIds.{has_id_from, has_id_to}

@@ -1,11 +1,8 @@
--- Places that stand beside the accepted updates, and which updates some items cover.
+-- Numbers that stand beside the accepted updates, and the leaf that an update is told as.
 use Rattle.std.specs.Prelude.{ℕ, List, [], ◌∷◌, Bool, unwrap_or, if◌then◌else◌}
-use Rattle.std.specs.List.{flat_map}
-use Rattle.std.specs.Option.{option_to_list}
 use Rattle.depot_base.specs.declared.record.Record.{Record}
 use Rattle.depot_base.specs.declared.update.Update.{Update}
 use Rattle.depot_model.specs.Hello.{record_place}
-use Rattle.depot_model.specs.Items.{place_of_id}
 use Rattle.depot_model.specs.Texts.{id_of_update}
 use Rattle.depot_tell.specs.declared.leaf_order.Leaf.{Leaf}
 

@@ -5,7 +5,7 @@
 //! reader with given leaves lacks (`candidate_places`), and the signed statement of a place (`signed_places`).
 //!
 //! Each call reads a store that runs and leaves it as it is. Nothing is decided here and nothing is sent: which of what is told goes
-//! into a bundle is `depot_gossip`'s to say.
+//! into a bundle is `depot_offers`'s to say.
 #![tactic(auto)]
 
 mod candidate_places;

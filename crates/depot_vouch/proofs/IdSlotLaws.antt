@@ -1,6 +1,6 @@
 -- Sets of ids, with more of them.
-use Rattle.std.proofs.Common.{◌≡◌, ℕ, ◌+◌, ◌<◌, Result, Ok, Err, IsOk, IfOk, OnOk, rules, OnErr, IsSome, is_some, List, [], ◌∷◌, ◌++◌, take, get_or, length, Bool, true, false, cond, Option, Some, None, ◌||◌, refl, sym, ap, subst, ◌∙◌, arith, inl, inr}
-use Rattle.std.specs.List.{list_any, AllByRecursion}
+use Rattle.std.proofs.Common.{◌≡◌, ℕ, ◌+◌, ◌<◌, Result, Ok, Err, IsOk, IfOk, OnOk, rules, OnErr, IsSome, is_some, List, [], ◌∷◌, ◌++◌, take, get_or, length, Bool, true, false, cond, Option, Some, None, ◌||◌, refl, sym, ap, subst, ◌∙◌, inl, inr}
+use Rattle.std.specs.List.{AllByRecursion}
 use Rattle.std.specs.List.Sorted.{IsStrictlySortedBy}
 use Rattle.std.specs.Map.{keys_of, lookup}
 use Rattle.std.specs.BTreeMap.{insert_entry}

@@ -102,6 +102,10 @@ head_count other = 2
 abbrev pub ended : List ℕ → List ℕ
 ended line = line ++ 10 ∷ []
 
+-- what is printed from the arrow of an event on: its answer, and the lines behind it
+abbrev pub lines_after_arrow : List ℕ → List (List ℕ) → List ℕ
+lines_after_arrow answer behind = ended answer ++ flat_map ended behind
+
 -- the lines of an event
 unfoldable pub lines_of : Event → Done → List ℕ
 lines_of e d = ended (join 32 (take (head_count e) (event_words e)) ++ codes " ->" ++ d.answer) ++ flat_map ended d.behind

@@ -2,7 +2,7 @@ use Rattle.std.proofs.Common.{sym, ◌∙◌}
 use Rattle.depot_model.specs.Order.{parents}
 use Rattle.depot_model.specs.Checks.{sight}
 use Rattle.depot_graph.specs.Kept.{updates_in}
-use Rattle.depot_history.proofs.ItemPlaces.{places_within}
+use Rattle.depot_graph.proofs.ItemPlaces.{places_within}
 use Rattle.depot_accept.proofs.ParentItems.{right_history, history_differs, history_same}
 use Rattle.depot_accept.proofs.content.bad_history.Goals as goal
 

@@ -1,7 +1,9 @@
-use Rattle.std.proofs.Common.{Some, inl, inr, refl, ◌∙◌}
-use Rattle.depot_outside.specs.Told.{loads, shelves}
+use Rattle.std.proofs.Common.{◌≡◌, Some, inl, inr, refl, ◌∙◌}
+use Rattle.depot_outside.specs.Told.{disks, loads, shelves, sinks}
+use Rattle.depot_session.specs.Sessions.{shelf_line}
 use Rattle.depot_commands.specs.declared.invocation.Command.TheVariants.{Node}
-use Rattle.depot_commands.specs.Runs.{Answers}
+use Rattle.depot_commands.specs.declared.status.Status.TheVariants.{Shelf}
+use Rattle.depot_commands.specs.Runs.{Answers, Begins}
 use Rattle.depot_commands.proofs.Endings.{finished, finished_by}
 use Rattle.depot_commands.proofs.NodeRuns.{file_run, no_roster_answers, same_shelves}
 use Rattle.depot_commands.proofs.node_command.node.Goals as goal
@@ -10,29 +12,43 @@ pub returns-in-Ok-None-clause-results : goal.returns-in-Ok-None-clause-results
 returns-in-Ok-None-clause-results g c =
     let shelf = shelves g.F.Shelf c.args.shelf.now c.load.new.shelf in
     let loaded = loads g.F.Shelf c.args.shelf.now c.load.new.shelf in
+    let command = Some (Node c.args.words.now) in
+    let line = shelf_line c.args.words.now.roster in
     let lacks = rw c.text.ensures at (rw c.in-Ok-None.field-0-is at c.in-Ok-None.ensures.loaded) in
-    inl ((refl, c.load.ensures.files), finished_by (Answers shelf loaded (Some (Node c.args.words.now))) _ _ c.no_file.result _ c.finish.result (rw c.text-in-Ok-None.ensures at c.no_file.ensures) (inl (rw c.text.ensures at c.load.ensures.loads, (refl, (lacks, refl)))) refl c.finish.ensures)
+    let named = rw c.text.ensures at c.load.ensures.loads in
+    inl (
+      (refl {a = c.args.disk.now}, c.load.ensures.files),
+      finished_by (Answers shelf loaded command) (Begins shelf loaded command) (sinks g.S.Sink c.args.out.now c.finish.new.out) c.no_file.result (record { status = Shelf; text = line }) c.finish.result (rw c.text-in-Ok-None.ensures at c.no_file.ensures)
+          (inl (named, (refl {a = Shelf}, (lacks, refl {a = line})))) refl c.finish.ensures,
+    )
 
 pub returns-in-Ok-clause-results : goal.returns-in-Ok-clause-results
 returns-in-Ok-clause-results g c =
-    let loaded = rw c.text.ensures at (rw c.in-Ok-Some.field-0-is at c.in-Ok-Some.ensures.loaded) in
+    let mid = c.load.new.shelf in
+    let last = c.run_file.new.shelf in
+    let disk = disks g.D.Disk c.args.disk.now c.run_file.new.disk in
+    let behind = shelves g.F.Shelf mid last in
+    let shelf = shelves g.F.Shelf c.args.shelf.now last in
+    let there = rw c.text.ensures at (rw c.in-Ok-Some.field-0-is at c.in-Ok-Some.ensures.loaded) in
     let named = rw c.text.ensures at c.load.ensures.loads in
-    let same = same_shelves g.F.Shelf c.args.shelf.now c.load.new.shelf c.run_file.new.shelf c.load.ensures.tells c.load.ensures.files loaded.1 in
+    let same = same_shelves g.F.Shelf c.args.shelf.now mid last c.load.ensures.tells c.load.ensures.files there.1 in
     let found = (rw c.as_slice.ensures at c.in-Ok.ensures).found c.in-Ok.roster refl in
-    file_run c.in-Ok.roster c.args.words.now _ _ _ _ (loads g.F.Shelf c.args.shelf.now c.run_file.new.shelf) _ _ _ _ c.run_file.result same named refl (λ u. u ∙ c.load.ensures.files) (λ told. record { bytes = c.in-Ok-Some.text; there = loaded.0 told; holds = record { fits = found.0; is = found.1 } }) c.run_file.ensures.runs
+    file_run c.in-Ok.roster c.args.words.now disk behind shelf (loads g.F.Shelf mid last) (loads g.F.Shelf c.args.shelf.now last) (sinks g.S.Sink c.args.out.now c.run_file.new.out) (c.run_file.new.disk ≡ c.args.disk.now) (g.F.Shelf.file last ≡ g.F.Shelf.file mid)
+    (g.F.Shelf.file last ≡ g.F.Shelf.file c.args.shelf.now) c.run_file.result same named (refl {a = g.F.Shelf.loads last}) (λ u. u ∙ c.load.ensures.files) (λ told. record { bytes = c.in-Ok-Some.text; there = there.0 told; holds = record { fits = found.0; is = found.1 } }) c.run_file.ensures.runs
 
 pub returns : goal.returns
 returns g c =
     let shelf = shelves g.F.Shelf c.args.shelf.now c.load.new.shelf in
     let loaded = loads g.F.Shelf c.args.shelf.now c.load.new.shelf in
+    let command = Some (Node c.args.words.now) in
     let there = rw c.text.ensures at (rw c.in-Ok-Some.field-0-is at c.in-Ok-Some.ensures.loaded) in
     let named = rw c.text.ensures at c.load.ensures.loads in
     let refused = (rw c.as_slice.ensures at c.in-Err-parse.ensures).refused c.in-Err-parse.error refl in
     let told = rw c.text-in-Err-parse.ensures at c.refused_roster.ensures in
     record {
       results = inl (
-        (refl, c.load.ensures.files),
-        finished (Answers shelf loaded (Some (Node c.args.words.now))) _ _ c.refused_roster.result c.finish-in-Err-parse.result
+        (refl {a = c.args.disk.now}, c.load.ensures.files),
+        finished (Answers shelf loaded command) (Begins shelf loaded command) (sinks g.S.Sink c.args.out.now c.finish-in-Err-parse.new.out) c.refused_roster.result c.finish-in-Err-parse.result
             (no_roster_answers shelf loaded c.args.words.now c.in-Ok-Some.text c.in-Err-parse.error c.refused_roster.result named there.0 refused told) refl c.finish-in-Err-parse.ensures,
       );
       first_fault = inr (inr (inr there.1));

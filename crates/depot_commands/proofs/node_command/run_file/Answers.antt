@@ -1,20 +1,35 @@
-use Rattle.std.proofs.Common.{inl, refl, ◌∙◌}
-use Rattle.depot_outside.specs.Told.{loads, shelves}
+use Rattle.std.proofs.Common.{◌≡◌, ℕ, List, [], inl, refl, ◌∙◌}
+use Rattle.depot_outside.specs.Told.{disks, loads, shelves, sinks}
+use Rattle.depot_session.specs.Sessions.{shelf_line}
 use Rattle.depot_commands.specs.Nodes.{ScriptInputs}
+use Rattle.depot_commands.specs.declared.status.Status.TheVariants.{Shelf}
 use Rattle.depot_commands.proofs.Endings.{finished_by}
 use Rattle.depot_commands.proofs.NodeRuns.{bytes_run, same_shelves}
 use Rattle.depot_commands.proofs.node_command.run_file.Goals as goal
 
 pub returns-in-Ok-Some-clause-runs : goal.returns-in-Ok-Some-clause-runs
 returns-in-Ok-Some-clause-runs g c =
-    let loaded = rw c.text.ensures at (rw c.in-Ok-Some.field-0-is at c.in-Ok-Some.ensures.loaded) in
+    let mid = c.load.new.shelf in
+    let last = c.run_bytes.new.shelf in
+    let disk = disks g.D.Disk c.args.disk.now c.run_bytes.new.disk in
+    let behind = shelves g.F.Shelf mid last in
+    let shelf = shelves g.F.Shelf c.args.shelf.now last in
+    let there = rw c.text.ensures at (rw c.in-Ok-Some.field-0-is at c.in-Ok-Some.ensures.loaded) in
     let named = rw c.text.ensures at c.load.ensures.loads in
-    let same = same_shelves g.F.Shelf c.args.shelf.now c.load.new.shelf c.run_bytes.new.shelf c.load.ensures.tells c.load.ensures.files loaded.1 in
-    bytes_run c.args.roster c.args.words.now c.in-Ok-Some.bytes _ _ _ _ (loads g.F.Shelf c.args.shelf.now c.run_bytes.new.shelf) _ _ _ _ c.run_bytes.result same named refl (λ u. u ∙ c.load.ensures.files) loaded.0 (rw c.as_slice.ensures at c.run_bytes.ensures.runs)
+    let same = same_shelves g.F.Shelf c.args.shelf.now mid last c.load.ensures.tells c.load.ensures.files there.1 in
+    bytes_run c.args.roster c.args.words.now c.in-Ok-Some.bytes disk behind shelf (loads g.F.Shelf mid last) (loads g.F.Shelf c.args.shelf.now last) (sinks g.S.Sink c.args.out.now c.run_bytes.new.out) (c.run_bytes.new.disk ≡ c.args.disk.now) (g.F.Shelf.file last ≡ g.F.Shelf.file mid)
+    (g.F.Shelf.file last ≡ g.F.Shelf.file c.args.shelf.now) c.run_bytes.result same named (refl {a = g.F.Shelf.loads last}) (λ u. u ∙ c.load.ensures.files) there.0 (rw c.as_slice.ensures at c.run_bytes.ensures.runs)
 
 pub returns-in-Ok-None-clause-runs : goal.returns-in-Ok-None-clause-runs
 returns-in-Ok-None-clause-runs g c =
     let shelf = shelves g.F.Shelf c.args.shelf.now c.load.new.shelf in
     let loaded = loads g.F.Shelf c.args.shelf.now c.load.new.shelf in
+    let script = c.args.words.now.script in
+    let line = shelf_line script in
     let lacks = rw c.text.ensures at (rw c.in-Ok-None.field-0-is at c.in-Ok-None.ensures.loaded) in
-    inl ((refl, c.load.ensures.files), finished_by (ScriptInputs shelf loaded c.args.words.now.script) _ _ c.no_file.result _ c.finish.result (rw c.text-in-Ok-None.ensures at c.no_file.ensures) (inl (rw c.text.ensures at c.load.ensures.loads, (refl, (lacks, refl)))) refl c.finish.ensures)
+    let named = rw c.text.ensures at c.load.ensures.loads in
+    inl (
+      (refl {a = c.args.disk.now}, c.load.ensures.files),
+      finished_by (ScriptInputs shelf loaded script) (λ (text : List ℕ). text ≡ []) (sinks g.S.Sink c.args.out.now c.finish.new.out) c.no_file.result (record { status = Shelf; text = line }) c.finish.result (rw c.text-in-Ok-None.ensures at c.no_file.ensures)
+          (inl (named, (refl {a = Shelf}, (lacks, refl {a = line})))) refl c.finish.ensures,
+    )

@@ -7,18 +7,18 @@ use Rattle.depot_store.specs.Holdings.{standing}
 use Rattle.depot_decide.proofs.PutLaws.{spent, leaf_left, too_wide, IsMade, made_record_fits, made_text, collides, planned}
 use Rattle.depot_decide.proofs.put_decision.decide_put.Given.{Over}
 use Rattle.depot_decide.proofs.put_decision.decide_put.Goals as goal
-use Rattle.depot_decide.proofs.put_decision.decide_put.Goals.{In_ok-update, After-is_fresh}
+use Rattle.depot_decide.proofs.put_decision.decide_put.Goals.{In_ok-next, After-is_fresh}
 
 -- what is known of the update
-made : (g : Over) (c : In_ok-update g) → IsMade (standing g.S.Scheme.verifies c.args.store.now) c.args.store.now.records c.in_ok-update.update c.args.key c.args.value
+made : (g : Over) (c : In_ok-next g) → IsMade (standing g.S.Scheme.verifies c.args.store.now) c.args.store.now.records c.in_ok-next.next.update c.args.key c.args.value
 made g c = record {
   lawful = c.requires.lawful;
   some = c.requires.some;
   key_fits = subst (λ (b : List ℕ). IsKey b) c.key.view_is c.key.invariant;
   value_fits = subst (λ (b : List ℕ). IsValue b) c.value.view_is c.value.invariant;
   leaf = leaf_left c.args.store.now.records c.totals.result.now.own (leaf_count c.args.store.now.listed c.args.store.now.me) c.has_leaf.result c.totals.ensures.own c.has_leaf.ensures c.if-not-has_leaf.false;
-  next = c.in_ok-update.ensures.next;
-  narrow = c.in_ok-update.ensures.narrow;
+  next = c.in_ok-next.ensures.next;
+  narrow = c.in_ok-next.ensures.narrow;
 }
 
 -- the test of its id
@@ -30,23 +30,23 @@ returns-then-not-has_leaf-clause-refused g c =
     spent (standing g.S.Scheme.verifies c.args.store.now) c.args.store.now.records c.args.key c.args.value c.totals.result.now.own c.has_leaf.result c.totals.ensures.own c.has_leaf.ensures c.if-not-has_leaf.true
 
 pub encode_own_put-requires : goal.encode_own_put-requires
-encode_own_put-requires g c = made_record_fits (made g (goal.at.encode_own_put-requires g c).In_ok-update)
+encode_own_put-requires g c = made_record_fits (made g (goal.at.encode_own_put-requires g c).In_ok-next)
 
 pub returns-then-not-is_fresh-clause-refused : goal.returns-then-not-is_fresh-clause-refused
 returns-then-not-is_fresh-clause-refused g c =
     let at = goal.at.returns-then-not-is_fresh-clause-refused g c in
-    collides (made g at.In_ok-update) c.in_ok-made.made.id c.in_ok-made.ensures.id (λ is. both_ways c.is_fresh.result c.if-not-is_fresh.true ((fresh g at.After-is_fresh).1 is))
+    collides (made g at.In_ok-next) c.in_ok-made.made.id c.in_ok-made.ensures.id (λ is. both_ways c.is_fresh.result c.if-not-is_fresh.true ((fresh g at.After-is_fresh).1 is))
 
-pub of_text-requires-clause-text : goal.of_text-requires-clause-text
-of_text-requires-clause-text g c = made_text (made g (goal.at.of_text-requires-clause-text g c).In_ok-update) _ c.in_ok-made.ensures.text
+pub of_statement-requires-clause-text : goal.of_statement-requires-clause-text
+of_statement-requires-clause-text g c = made_text (made g (goal.at.of_statement-requires-clause-text g c).In_ok-next) _ c.in_ok-made.ensures.text
 
 pub returns-clause-planned : goal.returns-clause-planned
 returns-clause-planned g c =
     let at = goal.at.returns-clause-planned g c in
-    planned (made g at.In_ok-update) c.in_ok-made.made.id c.in_ok-growth.growth c.in_ok-made.ensures.id ((fresh g at.After-is_fresh).0 c.if-not-is_fresh.false) c.in_ok-growth.ensures
+    planned (made g at.In_ok-next) c.in_ok-made.made.id c.in_ok-growth.growth c.in_ok-made.ensures.id ((fresh g at.After-is_fresh).0 c.if-not-is_fresh.false) c.in_ok-growth.ensures
 
-pub returns-in_err-update-clause-refused : goal.returns-in_err-update-clause-refused
-returns-in_err-update-clause-refused g c =
+pub returns-in_err-next-clause-refused : goal.returns-in_err-next-clause-refused
+returns-in_err-next-clause-refused g c =
     let leaf = leaf_left c.args.store.now.records c.totals.result.now.own (leaf_count c.args.store.now.listed c.args.store.now.me) c.has_leaf.result c.totals.ensures.own c.has_leaf.ensures c.if-not-has_leaf.false in
     let p = err_from_is_err_and c.from_residual.result c.from_residual.ensures.1 in
-    rw (p.1, p.2) (too_wide (standing g.S.Scheme.verifies c.args.store.now) c.args.store.now.records c.args.key c.args.value c.in_err-update.field-0.0 leaf c.in_err-update.ensures.wide)
+    rw (p.1, p.2) (too_wide (standing g.S.Scheme.verifies c.args.store.now) c.args.store.now.records c.args.key c.args.value c.in_err-next.field-0.0 leaf c.in_err-next.ensures.wide)

@@ -27,8 +27,8 @@ returns-then-items-clause-wide g c = (
   c.if-items.true,
 )
 
-pub overflow_add-result : goal.overflow_add-result
-overflow_add-result g c =
+pub overflow_add-totals : goal.overflow_add-totals
+overflow_add-totals g c =
     let here = standing g.S.Scheme.verifies c.args.store.now in
     omega (arith, c.totals-totals.ensures.clock, clocks_within here c.args.store.now.records c.requires.lawful, lawful_is_short here c.args.store.now.records c.requires.lawful)
 

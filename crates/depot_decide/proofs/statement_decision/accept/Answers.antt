@@ -9,8 +9,8 @@ use Rattle.depot_decide.proofs.statement_decision.accept.Goals.{In_ok-text}
 text_is : (g : Over) (c : In_ok-text g) → IsTextOf (Foreign c.args.signed) c.in_ok-text.text
 text_is g c = record { fits = IsRecord-Foreign c.args.signed c.requires.signed; is = c.in_ok-text.ensures c.args.signed c.requires.text }
 
-pub of_text-requires-clause-text : goal.of_text-requires-clause-text
-of_text-requires-clause-text g c = text_is g (goal.at.of_text-requires-clause-text g c).In_ok-text
+pub of_statement-requires-clause-text : goal.of_statement-requires-clause-text
+of_statement-requires-clause-text g c = text_is g (goal.at.of_statement-requires-clause-text g c).In_ok-text
 
 pub convicting-requires-clause-text : goal.convicting-requires-clause-text
 convicting-requires-clause-text g c = text_is g (goal.at.convicting-requires-clause-text g c).In_ok-text

@@ -28,9 +28,9 @@ accept-requires-clause-new g c =
 
 pub accept-requires-in-Ok-Update-clause-new : goal.accept-requires-in-Ok-Update-clause-new
 accept-requires-in-Ok-Update-clause-new g c =
-    let passed = checked_here (standing g.S.Scheme.verifies c.args.store.now) _ c.args.store.now.records c.args.signed (Ok c.in-Ok-Update.field-0) (Ok (pass.Update c.in-Ok-Update.found)) c.state.ensures.stands
+    let passed = checked_here (standing g.S.Scheme.verifies c.args.store.now) _ c.args.store.now.records c.args.signed (Ok c.in-Ok-Update.field-0) (Ok (pass.Update c.in-Ok-Update.against c.in-Ok-Update.parents)) c.state.ensures.stands
     (ap (λ (p : Pass). Ok p) c.in-Ok-Update.field-0-is) (c.in-Ok-Update.ensures c.args.store.now.records c.state.ensures.state) in
-    passed.1.1
+    passed.1
 
 pub refuse-requires-clause-failed : goal.refuse-requires-clause-failed
 refuse-requires-clause-failed g c =

@@ -1,9 +1,9 @@
 use Rattle.std.proofs.Common.{◌≡◌, [], length, refl, sym, ap, ◌∙◌, arith}
 use Rattle.std.proofs.lemmas.List.{nil_from_length}
 use Rattle.std.proofs.lemmas.Bool.Decides.{nat_tests}
-use Rattle.depot_gossip.specs.Pieces.{Stream}
-use Rattle.depot_gossip.proofs.PieceLaws.{under_way_fails, under_way_first}
-use Rattle.depot_gossip.proofs.StreamCalls.{nothing_called_for}
+use Rattle.depot_feeds.specs.Pieces.{Stream}
+use Rattle.depot_feeds.proofs.PieceLaws.{under_way_fails, under_way_first}
+use Rattle.depot_feeds.proofs.StreamCalls.{nothing_called_for}
 use Rattle.depot_model.specs.Feeding.{feeding_from}
 use Rattle.depot_model.proofs.FeedGrowth.{grown_none, grown_on}
 use Rattle.depot_model.proofs.CallsOnDisk.{nothing_called}

@@ -2,9 +2,9 @@ use Rattle.std.proofs.Common.{◌≡◌, [], length, false}
 use Rattle.depot_model.specs.Feeding.{feeding_from}
 use Rattle.depot_model.specs.Replicas.{IsSameNode}
 use Rattle.depot_model.specs.Stops.{CallsDisk}
-use Rattle.depot_gossip.specs.Pieces.{at_work}
+use Rattle.depot_feeds.specs.Pieces.{at_work}
 use Rattle.depot_model.proofs.FeedGrowth.{IsGrown}
-use Rattle.depot_gossip.proofs.PieceLaws.{IsUnderWay}
+use Rattle.depot_feeds.proofs.PieceLaws.{IsUnderWay}
 use Rattle.depot_deeds.proofs.feeds.feed_all.Given as goal
 
 abbrev pub invariant-loop-rest : goal.invariant-loop-rest

@@ -1,8 +1,8 @@
 use Rattle.std.proofs.Common.{None, refl, subst}
 use Rattle.depot_deeds.specs.Printing.{IsToldOf}
-use Rattle.depot_gossip.specs.Pieces.{Stream, at_work}
-use Rattle.depot_gossip.proofs.FeedRecords.{nothing_fed}
-use Rattle.depot_gossip.proofs.LastingStreams.{nothing_in}
+use Rattle.depot_feeds.specs.Pieces.{Stream, at_work}
+use Rattle.depot_feeds.proofs.FeedRecords.{nothing_fed}
+use Rattle.depot_feeds.proofs.LastingStreams.{nothing_in}
 use Rattle.depot_model.specs.Feeding.{fed, feeding_from}
 use Rattle.depot_deeds.proofs.FedStreams.{told_well}
 use Rattle.depot_deeds.proofs.feeds.feed_whole.Goals as goal

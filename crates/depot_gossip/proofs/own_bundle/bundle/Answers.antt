@@ -1,17 +1,16 @@
 use Rattle.std.proofs.Common.{◌≡◌, ℕ, List, [], true, false, Err, refl, sym, ap, subst, ◌∙◌}
 use Rattle.std.specs.List.{AllByRecursion}
 use Rattle.std.proofs.lemmas.Result.{err_from_is_err_and}
-use Rattle.depot_model.specs.Bundle.{Signs, sent_for}
+use Rattle.depot_model.specs.Bundle.{Signs, sent_for, unvouched}
 use Rattle.depot_model.specs.Journal.{accepted, is_foreign}
 use Rattle.depot_model.specs.Lists.{AreApart}
 use Rattle.depot_model.specs.Vouching.{is_mine_vouched}
 use Rattle.depot_model.proofs.CallsOnDisk.{nothing_called, called_well}
-use Rattle.depot_gossip.specs.Fronts.{IsStream}
+use Rattle.depot_offers.specs.BundleStreams.{IsStream}
 use Rattle.depot_gossip.proofs.ApartLaws.{unvouched_apart, unvouched_foreign, unvouched_fresh}
-use Rattle.depot_gossip.proofs.StreamCalls.{not_vouched_calls}
 use Rattle.depot_gossip.proofs.StreamLaws.{not_bundled, not_prepared_stops, not_prepared_keeps, no_disk, not_vouched, only_vouched, all_bundled, stops_alike, keeps_alike, same_fault, memory_stops, memory_keeps, good_stops, good_keeps}
-use Rattle.depot_gossip.proofs.LastingStreams.{nothing_lasts, nothing_in, lasts_longer}
-use Rattle.depot_gossip.proofs.VoucherGrowth.{vouched_in, not_vouched_in, vouched_lasts, not_vouched_lasts}
+use Rattle.depot_feeds.proofs.LastingStreams.{nothing_lasts, nothing_in, lasts_longer}
+use Rattle.depot_gossip.proofs.VoucherGrowth.{vouched_in, not_vouched_in, vouched_lasts, not_vouched_lasts, not_vouched_calls}
 use Rattle.depot_gossip.proofs.own_bundle.bundle.Goals as goal
 
 -- ---- before any voucher is made
@@ -44,9 +43,9 @@ own_vouchers-requires g c =
     let h = c.in_ok-chosen.chosen.hello in
     let ids = sym c.in_ok-chosen.ensures.prepares.ids in
     record {
-      apart = subst (λ (hs : List (List ℕ)). AreApart hs) ids (unvouched_apart here sign J h (g.met.R.Replica.lawful c.args.node.now));
-      foreign = subst (λ (hs : List (List ℕ)). AllByRecursion (λ i. is_foreign here.me (accepted J) i ≡ true) hs) ids (unvouched_foreign here sign J h);
-      fresh = subst (λ (hs : List (List ℕ)). AllByRecursion (λ i. is_mine_vouched J i ≡ false) hs) ids (unvouched_fresh here.me J (sent_for sign J h));
+      apart = subst (λ (hs : List (List ℕ)). AreApart hs) {x = unvouched here.me J (sent_for sign J h)} ids (unvouched_apart here sign J h (g.met.R.Replica.lawful c.args.node.now));
+      foreign = subst (λ (hs : List (List ℕ)). AllByRecursion (λ i. is_foreign here.me (accepted J) i ≡ true) hs) {x = unvouched here.me J (sent_for sign J h)} ids (unvouched_foreign here sign J h);
+      fresh = subst (λ (hs : List (List ℕ)). AllByRecursion (λ i. is_mine_vouched J i ≡ false) hs) {x = unvouched here.me J (sent_for sign J h)} ids (unvouched_fresh here.me J (sent_for sign J h));
     }
 
 pub returns-in_err-own_vouchers-clause-bundles : goal.returns-in_err-own_vouchers-clause-bundles

@@ -5,7 +5,7 @@ use Rattle.depot_model.specs.Lists.{IsIn}
 use Rattle.depot_model.proofs.Elements.{in_at}
 use Rattle.depot_graph.specs.Kept.{updates_in}
 use Rattle.depot_history.specs.PastChains.{IsCovered}
-use Rattle.depot_history.proofs.ItemPlaces.{index_of, below_more}
+use Rattle.depot_graph.proofs.ItemPlaces.{index_of, below_more}
 use Rattle.depot_history.proofs.ChainLeaves.{child_is}
 use Rattle.depot_history.proofs.covered.has_covered_child.Goals as goal
 

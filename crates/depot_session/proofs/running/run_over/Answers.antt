@@ -8,7 +8,7 @@ use Rattle.depot_model.specs.Stops.{HasAll, HasRecords}
 use Rattle.depot_session.specs.Sessions.{session_from}
 use Rattle.depot_session.specs.declared.ending.Ending.TheVariants as ending
 use Rattle.depot_session.proofs.LeftJournals.{all_there}
-use Rattle.depot_session.proofs.PlayedScripts.{front_longer}
+use Rattle.depot_feeds.proofs.LastingStreams.{front_longer}
 use Rattle.depot_session.proofs.RunImages.{either, has_from_key, key_or_disk, refused_goes_on, run_goes_on, settled}
 use Rattle.depot_session.proofs.RunEnds.{answered, calm_end, ended_by, not_started, start_is_correct}
 use Rattle.depot_session.proofs.running.run_over.Goals as goal

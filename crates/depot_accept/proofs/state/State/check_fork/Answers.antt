@@ -2,18 +2,15 @@ use Rattle.std.proofs.Common.{true, false, Some, None, sym, ap, ◌∙◌}
 use Rattle.depot_base.specs.Statement.{writer_of}
 use Rattle.depot_base.specs.declared.statement.Statement.{Statement}
 use Rattle.depot_model.proofs.BodyLaws.{IsStatement-from_signed}
-use Rattle.depot_accept.proofs.DueConvictions.{writer_convicted, update_vouched, same_foreign, opponent_found, found_within, passes_convicted, passes_vouched, passes_alone, update_refused, fork_refused}
+use Rattle.depot_accept.proofs.DueConvictions.{behind_parents, writer_convicted, update_vouched, same_foreign, opponent_found, found_within, passes_convicted, passes_vouched, passes_alone, update_refused, fork_refused}
 use Rattle.depot_accept.proofs.state.State.check_fork.Goals as goal
 
 pub returns-then-is_vouched : goal.returns-then-is_vouched
 returns-then-is_vouched g c = λ J st content. (
-  c.args.update.now,
-  (
-    c.requires.update,
-    passes_convicted J c.args.signed.now c.args.update.now content c.requires.update
-        (writer_convicted J _ _ c.args.signed.now.statement c.args.update.now.writer true c.self.view_is st (ap (λ (x : Statement). writer_of x) c.requires.update) (sym c.if-is_convicted.true ∙ c.is_convicted.ensures))
-        (update_vouched J _ _ c.args.signed.now.statement c.args.update.now c.args.id.now true c.self.view_is st c.requires.update c.requires.id (sym c.if-is_vouched.true ∙ c.is_vouched-is_vouched.ensures)),
-  ),
+  behind_parents J _ c.args.signed.now c.args.update.now c.args.items.items c.requires.update st c.requires.parents,
+  passes_convicted J c.args.signed.now c.args.update.now content c.requires.update
+      (writer_convicted J _ _ c.args.signed.now.statement c.args.update.now.writer true c.self.view_is st (ap (λ (x : Statement). writer_of x) c.requires.update) (sym c.if-is_convicted.true ∙ c.is_convicted.ensures))
+      (update_vouched J _ _ c.args.signed.now.statement c.args.update.now c.args.id.now true c.self.view_is st c.requires.update c.requires.id (sym c.if-is_vouched.true ∙ c.is_vouched-is_vouched.ensures)),
 )
 
 pub returns-then-is_convicted : goal.returns-then-is_convicted
@@ -28,14 +25,11 @@ contradiction-found-requires-clause-text g c = IsStatement-from_signed c.args.si
 
 pub returns-then-is_vouched-2 : goal.returns-then-is_vouched-2
 returns-then-is_vouched-2 g c = λ J st content. (
-  c.args.update.now,
-  (
-    c.requires.update,
-    passes_vouched J c.args.signed.now c.contradiction-found.result content
-        (writer_convicted J _ _ c.args.signed.now.statement c.args.update.now.writer false c.self.view_is st (ap (λ (x : Statement). writer_of x) c.requires.update) (sym c.if-is_convicted.false ∙ c.is_convicted.ensures))
-        (update_vouched J _ _ c.args.signed.now.statement c.args.update.now c.args.id.now true c.self.view_is st c.requires.update c.requires.id (sym c.if-is_vouched-2.true ∙ c.is_vouched-is_vouched.ensures))
-        (opponent_found J _ _ c.args.signed.now.statement c.contradiction-found.result c.self.view_is st c.contradiction-found.ensures),
-  ),
+  behind_parents J _ c.args.signed.now c.args.update.now c.args.items.items c.requires.update st c.requires.parents,
+  passes_vouched J c.args.signed.now c.contradiction-found.result content
+      (writer_convicted J _ _ c.args.signed.now.statement c.args.update.now.writer false c.self.view_is st (ap (λ (x : Statement). writer_of x) c.requires.update) (sym c.if-is_convicted.false ∙ c.is_convicted.ensures))
+      (update_vouched J _ _ c.args.signed.now.statement c.args.update.now c.args.id.now true c.self.view_is st c.requires.update c.requires.id (sym c.if-is_vouched-2.true ∙ c.is_vouched-is_vouched.ensures))
+      (opponent_found J _ _ c.args.signed.now.statement c.contradiction-found.result c.self.view_is st c.contradiction-found.ensures),
 )
 
 pub forked-requires : goal.forked-requires
@@ -52,12 +46,9 @@ returns-in-Some g c = λ J st content.
 
 pub returns-in-None : goal.returns-in-None
 returns-in-None g c = λ J st content. (
-  c.args.update.now,
-  (
-    c.requires.update,
-    passes_alone J c.args.signed.now content
-        (writer_convicted J _ _ c.args.signed.now.statement c.args.update.now.writer false c.self.view_is st (ap (λ (x : Statement). writer_of x) c.requires.update) (sym c.if-is_convicted.false ∙ c.is_convicted.ensures))
-        (update_vouched J _ _ c.args.signed.now.statement c.args.update.now c.args.id.now false c.self.view_is st c.requires.update c.requires.id (sym c.if-is_vouched-2.false ∙ c.is_vouched-is_vouched.ensures))
-        (opponent_found J _ _ c.args.signed.now.statement None c.self.view_is st c.in-None.ensures),
-  ),
+  behind_parents J _ c.args.signed.now c.args.update.now c.args.items.items c.requires.update st c.requires.parents,
+  passes_alone J c.args.signed.now content
+      (writer_convicted J _ _ c.args.signed.now.statement c.args.update.now.writer false c.self.view_is st (ap (λ (x : Statement). writer_of x) c.requires.update) (sym c.if-is_convicted.false ∙ c.is_convicted.ensures))
+      (update_vouched J _ _ c.args.signed.now.statement c.args.update.now c.args.id.now false c.self.view_is st c.requires.update c.requires.id (sym c.if-is_vouched-2.false ∙ c.is_vouched-is_vouched.ensures))
+      (opponent_found J _ _ c.args.signed.now.statement None c.self.view_is st c.in-None.ensures),
 )

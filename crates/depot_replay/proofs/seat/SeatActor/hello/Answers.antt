@@ -11,3 +11,6 @@ returns g c = λ stage x seat.
     let n = a.node in
     let there = same_setting g.S.Scheme.verifies n.store.me a.means.me n.store.listed a.means.roster a.is_me a.is_listed in
     hello_came stage x _ _ (state_of n.store.disk) _ c.in_ok-lines.lines c.in_ok-bytes.bytes seat refl a.kept.to_come (as_it_was _) there (c.in_ok-lines.ensures _ (hello_fits _ n.store.records n.formed n.lawful n.some) (c.as_slice.ensures ∙ c.in_ok-bytes.ensures)) c.in_ok-bytes.ensures
+
+pub hello-requires : goal.hello-requires
+hello-requires g c = c.args.self.runs

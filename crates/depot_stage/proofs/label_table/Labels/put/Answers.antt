@@ -3,7 +3,7 @@ use Rattle.depot_stage.proofs.LabelTables.{labels_more, labels_stay}
 use Rattle.depot_stage.proofs.label_table.Labels.put.Goals as goal
 
 pub returns-then-contains_key : goal.returns-then-contains_key
-returns-then-contains_key c = λ labels are. labels_stay c.args.self.now.map.entries labels _ are (sym c.contains_key.ensures ∙ c.if-contains_key.true)
+returns-then-contains_key c = λ labels are. labels_stay c.args.self.now.map.entries labels (record { label = c.args.label.now; bytes = c.args.given.bytes; signed = c.args.given.signed }) are (sym c.contains_key.ensures ∙ c.if-contains_key.true)
 
 pub returns : goal.returns
 returns c = λ labels are.

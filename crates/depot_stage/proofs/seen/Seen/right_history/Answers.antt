@@ -5,7 +5,7 @@ use Rattle.depot_history.proofs.Leaving.{if_ok}
 use Rattle.depot_history.specs.Closure.{closure_of}
 use Rattle.depot_model.specs.History.{history_hash}
 use Rattle.depot_model.specs.Order.{parents, past}
-use Rattle.depot_history.proofs.ItemPlaces.{places_within}
+use Rattle.depot_graph.proofs.ItemPlaces.{places_within}
 use Rattle.depot_stage.proofs.SeenUpdates.{hash_of_items}
 use Rattle.depot_stage.proofs.seen.Seen.right_history.Goals as goal
 

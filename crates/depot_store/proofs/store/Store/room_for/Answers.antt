@@ -2,10 +2,10 @@ use Rattle.std.proofs.Common.{◌≡◌, ℕ, ◌+◌, List, length, sym, ap, su
 use Rattle.depot_base.specs.declared.record.Record.{Record}
 use Rattle.depot_model.specs.Journal.{accepted}
 use Rattle.depot_model.specs.Records.{journal_bytes}
-use Rattle.depot_model.specs.Room.{foreign_leaves, full_by}
+use Rattle.depot_model.specs.Room.{foreign_leaves, full_by, limit_passed}
 use Rattle.depot_laws.proofs.OwnTexts.{lawful_is_short, lawful_is_light}
 use Rattle.depot_store.specs.NewRecords.{AreNew}
-use Rattle.depot_store.specs.RoomByCounts.{leaves_with, limit}
+use Rattle.depot_store.specs.RoomByCounts.{leaves_with}
 use Rattle.depot_store.specs.Holdings.{standing}
 use Rattle.depot_store.proofs.RoomLaws.{full_with_growth, full_with_nothing, growth_is_small, is_none, isnt_none}
 use Rattle.depot_store.proofs.store.Store.room_for.Goals as goal
@@ -35,5 +35,5 @@ returns g c =
     let some : length c.new.inside.texts.items ≡ 0 → ⊥ = λ none. isnt_none _ _ c.is_empty.ensures c.if-is_empty.false (omega (arith, none, c.new.inside.texts.ok.0)) in
     let leaves = c.requires.leaves ∙ ap (leaves_with (accepted J) (length (foreign_leaves here.me J))) (sym c.new.view_is) in
     let count : c.len.result ≡ length c.new.inside.texts.items = omega (arith, c.len.ensures, c.new.inside.texts.ok.0) in
-    c.limit.ensures ∙ ap (λ (n : ℕ). limit (length J) (journal_bytes J) (length (foreign_leaves here.me J)) (length J + n) (journal_bytes J + c.new.inside.bytes) c.args.leaves) count
+    c.limit.ensures ∙ ap (λ (n : ℕ). limit_passed (length J) (journal_bytes J) (length (foreign_leaves here.me J)) (length J + n) (journal_bytes J + c.new.inside.bytes) c.args.leaves) count
     ∙ full_with_growth here J c.new.inside.news c.new.inside.texts.items c.new.inside.bytes _ c.requires.lawful new c.new.invariant some leaves ∙ ap (full_by here.me J) c.new.view_is

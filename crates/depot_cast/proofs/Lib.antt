@@ -1,0 +1,2 @@
+pub mod CastLaws
+pub mod EntryOrder

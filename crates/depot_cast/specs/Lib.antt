@@ -1,0 +1,2 @@
+pub mod DraftEntries
+pub mod Hands

@@ -1,0 +1,108 @@
+-- What bytes bring a journal, and what a stop leaves of it while they are fed.
+use Rattle.std.proofs.Common.{◌≡◌, ◌≤◌, ℕ, List, [], ◌++◌, append_assoc, Bool, true, false, IsTrue, cond, ◌==◌, Some, Ok, Err, refl, sym, ap, ◌∙◌, arith}
+use Rattle.std.proofs.lemmas.Bool.Decides.{nat_tests}
+use Rattle.std.proofs.lemmas.List.{append-nil}
+use Rattle.depot_base.specs.declared.record.Record.{Record}
+use Rattle.depot_model.specs.declared.taken.Taken.TheVariants.{New, Known}
+use Rattle.depot_model.specs.Checks.{Setting}
+use Rattle.depot_model.specs.Frames.{Frame}
+use Rattle.depot_model.specs.Feeding.{Feeding, after_outcome, passed, says_more, fed, fed_frame, take_frame}
+use Rattle.depot_model.specs.Stops.{LeavesAll, Lasts}
+use Rattle.depot_model.specs.Taking.{Outcome, no_room, answered, appended_by}
+use Rattle.depot_model.proofs.FeedGrowth.{feed_grows}
+use Rattle.depot_model.proofs.FeedLaws.{fed_in_pieces}
+use Rattle.depot_feeds.specs.Lasting.{LastsIn, LastsFed}
+use Rattle.depot_feeds.specs.Pieces.{brought_by}
+use Rattle.depot_feeds.proofs.LastingStreams.{nothing_lasts, lasts_longer, lasts_joined}
+use Rattle.depot_feeds.proofs.PieceLaws.{IsUnderWay}
+
+-- ---- what a frame brings
+
+-- an outcome adds what is appended for it
+outcome_brings : (n : ℕ) (s : Feeding) (o : Outcome) → (after_outcome n s o).journal ≡ s.journal ++ appended_by o
+outcome_brings n s (no_room what) = sym (append-nil s.journal)
+outcome_brings n s (answered (Ok New) new) = refl
+outcome_brings n s (answered (Ok Known) new) = refl
+outcome_brings n s (answered (Err c) new) = refl
+
+-- a whole frame adds what it brings, whatever its number of bytes
+frame_brings : (here : Setting) (n : ℕ) (f : Frame) (s : Feeding) → (fed_frame here n f s).journal ≡ s.journal ++ brought_by here s.journal f
+unfolding fed_frame
+frame_brings here n f s = by_end (f.tag == 4) where
+  by_end : (b : Bool) → (cond b (passed n (record s { ended = Some (says_more f.payload) })) (after_outcome n s (take_frame here s.journal f))).journal ≡ s.journal ++ cond b [] (appended_by (take_frame here s.journal f))
+  by_end true = sym (append-nil s.journal)
+  by_end false = outcome_brings n s (take_frame here s.journal f)
+
+-- ---- one frame
+
+-- a frame other than End brings what is appended for it
+pub given_brings : (here : Setting) (J : List Record) (f : Frame) → f.tag ≤ 3 → appended_by (take_frame here J f) ≡ brought_by here J f
+given_brings here J f le = by_end (f.tag == 4) (other f.tag le) where
+  other : (t : ℕ) → t ≤ 3 → (t == 4) ≡ false
+  other t e = grind (arith, nat_tests, e)
+
+  by_end : (b : Bool) → b ≡ false → appended_by (take_frame here J f) ≡ cond b [] (appended_by (take_frame here J f))
+  by_end true e = absurd cc
+  by_end false e = refl
+
+-- ---- bytes
+
+-- nothing was done, whatever the bytes bring
+pub nothing_fed : {N : Type 0} {tells stopped : N → Bool} {records : N → List Record} {moment : N → ℕ} {left_since : N → ℕ → List ℕ → Type 0} {may_leave : N → List ℕ → Type 0} → ((v : N) (file : List ℕ) → left_since v (moment v) file → may_leave v file)
+    → (here : Setting) (s : Feeding) (bytes : List ℕ) (v : N) → s.journal ≡ records v → (IsTrue (tells v) → LeavesAll (records v) (stopped v) (may_leave v)) → LastsFed tells stopped records moment left_since may_leave here s bytes v v
+nothing_fed only_now here s bytes v same stable =
+    let g = feed_grows here s bytes in
+    record { appends = g.more; brings = g.is ∙ ap (λ (J : List Record). J ++ g.more) same; lasts = lasts_longer v v [] g.more (nothing_lasts only_now v stable) }
+
+-- bytes that take one frame bring what it brings
+pub taken_brings : (here : Setting) (s now : Feeding) (bytes : List ℕ) (n : ℕ) (f : Frame) (J : List Record) → fed here s bytes ≡ fed_frame here n f now → now.journal ≡ J → (fed here s bytes).journal ≡ J ++ brought_by here J f
+taken_brings here s now bytes n f J takes same = ap (λ (x : Feeding). x.journal) takes ∙ frame_brings here n f now ∙ ap (λ (K : List Record). K ++ brought_by here K f) same
+
+-- the bytes take one frame
+pub frame_fed : {N : Type 0} {tells stopped : N → Bool} {records : N → List Record} {moment : N → ℕ} {left_since : N → ℕ → List ℕ → Type 0} {may_leave : N → List ℕ → Type 0}
+    → (here : Setting) (s now : Feeding) (bytes : List ℕ) (n : ℕ) (f : Frame) (old new : N) → fed here s bytes ≡ fed_frame here n f now → now.journal ≡ records old → Lasts tells stopped records moment left_since may_leave old new (brought_by here (records old) f) → LastsFed tells stopped records moment left_since may_leave here s bytes old new
+frame_fed {records = records} here s now bytes n f old new takes same lasts = record {
+  appends = brought_by here (records old) f;
+  brings = taken_brings here s now bytes n f (records old) takes same;
+  lasts = lasts;
+}
+
+-- all bytes are behind, and nothing failed
+pub piece_fed : {N : Type 0} {tells stopped : N → Bool} {records : N → List Record} {moment : N → ℕ} {left_since : N → ℕ → List ℕ → Type 0} {may_leave : N → List ℕ → Type 0}
+    → (here : Setting) (s now : Feeding) (bytes rest : List ℕ) (old new : N) → rest ≡ [] → IsUnderWay here s bytes rest now → now.journal ≡ records new → LastsIn tells stopped records moment left_since may_leave here false old new → LastsFed tells stopped records moment left_since may_leave here s bytes old new
+piece_fed here s now bytes rest old new none u same lasts = record {
+  appends = lasts.appends;
+  brings = ap (λ (b : List ℕ). (fed here s b).journal) (u.parts ∙ ap (λ (b : List ℕ). u.done ++ b) none ∙ append-nil u.done) ∙ ap (λ (x : Feeding). x.journal) u.is ∙ same ∙ lasts.is.all refl;
+  lasts = lasts.lasts;
+}
+
+-- bytes bring what was brought before a chunk, what the chunk brings, and what the bytes behind it would bring
+pub record Brings (here : Setting) (s : Feeding) (bytes : List ℕ) (J a b : List Record) : Type 0 where
+  pub more : List Record
+  pub is : (fed here s bytes).journal ≡ J ++ ((a ++ b) ++ more)
+
+pub chunk_brings : (here there : Setting) (s now : Feeding) (bytes rest c behind : List ℕ) (J K a b : List Record) → there ≡ here → IsUnderWay here s bytes rest now → rest ≡ c ++ behind
+    → K ≡ J ++ a → (fed there now c).journal ≡ K ++ b → Brings here s bytes J a b
+chunk_brings here there s now bytes rest c behind J K a b stays u parts before brings =
+    let g = feed_grows here (fed here now c) behind in
+    let whole : fed here s bytes ≡ fed here (fed here now c) behind =
+    ap (fed here s) (u.parts ∙ ap (λ (x : List ℕ). u.done ++ x) parts)
+    ∙ fed_in_pieces here s u.done (c ++ behind)
+    ∙ ap (λ (x : Feeding). fed here x (c ++ behind)) u.is
+    ∙ fed_in_pieces here now c behind in
+    let brought : (fed here now c).journal ≡ J ++ (a ++ b) =
+    ap (λ (h : Setting). (fed h now c).journal) (sym stays)
+    ∙ brings
+    ∙ ap (λ (x : List Record). x ++ b) before
+    ∙ append_assoc J a b in
+    record { more = g.more; is = ap (λ (x : Feeding). x.journal) whole ∙ g.is ∙ ap (λ (x : List Record). x ++ g.more) brought ∙ append_assoc J (a ++ b) g.more }
+
+-- a chunk fails: with what the bytes behind it would bring, the list is only longer
+pub piece_fails : {N : Type 0} {tells stopped : N → Bool} {records : N → List Record} {moment : N → ℕ} {left_since : N → ℕ → List ℕ → Type 0} {may_leave : N → List ℕ → Type 0}
+    → (here there : Setting) (s now : Feeding) (bytes rest c behind : List ℕ) (old mid new : N) → there ≡ here → stopped old ≡ false → stopped mid ≡ false → IsUnderWay here s bytes rest now → rest ≡ c ++ behind
+    → LastsIn tells stopped records moment left_since may_leave here false old mid → LastsFed tells stopped records moment left_since may_leave there now c mid new → LastsFed tells stopped records moment left_since may_leave here s bytes old new
+piece_fails {records = records} here there s now bytes rest c behind old mid new stays ran runs u parts one two =
+    let a = one.appends in
+    let b = two.appends in
+    let all = chunk_brings here there s now bytes rest c behind (records old) (records mid) a b stays u parts (one.is.all refl) two.brings in
+    record { appends = (a ++ b) ++ all.more; brings = all.is; lasts = lasts_longer old new (a ++ b) all.more (lasts_joined old mid new a b ran runs (one.is.all refl) one.lasts two.lasts) }

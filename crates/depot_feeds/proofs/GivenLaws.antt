@@ -1,0 +1,76 @@
+-- What a node answers to the payload of a frame is what a feed counts.
+use Rattle.std.proofs.Common.{◌≡◌, ℕ, ◌≤◌, List, [], Bool, true, false, cond, ◌==◌, Some, Result, Ok, Err, refl, sym, ap, subst, ◌∙◌, arith}
+use Rattle.std.proofs.lemmas.Bool.Decides.{nat_tests}
+use Rattle.depot_base.specs.declared.record.Record.{Record}
+use Rattle.depot_base.specs.declared.check.Check.{Check}
+use Rattle.depot_model.specs.declared.taken.Taken.{Taken}
+use Rattle.depot_model.specs.declared.taken.TakeError.{TakeError}
+use Rattle.depot_model.specs.declared.taken.TakeError.TheVariants as refused
+use Rattle.depot_model.specs.Checks.{Setting}
+use Rattle.depot_model.specs.Frames.{Frame}
+use Rattle.depot_model.specs.Taking.{Outcome, TakesProof, TakesStatement, TakesValue}
+use Rattle.depot_model.specs.Feeding.{Feeding, take_frame, fed_frame, after_outcome, passed, counted, says_more}
+use Rattle.depot_model.proofs.TakeLaws.{Tells, proof_frame_tells, statement_frame_tells, value_frame_tells}
+use Rattle.depot_feeds.specs.declared.feed_error.FeedError.{FeedError}
+use Rattle.depot_feeds.specs.declared.feed_error.FeedError.TheVariants as error
+use Rattle.depot_feeds.specs.declared.tally.Tally.{Tally}
+use Rattle.depot_feeds.specs.Pieces.{at_work}
+use Rattle.depot_feeds.specs.NodeCalls.{stream_by, told, IsTold, Answers, TakesFrame}
+
+told_answers : (o : Outcome) (J : List Record) (r : Result Taken TakeError) (then : List Record) → Tells o J r then → Answers o J (told r) then
+told_answers o J (Ok taken) then t = record { new = t.new; is = t.is; grown = t.grown }
+told_answers o J (Err refused.Memory) then t = t
+told_answers o J (Err refused.Disk) then t = record { answer = t.answer; new = t.new; is = t.is; cut = t.cut }
+told_answers o J (Err refused.Stopped) then t = t
+told_answers o J (Err (refused.Full what)) then t = t
+told_answers o J (Err (refused.Refused c)) then t = record { new = t.new; is = t.is; grown = t.grown }
+
+-- ---- the three sorts of frames that are given
+
+abbrev AnswersTo : Setting → List Record → ℕ → List ℕ → Result (Result Taken Check) FeedError → List Record → Type 0
+AnswersTo here J tag payload = Answers (take_frame here J (record { tag = tag; payload = payload })) J
+
+pub proof_answers : (here : Setting) (J : List Record) (tag : ℕ) (payload : List ℕ) (r : Result Taken TakeError) (then : List Record) → tag ≡ 1 → TakesProof here J payload r then → AnswersTo here J tag payload (told r) then
+proof_answers here J tag payload r then is t = subst (λ (n : ℕ). AnswersTo here J n payload (told r) then) (sym is) (told_answers _ J r then (proof_frame_tells here J payload r then t))
+
+pub statement_answers : (here : Setting) (J : List Record) (tag : ℕ) (payload : List ℕ) (r : Result Taken TakeError) (then : List Record) → tag ≡ 2 → TakesStatement here J payload r then → AnswersTo here J tag payload (told r) then
+statement_answers here J tag payload r then is t = subst (λ (n : ℕ). AnswersTo here J n payload (told r) then) (sym is) (told_answers _ J r then (statement_frame_tells here J payload r then t))
+
+pub value_answers : (here : Setting) (J : List Record) (tag : ℕ) (payload : List ℕ) (r : Result Taken TakeError) (then : List Record) → tag ≡ 3 → TakesValue here J payload r then → AnswersTo here J tag payload (told r) then
+value_answers here J tag payload r then is t = subst (λ (n : ℕ). AnswersTo here J n payload (told r) then) (sym is) (told_answers _ J r then (value_frame_tells here J payload r then t))
+
+-- ---- a frame is counted
+
+pub end_is_passed : (here : Setting) (n : ℕ) (f : Frame) (s : Feeding) → f.tag ≡ 4 → fed_frame here n f s ≡ passed n (record s { ended = Some (says_more f.payload) })
+unfolding fed_frame
+end_is_passed here n f s is = by_test (f.tag == 4) (four f.tag is) where
+  four : (t : ℕ) → t ≡ 4 → (t == 4) ≡ true
+  four t e = grind (arith, nat_tests, e)
+
+  by_test : (b : Bool) → b ≡ true → cond b (passed n (record s { ended = Some (says_more f.payload) })) (after_outcome n s (take_frame here s.journal f)) ≡ passed n (record s { ended = Some (says_more f.payload) })
+  by_test true e = refl
+  by_test false e = absurd cc
+
+given_is_fed : (here : Setting) (n : ℕ) (f : Frame) (s : Feeding) → f.tag ≤ 3 → fed_frame here n f s ≡ after_outcome n s (take_frame here s.journal f)
+unfolding fed_frame
+given_is_fed here n f s le = by_test (f.tag == 4) (other f.tag le) where
+  other : (t : ℕ) → t ≤ 3 → (t == 4) ≡ false
+  other t e = grind (arith, nat_tests, e)
+
+  by_test : (b : Bool) → b ≡ false → cond b (passed n (record s { ended = Some (says_more f.payload) })) (after_outcome n s (take_frame here s.journal f)) ≡ after_outcome n s (take_frame here s.journal f)
+  by_test true e = absurd cc
+  by_test false e = refl
+
+-- an answer is counted, and the frame is behind
+pub counted_is_fed : (here : Setting) (n : ℕ) (f : Frame) (s now : Feeding) (answer : Result Taken Check) (then : List Record)
+    → f.tag ≤ 3 → (told : IsTold (take_frame here s.journal f) s.journal answer then) → now ≡ passed n (counted answer told.new s) → now ≡ fed_frame here n f s
+counted_is_fed here n f s now answer then le told is = is ∙ sym (given_is_fed here n f s le ∙ ap (after_outcome n s) told.is)
+
+-- an error leaves the tally as it was
+pub error_leaves : (here : Setting) (n : ℕ) (f : Frame) (t after : Tally) (J then : List Record) (e : FeedError)
+    → f.tag ≤ 3 → stream_by after [] true ≡ stream_by t [] true → Answers (take_frame here J f) J (Err e) then → TakesFrame here n f t J (Err e) after then
+error_leaves here n f t after J then error.Memory le same a = (same, a)
+error_leaves here n f t after J then error.Disk le same a = (same, a)
+error_leaves here n f t after J then error.Stopped le same a = (same, a)
+error_leaves here n f t after J then (error.Full what) le same a = (same, (a.1, given_is_fed here n f (at_work (stream_by t [] false) J) le ∙ ap (after_outcome n (at_work (stream_by t [] false) J)) a.0))
+error_leaves here n f t after J then (error.IllFormed at) le same a = absurd a

@@ -1,0 +1,8 @@
+pub mod NodeCallLaws
+pub mod ChunkLaws
+pub mod FeedRecords
+pub mod FrameGrowth
+pub mod GivenLaws
+pub mod LastingStreams
+pub mod PieceLaws
+pub mod StreamCalls

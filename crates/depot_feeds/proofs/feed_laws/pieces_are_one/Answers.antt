@@ -1,0 +1,5 @@
+use Rattle.depot_feeds.proofs.PieceLaws.{pieces_join}
+use Rattle.depot_feeds.proofs.feed_laws.pieces_are_one.Goals as goal
+
+pub returns : goal.returns
+returns c = λ here s a b result S T J K first runs second. pieces_join here s a b result S T J K first runs second

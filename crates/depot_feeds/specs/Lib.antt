@@ -1,0 +1,3 @@
+pub mod NodeCalls
+pub mod Pieces
+pub mod Lasting

@@ -1,0 +1,187 @@
+//! A stream of frames, in pieces.
+ghost use Rattle.std.specs.Prelude.{◌≡◌, ◌<◌, ◌≤◌, ◌+◌, ℕ, List, [], false, true, length, OnOk, IfOk, IsErrOf, IsTrue, Ok};
+ghost use Rattle.depot_base.specs.declared.limits.TheConstants.{MOST_PAYLOAD};
+ghost use Rattle.depot_model.specs.Frames.{frame_at, open_frame};
+ghost use Rattle.depot_model.specs.Stops.{LeavesAll};
+ghost use Rattle.depot_model.specs.Replicas.{IsSameNode, StopsBy, KeepsDisk};
+ghost use Rattle.depot_frames.specs.FrameHeads.{missing};
+ghost use Rattle.depot_feeds.specs.Pieces.{Feeds, at_work, no_stream, told_of};
+ghost use Rattle.depot_feeds.specs.NodeCalls.{stream_by, stream_after, IsTally, IsKept, says_disk, says_stopped};
+ghost use Rattle.depot_feeds.specs.Lasting.{CallsFed, LastsIn, LastsFed};
+
+use crate::feed_error::FeedError;
+use crate::tally::Tally;
+use depot_base::Memory;
+use depot_base::limits::MOST_PAYLOAD;
+use depot_frames::{Standing, missing, stands};
+use depot_model::{Ending, Refusals, Replica, Report};
+use std::alloc::Global;
+use std::marker::Model;
+
+/// The most bytes of a frame: its tag, its length and its payload.
+const MOST_FRAME: usize = 5 + MOST_PAYLOAD as usize;
+
+/// A stream of frames that is fed to a node, in pieces of any lengths. Each frame is taken with its last byte; until then the feed
+/// keeps its bytes, and no others.
+#[derive(Drop)]
+pub struct Feed {
+    tally: Tally,
+    begun: Vec<u8>,
+    closed: bool,
+}
+
+impl Model for Feed {
+    ghost use Rattle.std.specs.Prelude.{◌≡◌};
+    ghost use Rattle.depot_model.specs.Frames.{frame_at, open_frame};
+    ghost use Rattle.depot_feeds.specs.Pieces.{Stream};
+    ghost use Rattle.depot_feeds.specs.NodeCalls.{stream_by, IsTally};
+
+    ghost Value = { Stream };
+
+    ghost view = { λ f. stream_by f.tally f.begun.items f.closed };
+
+    ghost invariant = { λ f. IsTally f.tally × (frame_at f.begun.items ≡ open_frame) };
+}
+
+/// Feeds bytes of which only the last may end a frame, or show that none stands there.
+fn feed_chunk<R: Replica>(
+    tally: &mut Tally,
+    begun: &mut Vec<u8>,
+    node: &mut R,
+    chunk: &[u8],
+) -> Result<(), FeedError>
+    requires tally { IsTally tally.old }
+    requires begun { frame_at begun.old.items ≡ open_frame }
+    requires some { 0 < length chunk.now }
+    requires short { length chunk.now ≤ missing begun.old.items }
+    requires running { R.stopped node.old ≡ false }
+    requires stable { IsTrue (R.tells node.old) → LeavesAll (R.records node.old) (R.stopped node.old) (R.may_leave node.old) }
+    ensures feeds { Feeds (R.stands node.old) (at_work (stream_by tally.old begun.old.items false) (R.records node.old)) chunk.now result (stream_after result tally.new begun.new.items) (R.records node.new) }
+    ensures kept { IsKept (R.stands node.old) (R.stands node.new) (R.key node.old) (R.key node.new) (R.signature_of node.old) (R.signature_of node.new) (R.handle node.old) (R.handle node.new) (R.faults node.old) (R.faults node.new) (R.is_faultless node.old) (R.is_faultless node.new) (R.stopped node.new) (says_disk result) (says_stopped result) }
+    ensures tally { IsTally tally.new }
+    ensures begun { OnOk result (frame_at begun.new.items ≡ open_frame) }
+    ensures lasts { LastsIn R.tells R.stopped R.records R.moment R.left_since R.may_leave (R.stands node.old) (says_disk result) node.old node.new }
+    ensures brings { LastsFed R.tells R.stopped R.records R.moment R.left_since R.may_leave (R.stands node.old) (at_work (stream_by tally.old begun.old.items false) (R.records node.old)) chunk.now node.old node.new }
+    ensures calls { CallsFed R.after R.reads R.stopped R.records (R.stands node.old) (at_work (stream_by tally.old begun.old.items false) (R.records node.old)) chunk.now node.old node.new (IsErrOf result FeedError.Disk) }
+{
+    if tally.is_over() {
+        return Err(FeedError::IllFormed(tally.start));
+    }
+    begun.extend_from_slice(chunk)?;
+    let frame = begun.as_slice();
+    match stands(frame) {
+        Standing::Open => return Ok(()),
+        Standing::Nothing => return Err(FeedError::IllFormed(tally.start)),
+        Standing::Whole { tag, payload } => tally.take(node, tag, payload, frame.len())?,
+    }
+    begun.clear();
+    Ok(())
+}
+
+/// Feeds a piece, chunk by chunk.
+fn feed_piece<R: Replica>(
+    tally: &mut Tally,
+    begun: &mut Vec<u8>,
+    node: &mut R,
+    bytes: &[u8],
+) -> Result<(), FeedError>
+    requires tally { IsTally tally.old }
+    requires begun { frame_at begun.old.items ≡ open_frame }
+    requires running { R.stopped node.old ≡ false }
+    requires stable { IsTrue (R.tells node.old) → LeavesAll (R.records node.old) (R.stopped node.old) (R.may_leave node.old) }
+    ensures feeds { Feeds (R.stands node.old) (at_work (stream_by tally.old begun.old.items false) (R.records node.old)) bytes.now result (stream_after result tally.new begun.new.items) (R.records node.new) }
+    ensures kept { IsKept (R.stands node.old) (R.stands node.new) (R.key node.old) (R.key node.new) (R.signature_of node.old) (R.signature_of node.new) (R.handle node.old) (R.handle node.new) (R.faults node.old) (R.faults node.new) (R.is_faultless node.old) (R.is_faultless node.new) (R.stopped node.new) (says_disk result) (says_stopped result) }
+    ensures tally { IsTally tally.new }
+    ensures begun { OnOk result (frame_at begun.new.items ≡ open_frame) }
+    ensures lasts { LastsIn R.tells R.stopped R.records R.moment R.left_since R.may_leave (R.stands node.old) (says_disk result) node.old node.new }
+    ensures brings { LastsFed R.tells R.stopped R.records R.moment R.left_since R.may_leave (R.stands node.old) (at_work (stream_by tally.old begun.old.items false) (R.records node.old)) bytes.now node.old node.new }
+    ensures calls { CallsFed R.after R.reads R.stopped R.records (R.stands node.old) (at_work (stream_by tally.old begun.old.items false) (R.records node.old)) bytes.now node.old node.new (IsErrOf result FeedError.Disk) }
+{
+    let mut rest = bytes;
+    while !rest.is_empty() {
+        let count = missing(begun.as_slice()).min(rest.len());
+        let (chunk, behind) = rest.split_at(count);
+        feed_chunk(tally, begun, node, chunk)?;
+        rest = behind;
+    }
+    Ok(())
+}
+
+impl Feed {
+    /// A feed of which nothing came yet, with room for one frame: 131,077 bytes.
+    pub fn new(alloc: Global) -> Result<Feed, Memory>
+        ensures { IfOk result (λ feed. feed ≡ no_stream) }
+    {
+        Ok(Feed {
+            tally: Tally::new(alloc),
+            begun: Vec::with_capacity(alloc, MOST_FRAME)?,
+            closed: false,
+        })
+    }
+
+    /// Whether a piece was answered with an error. It takes no memory.
+    pub fn is_closed(&self) -> bool
+        ensures { result ≡ self.now.closed }
+    {
+        self.closed
+    }
+
+    /// How many bytes of a frame stand open, at most 131,076. It takes no memory.
+    pub fn open_bytes(&self) -> u32
+        ensures count { result ≡ length self.now.begun }
+        ensures most { result < 5 + MOST_PAYLOAD }
+    {
+        self.begun.len() as u32
+    }
+
+    /// Feeds the next bytes of the stream to a node, of any number. Each frame is given to the node with its last byte, and counted.
+    /// Every error closes the feed; the frames before it stay taken, and the frame at hand isn't. `IllFormed` comes exactly where the
+    /// stream so far has no frame at that offset, and `Full` exactly where there is no room for what a frame would add, unless
+    /// Memory or Disk come first. `Stopped` comes exactly where the node was stopped, whatever the bytes are. A stop at any moment
+    /// leaves the records from before and a front of those that the frames bring. On the node's disk the piece makes the calls that
+    /// append what the journal grows by, and no other; where one of them fails, it is the last.
+    pub fn piece<R: Replica>(&mut self, node: &mut R, bytes: &[u8]) -> Result<(), FeedError>
+        requires { self.old.closed ≡ false }
+        ensures feeds { Feeds (R.stands node.old) (at_work self.old (R.records node.old)) bytes.now result self.new (R.records node.new) }
+        ensures stays { IsSameNode (R.stands node.old) (R.stands node.new) (R.key node.old) (R.key node.new) (R.signature_of node.old) (R.signature_of node.new) }
+        ensures stops { StopsBy (R.stopped node.old) (R.stopped node.new) (IsErrOf result FeedError.Stopped) (IsErrOf result FeedError.Disk) }
+        ensures disk { KeepsDisk (R.handle node.old) (R.handle node.new) (R.faults node.old) (R.faults node.new) (R.is_faultless node.old) (R.is_faultless node.new) (IsErrOf result FeedError.Disk) }
+        ensures lasts { LastsIn R.tells R.stopped R.records R.moment R.left_since R.may_leave (R.stands node.old) (says_disk result) node.old node.new }
+        ensures brings { LastsFed R.tells R.stopped R.records R.moment R.left_since R.may_leave (R.stands node.old) (at_work self.old (R.records node.old)) bytes.now node.old node.new }
+        ensures calls { CallsFed R.after R.reads R.stopped R.records (R.stands node.old) (at_work self.old (R.records node.old)) bytes.now node.old node.new (IsErrOf result FeedError.Disk) }
+    {
+        if node.is_stopped() {
+            self.begun.clear();
+            self.closed = true;
+            return Err(FeedError::Stopped);
+        }
+        let fed = feed_piece(&mut self.tally, &mut self.begun, node, bytes);
+        self.closed = fed.is_err();
+        if fed.is_err() {
+            self.begun.clear();
+        }
+        fed
+    }
+
+    /// What became of the frames of the stream. It takes no memory.
+    pub fn end(self) -> Report
+        ensures { result ≡ told_of self }
+    {
+        let ending = if self.closed {
+            Ending::Closed
+        } else {
+            match self.tally.ended {
+                Some(true) => Ending::More,
+                Some(false) => Ending::Whole,
+                None if self.begun.is_empty() => Ending::Bare,
+                None => Ending::Cut(self.begun.len() as u32),
+            }
+        };
+        Report {
+            accepted: self.tally.accepted,
+            known: self.tally.known,
+            refused: Refusals::from_vec(self.tally.refused),
+            ending,
+        }
+    }
+}

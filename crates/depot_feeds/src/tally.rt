@@ -1,0 +1,182 @@
+//! What a feed counts, and how a frame is given to a node.
+ghost use Rattle.std.specs.Prelude.{◌≡◌, ◌<◌, ◌≤◌, ◌==◌, ◌||◌, ◌+◌, ◌*◌, ℕ, List, [], ◌++◌, false, Some, IsErrOf, IsTrue, is_some, vec_len};
+ghost use Rattle.std.specs.Vec.{vec_capacity};
+ghost use Rattle.depot_base.specs.declared.limits.TheConstants.{MOST_FRAMES};
+ghost use Rattle.depot_base.specs.declared.record.Record.{Record};
+ghost use Rattle.depot_model.specs.Frames.{Frame};
+ghost use Rattle.depot_model.specs.Stops.{CallsDisk, Lasts, LeavesAll};
+ghost use Rattle.depot_model.specs.Taking.{appended_by};
+ghost use Rattle.depot_model.specs.Feeding.{take_frame, says_more, passed, counted};
+ghost use Rattle.depot_frames.specs.FrameHeads.{most_frame};
+ghost use Rattle.depot_feeds.specs.Pieces.{at_work, no_stream, brought_by};
+ghost use Rattle.depot_feeds.specs.NodeCalls.{stream_by, IsTally, IsKept, says_disk, says_stopped, told, Answers, TakesFrame};
+ghost use Rattle.depot_feeds.specs.Lasting.{LastsIn};
+
+use crate::feed_error::FeedError;
+use depot_base::Check;
+use depot_base::limits::MOST_FRAMES;
+use depot_model::{Refusal, Replica, TakeError, Taken};
+use std::alloc::Global;
+
+/// What became of the frames of a stream so far.
+#[derive(Drop)]
+pub(crate) struct Tally {
+    /// How many frames were taken, End among them.
+    pub frames: u32,
+    /// The offset of the open frame in the stream.
+    pub start: u64,
+    /// What the End frame said, once it came: whether there is more.
+    pub ended: Option<bool>,
+    /// How many frames were new.
+    pub accepted: u32,
+    /// How many were here before.
+    pub known: u32,
+    /// Those that were refused.
+    pub refused: Vec<Refusal>,
+}
+
+/// What a feed makes of a node's answer.
+fn told(answer: Result<Taken, TakeError>) -> Result<Result<Taken, Check>, FeedError>
+    ensures { result ≡ told answer }
+{
+    match answer {
+        Ok(taken) => Ok(Ok(taken)),
+        Err(TakeError::Refused(check)) => Ok(Err(check)),
+        Err(TakeError::Memory) => Err(FeedError::Memory),
+        Err(TakeError::Disk) => Err(FeedError::Disk),
+        Err(TakeError::Stopped) => Err(FeedError::Stopped),
+        Err(TakeError::Full(full)) => Err(FeedError::Full(full)),
+    }
+}
+
+/// Gives the payload of a frame to a node: 1 is the tag of a proof, 2 of a statement, 3 of a value.
+fn give<R: Replica>(
+    node: &mut R,
+    tag: u8,
+    payload: &[u8],
+) -> Result<Result<Taken, Check>, FeedError>
+    requires tag { (1 ≤ tag) × (tag ≤ 3) }
+    requires running { R.stopped node.old ≡ false }
+    requires stable { IsTrue (R.tells node.old) → LeavesAll (R.records node.old) (R.stopped node.old) (R.may_leave node.old) }
+    ensures answers { Answers (take_frame (R.stands node.old) (R.records node.old) (record { tag = tag; payload = payload.now })) (R.records node.old) result (R.records node.new) }
+    ensures kept { IsKept (R.stands node.old) (R.stands node.new) (R.key node.old) (R.key node.new) (R.signature_of node.old) (R.signature_of node.new) (R.handle node.old) (R.handle node.new) (R.faults node.old) (R.faults node.new) (R.is_faultless node.old) (R.is_faultless node.new) (R.stopped node.new) (says_disk result) (says_stopped result) }
+    ensures lasts { LastsIn R.tells R.stopped R.records R.moment R.left_since R.may_leave (R.stands node.old) (says_disk result) node.old node.new }
+    ensures brings { Lasts R.tells R.stopped R.records R.moment R.left_since R.may_leave node.old node.new (appended_by (take_frame (R.stands node.old) (R.records node.old) (record { tag = tag; payload = payload.now }))) }
+    ensures calls { CallsDisk R.after R.reads R.stopped R.records node.old node.new (appended_by (take_frame (R.stands node.old) (R.records node.old) (record { tag = tag; payload = payload.now }))) (IsErrOf result FeedError.Disk) }
+{
+    match tag {
+        1 => told(node.take_proof(payload)),
+        2 => told(node.take_statement(payload)),
+        _ => told(node.take_value(payload)),
+    }
+}
+
+/// What the payload of an End frame says.
+fn says_more(payload: &[u8]) -> bool
+    ensures { result ≡ says_more payload.now }
+{
+    match payload {
+        [flag, ..] => *flag == 1,
+        [] => false,
+    }
+}
+
+impl Tally {
+    /// Nothing yet. It takes no memory.
+    pub(crate) fn new(alloc: Global) -> Tally
+        ensures tally { IsTally result }
+        ensures stream { stream_by result [] false ≡ no_stream }
+    {
+        Tally {
+            frames: 0,
+            start: 0,
+            ended: None,
+            accepted: 0,
+            known: 0,
+            refused: Vec::new(alloc),
+        }
+    }
+
+    /// Whether no frame may begin any more.
+    pub(crate) fn is_over(&self) -> bool
+        ensures { result ≡ (is_some self.now.ended || (self.now.frames == MOST_FRAMES)) }
+    {
+        self.ended.is_some() || self.frames == MOST_FRAMES
+    }
+
+    /// Counts an answer to the frame at hand.
+    fn count(&mut self, answer: Result<Taken, Check>)
+        requires tally { IsTally self.old }
+        requires room { vec_len self.old.refused < vec_capacity self.old.refused }
+        ensures counts { (J new : List Record) → at_work (stream_by self.new [] false) (J ++ new) ≡ counted answer new (at_work (stream_by self.old [] false) J) }
+        ensures numbers { self.new.accepted + self.new.known ≤ self.old.frames + 1 }
+        ensures same { (self.new.frames ≡ self.old.frames) × (self.new.start ≡ self.old.start) }
+    {
+        match answer {
+            Ok(Taken::New) => self.accepted += 1,
+            Ok(Taken::Known) => self.known += 1,
+            Err(check) => self.refused.push_reserved(Refusal {
+                frame: self.frames,
+                check,
+            }),
+        }
+    }
+
+    /// Goes behind a frame of so many bytes.
+    fn pass(&mut self, count: usize)
+        requires few { self.old.frames < MOST_FRAMES }
+        requires short { count ≤ most_frame }
+        requires behind { self.old.start ≤ self.old.frames * most_frame }
+        requires numbers { self.old.accepted + self.old.known ≤ self.old.frames + 1 }
+        ensures passes { (J : List Record) → at_work (stream_by self.new [] false) J ≡ passed count (at_work (stream_by self.old [] false) J) }
+        ensures tally { IsTally self.new }
+    {
+        self.frames += 1;
+        self.start += count as u64;
+    }
+
+    /// Takes the End frame, which has this payload.
+    fn take_end(&mut self, payload: &[u8], count: usize)
+        requires tally { IsTally self.old }
+        requires few { self.old.frames < MOST_FRAMES }
+        requires short { count ≤ most_frame }
+        ensures takes { (J : List Record) → at_work (stream_by self.new [] false) J ≡ passed count (record (at_work (stream_by self.old [] false) J) { ended = Some (says_more payload.now) }) }
+        ensures tally { IsTally self.new }
+    {
+        self.ended = Some(says_more(payload));
+        self.pass(count);
+    }
+
+    /// Takes a whole frame of so many bytes: End by itself, each other by giving it to the node. After an error the tally is as
+    /// before.
+    pub(crate) fn take<R: Replica>(
+        &mut self,
+        node: &mut R,
+        tag: u8,
+        payload: &[u8],
+        count: usize,
+    ) -> Result<(), FeedError>
+        requires tag { (1 ≤ tag) × (tag ≤ 4) }
+        requires tally { IsTally self.old }
+        requires few { self.old.frames < MOST_FRAMES }
+        requires short { count ≤ most_frame }
+        requires running { R.stopped node.old ≡ false }
+        requires stable { IsTrue (R.tells node.old) → LeavesAll (R.records node.old) (R.stopped node.old) (R.may_leave node.old) }
+        ensures takes { TakesFrame (R.stands node.old) count (record { tag = tag; payload = payload.now }) self.old (R.records node.old) result self.new (R.records node.new) }
+        ensures kept { IsKept (R.stands node.old) (R.stands node.new) (R.key node.old) (R.key node.new) (R.signature_of node.old) (R.signature_of node.new) (R.handle node.old) (R.handle node.new) (R.faults node.old) (R.faults node.new) (R.is_faultless node.old) (R.is_faultless node.new) (R.stopped node.new) (says_disk result) (says_stopped result) }
+        ensures tally { IsTally self.new }
+        ensures lasts { LastsIn R.tells R.stopped R.records R.moment R.left_since R.may_leave (R.stands node.old) (says_disk result) node.old node.new }
+        ensures brings { Lasts R.tells R.stopped R.records R.moment R.left_since R.may_leave node.old node.new (brought_by (R.stands node.old) (R.records node.old) (record { tag = tag; payload = payload.now })) }
+        ensures calls { CallsDisk R.after R.reads R.stopped R.records node.old node.new (brought_by (R.stands node.old) (R.records node.old) (record { tag = tag; payload = payload.now })) (IsErrOf result FeedError.Disk) }
+    {
+        if tag == 4 {
+            self.take_end(payload, count);
+            return Ok(());
+        }
+        self.refused.reserve(1)?;
+        let answer = give(node, tag, payload)?;
+        self.count(answer);
+        self.pass(count);
+        Ok(())
+    }
+}

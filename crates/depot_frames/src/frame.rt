@@ -1,0 +1,117 @@
+//! What stands at the start of a frame.
+ghost use Rattle.std.specs.Prelude.{◌≡◌, ◌++◌, ◌-◌, take, drop, length, replicate};
+ghost use Rattle.std.specs.Int.{w32, from_be_bytes};
+ghost use Rattle.depot_model.specs.Frames.{Frame, frame_at, whole_frame, is_tag, least_length, most_length, may_be_within, is_no_flag, goes_astray};
+ghost use Rattle.depot_frames.specs.FrameHeads.{missing, Tells};
+
+use depot_base::limits::MOST_PAYLOAD;
+
+/// What bytes are, from the start of a frame on.
+#[derive(Clone, Copy)]
+pub enum Standing<'a> {
+    /// The beginning of a frame.
+    Open,
+    /// A whole frame.
+    Whole {
+        /// Its tag, 1 to 4.
+        tag: u8,
+        /// Its payload.
+        payload: &'a [u8],
+    },
+    /// The beginning of none, whatever may come.
+    Nothing,
+}
+
+/// The least and the greatest number whose four bytes begin so.
+fn reach(bytes: &[u8]) -> (u32, u32)
+    ensures least { result.0 ≡ from_be_bytes w32 (take 4 bytes.now ++ replicate (4 - length (take 4 bytes.now)) 0) }
+    ensures greatest { result.1 ≡ from_be_bytes w32 (take 4 bytes.now ++ replicate (4 - length (take 4 bytes.now)) 255) }
+{
+    match bytes {
+        [] => (0, u32::MAX),
+        [a] => (
+            u32::from_be_bytes([*a, 0, 0, 0]),
+            u32::from_be_bytes([*a, 255, 255, 255]),
+        ),
+        [a, b] => (
+            u32::from_be_bytes([*a, *b, 0, 0]),
+            u32::from_be_bytes([*a, *b, 255, 255]),
+        ),
+        [a, b, c] => (
+            u32::from_be_bytes([*a, *b, *c, 0]),
+            u32::from_be_bytes([*a, *b, *c, 255]),
+        ),
+        [a, b, c, d, ..] => {
+            let number = u32::from_be_bytes([*a, *b, *c, *d]);
+            (number, number)
+        }
+    }
+}
+
+/// The least and the greatest length of the payload of a frame with this tag.
+fn lengths(tag: u8) -> (u32, u32)
+    ensures least { result.0 ≡ least_length tag }
+    ensures most { result.1 ≡ most_length tag }
+{
+    if tag == 4 { (1, 1) } else { (0, MOST_PAYLOAD) }
+}
+
+/// Whether a payload's front is neither 0 nor 1.
+fn is_no_flag(payload: &[u8]) -> bool
+    ensures { result ≡ is_no_flag payload.now }
+{
+    match payload {
+        [] => false,
+        [flag, ..] => *flag > 1,
+    }
+}
+
+/// Whether a frame with this tag can't go on with these bytes.
+fn goes_astray(tag: u8, bytes: &[u8]) -> bool
+    ensures { result ≡ goes_astray tag (take 4 bytes.now) (drop 4 bytes.now) }
+{
+    let (low, high) = lengths(tag);
+    let (least, greatest) = reach(bytes);
+    let within = least <= high && low <= greatest;
+    !within || (tag == 4 && is_no_flag(bytes.get(4..).unwrap_or(&[])))
+}
+
+/// What these bytes are, from the start of a frame on. That they are no frame's is told at the first byte that decides it.
+#[tactic(auto, unfolding(depot_model::specs::Frames::frame_at))]
+pub fn stands(bytes: &[u8]) -> Standing<'_>
+    ensures { Tells (frame_at bytes.now) result }
+{
+    let [tag, rest @ ..] = bytes else {
+        return Standing::Open;
+    };
+    if !(1 <= *tag && *tag <= 4) || goes_astray(*tag, rest) {
+        return Standing::Nothing;
+    }
+    let [a, b, c, d, payload @ ..] = rest else {
+        return Standing::Open;
+    };
+    let count = u32::from_be_bytes([*a, *b, *c, *d]) as usize;
+    if payload.len() < count {
+        Standing::Open
+    } else {
+        Standing::Whole {
+            tag: *tag,
+            payload: &payload[..count],
+        }
+    }
+}
+
+/// The most bytes that may come in one go behind these of an open frame: those of the payload that are missing, or one of its
+/// head.
+#[tactic(auto, unfolding(crate::specs::FrameHeads::missing))]
+pub fn missing(begun: &[u8]) -> usize
+    ensures { result ≡ missing begun.now }
+{
+    match begun {
+        [_, a, b, c, d, ..] => {
+            let whole = 5 + u32::from_be_bytes([*a, *b, *c, *d]) as usize;
+            whole.saturating_sub(begun.len())
+        }
+        _ => 1,
+    }
+}

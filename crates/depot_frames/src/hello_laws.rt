@@ -1,0 +1,13 @@
+//! What holds of all texts of hellos. Each law is a function that does nothing; its contract is the law.
+ghost use Rattle.depot_base.specs.Reading.{IsPrefixFree, IsReadInOneWay};
+ghost use Rattle.depot_model.specs.Hello.{hello};
+
+/// No text of a hello begins the text of another.
+pub fn hellos_are_prefix_free()
+    ensures { IsPrefixFree hello }
+{}
+
+/// A text is that of one hello, or it is no hello's and its first fault is at one place.
+pub fn hellos_are_read_in_one_way()
+    ensures { IsReadInOneWay hello }
+{}

@@ -1,0 +1,23 @@
+//! The texts that nodes send one another, and a bundle's frames as they are chosen.
+//!
+//! A hello is read and written in one way. A frame is a tag, the length of its payload and the payload; what stands at the start of
+//! bytes is told at the first byte that decides it, and so is how many bytes may come in one go before a frame can end.
+//!
+//! A `Sending` is seen as what it has: the frames of updates and values, one behind another, their numbers, and the ids of the
+//! updates of others among them. A statement is added with the value behind it, and only where both fit into a bundle.
+//!
+//! All of it goes by bytes alone: no node is asked, and nothing here says what is sent or what is taken.
+#![tactic(auto)]
+
+mod frame;
+mod frame_text;
+mod hello_laws;
+mod hello_text;
+mod sending;
+
+pub use depot_base::DecodeError;
+pub use frame::{Standing, missing, stands};
+pub use frame_text::put_frame;
+pub use hello_laws::{hellos_are_prefix_free, hellos_are_read_in_one_way};
+pub use hello_text::{decode_hello, encode_hello};
+pub use sending::Sending;

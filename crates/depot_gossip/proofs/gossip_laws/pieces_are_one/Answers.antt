@@ -1,5 +1,0 @@
-use Rattle.depot_gossip.proofs.PieceLaws.{pieces_join}
-use Rattle.depot_gossip.proofs.gossip_laws.pieces_are_one.Goals as goal
-
-pub returns : goal.returns
-returns c = λ here s a b result S T J K first runs second. pieces_join here s a b result S T J K first runs second

@@ -1,0 +1,8 @@
+pub mod BundleAnswers
+pub mod ChoiceLaws
+pub mod FitLaws
+pub mod FrontLaws
+pub mod HashLaws
+pub mod LeafPlaces
+pub mod LeftIds
+pub mod ValueLaws

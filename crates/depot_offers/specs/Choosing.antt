@@ -1,0 +1,100 @@
+-- What a bundle sends of updates and values, as far as it is chosen.
+use Rattle.std.specs.Prelude.{◌≡◌, ℕ, ◌+◌, List, [], ◌∷◌, ◌++◌, length, map, Bool, true, false, Option, Some, None, option_to_list, slice_get, Result, Ok, Err, is_some, if◌then◌else◌, ◌||◌}
+use Rattle.std.specs.List.{flat_map}
+use Rattle.depot_base.specs.declared.update.Update.{Update}
+use Rattle.depot_base.specs.declared.record.Record.{Record}
+use Rattle.depot_base.specs.declared.record.Record.TheVariants.{Foreign}
+use Rattle.depot_model.specs.Lists.{is_among}
+use Rattle.depot_model.specs.Texts.{id_of_update}
+use Rattle.depot_model.specs.Journal.{accepted_by, update_in}
+use Rattle.depot_model.specs.Frames.{text_of_frame}
+use Rattle.depot_model.specs.Contents.{values_named}
+use Rattle.depot_model.specs.Bundle.{Parcel, hashes_of}
+use Rattle.depot_frames.specs.declared.sending.Sending.{Sending}
+use Rattle.depot_frames.specs.Sendings.{DoFit, Holds, parcel_frames, IsShort, HasNoRoom}
+
+-- ---- parcels that are chosen
+
+-- Of all these parcels a front is chosen, and with the next one it wouldn't fit.
+pub record IsCutAt (me : ℕ) (all : List Parcel) (s : Sending) : Type 0 where
+  pub sent : List Parcel
+  pub next : Parcel
+  pub left : List Parcel
+  pub is : all ≡ sent ++ next ∷ left
+  pub holds : Holds me sent s
+  pub over : DoFit (sent ++ next ∷ []) → ⊥
+
+-- all of these parcels are chosen, or they were cut
+abbrev pub Carries : ℕ → List Parcel → Sending → Bool → Type 0
+Carries me all s true = Holds me all s
+Carries me all s false = IsCutAt me all s
+
+-- the same of an answer
+abbrev pub AddsTo : {E : Type 0} → ℕ → List Parcel → Sending → Result Bool E → Type 0
+AddsTo me all s (Ok fits) = Carries me all s fits
+AddsTo me all s (Err e) = Unit {0}
+
+-- ---- one parcel more
+
+-- the frames of a candidate and the ids of its updates of others stand behind those before them
+pub record HasAddedFound (s t : Sending) (told value : Option (List ℕ)) (more : List (List ℕ)) : Type 0 where
+  pub frames : t.frames ≡ s.frames ++ flat_map text_of_frame (parcel_frames told value)
+  pub updates : t.updates ≡ s.updates + length (option_to_list told)
+  pub values : t.values ≡ s.values + length (option_to_list value)
+  pub ids : t.ids ≡ s.ids ++ more
+  pub short : IsShort t
+
+-- both were added, or there is no room for the frames
+abbrev pub AddsFound : {E : Type 0} → Sending → Option (List ℕ) → Option (List ℕ) → List (List ℕ) → Result Bool E → Sending → Type 0
+AddsFound s told value ids (Ok true) t = HasAddedFound s t told value ids
+AddsFound s told value ids (Ok false) t = (t ≡ s) × HasNoRoom s told value
+AddsFound s told value ids (Err e) t = Unit {0}
+
+-- ---- candidates
+
+-- the record of a place accepts an update
+pub record TellsAt (J : List Record) (place : ℕ) : Type 0 where
+  pub item : Record
+  pub update : Update
+  pub at : slice_get J place ≡ Some item
+  pub accepts : accepted_by item ≡ update ∷ []
+
+-- the records of these places
+abbrev pub records_at : List Record → List ℕ → List Record
+records_at J places = flat_map (λ place. option_to_list (slice_get J place)) places
+
+-- the id of the update of another that a record accepts
+abbrev pub foreign_ids : Record → List (List ℕ)
+foreign_ids (Foreign s) = map id_of_update (update_in s.statement)
+foreign_ids r = []
+
+-- the hashes of the values that a record's update names, where one was found
+abbrev pub hashes_named : Record → Option (List ℕ) → List (List ℕ)
+hashes_named r found = if is_some found then map (λ n. n.hash) (flat_map values_named (accepted_by r)) else []
+
+-- a set has these hashes and those that it had
+abbrev pub HasToo : List (List ℕ) → List (List ℕ) → List (List ℕ) → Type 0
+HasToo old more new = (h : List ℕ) → is_among h new ≡ (is_among h more || is_among h old)
+
+-- the two have the same members
+abbrev pub AreAlike : List (List ℕ) → List (List ℕ) → Type 0
+AreAlike some others = (h : List ℕ) → is_among h some ≡ is_among h others
+
+-- after an answer that all has room the set has these hashes too
+abbrev pub AddsHashes : {E : Type 0} → List (List ℕ) → List (List ℕ) → Result Bool E → List (List ℕ) → Type 0
+AddsHashes old more (Ok true) new = HasToo old more new
+AddsHashes old more (Ok false) new = Unit {0}
+AddsHashes old more (Err e) new = Unit {0}
+
+-- after such an answer the set has the hashes of the values of these parcels
+abbrev pub AreHashesOf : {E : Type 0} → List Parcel → Result Bool E → List (List ℕ) → Type 0
+AreHashesOf xs (Ok true) keys = AreAlike keys (hashes_of xs)
+AreHashesOf xs (Ok false) keys = Unit {0}
+AreHashesOf xs (Err e) keys = Unit {0}
+
+-- ---- wanted values
+
+-- the parcel of a value, if there is one
+abbrev pub value_parcels : Option (List ℕ) → List Parcel
+value_parcels None = []
+value_parcels (Some v) = record { told = []; values = v ∷ [] } ∷ []

@@ -1,0 +1,29 @@
+-- What stands in front of the updates and values of a bundle.
+use Rattle.std.specs.Prelude.{◌≡◌, ℕ, List, length, map, Bool, true, false}
+use Rattle.std.specs.List.{flat_map}
+use Rattle.depot_base.specs.declared.voucher.Voucher.{Voucher}
+use Rattle.depot_base.specs.declared.statement.Statement.TheVariants as statement
+use Rattle.depot_base.specs.declared.record.Record.{Record}
+use Rattle.depot_base.specs.declared.record.Record.TheVariants.{OwnVoucher, Conviction}
+use Rattle.depot_model.specs.declared.hello.Hello.{Hello}
+use Rattle.depot_model.specs.Frames.{Frame, text_of_frame}
+use Rattle.depot_model.specs.Bundle.{Signs, signed_with, statement_frame, proof_frame, proofs_for, vouchers_for}
+use Rattle.depot_offers.specs.declared.front.Front.{Front}
+
+-- the frame of an own voucher
+abbrev pub voucher_frame : Signs → Voucher → Frame
+voucher_frame sign v = statement_frame (signed_with sign (statement.Voucher v))
+
+-- These are the frames of the proofs for a hello and of the own vouchers that name one of these ids, as far as these records go,
+-- and how many there are.
+pub record IsFront (sign : Signs) (J : List Record) (h : Hello) (ids : List (List ℕ)) (f : Front) : Type 0 where
+  pub proofs : f.proofs ≡ flat_map text_of_frame (map proof_frame (proofs_for J h))
+  pub proof_count : f.proof_count ≡ length (proofs_for J h)
+  pub vouchers : f.vouchers ≡ flat_map text_of_frame (map (voucher_frame sign) (vouchers_for J ids))
+  pub voucher_count : f.voucher_count ≡ length (vouchers_for J ids)
+
+-- the record is one that a front tells of
+abbrev pub is_in_front : Record → Bool
+is_in_front (OwnVoucher v) = true
+is_in_front (Conviction p) = true
+is_in_front r = false

@@ -1,0 +1,6 @@
+pub mod BundleStreams
+pub mod Choosing
+pub mod Errors
+pub mod Fronts
+pub mod Preparing
+pub mod RecordLeaves

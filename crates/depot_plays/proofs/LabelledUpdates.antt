@@ -1,0 +1,255 @@
+-- The updates that references name.
+use Rattle.std.proofs.Common.{◌≡◌, ℕ, suc, ◌+◌, ◌<◌, Bool, true, false, cond, eqb, List, [], ◌∷◌, ◌++◌, length, map, take, drop, get_or, Option, Some, None, option_map, option_and_then, refl, sym, ap, subst, ◌∙◌, inl, inr}
+use Rattle.std.specs.List.{filter, flat_map}
+use Rattle.std.specs.Str.{bytes_eq}
+use Rattle.std.proofs.Math.Seq.{drop-cons}
+use Rattle.std.proofs.lemmas.List.{map-append, take_more, take-append-drop}
+use Rattle.depot_base.specs.declared.record.Record.{Record}
+use Rattle.depot_base.specs.declared.record.Record.TheVariants.{Birth, OwnPut, OwnVoucher, Foreign, Conviction, Held}
+use Rattle.depot_base.specs.declared.statement.Signed.{Signed}
+use Rattle.depot_base.specs.declared.statement.Statement.{Statement}
+use Rattle.depot_base.specs.declared.statement.Statement.TheVariants as statement
+use Rattle.depot_base.specs.declared.update.Dep.{Dep}
+use Rattle.depot_base.specs.declared.update.Update.{Update}
+use Rattle.depot_model.specs.Journal.{accepted, has_id, own, update_in}
+use Rattle.depot_model.specs.Lawful.{IsLawful}
+use Rattle.depot_model.specs.Lists.{IsIn}
+use Rattle.depot_model.specs.Own.{entry_of}
+use Rattle.depot_model.specs.Texts.{IsSigned, IsStatement, IsUpdate, id_of_update}
+use Rattle.depot_model.specs.Vouching.{rising}
+use Rattle.depot_model.proofs.BodyLaws.{IsStatement-from_signed, IsUpdate-from_statement}
+use Rattle.depot_model.proofs.Members.{all_at, from_filter, from_map, in_right}
+use Rattle.depot_laws.proofs.OwnTexts.{accepted_fit}
+use Rattle.depot_schedule.specs.declared.event.Ref.{Ref}
+use Rattle.depot_schedule.specs.declared.event.Ref.TheVariants as ref
+use Rattle.depot_world.specs.Run.{Made, Run, Station, first_update, made_in, own_update, referred, signed_of, station_in}
+use Rattle.depot_world.specs.FaultySigning.{all_of, all_referred, entries_of}
+use Rattle.depot_world.specs.Suite.{Stage}
+use Rattle.depot_world.proofs.GoodRuns.{found_is}
+use Rattle.depot_plays.specs.Acting.{AreSeated, IsSeated, View}
+use Rattle.depot_plays.specs.Playing.{IsAtPlay, IsPlayed, IsRemembered}
+use Rattle.depot_plays.specs.declared.play.Play.{Play}
+use Rattle.depot_cast.specs.DraftEntries.{others_in_order}
+use Rattle.depot_cast.proofs.EntryOrder.{ids_of_entries}
+
+-- ---- own updates
+
+-- the first of a list is one of it
+first_is : (us : List Update) (u : Update) → first_update us ≡ Some u → IsIn u us
+first_is [] u is = absurd cc
+first_is (x ∷ us) u is = let same : x ≡ u = cc in inl same
+
+-- own updates are accepted
+own_is_accepted : (J : List Record) (u : Update) → IsIn u (flat_map update_in (own J)) → IsIn u (accepted J)
+own_is_accepted [] u never = absurd never
+own_is_accepted (Birth node h ∷ J) u on = own_is_accepted J u on
+own_is_accepted (OwnPut w value ∷ J) u (inl here) = inl here
+own_is_accepted (OwnPut w value ∷ J) u (inr there) = inr (own_is_accepted J u there)
+own_is_accepted (OwnVoucher v ∷ J) u on = own_is_accepted J u on
+own_is_accepted (Foreign s ∷ J) u on = in_right u (update_in s.statement) (accepted J) (own_is_accepted J u on)
+own_is_accepted (Conviction p ∷ J) u on = own_is_accepted J u on
+own_is_accepted (Held value ∷ J) u on = own_is_accepted J u on
+
+own_update_is : (J : List Record) (seq : ℕ) (u : Update) → own_update J seq ≡ Some u → IsIn u (accepted J)
+own_update_is J seq u is =
+    let test : Update → Bool = λ w. eqb w.seq seq in
+    own_is_accepted J u (from_filter test u (flat_map update_in (own J)) (first_is (filter test (flat_map update_in (own J))) u is)).0
+
+-- ---- where a reference leads
+
+-- an update with a text, which was seen
+pub record IsNamed (seen : List Update) (u : Update) : Type 0 where
+  pub fits : IsUpdate u
+  pub was : has_id seen (id_of_update u) ≡ true
+
+-- each update that a reference names is such a one
+abbrev pub AreNamedWell : Run → Type 0
+AreNamedWell run = (r : Ref) (u : Update) → referred run r ≡ Some u → IsNamed run.seen u
+
+-- the journal of each node is lawful
+abbrev AreLawful : List View → Type 0
+AreLawful vs = (v : View) → IsIn v vs → IsLawful v.here v.journal
+
+-- the nodes of a run, whose journals are lawful, where what is named was seen
+record IsSound (stage : Stage) (run : Run) (vs : List View) : Type 0 where
+  pub seated : AreSeated stage run.stations vs
+  pub lawful : AreLawful vs
+  pub known : IsRemembered run
+
+-- the node of a station
+record HasSeat (stage : Stage) (s : Station) (vs : List View) : Type 0 where
+  pub view : View
+  pub on : IsIn view vs
+  pub seated : IsSeated stage s view
+
+seat_of : (stage : Stage) (ss : List Station) (vs : List View) (s : Station) → AreSeated stage ss vs → IsIn s ss → HasSeat stage s vs
+seat_of stage [] vs s seated never = absurd never
+seat_of stage (t ∷ ss) [] s seated on = absurd seated
+seat_of stage (t ∷ ss) (v ∷ vs) s seated (inl here) = record { view = v; on = inl refl; seated = subst (λ (x : Station). IsSeated stage x v) here seated.0 }
+seat_of stage (t ∷ ss) (v ∷ vs) s seated (inr there) = let seat = seat_of stage ss vs s seated.1 there in record { view = seat.view; on = inr seat.on; seated = seat.seated }
+
+-- what a label names is one of the labels
+made_is : (ms : List Made) (label : List ℕ) (m : Made) → made_in ms label ≡ Some m → IsIn m ms
+unfolding made_in
+made_is [] label m is = absurd cc
+made_is (x ∷ ms) label m is = choice (bytes_eq x.label label) is (made_is ms label m) where
+  choice : (b : Bool) → cond b (Some x) (made_in ms label) ≡ Some m → (made_in ms label ≡ Some m → IsIn m ms) → IsIn m (x ∷ ms)
+  choice true is rest = let same : x ≡ m = cc in inl same
+  choice false is rest = inr (rest is)
+
+signed_update : (s : Signed) (u : Update) → IsSigned s → first_update (update_in s.statement) ≡ Some u → IsUpdate u
+signed_update s u fits is = by_kind s.statement (IsStatement-from_signed s fits) is where
+  by_kind : (t : Statement) → IsStatement t → first_update (update_in t) ≡ Some u → IsUpdate u
+  by_kind (statement.Update w) formed e = let same : w ≡ u = cc in subst (λ (x : Update). IsUpdate x) same (IsUpdate-from_statement w formed)
+  by_kind (statement.Voucher v) formed e = absurd cc
+
+labelled_is : (run : Run) (label : List ℕ) (u : Update) → IsRemembered run → option_and_then (λ s. first_update (update_in s.statement)) (signed_of run label) ≡ Some u → IsNamed run.seen u
+labelled_is run label u known is = by_made (made_in run.labels label) refl is where
+  by_signed : (m : Made) (o : Option Signed) → IsIn m run.labels → m.signed ≡ o → option_and_then (λ s. first_update (update_in s.statement)) o ≡ Some u → IsNamed run.seen u
+  by_signed m None on given e = absurd cc
+  by_signed m (Some s) on given e = record {
+    fits = signed_update s u (known.signed_are m s on given) e;
+    was = all_at (λ (w : Update). has_id run.seen (id_of_update w) ≡ true) (update_in s.statement) u (known.signed_were m s on given) (first_is (update_in s.statement) u e);
+  }
+
+  by_made : (o : Option Made) → made_in run.labels label ≡ o → option_and_then (λ s. first_update (update_in s.statement)) (option_and_then (λ (m : Made). m.signed) o) ≡ Some u → IsNamed run.seen u
+  by_made None found e = absurd cc
+  by_made (Some m) found e = by_signed m m.signed (made_is run.labels label m found) refl e
+
+own_is : (stage : Stage) (run : Run) (vs : List View) (node seq : ℕ) (u : Update) → IsSound stage run vs → option_and_then (λ s. own_update s.correct.journal seq) (station_in run.stations node) ≡ Some u → IsNamed run.seen u
+own_is stage run vs node seq u sound is = by_station (station_in run.stations node) refl is where
+  by_station : (o : Option Station) → station_in run.stations node ≡ o → option_and_then (λ (s : Station). own_update s.correct.journal seq) o ≡ Some u → IsNamed run.seen u
+  by_station None found e = absurd cc
+  by_station (Some s) found e =
+      let there = (found_is run.stations node s found).on in
+      let seat = seat_of stage run.stations vs s sound.seated there in
+      let on = own_update_is s.correct.journal seq u e in
+      record {
+        fits = accepted_fit seat.view.here seat.view.journal u (sound.lawful seat.view seat.on) (subst (λ (J : List Record). IsIn u (accepted J)) (sym seat.seated.journal) on);
+        was = all_at (λ (w : Update). has_id run.seen (id_of_update w) ≡ true) (accepted s.correct.journal) u (sound.known.accepted_were s there) on;
+      }
+
+-- what references name has texts, and was seen
+referred_is : (stage : Stage) (run : Run) (vs : List View) → IsSound stage run vs → AreNamedWell run
+unfolding referred
+referred_is stage run vs sound (ref.Label label) u is = labelled_is run label u sound.known is
+referred_is stage run vs sound (ref.Own node seq) u is = own_is stage run vs node seq u sound is
+
+-- ---- at a point of a run
+
+lawful_views : {A : Type 0} (view : A → View) (actors : List A) → ((a : A) → IsLawful (view a).here (view a).journal) → AreLawful (map view actors)
+lawful_views view actors lawful v on = let a = from_map view v actors on in subst (λ (x : View). IsLawful x.here x.journal) a.1.1 (lawful a.0)
+
+pub named_here : {A : Type 0} (view : A → View) (stage : Stage) (run : Run) (play : Play A) → ((a : A) → IsLawful (view a).here (view a).journal) → IsAtPlay view stage run play → AreNamedWell run
+named_here view stage run play lawful at = referred_is stage run (map view play.actors.items) (record { seated = at.seated; lawful = lawful_views view play.actors.items lawful; known = at.remembered })
+
+-- what a reference names has a text
+pub fits_here : {A : Type 0} (view : A → View) (play : Play A) → ((a : A) → IsLawful (view a).here (view a).journal) → IsPlayed view play → (r : Ref) (u : Update) → ((stage : Stage) (run : Run) → IsAtPlay view stage run play → Some u ≡ referred run r) → IsUpdate u
+fits_here view play lawful p r u is = (named_here view p.stage p.run play lawful p.at r u (sym (is p.stage p.run p.at))).fits
+
+-- ---- all of them
+
+all_of-push : {X : Type 0} (os : List (Option X)) (x : X) → all_of (os ++ Some x ∷ []) ≡ option_map (λ xs. xs ++ x ∷ []) (all_of os)
+unfolding all_of
+all_of-push [] x = refl
+all_of-push (None ∷ os) x = refl
+all_of-push {X = X} (Some y ∷ os) x = ap (option_map (λ (ys : List X). y ∷ ys)) (all_of-push os x) ∙ turned (all_of os) where
+  turned : (o : Option (List X)) → option_map (λ (ys : List X). y ∷ ys) (option_map (λ (ys : List X). ys ++ x ∷ []) o) ≡ option_map (λ (ys : List X). ys ++ x ∷ []) (option_map (λ (ys : List X). y ∷ ys) o)
+  turned None = refl
+  turned (Some ys) = refl
+
+all_of-none : {X : Type 0} (os rest : List (Option X)) → all_of (os ++ None ∷ rest) ≡ None
+unfolding all_of
+all_of-none [] rest = refl
+all_of-none (None ∷ os) rest = refl
+all_of-none {X = X} (Some x ∷ os) rest = ap (option_map (λ (ys : List X). x ∷ ys)) (all_of-none os rest)
+
+-- these are the entries of what all these references name
+abbrev pub AreNamed : Run → List Ref → List Dep → Type 0
+AreNamed run refs entries = Some entries ≡ option_map (λ us. map entry_of us) (all_referred run refs)
+
+pub none_named : (run : Run) (refs : List Ref) (entries : List Dep) → entries ≡ [] → AreNamed run (take 0 refs) entries
+unfolding all_of
+none_named run refs entries none = ap (λ (es : List Dep). Some es) none
+
+entries_more : (entries : List Dep) (u : Update) (o : Option (List Update)) → Some entries ≡ option_map (λ us. map entry_of us) o → Some (entries ++ entry_of u ∷ []) ≡ option_map (λ us. map entry_of us) (option_map (λ us. us ++ u ∷ []) o)
+entries_more entries u None e = absurd cc
+entries_more entries u (Some us) e = let same : entries ≡ map entry_of us = cc in ap (λ (es : List Dep). Some (es ++ entry_of u ∷ [])) same ∙ ap (λ (es : List Dep). Some es) (sym (map-append entry_of us (u ∷ [])))
+
+-- one reference more
+pub one_named : (run : Run) (refs : List Ref) (i : ℕ) (r : Ref) (u : Update) (entries after : List Dep) → i < length refs → r ≡ get_or refs i r → Some u ≡ referred run r → after ≡ entries ++ entry_of u ∷ [] → AreNamed run (take i refs) entries → AreNamed run (take (i + 1) refs) after
+one_named run refs i r u entries after lt at is now are =
+    let front : take (i + 1) refs ≡ take i refs ++ r ∷ [] = take_more refs i r lt ∙ ap (λ (x : Ref). take i refs ++ x ∷ []) (sym at) in
+    let os : map (referred run) (take (i + 1) refs) ≡ map (referred run) (take i refs) ++ Some u ∷ [] =
+    ap (map (referred run)) front ∙ map-append (referred run) (take i refs) (r ∷ []) ∙ ap (λ (o : Option Update). map (referred run) (take i refs) ++ o ∷ []) (sym is) in
+    ap (λ (es : List Dep). Some es) now ∙ entries_more entries u (all_referred run (take i refs)) are
+    ∙ ap (option_map (λ us. map entry_of us)) (sym (ap all_of os ∙ all_of-push (map (referred run) (take i refs)) u))
+
+-- one that names nothing
+pub nothing_named : (run : Run) (refs : List Ref) (i : ℕ) (r : Ref) → i < length refs → r ≡ get_or refs i r → None ≡ referred run r → None ≡ option_map (λ us. map entry_of us) (all_referred run refs)
+nothing_named run refs i r lt at is =
+    let parts : refs ≡ take i refs ++ r ∷ drop (suc i) refs = sym (take-append-drop i refs) ∙ ap (λ (rest : List Ref). take i refs ++ rest) (drop-cons refs i r lt ∙ ap (λ (x : Ref). x ∷ drop (suc i) refs) (sym at)) in
+    let os : map (referred run) refs ≡ map (referred run) (take i refs) ++ None ∷ map (referred run) (drop (suc i) refs) =
+    ap (map (referred run)) parts ∙ map-append (referred run) (take i refs) (r ∷ drop (suc i) refs) ∙ ap (λ (o : Option Update). map (referred run) (take i refs) ++ o ∷ map (referred run) (drop (suc i) refs)) (sym is) in
+    sym (ap (λ (x : Option (List Update)). option_map (λ us. map entry_of us) x) (ap all_of os ∙ all_of-none (map (referred run) (take i refs)) (map (referred run) (drop (suc i) refs))))
+
+-- ---- each of them
+
+all_of_from : {X : Type 0} (os : List (Option X)) (xs : List X) (x : X) → all_of os ≡ Some xs → IsIn x xs → IsIn (Some x) os
+unfolding all_of
+all_of_from [] xs x is on = let none : xs ≡ [] = cc in absurd (subst (λ (ys : List _). IsIn x ys) none on)
+all_of_from (None ∷ os) xs x is on = absurd cc
+all_of_from {X = X} (Some y ∷ os) xs x is on = by_rest (all_of os) is (λ ys rest there. all_of_from os ys x rest there) where
+  by_rest : (o : Option (List X)) → option_map (λ (ys : List X). y ∷ ys) o ≡ Some xs → ((ys : List X) → o ≡ Some ys → IsIn x ys → IsIn (Some x) os) → IsIn (Some x) (Some y ∷ os)
+  by_rest None e rest = absurd cc
+  by_rest (Some ys) e rest =
+      let parts : y ∷ ys ≡ xs = cc in
+      elim (subst (λ (zs : List X). IsIn x zs) (sym parts) on) [
+        | inl here ↦ inl (ap (λ (z : X). Some z) here)
+        | inr there ↦ inr (rest ys refl there)
+      ]
+
+-- where all name updates, each of these is what one names
+pub each_is : (run : Run) (refs : List Ref) (us : List Update) → AreNamedWell run → all_referred run refs ≡ Some us → (u : Update) → IsIn u us → IsNamed run.seen u
+each_is run refs us named is u on =
+    let r = from_map (referred run) (Some u) refs (all_of_from (map (referred run) refs) us u is on) in
+    named r.0 u r.1.1
+
+-- and they are as many
+pub as_many : (run : Run) (refs : List Ref) (us : List Update) → all_referred run refs ≡ Some us → length us ≡ length refs
+unfolding all_of
+as_many run [] us is = let none : us ≡ [] = cc in ap (λ (xs : List Update). length xs) none
+as_many run (r ∷ refs) us is = by_first (referred run r) is (λ xs rest. as_many run refs xs rest) where
+  by_rest : (u : Update) (o : Option (List Update)) → option_map (λ (xs : List Update). u ∷ xs) o ≡ Some us → ((xs : List Update) → o ≡ Some xs → length xs ≡ length refs) → length us ≡ suc (length refs)
+  by_rest u None e rest = absurd cc
+  by_rest u (Some xs) e rest = let parts : us ≡ u ∷ xs = cc in ap (λ (ys : List Update). length ys) parts ∙ ap suc (rest xs refl)
+
+  by_first : (o : Option Update) → all_of (o ∷ map (referred run) refs) ≡ Some us → ((xs : List Update) → all_referred run refs ≡ Some xs → length xs ≡ length refs) → length us ≡ suc (length refs)
+  by_first None e rest = absurd cc
+  by_first (Some u) e rest = by_rest u (all_referred run refs) e rest
+
+-- ---- entries of updates
+
+-- those of others, in order
+pub entries_named : (run : Run) (writer : ℕ) (refs : List Ref) (named slice : List Dep) (deps : Option (List Dep)) → AreNamed run refs named → slice ≡ named
+    → ((us : List Update) → slice ≡ map entry_of us → deps ≡ option_map (λ vs. map entry_of vs) (others_in_order writer us)) → deps ≡ option_map (λ us. map entry_of us) (entries_of run writer refs)
+entries_named run writer refs named slice deps are same of_others = by_all (all_referred run refs) are where
+  by_all : (o : Option (List Update)) → Some named ≡ option_map (λ us. map entry_of us) o → deps ≡ option_map (λ us. map entry_of us) (option_and_then (others_in_order writer) o)
+  by_all None e = absurd cc
+  by_all (Some us) e = let is : named ≡ map entry_of us = cc in of_others us (same ∙ is)
+
+-- and none are where one names nothing
+pub none_vouched : (run : Run) (refs : List Ref) → None ≡ option_map (λ us. map entry_of us) (all_referred run refs) → None ≡ option_map (λ us. rising (map id_of_update us)) (all_referred run refs)
+none_vouched run refs none = by_all (all_referred run refs) none where
+  by_all : (o : Option (List Update)) → None ≡ option_map (λ us. map entry_of us) o → None ≡ option_map (λ us. rising (map id_of_update us)) o
+  by_all None e = refl
+  by_all (Some us) e = absurd cc
+
+-- the ids that are vouched for
+pub ids_vouched : (run : Run) (refs : List Ref) (named : List Dep) (ids : List (List ℕ)) → AreNamed run refs named → ids ≡ rising (map (λ d. d.id) named) → Some ids ≡ option_map (λ us. rising (map id_of_update us)) (all_referred run refs)
+ids_vouched run refs named ids are rise = by_all (all_referred run refs) are where
+  by_all : (o : Option (List Update)) → Some named ≡ option_map (λ us. map entry_of us) o → Some ids ≡ option_map (λ us. rising (map id_of_update us)) o
+  by_all None e = absurd cc
+  by_all (Some us) e =
+      let is : named ≡ map entry_of us = cc in
+      ap (λ (hs : List (List ℕ)). Some hs) (rise ∙ ap (λ (es : List Dep). rising (map (λ d. d.id) es)) is ∙ ap rising (ids_of_entries us))

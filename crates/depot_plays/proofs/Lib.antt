@@ -1,0 +1,13 @@
+pub mod BegunRuns
+pub mod DraftTexts
+pub mod EventFields
+pub mod JournalGrowth
+pub mod LabelledUpdates
+pub mod MadeTexts
+pub mod NewUpdates
+pub mod NodeEvents
+pub mod PlayedEvents
+pub mod Remembered
+pub mod RememberedRuns
+pub mod SeatPlaces
+pub mod SignedUpdates

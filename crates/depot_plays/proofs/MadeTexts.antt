@@ -1,0 +1,195 @@
+-- What events that only make a label give it.
+use Rattle.std.proofs.Common.{◌≡◌, ℕ, ◌<◌, ◌^◌, Bool, true, false, not, ◌&&◌, ◌||◌, eqb, List, [], ◌∷◌, ◌++◌, Vec, map, Option, Some, None, option_and_then, option_map, cond, refl, sym, ap, subst, ◌∙◌, inl, inr}
+use Rattle.std.specs.Prelude.{IfSome}
+use Rattle.std.specs.Str.{bytes_eq}
+use Rattle.std.specs.declared.alloc.Global.{Global}
+use Rattle.std.proofs.lemmas.List.{append-nil}
+use Rattle.depot_base.specs.declared.proof.Kind.{Kind}
+use Rattle.depot_answers.specs.Answers.{spaced}
+use Rattle.depot_base.specs.declared.statement.Signed.{Signed}
+use Rattle.depot_base.specs.declared.statement.Statement.{Statement}
+use Rattle.depot_base.specs.declared.statement.Statement.TheVariants as statement
+use Rattle.depot_graph.specs.Kept.{updates_in}
+use Rattle.depot_model.specs.Journal.{update_in}
+use Rattle.depot_model.specs.Lists.{IsIn}
+use Rattle.depot_model.specs.Bundle.{Signs, proof_frame}
+use Rattle.depot_model.specs.Frames.{text_of_frame}
+use Rattle.depot_model.specs.Lines.{name_of_kind}
+use Rattle.depot_model.specs.Texts.{IsSigned, id_of_update}
+use Rattle.depot_model.specs.Vouching.{rising}
+use Rattle.depot_base.specs.declared.update.Update.{Update}
+use Rattle.depot_schedule.specs.EventLines.{label_of}
+use Rattle.depot_schedule.specs.Vocabulary.{is_declared, is_faulty}
+use Rattle.depot_schedule.specs.declared.event.Event.{Event}
+use Rattle.depot_schedule.specs.declared.event.Event.TheVariants as event
+use Rattle.depot_schedule.specs.declared.event.HistoryWord.{HistoryWord}
+use Rattle.depot_schedule.specs.declared.event.Ref.{Ref}
+use Rattle.depot_schedule.specs.declared.member.Member.{Member}
+use Rattle.depot_schedule.specs.declared.schedule.Schedule.{Schedule}
+use Rattle.depot_world.specs.Run.{Made, Run, made_in, signed_of}
+use Rattle.depot_world.specs.FaultySigning.{Text, all_of, all_referred, no_reference, proof_by, proof_text, voucher_text, vouched_text}
+use Rattle.depot_world.specs.Suite.{Stage}
+use Rattle.depot_world.specs.Transcript.{done, done_by_text}
+use Rattle.depot_plays.specs.Acting.{AreSeated, View}
+use Rattle.depot_stage.specs.Casting.{MayHappen}
+use Rattle.depot_plays.specs.Doing.{HasDone, is_text, text_by}
+use Rattle.depot_stage.specs.Labels.{AreLabels}
+use Rattle.depot_plays.specs.Playing.{IsAtPlay, IsRemembered, WereSeen}
+use Rattle.depot_stage.specs.StageTexts.{IsText}
+use Rattle.depot_plays.specs.declared.play.Play.{Play}
+use Rattle.depot_stage.specs.declared.seen.Seen.{Seen}
+use Rattle.depot_stage.specs.declared.texts.Text as made_text
+use Rattle.depot_plays.proofs.EventFields.{IsFaultySigner, update_signer, voucher_signer}
+use Rattle.depot_plays.proofs.RememberedRuns.{IsKept, label_remembers, none_is_kept}
+
+-- ---- who signs
+
+-- a faulty node is declared
+faulty_is_declared : (members : List Member) (node : ℕ) → is_faulty members node ≡ true → is_declared members node ≡ true
+faulty_is_declared [] node e = e
+faulty_is_declared (m ∷ ms) node e = by_tests (eqb m.node node) m.correct (faulty_is_declared ms node) e where
+  by_tests : (same correct : Bool) → (is_faulty ms node ≡ true → is_declared ms node ≡ true) → ((same && not correct) || is_faulty ms node) ≡ true → (same || is_declared ms node) ≡ true
+  by_tests true correct rest e = refl
+  by_tests false correct rest e = rest e
+
+-- who signs a statement is a member, and the number of the statement is that of a leaf
+pub record HasLeaf (height : ℕ) (members : List Member) (writer seq : ℕ) : Type 0 where
+  pub declared : is_declared members writer ≡ true
+  pub leaf : seq < 2 ^ height
+
+has_leaf : (height : ℕ) (members : List Member) (s : Schedule) (writer seq : ℕ) → s.height ≡ height → s.members ≡ members → IsFaultySigner s writer seq → HasLeaf height members writer seq
+has_leaf height members s writer seq same_height same_members signer = record {
+  declared = subst (λ (ms : List Member). is_declared ms writer ≡ true) same_members (faulty_is_declared s.members writer signer.faulty);
+  leaf = subst (λ (h : ℕ). seq < 2 ^ h) same_height signer.leaf;
+}
+
+pub voucher_has_leaf : (height : ℕ) (members : List Member) (label : List ℕ) (writer seq : ℕ) (refs : List Ref) → MayHappen height members (event.Voucher label writer seq refs) → HasLeaf height members writer seq
+voucher_has_leaf height members label writer seq refs may = has_leaf height members may.before writer seq may.height_is may.members_are (voucher_signer may.before label writer seq refs may.fits)
+
+pub update_has_leaf : (height : ℕ) (members : List Member) (label : List ℕ) (writer seq clock : ℕ) (prev : Option Ref) (key value : List ℕ) (deps : List Ref) (history : HistoryWord) → MayHappen height members (event.Update label writer seq clock prev key value deps history) → HasLeaf height members writer seq
+update_has_leaf height members label writer seq clock prev key value deps history may =
+    has_leaf height members may.before writer seq may.height_is may.members_are (update_signer may.before label writer seq clock prev key value deps history may.fits)
+
+-- ---- vouchers
+
+by_named : Signs → ℕ → ℕ → Option (List (List ℕ)) → Text
+by_named sign node seq None = no_reference
+by_named sign node seq (Some ids) = voucher_text sign node seq ids
+
+vouched_by : (sign : Signs) (run : Run) (node seq : ℕ) (refs : List Ref) → by_named sign node seq (option_map (λ us. rising (map id_of_update us)) (all_referred run refs)) ≡ vouched_text sign run node seq refs
+unfolding vouched_text by_named
+vouched_by sign run node seq refs = by_cases (all_referred run refs) where
+  by_cases : (o : Option (List Update)) → by_named sign node seq (option_map (λ us. rising (map id_of_update us)) o) ≡ elim o as (λ x. Text) [ None ↦ no_reference | Some us ↦ voucher_text sign node seq (rising (map id_of_update us)) ]
+  by_cases None = refl
+  by_cases (Some us) = refl
+
+-- all references name updates
+pub vouched_is : (sign : Signs) (run : Run) (node seq : ℕ) (refs : List Ref) (ids : List (List ℕ)) → Some ids ≡ option_map (λ us. rising (map id_of_update us)) (all_referred run refs) → voucher_text sign node seq ids ≡ vouched_text sign run node seq refs
+unfolding by_named
+vouched_is sign run node seq refs ids is = ap (by_named sign node seq) is ∙ vouched_by sign run node seq refs
+
+-- one names none
+pub unvouched_is : (sign : Signs) (run : Run) (node seq : ℕ) (refs : List Ref) → None ≡ option_map (λ us. rising (map id_of_update us)) (all_referred run refs) → no_reference ≡ vouched_text sign run node seq refs
+unfolding by_named
+unvouched_is sign run node seq refs is = ap (by_named sign node seq) is ∙ vouched_by sign run node seq refs
+
+-- ---- proofs
+
+halves : Kind → Option Signed → Option Signed → Text
+halves kind None other = no_reference
+halves kind (Some s) None = no_reference
+halves kind (Some s) (Some t) = record { bytes = text_of_frame (proof_frame (proof_by kind s t)); signed = None; answer = name_of_kind kind }
+
+proof_by_halves : (run : Run) (kind : Kind) (a b : List ℕ) → halves kind (signed_of run a) (signed_of run b) ≡ proof_text run kind a b
+unfolding proof_text all_of halves
+proof_by_halves run kind a b = by_cases (signed_of run a) (signed_of run b) where
+  by_cases : (x y : Option Signed) → halves kind x y ≡ elim (all_of (x ∷ y ∷ [])) as (λ z. Text) [ Some (s ∷ t ∷ []) ↦ record { bytes = text_of_frame (proof_frame (proof_by kind s t)); signed = None; answer = name_of_kind kind } | others ↦ no_reference ]
+  by_cases None y = refl
+  by_cases (Some s) None = refl
+  by_cases (Some s) (Some t) = refl
+
+pub proof_is : (run : Run) (kind : Kind) (a b : List ℕ) (s t : Signed) → Some s ≡ signed_of run a → Some t ≡ signed_of run b → record { bytes = text_of_frame (proof_frame (proof_by kind s t)); signed = None; answer = name_of_kind kind } ≡ proof_text run kind a b
+unfolding halves
+proof_is run kind a b s t one two = ap (λ (x : Option Signed). halves kind x (Some t)) one ∙ ap (halves kind (signed_of run a)) two ∙ proof_by_halves run kind a b
+
+pub no_first : (run : Run) (kind : Kind) (a b : List ℕ) → None ≡ signed_of run a → no_reference ≡ proof_text run kind a b
+unfolding halves
+no_first run kind a b none = ap (λ (x : Option Signed). halves kind x (signed_of run b)) none ∙ proof_by_halves run kind a b
+
+pub no_second : (run : Run) (kind : Kind) (a b : List ℕ) (s : Signed) → Some s ≡ signed_of run a → None ≡ signed_of run b → no_reference ≡ proof_text run kind a b
+unfolding halves
+no_second run kind a b s one none = ap (λ (x : Option Signed). halves kind x None) one ∙ ap (halves kind (signed_of run a)) none ∙ proof_by_halves run kind a b
+
+-- a signed statement was made under a label
+record IsMade (ms : List Made) (s : Signed) : Type 0 where
+  made : Made
+  on : IsIn made ms
+  is : made.signed ≡ Some s
+
+is_made : (ms : List Made) (label : List ℕ) (s : Signed) → option_and_then (λ (m : Made). m.signed) (made_in ms label) ≡ Some s → IsMade ms s
+unfolding made_in
+is_made [] label s e = absurd cc
+is_made (m ∷ ms) label s e = by_test (bytes_eq m.label label) (is_made ms label s) e where
+  by_test : (b : Bool) → (option_and_then (λ (x : Made). x.signed) (made_in ms label) ≡ Some s → IsMade ms s) → option_and_then (λ (x : Made). x.signed) (cond b (Some m) (made_in ms label)) ≡ Some s → IsMade (m ∷ ms) s
+  by_test true rest is = record { made = m; on = inl refl; is = is }
+  by_test false rest is = let r = rest is in record { made = r.made; on = inr r.on; is = r.is }
+
+-- the signed statement of a label has a text
+pub signed_fits : (run : Run) (label : List ℕ) (s : Signed) → IsRemembered run → Some s ≡ signed_of run label → IsSigned s
+signed_fits run label s r is = let m = is_made run.labels label s (sym is) in r.signed_are m.made s m.on m.is
+
+-- ---- what a play keeps of them
+
+-- what is signed has a text, and its update was seen
+pub kept_by : (seen : List Update) (made : Option Signed) → IfSome made IsSigned → IfSome made (λ s. WereSeen seen (update_in s.statement)) → IsKept seen made
+kept_by seen None fits were = none_is_kept seen
+kept_by seen (Some s) fits were = record {
+  fits = λ x is. let same : s ≡ x = cc in subst (λ (y : Signed). IsSigned y) same fits;
+  were = λ x is. let same : s ≡ x = cc in subst (λ (y : Signed). WereSeen seen (update_in y.statement)) same were;
+}
+
+-- where there is none
+pub no_update_seen : (seen : List Update) (made : Option Signed) → IfSome made (λ s. update_in s.statement ≡ []) → IfSome made (λ s. WereSeen seen (update_in s.statement))
+no_update_seen seen None none = tt
+no_update_seen seen (Some s) none = subst (λ (us : List Update). WereSeen seen us) (sym none) tt
+
+-- where it is this one
+pub update_seen : (seen : List Update) (u : Update) (made : Option Signed) → WereSeen seen (u ∷ []) → IfSome made (λ s. s.statement ≡ statement.Update u) → IfSome made (λ s. WereSeen seen (update_in s.statement))
+update_seen seen u None were is = tt
+update_seen seen u (Some s) were is = subst (λ (st : Statement). WereSeen seen (update_in st)) (sym is) were
+
+-- a label was given a text
+pub text_given : (A : Type 0) (view : A → View) (stage : Stage) (run : Run) (label : List ℕ) (t : Text) (old new : Play A) (made : made_text.Text) (lines : List ℕ) → IsAtPlay view stage run old → IsText made t → IsKept run.seen made.signed
+    → lines ≡ spaced made.answer ++ 10 ∷ [] → new.actors ≡ old.actors → new.seen ≡ old.seen
+    → ((labels : List Made) → AreLabels old.labels.map.entries labels → AreLabels new.labels.map.entries (labels ++ record { label = label; bytes = made.bytes; signed = made.signed } ∷ []))
+    → HasDone A view stage (done_by_text run label t) lines new
+text_given A view stage run label t old new made lines at is kept told actors seen labels = record {
+  lines_are = told ∙ ap (λ (answer : List ℕ). spaced answer ++ 10 ∷ []) is.answer_is ∙ sym (append-nil (spaced t.answer ++ 10 ∷ []));
+  at = record {
+    seated = subst (λ (v : Vec A Global). AreSeated stage run.stations (map view v.items)) (sym actors) at.seated;
+    labels_are = subst (λ (m : Made). AreLabels new.labels.map.entries (run.labels ++ m ∷ []))
+        (ap (λ (b : List ℕ). record { label = label; bytes = b; signed = made.signed }) is.bytes_are ∙ ap (λ (o : Option Signed). record { label = label; bytes = t.bytes; signed = o }) is.signed_is)
+        (labels run.labels at.labels_are);
+    seen_are = ap (λ (x : Seen). updates_in x.graph.items.entries) seen ∙ at.seen_are;
+    remembered = label_remembers run label t.bytes t.signed at.remembered (subst (λ (o : Option Signed). IsKept run.seen o) is.signed_is kept);
+  };
+}
+
+-- an event that only makes a label
+pub made_is : (stage : Stage) (run : Run) (e : Event) → is_text e ≡ true → done_by_text run (label_of e) (text_by stage run e) ≡ done stage run e
+unfolding done
+made_is stage run (event.Voucher label writer seq refs) is = refl
+made_is stage run (event.Proof label kind first second) is = refl
+made_is stage run (event.Raw label bytes) is = refl
+made_is stage run (event.Cut label source start count) is = refl
+made_is stage run (event.Flip label source place) is = refl
+made_is stage run (event.Join label first second) is = refl
+made_is stage run (event.Put node key value) is = absurd cc
+made_is stage run (event.Get node key) is = absurd cc
+made_is stage run (event.Hello node label) is = absurd cc
+made_is stage run (event.Bundle node hello label) is = absurd cc
+made_is stage run (event.Give node label size) is = absurd cc
+made_is stage run (event.Restart node) is = absurd cc
+made_is stage run (event.Update label writer seq clock prev key value deps history) is = absurd cc
+made_is stage run (event.Judge label) is = absurd cc
+made_is stage run (event.Stop node call image) is = absurd cc

@@ -1,0 +1,125 @@
+-- Runs that remember what was seen, and how one station, one label or one update more leaves them so.
+use Rattle.std.proofs.Common.{◌≡◌, ◌-◌, ℕ, Bool, true, false, eqb, leb, cond, List, [], ◌∷◌, map, Option, Some, None, refl, ap, subst, ◌∙◌, inl, inr}
+use Rattle.std.specs.Prelude.{filter}
+use Rattle.std.proofs.lemmas.Bool.{eq-eqb, both_ways}
+use Rattle.depot_base.specs.declared.proof.Proof.{Proof}
+use Rattle.depot_base.specs.declared.statement.Signed.{Signed}
+use Rattle.depot_base.specs.declared.update.Update.{Update}
+use Rattle.depot_model.specs.Journal.{accepted, update_in}
+use Rattle.depot_model.specs.Lists.{IsIn}
+use Rattle.depot_model.specs.Order.{parents, IsCausal}
+use Rattle.depot_model.specs.Texts.{IsSigned}
+use Rattle.depot_model.proofs.Members.{from_map, in_pushed}
+use Rattle.depot_schedule.specs.declared.member.Member.{Member}
+use Rattle.depot_world.specs.Run.{Armed, Station, Made, Run, born, run_of, put_station, seen_with, with_label, with_station}
+use Rattle.depot_world.specs.ScheduleStops.{Deed, Went, left_of, stopped_with, went_armed, went_by, went}
+use Rattle.depot_world.specs.Suite.{Stage}
+use Rattle.depot_plays.specs.Playing.{WereSeen, IsRemembered}
+use Rattle.depot_plays.proofs.Remembered.{IdsWereSeen, were_stay_seen, all_are_seen, causal_come, stays_causal}
+
+-- ---- stations
+
+-- what holds of a station and of those before holds of all, once it is in its place
+each_put : (P : Station → Type 0) (s : Station) (ss : List Station) → P s → ((x : Station) → IsIn x ss → P x) → (x : Station) → IsIn x (put_station s ss) → P x
+unfolding put_station
+each_put P s [] one each x never = absurd never
+each_put P s (t ∷ ss) one each x on = by_test (eqb t.correct.node s.correct.node) (each_put P s ss one (λ y there. each y (inr there)) x) on where
+  by_test : (b : Bool) → (IsIn x (put_station s ss) → P x) → IsIn x (cond b (s ∷ ss) (t ∷ put_station s ss)) → P x
+  by_test true rest (inl here) = subst P here one
+  by_test true rest (inr there) = each x (inr there)
+  by_test false rest (inl here) = each x (inl here)
+  by_test false rest (inr there) = rest there
+
+-- a station is put in the place of one of its node
+in_place : (s t : Station) (ss : List Station) → IsIn t ss → t.correct.node ≡ s.correct.node → IsIn s (put_station s ss)
+unfolding put_station
+in_place s t [] never same = absurd never
+in_place s t (x ∷ ss) on same = by_test (eqb x.correct.node s.correct.node) refl (λ there. in_place s t ss there same) where
+  by_test : (b : Bool) → eqb x.correct.node s.correct.node ≡ b → (IsIn t ss → IsIn s (put_station s ss)) → IsIn s (cond b (s ∷ ss) (x ∷ put_station s ss))
+  by_test true is behind = inl refl
+  by_test false is behind = elim on [
+    | inl here ↦ absurd (both_ways (eqb x.correct.node s.correct.node) is (eq-eqb x.correct.node s.correct.node (ap (λ (y : Station). y.correct.node) here ∙ same)))
+    | inr there ↦ inr (behind there)
+  ]
+
+-- a station whose accepted updates stand behind their parents
+pub station_remembers : (run : Run) (s : Station) → IsRemembered run → IsCausal [] (accepted s.correct.journal) → IsRemembered (with_station run s)
+unfolding with_station
+station_remembers run s r causal =
+    let us = accepted s.correct.journal in
+    record {
+      causal = stays_causal run.seen us r.causal (causal_come run.seen us causal);
+      accepted_were = each_put (λ (x : Station). WereSeen (seen_with run.seen us) (accepted x.correct.journal)) s run.stations (all_are_seen run.seen us)
+          (λ x on. were_stay_seen run.seen us (accepted x.correct.journal) (r.accepted_were x on));
+      signed_are = r.signed_are;
+      signed_were = λ m t on is. were_stay_seen run.seen us (update_in t.statement) (r.signed_were m t on is);
+    }
+
+-- ---- labels, updates and proofs
+
+-- the statement that is signed, if one is, has a text, and its update was seen
+pub record IsKept (seen : List Update) (signed : Option Signed) : Type 0 where
+  pub fits : (s : Signed) → signed ≡ Some s → IsSigned s
+  pub were : (s : Signed) → signed ≡ Some s → WereSeen seen (update_in s.statement)
+
+pub none_is_kept : (seen : List Update) → IsKept seen None
+none_is_kept seen = record { fits = λ s is. absurd cc; were = λ s is. absurd cc }
+
+-- one label more
+pub label_remembers : (run : Run) (label bytes : List ℕ) (signed : Option Signed) → IsRemembered run → IsKept run.seen signed → IsRemembered (with_label run label bytes signed)
+label_remembers run label bytes signed r k =
+    let new : Made = record { label = label; bytes = bytes; signed = signed } in
+    record {
+      causal = r.causal;
+      accepted_were = r.accepted_were;
+      signed_are = λ m s on is. elim (in_pushed m run.labels new on) [
+        | inl old ↦ r.signed_are m s old is
+        | inr now ↦ k.fits s (ap (λ (x : Made). x.signed) now ∙ is)
+      ];
+      signed_were = λ m s on is. elim (in_pushed m run.labels new on) [
+        | inl old ↦ r.signed_were m s old is
+        | inr now ↦ k.were s (ap (λ (x : Made). x.signed) now ∙ is)
+      ];
+    }
+
+-- one update more, whose parents were seen
+pub update_remembers : (run : Run) (u : Update) → IsRemembered run → IdsWereSeen run.seen (parents u) → IsRemembered (record run { seen = seen_with run.seen (u ∷ []) })
+update_remembers run u r were = record {
+  causal = stays_causal run.seen (u ∷ []) r.causal (were, tt);
+  accepted_were = λ s on. were_stay_seen run.seen (u ∷ []) (accepted s.correct.journal) (r.accepted_were s on);
+  signed_are = r.signed_are;
+  signed_were = λ m s on is. were_stay_seen run.seen (u ∷ []) (update_in s.statement) (r.signed_were m s on is);
+}
+
+-- other proofs that were judged
+pub judged_remembers : (run : Run) (judged : List Proof) → IsRemembered run → IsRemembered (record run { judged = judged })
+judged_remembers run judged r = record { causal = r.causal; accepted_were = r.accepted_were; signed_are = r.signed_are; signed_were = r.signed_were }
+
+-- ---- events of nodes
+
+-- an event leaves its node's number
+pub same_node : (s : Station) (d : Deed) → (went s d).station.correct.node ≡ s.correct.node
+unfolding went
+same_node s d = by_stop s.armed where
+  by_call : (a : Armed) (b : Bool) → (cond b (stopped_with s (left_of s.correct.journal d.journal a)) (went_by s (Some (record { call = a.call - d.calls; image = a.image })) d)).station.correct.node ≡ s.correct.node
+  by_call a true = refl
+  by_call a false = refl
+
+  by_stop : (o : Option Armed) → (elim o as (λ x. Went) [ None ↦ went_by s None d | Some a ↦ went_armed s d a ]).station.correct.node ≡ s.correct.node
+  by_stop None = refl
+  by_stop (Some a) = by_call a (leb a.call d.calls)
+
+-- ---- before the first event
+
+begun_accepts_none : (stage : Stage) (ms : List Member) (s : Station) → IsIn s (map (λ (m : Member). born stage m.node) ms) → WereSeen [] (accepted s.correct.journal)
+begun_accepts_none stage ms s on = let m = from_map (λ (y : Member). born stage y.node) s ms on in subst (λ (x : Station). WereSeen [] (accepted x.correct.journal)) m.1.1 tt
+
+-- a run of which nothing happened yet
+pub begun : (stage : Stage) (members : List Member) → IsRemembered (run_of stage members)
+unfolding run_of IsCausal
+begun stage members = record {
+  causal = tt;
+  accepted_were = begun_accepts_none stage (filter (λ (m : Member). m.correct) members);
+  signed_are = λ m s never is. absurd never;
+  signed_were = λ m s never is. absurd never;
+}

@@ -1,0 +1,128 @@
+-- Updates that faulty nodes sign, and judgements.
+use Rattle.std.proofs.Common.{◌≡◌, ℕ, List, [], ◌∷◌, ◌++◌, Vec, take, codes, map, Option, Some, None, option_map, option_and_then, Result, Ok, Err, refl, sym, ap, subst, ◌∙◌, append_assoc}
+use Rattle.std.specs.declared.alloc.Global.{Global}
+use Rattle.std.specs.List.{flat_map}
+use Rattle.std.proofs.lemmas.List.{append-nil}
+use Rattle.depot_answers.specs.Answers.{spaced}
+use Rattle.depot_base.specs.declared.proof.Proof.{Proof}
+use Rattle.depot_base.specs.declared.update.Update.{Update}
+use Rattle.depot_graph.specs.Kept.{updates_in}
+use Rattle.depot_model.specs.Bundle.{Signs}
+use Rattle.depot_model.specs.Judgement.{first_failed_point, verdict_of}
+use Rattle.depot_model.specs.Lines.{text_of_point, text_of_verdict}
+use Rattle.depot_model.specs.declared.judgement.JudgeError.{JudgeError}
+use Rattle.depot_schedule.specs.Language.{join}
+use Rattle.depot_schedule.specs.Schedules.{event_words}
+use Rattle.depot_schedule.specs.EventLines.{label_of, node_of, value_of, verb_of}
+use Rattle.depot_schedule.specs.declared.event.Event.{Event}
+use Rattle.depot_schedule.specs.declared.event.Event.TheVariants as event
+use Rattle.depot_schedule.specs.declared.event.HistoryWord.{HistoryWord}
+use Rattle.depot_schedule.specs.declared.event.Ref.{Ref}
+use Rattle.depot_schedule.specs.declared.verb.Verb.TheVariants as verb
+use Rattle.depot_world.specs.Run.{Run, bytes_of, seen_with}
+use Rattle.depot_world.specs.FaultySigning.{drafted, entries_of, history_by, prev_of, proof_in, updated, update_text, with_history}
+use Rattle.depot_world.specs.Suite.{Stage, signs_on}
+use Rattle.depot_world.specs.Transcript.{Done, done, done_by_text, done_by_update, ended, head_count, judged_with, lines_after_arrow, lines_of}
+use Rattle.depot_plays.specs.Acting.{AreSeated, View}
+use Rattle.depot_plays.specs.Doing.{HasDone, signed_text, update_by, with_update}
+use Rattle.depot_stage.specs.Labels.{AreLabels}
+use Rattle.depot_plays.specs.Playing.{IsAt, IsAtPlay}
+use Rattle.depot_stage.specs.Seen.{HasSeenParents}
+use Rattle.depot_stage.specs.declared.label_table.Given.{Given}
+use Rattle.depot_stage.specs.declared.label_table.Labels.{Labels}
+use Rattle.depot_plays.specs.declared.play.Play.{Play}
+use Rattle.depot_plays.proofs.RememberedRuns.{judged_remembers, update_remembers}
+
+-- ---- updates
+
+-- an update of this writer, with this number
+pub record IsNumbered (writer seq : ℕ) (u : Update) : Type 0 where
+  pub writer_is : u.writer ≡ writer
+  pub seq_is : u.seq ≡ seq
+
+pub is_numbered : (sign : Signs) (run : Run) (writer seq clock : ℕ) (prev : Option Ref) (key value : List ℕ) (deps : List Ref) (history : HistoryWord) (u : Update) → Some u ≡ updated sign run writer seq clock prev key value deps history → IsNumbered writer seq u
+unfolding updated
+is_numbered sign run writer seq clock prev key value deps history u is = by_parts (prev_of run prev) (entries_of run writer deps) is where
+  by_parts : (o : Option (List ℕ)) (x : Option (List Update))
+      → Some u ≡ option_and_then (λ (p : List ℕ). option_map (λ (us : List Update). with_history (drafted writer seq clock p key value us) (history_by run.seen history (drafted writer seq clock p key value us))) x) o → IsNumbered writer seq u
+  by_parts None x e = absurd cc
+  by_parts (Some p) None e = absurd cc
+  by_parts (Some p) (Some us) e =
+      let d = drafted writer seq clock p key value us in
+      let same : with_history d (history_by run.seen history d) ≡ u = cc in
+      subst (IsNumbered writer seq) same (record { writer_is = refl; seq_is = refl })
+
+-- what its label is given
+pub signed_is : (stage : Stage) (run : Run) (writer seq clock : ℕ) (prev : Option Ref) (key value : List ℕ) (deps : List Ref) (history : HistoryWord) (u : Update) → Some u ≡ updated (signs_on stage writer) run writer seq clock prev key value deps history
+    → update_text (signs_on stage u.writer) u value ≡ signed_text (signs_on stage writer) value (updated (signs_on stage writer) run writer seq clock prev key value deps history)
+signed_is stage run writer seq clock prev key value deps history u is =
+    let n = is_numbered (signs_on stage writer) run writer seq clock prev key value deps history u is in
+    ap (λ (k : ℕ). update_text (signs_on stage k) u value) n.writer_is ∙ ap (signed_text (signs_on stage writer) value) is
+
+-- an update was seen
+pub sees_update : (A : Type 0) (view : A → View) (stage : Stage) (run : Run) (u : Update) (old new : Play A) → IsAtPlay view stage run old → HasSeenParents (updates_in old.seen.graph.items.entries) u → new.actors ≡ old.actors → new.labels ≡ old.labels
+    → updates_in new.seen.graph.items.entries ≡ seen_with (updates_in old.seen.graph.items.entries) (u ∷ []) → IsAtPlay view stage (with_update run (Some u)) new
+sees_update A view stage run u old new at parents actors labels seen = record {
+  seated = subst (λ (v : Vec A Global). AreSeated stage run.stations (map view v.items)) (sym actors) at.seated;
+  labels_are = subst (λ (x : Labels). AreLabels x.map.entries run.labels) (sym labels) at.labels_are;
+  seen_are = seen ∙ ap (λ (us : List Update). seen_with us (u ∷ [])) at.seen_are;
+  remembered = update_remembers run u at.remembered (subst (λ (us : List Update). HasSeenParents us u) at.seen_are parents);
+}
+
+-- what an update does
+pub update_is : (stage : Stage) (run : Run) (e : Event) → verb_of e ≡ verb.Update → done_by_text (with_update run (update_by stage run e)) (label_of e) (signed_text (signs_on stage (node_of e)) (value_of e) (update_by stage run e)) ≡ done stage run e
+unfolding done
+update_is stage run (event.Update label writer seq clock prev key value deps history) is = by_cases (updated (signs_on stage writer) run writer seq clock prev key value deps history) where
+  by_cases : (o : Option Update) → done_by_text (with_update run o) label (signed_text (signs_on stage writer) value o) ≡ done_by_update (signs_on stage writer) run label value o
+  by_cases None = refl
+  by_cases (Some u) = refl
+update_is stage run (event.Put node key value) is = absurd cc
+update_is stage run (event.Get node key) is = absurd cc
+update_is stage run (event.Hello node label) is = absurd cc
+update_is stage run (event.Bundle node hello label) is = absurd cc
+update_is stage run (event.Give node label size) is = absurd cc
+update_is stage run (event.Restart node) is = absurd cc
+update_is stage run (event.Voucher label writer seq refs) is = absurd cc
+update_is stage run (event.Proof label kind first second) is = absurd cc
+update_is stage run (event.Judge label) is = absurd cc
+update_is stage run (event.Raw label bytes) is = absurd cc
+update_is stage run (event.Cut label source start count) is = absurd cc
+update_is stage run (event.Flip label source place) is = absurd cc
+update_is stage run (event.Join label first second) is = absurd cc
+update_is stage run (event.Stop node call image) is = absurd cc
+
+-- ---- judgements
+
+-- a judgement changes nothing that a play keeps
+judged_at : (stage : Stage) (run : Run) (read : Result Proof ℕ) (views : List View) (entries : List (Vec ℕ Global × Given)) (seen : List Update) → IsAt stage run views entries seen → IsAt stage (judged_with stage run read).run views entries seen
+judged_at stage run (Err at) views entries seen i = i
+judged_at stage run (Ok p) views entries seen i = by_point (first_failed_point stage.suite.verifies stage.listed p) where
+  by_point : (o : Option JudgeError)
+      → IsAt stage (elim o as (λ x. Done) [ Some f ↦ record { answer = spaced (text_of_point f); behind = []; run = run } | None ↦ record { answer = spaced (text_of_verdict (verdict_of p)); behind = []; run = record run { judged = run.judged ++ p ∷ [] } } ]).run views entries seen
+  by_point (Some f) = i
+  by_point None = record { seated = i.seated; labels_are = i.labels_are; seen_are = i.seen_are; remembered = judged_remembers run (run.judged ++ p ∷ []) i.remembered }
+
+pub judged_done : (A : Type 0) (view : A → View) (stage : Stage) (run : Run) (label bytes text lines : List ℕ) (play : Play A) → IsAtPlay view stage run play → bytes ≡ bytes_of run label
+    → text ≡ (judged_with stage run (proof_in bytes)).answer → (judged_with stage run (proof_in bytes)).behind ≡ [] → lines ≡ text ++ 10 ∷ [] → HasDone A view stage (judged_with stage run (proof_in (bytes_of run label))) lines play
+judged_done A view stage run label bytes text lines play at same is none told =
+    let d = judged_with stage run (proof_in bytes) in
+    let done : HasDone A view stage d lines play = record {
+      lines_are = told ∙ ap (λ (t : List ℕ). t ++ 10 ∷ []) is ∙ sym (append-nil (d.answer ++ 10 ∷ [])) ∙ ap (λ (ls : List (List ℕ)). ended d.answer ++ flat_map ended ls) (sym none);
+      at = judged_at stage run (proof_in bytes) (map view play.actors.items) play.labels.map.entries (updates_in play.seen.graph.items.entries) at;
+    } in
+    subst (λ (b : List ℕ). HasDone A view stage (judged_with stage run (proof_in b)) lines play) same done
+
+-- ---- lines
+
+-- the lines of an event: the front of the first, and those from the arrow on
+pub lines_told : (e : Event) (d : Done) (none front behind whole : List ℕ) → none ≡ [] → front ≡ none ++ (join 32 (take (head_count e) (event_words e)) ++ codes " ->") → behind ≡ lines_after_arrow d.answer d.behind → whole ≡ front ++ behind → whole ≡ lines_of e d
+unfolding lines_of
+lines_told e d none front behind whole is_none is_front is_behind is_whole =
+    let words = join 32 (take (head_count e) (event_words e)) in
+    let arrow = codes " ->" in
+    let rest = flat_map ended d.behind in
+    is_whole
+    ∙ ap (λ (t : List ℕ). t ++ behind) (is_front ∙ ap (λ (t : List ℕ). t ++ (words ++ arrow)) is_none)
+    ∙ ap (λ (t : List ℕ). (words ++ arrow) ++ t) is_behind
+    ∙ sym (append_assoc (words ++ arrow) (ended d.answer) rest)
+    ∙ ap (λ (t : List ℕ). t ++ rest) (sym (append_assoc (words ++ arrow) d.answer (10 ∷ [])))

@@ -1,0 +1,33 @@
+use Rattle.std.proofs.Common.{subst, sym}
+use Rattle.std.proofs.lemmas.Result.{IfOk-weaker}
+use Rattle.depot_schedule.specs.declared.event.Event.{Event}
+use Rattle.depot_world.specs.Transcript.{done}
+use Rattle.depot_stage.specs.Casting.{MayHappen}
+use Rattle.depot_plays.specs.Doing.{HasDone}
+use Rattle.depot_plays.proofs.EventFields.{stop_sizes}
+use Rattle.depot_plays.proofs.play.Play.lines.Goals as goal
+
+pub stop-requires-clause-call : goal.stop-requires-clause-call
+stop-requires-clause-call g c =
+    let may = subst (λ (e : Event). MayHappen c.args.scene.now.height c.args.scene.now.members.now e) c.in-Stop.is c.requires.may in
+    (stop_sizes may.before c.in-Stop.node c.in-Stop.call c.in-Stop.image may.fits).call_least
+
+pub stop-requires-clause-most : goal.stop-requires-clause-most
+stop-requires-clause-most g c =
+    let may = subst (λ (e : Event). MayHappen c.args.scene.now.height c.args.scene.now.members.now e) c.in-Stop.is c.requires.may in
+    (stop_sizes may.before c.in-Stop.node c.in-Stop.call c.in-Stop.image may.fits).call_most
+
+pub stop-requires-clause-image : goal.stop-requires-clause-image
+stop-requires-clause-image g c =
+    let may = subst (λ (e : Event). MayHappen c.args.scene.now.height c.args.scene.now.members.now e) c.in-Stop.is c.requires.may in
+    (stop_sizes may.before c.in-Stop.node c.in-Stop.call c.in-Stop.image may.fits).image_most
+
+pub returns-in-Judge : goal.returns-in-Judge
+unfolding done
+returns-in-Judge g c = IfOk-weaker c.judge.result _ _ (λ lines told stage run on at.
+    subst (λ (e : Event). HasDone g.row.A.Denot g.A.Actor.view stage (done stage run e) lines c.args.self.now) (sym c.in-Judge.is) (told stage run on at)) c.judge.ensures
+
+pub returns-in-Stop : goal.returns-in-Stop
+unfolding done
+returns-in-Stop g c = IfOk-weaker c.stop.result _ _ (λ lines told stage run on at.
+    subst (λ (e : Event). HasDone g.row.A.Denot g.A.Actor.view stage (done stage run e) lines c.stop.new.self) (sym c.in-Stop.is) (told stage run at)) c.stop.ensures

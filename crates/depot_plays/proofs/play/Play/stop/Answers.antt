@@ -1,0 +1,20 @@
+use Rattle.std.proofs.Common.{ℕ, List, [], ◌∷◌, sym, subst}
+use Rattle.depot_world.specs.Transcript.{armed_at}
+use Rattle.depot_plays.specs.Doing.{HasDone}
+use Rattle.depot_plays.specs.declared.play.Play.{Play}
+use Rattle.depot_plays.proofs.NodeEvents.{nothing_armed}
+use Rattle.depot_plays.proofs.play.Play.stop.Goals as goal
+
+pub arm-requires-clause-left : goal.arm-requires-clause-left
+arm-requires-clause-left g c = (c.args.node, record { before = c.args.self.now; played = c.requires.played; left = c.in-Some.ensures })
+
+pub returns-in-Some : goal.returns-in-Some
+returns-in-Some g c = c.arm.ensures c.args.node c.args.self.now c.in-Some.ensures
+
+pub returns-in_ok-from_slice-in-None : goal.returns-in_ok-from_slice-in-None
+returns-in_ok-from_slice-in-None g c = λ stage run at.
+    let view = g.A.Actor.view in
+    let done = armed_at run c.args.node c.args.call c.args.image in
+    let here = nothing_armed g.row.A.Denot view stage run c.args.node c.args.call c.args.image c.args.self.now c.in-None.ensures.1 at in
+    let now = subst (λ (p : Play g.row.A.Denot). HasDone g.row.A.Denot view stage done (10 ∷ []) p) (sym c.in-None.ensures.0) here in
+    subst (λ (lines : List ℕ). HasDone g.row.A.Denot view stage done lines c.leave.new.self) (sym c.in_ok-from_slice-in-None.ensures) now

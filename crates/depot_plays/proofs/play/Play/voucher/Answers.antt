@@ -1,0 +1,31 @@
+use Rattle.std.proofs.Common.{ℕ, ◌<◌, ◌^◌, ap, sym, subst, ◌∙◌}
+use Rattle.std.proofs.lemmas.Result.{IfOk-weaker}
+use Rattle.depot_model.specs.Bundle.{Signs}
+use Rattle.depot_world.specs.FaultySigning as signing
+use Rattle.depot_world.specs.Suite.{signs_on}
+use Rattle.depot_cast.specs.Hands.{Hand}
+use Rattle.depot_stage.specs.StageTexts.{IsText}
+use Rattle.depot_plays.proofs.MadeTexts.{HasLeaf, voucher_has_leaf, vouched_is, unvouched_is}
+use Rattle.depot_plays.proofs.play.Play.voucher.Given.{Over}
+use Rattle.depot_plays.proofs.play.Play.voucher.Goals as goal
+use Rattle.depot_plays.proofs.play.Play.voucher.Goals.{Start}
+
+has_leaf : (g : Over) (c : Start g) → HasLeaf c.args.scene.now.height c.args.scene.now.members.now c.args.writer c.args.seq
+has_leaf g c = voucher_has_leaf c.args.scene.now.height c.args.scene.now.members.now c.requires.may.0 c.args.writer c.args.seq c.args.refs.now c.requires.may.1
+
+pub signer_of-requires-clause-declared : goal.signer_of-requires-clause-declared
+signer_of-requires-clause-declared g c = (has_leaf g (goal.at.signer_of-requires-clause-declared g c).Start).declared
+
+pub voucher-requires-clause-leaf : goal.voucher-requires-clause-leaf
+voucher-requires-clause-leaf g c = subst (λ (h : ℕ). c.args.seq < 2 ^ h) (sym c.signer_of.ensures.height) (has_leaf g (goal.at.voucher-requires-clause-leaf g c).Start).leaf
+
+pub returns-in-Some-clause-is : goal.returns-in-Some-clause-is
+returns-in-Some-clause-is g c = IfOk-weaker c.voucher.result _ _ (λ t made stage run on at.
+    let signs = ap (λ (h : Hand). h.sign) (c.signer_of.ensures.signer stage on) in
+    subst (λ (x : signing.Text). IsText t x)
+    (ap (λ (sign : Signs). signing.voucher_text sign c.args.writer c.args.seq c.in-Some.ids) signs
+    ∙ vouched_is (signs_on stage c.args.writer) run c.args.writer c.args.seq c.args.refs.now c.in-Some.ids (sym c.in-Some.is ∙ c.in_ok-ids.ensures.is stage run at)) made) c.voucher.ensures.text
+
+pub returns-in-None-clause-is : goal.returns-in-None-clause-is
+returns-in-None-clause-is g c = IfOk-weaker c.no_reference.result _ _ (λ t made stage run on at.
+    subst (λ (x : signing.Text). IsText t x) (unvouched_is (signs_on stage c.args.writer) run c.args.writer c.args.seq c.args.refs.now (sym c.in-None.is ∙ c.in_ok-ids.ensures.is stage run at)) made) c.no_reference.ensures

@@ -1,0 +1,58 @@
+-- A run of a schedule at work, and what a run always has.
+use Rattle.std.specs.Prelude.{◌≡◌, ℕ, List, [], Vec, true, Some, map}
+use Rattle.std.specs.List.{AllByRecursion}
+use Rattle.depot_base.specs.declared.statement.Signed.{Signed}
+use Rattle.depot_base.specs.declared.update.Update.{Update}
+use Rattle.depot_base.specs.declared.key.PublicKey.{PublicKey}
+use Rattle.depot_model.specs.Bundle.{Signs}
+use Rattle.depot_model.specs.Journal.{accepted, has_id, update_in}
+use Rattle.depot_model.specs.Lists.{IsIn}
+use Rattle.depot_model.specs.Order.{IsCausal}
+use Rattle.depot_model.specs.Roster.{Verifies}
+use Rattle.depot_model.specs.Texts.{IsSigned, id_of_update}
+use Rattle.depot_world.specs.Run.{Made, Run, Station}
+use Rattle.depot_world.specs.Suite.{Stage}
+use Rattle.depot_plays.specs.Acting.{View, AreSeated}
+use Rattle.depot_stage.specs.Casting.{IsOn}
+use Rattle.depot_stage.specs.Labels.{AreLabels}
+use Rattle.depot_stage.specs.declared.label_table.Given.{Given}
+use Rattle.depot_stage.specs.declared.scene.Scene.{Scene}
+use Rattle.depot_plays.specs.declared.play.Play.{Play}
+use Rattle.depot_graph.specs.Kept.{updates_in}
+use Rattle.std.specs.declared.alloc.Global.{Global}
+
+-- each of these updates was seen
+abbrev pub WereSeen : List Update → List Update → Type 0
+WereSeen seen us = AllByRecursion (λ u. has_id seen (id_of_update u) ≡ true) us
+
+-- What was seen are updates whose parents were seen before them; what correct nodes accepted was seen; each signed statement of a label has a
+-- text, and its update was seen.
+pub record IsRemembered (run : Run) : Type 0 where
+  pub causal : IsCausal [] run.seen
+  pub accepted_were : (s : Station) → IsIn s run.stations → WereSeen run.seen (accepted s.correct.journal)
+  pub signed_are : (m : Made) (s : Signed) → IsIn m run.labels → m.signed ≡ Some s → IsSigned s
+  pub signed_were : (m : Made) (s : Signed) → IsIn m run.labels → m.signed ≡ Some s → WereSeen run.seen (update_in s.statement)
+
+-- Nodes, labels and updates are those of a run, which was remembered.
+pub record IsAt (stage : Stage) (run : Run) (actors : List View) (labels : List (Vec ℕ Global × Given)) (seen : List Update) : Type 0 where
+  pub seated : AreSeated stage run.stations actors
+  pub labels_are : AreLabels labels run.labels
+  pub seen_are : seen ≡ run.seen
+  pub remembered : IsRemembered run
+
+-- a play is at this point of a run
+abbrev pub IsAtPlay : {A : Type 0} → (A → View) → Stage → Run → Play A → Type 0
+IsAtPlay view stage run play = IsAt stage run (map view play.actors.items) play.labels.map.entries (updates_in play.seen.graph.items.entries)
+
+-- a play is at some point of some run
+pub record IsPlayed {A : Type 0} (view : A → View) (play : Play A) : Type 0 where
+  pub stage : Stage
+  pub run : Run
+  pub at : IsAtPlay view stage run play
+
+-- a play is at some point of some run, on the stage of this scene
+pub record IsPlayedOn {A S G : Type 0} (verifies : Verifies) (key : G → PublicKey) (sign : G → Signs) (scene : Scene S G) (view : A → View) (play : Play A) : Type 0 where
+  pub stage : Stage
+  pub run : Run
+  pub on : IsOn verifies key sign stage scene
+  pub at : IsAtPlay view stage run play

@@ -1,0 +1,82 @@
+//! A correct node at work.
+ghost use Rattle.std.specs.Prelude.{◌≡◌, ◌<◌, ◌≤◌, Some, IfOk, length, option_copied, slice_get};
+ghost use Rattle.depot_base.specs.declared.limits.TheConstants.{MOST_STOP_CALL};
+ghost use Rattle.depot_model.specs.Journal.{accepted};
+ghost use Rattle.depot_model.specs.Lawful.{IsLawful};
+ghost use Rattle.depot_world.specs.Deeds.{put_by, get_by, hello_by, bundle_by, give_by, restart_by};
+ghost use Rattle.depot_world.specs.Run.{Station, own_update};
+ghost use Rattle.depot_world.specs.ScheduleStops.{went};
+ghost use Rattle.depot_world.specs.Suite.{Stage, stands_on, signs_on};
+ghost use Rattle.depot_plays.specs.Acting.{CameTo, IsSeated, View};
+
+use depot_base::{Bytes, Key, Memory, Update, Value};
+use depot_cast::Numbered;
+
+/// What an event of a node came to.
+#[derive(Drop)]
+pub struct Told<A> {
+    /// The node after it.
+    pub actor: A,
+    /// What is printed behind the arrow, and the lines behind that line, each with its LF.
+    pub lines: Bytes,
+    /// What a label is given.
+    pub bytes: Bytes,
+}
+
+/// A correct node at work, which keeps its journal on a disk in memory. Each event that it takes part in makes of it what the
+/// definitions of runs say (`depot_world`): where a stop falls into it the node is started again. After Memory it is gone.
+pub trait Actor: Drop + Numbered {
+    /// Where it stands, how it signs, its journal, and the stop that waits on its disk.
+    ghost view: { Self → View };
+
+    /// How many updates it accepted. It takes no memory.
+    fn update_count(&self) -> u32
+        ensures { result ≡ length (accepted (view self.now).journal) };
+
+    /// An update that it accepted, from 0. It takes no memory.
+    fn update(&self, item: u32) -> &Update
+        requires { item < length (accepted (view self.now).journal) }
+        ensures { slice_get (accepted (view self.now).journal) item ≡ Some result.now };
+
+    /// Its own update of a number. None exactly where there is none. It takes no memory.
+    fn own_update(&self, seq: u32) -> Option<&Update>
+        ensures { option_copied result ≡ own_update (view self.now).journal seq };
+
+    /// It puts a value under a key.
+    fn put(self, key: Key, value: Value) -> Result<Told<Self>, Memory>
+        ensures { IfOk result (λ t. (stage : Stage) (s : Station) → IsSeated stage s (view self) → CameTo stage (went s (put_by (stands_on stage s.correct.node) s.correct key value)) (view t.actor) t.lines t.bytes) };
+
+    /// It reads a key.
+    fn get(self, key: &Key) -> Result<Told<Self>, Memory>
+        ensures { IfOk result (λ t. (stage : Stage) (s : Station) → IsSeated stage s (view self) → CameTo stage (went s (get_by s.correct key.now)) (view t.actor) t.lines t.bytes) };
+
+    /// It says hello.
+    fn hello(self) -> Result<Told<Self>, Memory>
+        ensures { IfOk result (λ t. (stage : Stage) (s : Station) → IsSeated stage s (view self) → CameTo stage (went s (hello_by (stands_on stage s.correct.node) s.correct)) (view t.actor) t.lines t.bytes) };
+
+    /// It makes a bundle for the bytes of a hello.
+    fn bundle(self, hello: &[u8]) -> Result<Told<Self>, Memory>
+        ensures { IfOk result (λ t. (stage : Stage) (s : Station) → IsSeated stage s (view self) → CameTo stage (went s (bundle_by (stands_on stage s.correct.node) (signs_on stage s.correct.node) s.correct hello.now)) (view t.actor) t.lines t.bytes) };
+
+    /// It takes a stream, whole or in pieces of so many bytes.
+    fn give(self, stream: &[u8], size: Option<u32>) -> Result<Told<Self>, Memory>
+        ensures { IfOk result (λ t. (stage : Stage) (s : Station) → IsSeated stage s (view self) → CameTo stage (went s (give_by (stands_on stage s.correct.node) s.correct stream.now)) (view t.actor) t.lines t.bytes) };
+
+    /// It is started again from its disk.
+    fn restart(self) -> Result<Told<Self>, Memory>
+        ensures { IfOk result (λ t. (stage : Stage) (s : Station) → IsSeated stage s (view self) → CameTo stage (went s (restart_by s.correct)) (view t.actor) t.lines t.bytes) };
+
+    /// A stop is set on its disk, and it is started again: in which call from then on the stop comes, from 1, and which image it leaves, in
+    /// place of one that waits.
+    fn stop_at(self, call: u32, image: u8) -> Result<Self, Memory>
+        requires call { 1 ≤ call }
+        requires most { call ≤ MOST_STOP_CALL }
+        requires image { image ≤ 2 }
+        ensures { IfOk result (λ a. view a ≡ record (view self) { armed = Some (record { call = call; image = image }) }) };
+
+    /// Its number is that of the node that it is.
+    ghost named: { (a : Self) → Self.number_of a ≡ (view a).here.me };
+
+    /// Its journal is lawful.
+    ghost lawful: { (a : Self) → IsLawful (view a).here (view a).journal };
+}

@@ -1,0 +1,108 @@
+//! The updates that faulty nodes sign, and what they vouch for.
+ghost use Rattle.std.specs.Prelude.{◌≡◌, ℕ, map, option_map, IfOk, IfSome};
+ghost use Rattle.depot_base.specs.declared.statement.Statement.TheVariants as statement;
+ghost use Rattle.depot_base.specs.declared.update.Update.{Update};
+ghost use Rattle.depot_model.specs.Bundle.{Signs};
+ghost use Rattle.depot_model.specs.Own.{entry_of};
+ghost use Rattle.depot_model.specs.Texts.{IsStatement, IsUpdate, id_of_update};
+ghost use Rattle.depot_model.specs.Vouching.{rising};
+ghost use Rattle.depot_world.specs.Run.{Run};
+ghost use Rattle.depot_world.specs.FaultySigning.{all_referred, entries_of, prev_of, updated};
+ghost use Rattle.depot_world.specs.Suite.{Stage};
+ghost use Rattle.depot_plays.specs.Drafts.{MaySign, MayVouchFor};
+ghost use Rattle.depot_plays.specs.Playing.{IsAtPlay, IsPlayed};
+ghost use Rattle.depot_stage.specs.Seen.{HasSeenParents};
+
+use crate::actor::Actor;
+use crate::play::Play;
+use depot_base::{Deps, Hash32, Ids, Key, Memory, NodeId, Update, Value};
+use depot_cast::{entries_of_others, entry_of, rising_ids};
+use depot_graph::Graph;
+use depot_model::Past;
+use depot_schedule::{HistoryWord, Ref};
+use depot_stage::drafted;
+use depot_update::id_of;
+
+impl<A: Actor> Play<A> {
+    /// The update that a faulty node signs, for the fields of an event that a schedule may have. None exactly where its prev or an
+    /// entry names nothing, or an entry an update of the node's own.
+    pub fn updated(
+        &self,
+        writer: NodeId,
+        seq: u32,
+        clock: u64,
+        prev: &Option<Ref>,
+        key: &Key,
+        value: &Value,
+        deps: &[Ref],
+        history: HistoryWord,
+    ) -> Result<Option<Update>, Memory>
+        requires played { IsPlayed A.view self.now }
+        requires fits { MaySign writer seq clock prev.now key.now value.now deps.now history }
+        ensures is { IfOk result (λ made. (stage : Stage) (run : Run) (sign : Signs) → IsAtPlay A.view stage run self.now → made ≡ updated sign run writer seq clock prev.now key.now value.now deps.now history) }
+        ensures text { IfOk result (λ made. IfSome made (λ u. IsUpdate u)) }
+        ensures parents { IfOk result (λ made. IfSome made (λ u. HasSeenParents (⟦<Graph as Past>⟧.updates self.now.seen.graph) u)) }
+    {
+        let Some(prev) = self.prev_of(prev)? else {
+            return Ok(None);
+        };
+        let Some(deps) = self.entries_of(writer, deps)? else {
+            return Ok(None);
+        };
+        let draft = drafted(writer, seq, clock, prev, key.copy()?, value, deps);
+        Ok(Some(self.seen.with_history(draft, history)?))
+    }
+
+    /// The ids of the updates that references name, in rising order, each once. None exactly where one names nothing.
+    pub fn vouched_ids(&self, refs: &[Ref]) -> Result<Option<Ids>, Memory>
+        requires { IsPlayed A.view self.now }
+        ensures is { IfOk result (λ made. (stage : Stage) (run : Run) → IsAtPlay A.view stage run self.now → made ≡ option_map (λ us. rising (map id_of_update us)) (all_referred run refs.now)) }
+        ensures text { IfOk result (λ made. IfSome made (λ ids. (node seq : ℕ) → MayVouchFor node seq refs.now → IsStatement (statement.Voucher (record { node = node; seq = seq; ids = ids })))) }
+    {
+        let Some(named) = self.named(refs)? else {
+            return Ok(None);
+        };
+        Ok(Some(rising_ids(self.alloc, named.as_slice())?))
+    }
+
+    /// The id that a prev names: zeros where there is none. None exactly where its reference names nothing.
+    fn prev_of(&self, prev: &Option<Ref>) -> Result<Option<Hash32>, Memory>
+        requires { IsPlayed A.view self.now }
+        ensures { IfOk result (λ id. (stage : Stage) (run : Run) → IsAtPlay A.view stage run self.now → id ≡ prev_of run prev.now) }
+    {
+        let Some(r) = prev else {
+            return Ok(Some(Hash32::zeros()));
+        };
+        let Some(update) = self.referred(r) else {
+            return Ok(None);
+        };
+        Ok(Some(id_of(self.alloc, update)?))
+    }
+
+    /// The entries that references name, in rising order, each once. None exactly where one names nothing, or an update of this
+    /// writer.
+    fn entries_of(&self, writer: NodeId, refs: &[Ref]) -> Result<Option<Deps>, Memory>
+        requires { IsPlayed A.view self.now }
+        ensures { IfOk result (λ deps. (stage : Stage) (run : Run) → IsAtPlay A.view stage run self.now → deps ≡ option_map (λ us. map entry_of us) (entries_of run writer refs.now)) }
+    {
+        let Some(named) = self.named(refs)? else {
+            return Ok(None);
+        };
+        entries_of_others(self.alloc, writer, named.as_slice())
+    }
+
+    /// The entries of the updates that references name, in their order. None exactly where one names nothing.
+    fn named(&self, refs: &[Ref]) -> Result<Option<Deps>, Memory>
+        requires { IsPlayed A.view self.now }
+        ensures { IfOk result (λ named. (stage : Stage) (run : Run) → IsAtPlay A.view stage run self.now → named ≡ option_map (λ us. map entry_of us) (all_referred run refs.now)) }
+    {
+        let mut named = Deps::new(self.alloc);
+        for r in refs {
+            let Some(update) = self.referred(r) else {
+                return Ok(None);
+            };
+            named.push(entry_of(self.alloc, update)?)?;
+        }
+        Ok(Some(named))
+    }
+}

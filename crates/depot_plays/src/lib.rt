@@ -1,0 +1,31 @@
+//! Plays schedules over correct nodes, whichever they are, event by event.
+//!
+//! What a schedule makes happen is defined in `depot_world`; here it runs, and what is written of it is the defined text. A correct node is
+//! an `Actor`, known by its contract alone: what an event makes of it is what the definitions of runs say, whether a stop falls into it
+//! or not. No disk stands here: what a stop leaves is the actor's to say.
+//!
+//! A `Play` is a run at work (`IsAtPlay`): the correct nodes, what labels name, and the updates that were seen. `events` does
+//! one event and gives its lines: `deeds` those that a node acts in, which leaves its place for them (`seat_places`), `event_stops` those
+//! that set a stop on a disk, `updates` and `made` those that only make a label, and `drafting` finds what their references name. `playing`
+//! begins a run and plays all events. What needs no node stands in `depot_stage` and `depot_cast`; the nodes are `depot_replay`'s.
+#![tactic(auto)]
+
+mod actor;
+mod away;
+mod begins;
+mod deeds;
+mod drafting;
+mod event_stops;
+mod events;
+mod made;
+mod play;
+mod playing;
+mod replay_error;
+mod seat_places;
+mod updates;
+
+pub use actor::{Actor, Told};
+pub use begins::Begins;
+pub use play::Play;
+pub use playing::{begun, play_all};
+pub use replay_error::ReplayError;

@@ -1,0 +1,123 @@
+//! Events that only make a label.
+ghost use Rattle.std.specs.Prelude.{◌≡◌, [], ℕ, List, None, true, IfOk, IfSome};
+ghost use Rattle.depot_model.specs.Journal.{update_in};
+ghost use Rattle.depot_model.specs.Texts.{IsSigned};
+ghost use Rattle.depot_schedule.specs.EventLines.{label_of};
+ghost use Rattle.depot_schedule.specs.declared.event.Event.TheVariants as event;
+ghost use Rattle.depot_world.specs.Run.{Run};
+ghost use Rattle.depot_world.specs.FaultySigning.{proof_text, vouched_text};
+ghost use Rattle.depot_world.specs.Suite.{Stage, signs_on};
+ghost use Rattle.depot_world.specs.Transcript.{done};
+ghost use Rattle.depot_stage.specs.Casting.{IsOn, IsOnSome, MayHappen};
+ghost use Rattle.depot_plays.specs.Doing.{HasDone, is_text, text_by};
+ghost use Rattle.depot_plays.specs.Playing.{IsAtPlay, IsPlayed};
+ghost use Rattle.depot_stage.specs.StageTexts.{IsText};
+
+use crate::actor::Actor;
+use crate::play::Play;
+use depot_base::{Bytes, Kind, Memory, NodeId};
+use depot_model::{Scheme, Signer};
+use depot_schedule::{Event, Label, Ref};
+use depot_stage::texts::Text;
+use depot_stage::{Scene, texts};
+
+impl<A: Actor> Play<A> {
+    /// An event that only makes a label. The lines are those from the arrow on.
+    pub fn make<S: Scheme, G: Signer>(
+        &mut self,
+        scene: &Scene<'_, S, G>,
+        label: &Label,
+        event: &Event,
+    ) -> Result<Bytes, Memory>
+        requires text { is_text event.now ≡ true }
+        requires label { label_of event.now ≡ label.now }
+        requires scene { IsOnSome S.verifies G.key_of G.signature_of scene.now }
+        requires may { MayHappen scene.now.height scene.now.members.now event.now }
+        requires played { IsPlayed A.view self.old }
+        ensures { IfOk result (λ lines. (stage : Stage) (run : Run) → IsOn S.verifies G.key_of G.signature_of stage scene.now → IsAtPlay A.view stage run self.old → HasDone A A.view stage (done stage run event.now) lines self.new) }
+    {
+        let text = self.text(scene, event)?;
+        let lines = self.labels.give(label, text)?;
+        Ok(lines)
+    }
+
+    /// What such an event makes.
+    fn text<S: Scheme, G: Signer>(
+        &self,
+        scene: &Scene<'_, S, G>,
+        event: &Event,
+    ) -> Result<Text, Memory>
+        requires text { is_text event.now ≡ true }
+        requires scene { IsOnSome S.verifies G.key_of G.signature_of scene.now }
+        requires may { MayHappen scene.now.height scene.now.members.now event.now }
+        requires played { IsPlayed A.view self.now }
+        ensures is { IfOk result (λ text. (stage : Stage) (run : Run) → IsOn S.verifies G.key_of G.signature_of stage scene.now → IsAtPlay A.view stage run self.now → IsText text (text_by stage run event.now)) }
+        ensures fits { IfOk result (λ text. IfSome text.signed IsSigned) }
+        ensures none { IfOk result (λ text. IfSome text.signed (λ s. update_in s.statement ≡ [])) }
+    {
+        match event {
+            Event::Voucher {
+                writer,
+                seq,
+                refs,
+                ..
+            } => self.voucher(scene, *writer, *seq, refs.as_slice()),
+            Event::Proof {
+                kind,
+                first,
+                second,
+                ..
+            } => self.proof(*kind, first, second),
+            Event::Raw { bytes, .. } => texts::raw(self.alloc, bytes.as_slice()),
+            Event::Cut {
+                source,
+                start,
+                count,
+                ..
+            } => texts::cut(self.alloc, self.bytes_of(source), *start, *count),
+            Event::Flip { source, place, .. } => {
+                texts::flip(self.alloc, self.bytes_of(source), *place)
+            }
+            Event::Join { first, second, .. } => {
+                texts::join(self.alloc, self.bytes_of(first), self.bytes_of(second))
+            }
+            _ => unreachable!(),
+        }
+    }
+
+    /// A voucher that a faulty node signs, if its references name updates.
+    fn voucher<S: Scheme, G: Signer>(
+        &self,
+        scene: &Scene<'_, S, G>,
+        writer: NodeId,
+        seq: u32,
+        refs: &[Ref],
+    ) -> Result<Text, Memory>
+        requires scene { IsOnSome S.verifies G.key_of G.signature_of scene.now }
+        requires may { (label : List ℕ) × MayHappen scene.now.height scene.now.members.now (event.Voucher label writer seq refs.now) }
+        requires played { IsPlayed A.view self.now }
+        ensures is { IfOk result (λ text. (stage : Stage) (run : Run) → IsOn S.verifies G.key_of G.signature_of stage scene.now → IsAtPlay A.view stage run self.now → IsText text (vouched_text (signs_on stage writer) run writer seq refs.now)) }
+        ensures fits { IfOk result (λ text. IfSome text.signed IsSigned) }
+        ensures none { IfOk result (λ text. IfSome text.signed (λ s. update_in s.statement ≡ [])) }
+    {
+        match self.vouched_ids(refs)? {
+            Some(ids) => texts::voucher(self.alloc, scene.signer_of(writer), writer, seq, ids),
+            None => texts::no_reference(self.alloc),
+        }
+    }
+
+    /// The halves of a proof, if both labels name signed statements.
+    fn proof(&self, kind: Kind, first: &Label, second: &Label) -> Result<Text, Memory>
+        requires { IsPlayed A.view self.now }
+        ensures is { IfOk result (λ text. (stage : Stage) (run : Run) → IsAtPlay A.view stage run self.now → IsText text (proof_text run kind first.now second.now)) }
+        ensures none { IfOk result (λ text. text.signed ≡ None) }
+    {
+        let Some(one) = self.signed_of(first) else {
+            return texts::no_reference(self.alloc);
+        };
+        let Some(other) = self.signed_of(second) else {
+            return texts::no_reference(self.alloc);
+        };
+        texts::proof(self.alloc, kind, one, other)
+    }
+}

@@ -1,0 +1,4 @@
+mod RecordParts
+pub mod RecordFaultLaws
+mod RecordChecks
+mod RecordFaultExamples

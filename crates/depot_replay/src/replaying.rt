@@ -1,0 +1,67 @@
+//! A schedule is played over nodes on disks in memory, and its transcript is written.
+ghost use Rattle.std.specs.Prelude.{◌≡◌, ◌++◌, ℕ, take, IsTrue, OnOk, OnErr, IsErrOf};
+ghost use Rattle.depot_base.specs.Faults.{HasCause};
+ghost use Rattle.depot_base.specs.Reading.{AddsFrontOf};
+ghost use Rattle.depot_schedule.specs.Schedules.{IsSchedule};
+ghost use Rattle.depot_world.specs.Suite.{suite_of};
+ghost use Rattle.depot_world.specs.Transcript.{transcript_of};
+ghost use Rattle.depot_cast.specs.Hands.{AreSigners, hands_of};
+
+use crate::seat::Seat;
+use depot_cast::{plain_signers, roster_of, winter_signers};
+use depot_model::{Scheme, Signer};
+use depot_outside::Sink;
+use depot_plays::{ReplayError, begun, play_all};
+use depot_schedule::Schedule;
+use depot_sign::PlainScheme;
+use depot_stage::Scene;
+use depot_winter::WinterScheme;
+use std::alloc::Global;
+
+/// Plays a schedule, each of its correct nodes over a disk in memory, and writes its transcript, the lines of each event after the
+/// event was done. After an error a front of the transcript went out.
+pub fn replay<K: Sink>(alloc: Global, schedule: &Schedule, out: &mut K) -> Result<(), ReplayError>
+    requires { IsSchedule schedule.now }
+    ensures done { IsTrue (K.tells out.old) → OnOk result (K.written out.new ≡ K.written out.old ++ transcript_of schedule.now) }
+    ensures front { IsTrue (K.tells out.old) → OnErr result ((n : ℕ) × (K.written out.new ≡ K.written out.old ++ take n (transcript_of schedule.now))) }
+    ensures tells { K.tells out.new ≡ K.tells out.old }
+    ensures cause { HasCause (K.faults out.old) (K.faults out.new) (IsErrOf result ReplayError.Sink) }
+    ensures faultless { K.is_faultless out.old → K.is_faultless out.new × (K.faults out.new ≡ K.faults out.old) }
+{
+    let members = schedule.members.as_slice();
+    if schedule.winter {
+        let signers = winter_signers(alloc, members, schedule.height)?;
+        return replay_with(alloc, schedule, WinterScheme, signers.as_slice(), out);
+    }
+    let signers = plain_signers(alloc, members, schedule.height)?;
+    replay_with(alloc, schedule, PlainScheme, signers.as_slice(), out)
+}
+
+/// The same, with the signers of the members.
+fn replay_with<S: Scheme + Copy, G: Signer<Of = S>, K: Sink>(
+    alloc: Global,
+    schedule: &Schedule,
+    scheme: S,
+    signers: &[G],
+    out: &mut K,
+) -> Result<(), ReplayError>
+    requires schedule { IsSchedule schedule.now }
+    requires scheme { (suite_of schedule.now.winter).verifies ≡ S.verifies }
+    requires signers { AreSigners (suite_of schedule.now.winter) schedule.now.height schedule.now.members (hands_of G.key_of G.signature_of signers.now) }
+    ensures done { IsTrue (K.tells out.old) → OnOk result (K.written out.new ≡ K.written out.old ++ transcript_of schedule.now) }
+    ensures front { IsTrue (K.tells out.old) → OnErr result (AddsFrontOf (K.written out.old) (transcript_of schedule.now) (K.written out.new)) }
+    ensures tells { K.tells out.new ≡ K.tells out.old }
+    ensures cause { HasCause (K.faults out.old) (K.faults out.new) (IsErrOf result ReplayError.Sink) }
+    ensures faultless { K.is_faultless out.old → K.is_faultless out.new × (K.faults out.new ≡ K.faults out.old) }
+{
+    let roster = roster_of(alloc, schedule, signers)?;
+    let scene = Scene {
+        roster: &roster,
+        scheme,
+        height: schedule.height,
+        members: schedule.members.as_slice(),
+        signers,
+    };
+    let mut play = begun::<Seat<S, &G>, S, G>(alloc, schedule, &scene)?;
+    play_all(&mut play, &scene, schedule.events.as_slice(), out)
+}

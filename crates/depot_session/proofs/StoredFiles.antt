@@ -1,0 +1,64 @@
+-- How a command turns out that stores a file.
+use Rattle.std.proofs.Common.{◌≡◌, ◌⊎◌, ℕ, Bool, true, false, IsTrue, List, ◌++◌, Some, None, Result, Ok, Err, refl, sym, ap, subst, ◌∙◌, inl, inr}
+use Rattle.std.specs.Prelude.{if◌then◌else◌}
+use Rattle.std.specs.Str.{bytes_eq}
+use Rattle.depot_base.specs.declared.record.Record.{Record}
+use Rattle.std.proofs.lemmas.Slice.Eq.{bytes_eq-Decides}
+use Rattle.depot_model.specs.Stops.{HasFront, LeavesAll}
+use Rattle.depot_model.specs.declared.replica.Replica.{Ghosts}
+use Rattle.depot_outside.specs.Told.{Shelves, Sinks}
+use Rattle.depot_script.specs.declared.command.Command.{Command}
+use Rattle.depot_session.specs.declared.ending.Ending.{Ending}
+use Rattle.depot_script.specs.declared.command.Command.TheVariants as command
+use Rattle.depot_session.specs.SessionRuns.{IsHandedOut}
+use Rattle.depot_session.specs.Sessions.{Files, Names, Step, StoresAs, stored}
+use Rattle.depot_session.specs.ScriptTelling.{LeavesOthers, Stores}
+use Rattle.depot_session.specs.Turns.{LeftBy, Turns}
+use Rattle.depot_session.proofs.Turning.{leaves_journal, shelf_told, untold, without_memory}
+
+-- ---- storing
+
+-- two names are one, or not
+one_name : (name other : List ℕ) → (name ≡ other) ⊎ (name ≡ other → ⊥)
+one_name name other = by_test (bytes_eq name other) refl where
+  by_test : (b : Bool) → bytes_eq name other ≡ b → (name ≡ other) ⊎ (name ≡ other → ⊥)
+  by_test true is = inl ((bytes_eq-Decides name other).0 is)
+  by_test false is = inr (λ same. let so : bytes_eq name other ≡ true = (bytes_eq-Decides name other).1 same in cc)
+
+-- a command names the file that it stores
+stored_is_named : (c : Command) (name : List ℕ) → StoresAs c name → Names c name
+stored_is_named (command.Hello file) name is = is
+stored_is_named (command.Bundle hello file) name is = inr is
+stored_is_named other name is = absurd is
+
+module _ {N O : Type 0} (g : Ghosts N O) (old new : N) (c : Command) (step : Step) (shelf : Shelves) (sink : Sinks) (more : List Record) (brings : step.session.correct.journal ≡ g.records old ++ more)
+    (leaves : IsTrue (g.tells old) → (image : List ℕ) → g.may_leave new image → HasFront (g.records old) more image) (name bytes : List ℕ) (own : (other : List ℕ) → name ≡ other → StoresAs c other)
+    (goes : step.ending ≡ None) (runs : g.stopped new ≡ false) (journal : g.records new ≡ step.session.correct.journal) (stable : IsTrue (g.tells old) → LeavesAll (g.records new) (g.stopped new) (g.may_leave new)) where
+  -- no other file has changed
+  others_same : LeavesOthers shelf name → (other : List ℕ) → (shelf.file_after other ≡ shelf.file other) ⊎ IsHandedOut (LeftBy g old new) c step other
+  others_same others other = by_name (one_name name other) where
+    by_name : (name ≡ other) ⊎ (name ≡ other → ⊥) → (shelf.file_after other ≡ shelf.file other) ⊎ IsHandedOut (LeftBy g old new) c step other
+    by_name (inl is) = inr (record { stores = own other is; goes_on = goes; journal = leaves_journal g old new step.session.correct.journal runs journal stable })
+    by_name (inr not) = inl (others other not)
+
+  -- bytes were stored and then the lines of the command written, or not
+  pub stored_told : (r : Result (Unit {0}) Ending) → ((other : List ℕ) → step.session.files other ≡ stored shelf.file name bytes other) → IsTrue shelf.tells → Stores shelf sink step.text name bytes r → Turns g old new c step shelf sink r
+  stored_told (Ok done) files tells st = (goes, record { runs = runs; journal = journal; files = λ other. st.0 tells other ∙ sym (files other); wrote = st.1 })
+  stored_told (Err e) files tells (others, inl st) = untold g old new c step shelf sink more brings leaves (others_same others) runs journal (λ other. st.0 tells other ∙ sym (files other)) stable e st.1
+  stored_told (Err e) files tells (others, inr (inl idle)) = without_memory g old new c step shelf sink more brings leaves (λ other. inl (idle.0 other)) (Err e) idle.1.0 idle.1.1
+  stored_told (Err e) files tells (others, inr (inr h)) = shelf_told g old new c step shelf sink more brings leaves (others_same others) name e (stored_is_named c name (own name refl)) h.rose h.told
+
+-- files are alike where the files before are, and the bytes
+pub stored_alike : (files others : Files) (name bytes more : List ℕ) → ((other : List ℕ) → files other ≡ others other) → bytes ≡ more → (other : List ℕ) → stored files name bytes other ≡ stored others name more other
+stored_alike files others name bytes more same is other = by_name (bytes_eq other name) where
+  by_name : (b : Bool) → (if b then Some bytes else files other) ≡ (if b then Some more else others other)
+  by_name true = ap (λ (x : List ℕ). Some x) is
+  by_name false = same other
+
+-- what was stored after a load was stored on the shelf from before
+pub stored_from : (mid_tells tells : Bool) (mid before after : Files) (mid_faults faults faults_after : ℕ) (sink : Sinks) (text name bytes : List ℕ) (r : Result (Unit {0}) Ending) → mid_tells ≡ tells → mid ≡ before → mid_faults ≡ faults
+    → Stores (record { tells = mid_tells; file = mid; file_after = after; faults_before = mid_faults; faults_after = faults_after }) sink text name bytes r → Stores (record { tells = tells; file = before; file_after = after; faults_before = faults; faults_after = faults_after }) sink text name bytes r
+stored_from mid_tells tells mid before after mid_faults faults faults_after sink text name bytes r same_tells same_file same_faults st =
+    subst (λ (x : ℕ). Stores (record { tells = tells; file = before; file_after = after; faults_before = x; faults_after = faults_after }) sink text name bytes r) same_faults
+    (subst (λ (x : Files). Stores (record { tells = tells; file = x; file_after = after; faults_before = mid_faults; faults_after = faults_after }) sink text name bytes r) same_file
+    (subst (λ (x : Bool). Stores (record { tells = x; file = mid; file_after = after; faults_before = mid_faults; faults_after = faults_after }) sink text name bytes r) same_tells st))
