@@ -1,14 +1,13 @@
 -- What holds of each kind of check of an update's content holds of the first that fails.
-use Rattle.std.proofs.Common.{◌≡◌, ℕ, suc, Bool, ◌&&◌, ◌||◌, not, eqb, List, [], ◌∷◌, ◌++◌, map, Some, None, subst}
+use Rattle.std.proofs.Common.{◌≡◌, ℕ, suc, ◌&&◌, ◌||◌, not, eqb, List, [], ◌∷◌, Some, None, subst}
 use Rattle.std.specs.Prelude.{Option, nat_le}
 use Rattle.std.specs.List.{AllByRecursion}
 use Rattle.depot_base.specs.declared.check.Check.{Check}
 use Rattle.depot_base.specs.declared.check.Check.TheVariants as check
 use Rattle.depot_base.specs.declared.update.Dep.{Dep}
 use Rattle.depot_base.specs.declared.update.Update.{Update}
-use Rattle.depot_model.specs.Lists.{when, first}
 use Rattle.depot_model.specs.Checks.{Sight, lost, wrong_prev, wrong_entry, wrong_entries, behind, not_above, content_checks}
-use Rattle.depot_model.proofs.FirstLaws.{first_is, when-some}
+use Rattle.depot_model.proofs.FirstLaws.{Shows, shows_when, shows_map, shows_append, shows_first}
 
 -- it holds of each kind of check of the content
 pub record HoldsOfContent (P : Check → Type 0) : Type 0 where
@@ -18,26 +17,6 @@ pub record HoldsOfContent (P : Check → Type 0) : Type 0 where
   pub clock_low : (h : List ℕ) → P (check.ClockLow h)
   pub clock_far : (greatest : ℕ) → P (check.ClockFar greatest)
   pub history : (given right : List ℕ) → P (check.BadHistory given right)
-
--- it holds of the check that fails, if one does
-abbrev pub Shows : (Check → Type 0) → Option Check → Type 0
-Shows P o = (c : Check) → o ≡ Some c → P c
-
--- ---- lists of checks
-
-pub shows_first : (P : Check → Type 0) (os : List (Option Check)) → AllByRecursion (Shows P) os → Shows P (first os)
-shows_first P os all = λ c e. first_is P os c all e
-
-shows_map : (P : Check → Type 0) {X : Type 0} (f : X → Option Check) → ((x : X) → Shows P (f x)) → (xs : List X) → AllByRecursion (Shows P) (map f xs)
-shows_map P f each [] = tt
-shows_map P f each (x ∷ xs) = (each x, shows_map P f each xs)
-
-pub shows_append : (P : Check → Type 0) (os ps : List (Option Check)) → AllByRecursion (Shows P) os → AllByRecursion (Shows P) ps → AllByRecursion (Shows P) (os ++ ps)
-shows_append P [] ps all more = more
-shows_append P (o ∷ os) ps all more = (all.0, shows_append P os ps all.1 more)
-
-pub shows_when : (P : Check → Type 0) (b : Bool) (c : Check) → P c → Shows P (when b c)
-shows_when P b c holds = λ d e. subst P (when-some b c d e) holds
 
 -- ---- the checks of the content
 
@@ -68,13 +47,13 @@ shows_not_above P all u h (Some t) = shows_when P (nat_le u.clock t.clock) (chec
 pub shows_content : (P : Check → Type 0) → HoldsOfContent P → (u : Update) (seen : Sight) → AllByRecursion (Shows P) (content_checks u seen)
 unfolding content_checks
 shows_content P all u seen = (
-  shows_first P _ (shows_append P _ _ (shows_map P (lost u.prev) (shows_lost P all u.prev) seen.before) (shows_map P (λ x. lost x.0.id x.1) (λ x. shows_lost P all x.0.id x.1) seen.entries)),
+  shows_first P _ (shows_append P _ _ (shows_map P (lost u.prev) seen.before (shows_lost P all u.prev)) (shows_map P (λ (x : Dep × Option Update). lost x.0.id x.1) seen.entries (λ x. shows_lost P all x.0.id x.1))),
   (
-    shows_first P _ (shows_append P _ _ (shows_map P (wrong_prev u) (shows_wrong_prev P all u) seen.before) (shows_wrong_entries P all 1 seen.entries)),
+    shows_first P _ (shows_append P _ _ (shows_map P (wrong_prev u) seen.before (shows_wrong_prev P all u)) (shows_wrong_entries P all 1 seen.entries)),
     (
-      shows_first P _ (shows_map P (behind u) (shows_behind P all u) seen.before),
+      shows_first P _ (shows_map P (behind u) seen.before (shows_behind P all u)),
       (
-        shows_first P _ (shows_append P _ _ (shows_map P (not_above u u.prev) (shows_not_above P all u u.prev) seen.before) (shows_map P (λ x. not_above u x.0.id x.1) (λ x. shows_not_above P all u x.0.id x.1) seen.entries)),
+        shows_first P _ (shows_append P _ _ (shows_map P (not_above u u.prev) seen.before (shows_not_above P all u u.prev)) (shows_map P (λ (x : Dep × Option Update). not_above u x.0.id x.1) seen.entries (λ x. shows_not_above P all u x.0.id x.1))),
         (shows_when P _ _ (all.clock_far _), (shows_when P _ _ (all.history u.history seen.history), tt)),
       ),
     ),

@@ -22,9 +22,9 @@ use Rattle.depot_model.specs.Conviction.{proof_of}
 use Rattle.depot_model.specs.Checks.{given_statement, sight, content_checks, content_of, opponent, named_opponent, due, added, exposed}
 use Rattle.depot_fork.specs.declared.Found.{Found}
 use Rattle.depot_fork.specs.Opponents.{IsContradiction}
-use Rattle.depot_fork.proofs.KindLaws.{update_id}
 use Rattle.std.proofs.Math.Bool.{or-false}
 use Rattle.depot_model.proofs.DueLaws.{none_due, no_fork_vouched, no_fork_alone}
+use Rattle.depot_model.proofs.BodyLaws.{update_id}
 use Rattle.depot_accept.specs.StateView.{View, IsStateOf}
 use Rattle.depot_accept.specs.CheckResults.{AreDue, IsUpdateBehind}
 use Rattle.depot_accept.specs.AfterSignature.{IsOpponent, failed_after_signature, Passes, IsCheckedAfterSignature}

@@ -12,6 +12,7 @@ use Rattle.std.proofs.lemmas.Bool.{ltb-false, eqb-false}
 use Rattle.std.proofs.lemmas.Iterator.Adapters.{position_from-zero}
 use Rattle.std.proofs.lemmas.Option.{slice_get_past}
 use Rattle.std.proofs.lemmas.Slice.Eq.{bytes_eq-Decides}
+use Rattle.std.proofs.Math.Bool.{or_assoc}
 use Rattle.depot_base.specs.Cursor.{numeral}
 use Rattle.depot_base.specs.Format.{number}
 use Rattle.depot_base.specs.declared.proof.Kind.{Kind}
@@ -28,12 +29,13 @@ use Rattle.depot_model.specs.Journal.{accepted, voucher_in, voucher_by, foreign_
 use Rattle.depot_model.specs.Contradictions.{kind_of}
 use Rattle.depot_model.specs.Checks.{is_kept, is_update_with, named_opponent}
 use Rattle.depot_fork.specs.Opponents.{has_body_of}
-use Rattle.depot_fork.proofs.KindLaws.{same_from_text, bodies_by_fields, update_id}
+use Rattle.depot_fork.proofs.KindLaws.{same_from_text, bodies_by_fields}
 use Rattle.depot_model.specs.Vouching.{own_voucher_by}
-use Rattle.depot_base.proofs.GeneralLaws.{when_none, when_some, at_place as there_is}
+use Rattle.depot_base.proofs.GeneralLaws.{when_none, when_some, at_place as there_is, or_swap}
 use Rattle.depot_accept.specs.StateView.{View, IsStateOf}
 use Rattle.depot_accept.specs.OwnVouchers.{has_body_of_voucher, AreVouchersOf}
 use Rattle.depot_accept.specs.AfterSignature.{IsOpponent}
+use Rattle.depot_model.proofs.BodyLaws.{update_id}
 
 -- ---- an update
 
@@ -66,14 +68,8 @@ other_kind : (u : Update) (v : Voucher) → bytes_eq (text_of_statement (stateme
 unfolding statement number numeral
 other_kind u v = refl
 
-regroup : (a b c : Bool) → (a || (b || c)) ≡ ((a || b) || c)
-regroup true b c = refl
-regroup false b c = refl
-
 swap : (a b c : Bool) → (a || (b || c)) ≡ (b || (a || c))
-swap true true c = refl
-swap true false c = refl
-swap false b c = refl
+swap a b c = or_swap b a c ∙ or_assoc b a c
 
 of_statement : (v : Voucher) (s : Statement) (rest : List Voucher) → list_any (has_body_of_voucher v) (voucher_in s ++ rest) ≡ (bytes_eq (text_of_statement s) (text_of_statement (statements.Voucher v)) || list_any (has_body_of_voucher v) rest)
 of_statement v (statements.Update u) rest = rw (other_kind u v) refl
@@ -86,7 +82,7 @@ both_kinds (Birth node roster ∷ J) v = both_kinds J v
 both_kinds (OwnPut u value ∷ J) v = both_kinds J v
 both_kinds (OwnVoucher w ∷ J) v =
     ap (λ (b : Bool). has_body_of_voucher v w || b) (both_kinds J v)
-    ∙ regroup (has_body_of_voucher v w) (list_any (has_body_of_voucher v) (flat_map own_voucher_by J)) (list_any (has_body_of (statements.Voucher v)) (flat_map foreign_by J))
+    ∙ sym (or_assoc (has_body_of_voucher v w) (list_any (has_body_of_voucher v) (flat_map own_voucher_by J)) (list_any (has_body_of (statements.Voucher v)) (flat_map foreign_by J)))
 both_kinds (Foreign s ∷ J) v =
     of_statement v s.statement (flat_map voucher_by J)
     ∙ ap (λ (b : Bool). has_body_of (statements.Voucher v) s || b) (both_kinds J v)

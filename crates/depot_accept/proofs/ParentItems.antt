@@ -5,7 +5,7 @@ use Rattle.std.specs.List.{AllByRecursion}
 use Rattle.std.specs.Option.{option_to_list}
 use Rattle.std.specs.Str.{bytes_eq}
 use Rattle.std.proofs.Math.Seq.{drop-cons}
-use Rattle.std.proofs.lemmas.List.{drop_all}
+use Rattle.std.proofs.lemmas.List.{drop_all, map-append}
 use Rattle.std.proofs.lemmas.Bool.Decides.{nat_tests}
 use Rattle.std.proofs.lemmas.List.Concat.{flat_map-append}
 use Rattle.std.proofs.lemmas.Option.{slice_get_within}
@@ -54,12 +54,8 @@ none_lost us (h ∷ hs) e =
 missing_is : (us : List Update) (u : Update) → missing u (sight us u) ≡ first_lost us (parents u)
 missing_is us u = ap (λ (os : List (Option Check)). first os) (each_parent lost us u)
 
-map_both : {X : Type 0} (f : List ℕ → X) (hs ks : List (List ℕ)) → map f (hs ++ ks) ≡ map f hs ++ map f ks
-map_both f [] ks = refl
-map_both {X = X} f (h ∷ hs) ks = ap (λ (xs : List X). f h ∷ xs) (map_both f hs ks)
-
 lost_both : (us : List Update) (hs ks : List (List ℕ)) → first_lost us (hs ++ ks) ≡ first (map (λ h. lost h (named us h)) hs ++ map (λ h. lost h (named us h)) ks)
-lost_both us hs ks = ap (λ (os : List (Option Check)). first os) (map_both (λ h. lost h (named us h)) hs ks)
+lost_both us hs ks = ap (λ (os : List (Option Check)). first os) (map-append (λ h. lost h (named us h)) hs ks)
 
 -- the prev is lost
 pub missing_prev : (us : List Update) (u : Update) (c : Check) → Some c ≡ first_lost us (prevs u) → Some c ≡ missing u (sight us u)

@@ -12,7 +12,8 @@ use Rattle.depot_model.specs.Texts.{update_body, update_fields, IsUpdate, IsStat
 use Rattle.depot_model.specs.Checks.{Sight, content_checks}
 use Rattle.depot_model.proofs.BodyLaws.{IsUpdate-from_statement, IsStatement-from_signed}
 use Rattle.depot_accept.specs.Content.{TellsNoFork}
-use Rattle.depot_accept.proofs.ContentShows.{HoldsOfContent, shows_first, shows_content}
+use Rattle.depot_accept.proofs.ContentShows.{HoldsOfContent, shows_content}
+use Rattle.depot_model.proofs.FirstLaws.{shows_first}
 
 -- an update that was signed has at most 1,024 entries
 pub few_deps : (s : Signed) (u : Update) → IsSigned s → s.statement ≡ statements.Update u → length u.deps ≤ 1024

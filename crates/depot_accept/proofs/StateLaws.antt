@@ -1,26 +1,22 @@
 -- The state of a journal with one record more.
 use Rattle.std.proofs.Common.{◌≡◌, ℕ, List, [], ◌∷◌, ◌++◌, map, Bool, true, false, cond, eqb, ◌||◌, refl, sym, ap, ◌∙◌, append_assoc, arith}
 use Rattle.std.specs.List.{flat_map, list_any}
-use Rattle.std.specs.Prelude.{Result, Ok, Err, OnOk}
 use Rattle.std.proofs.lemmas.Grind.{flat_map-append}
 use Rattle.std.proofs.lemmas.List.{append-nil, map-append}
 use Rattle.std.proofs.lemmas.List.Folds.{list_any-append}
 use Rattle.depot_base.specs.declared.record.Record.{Record}
 use Rattle.depot_base.specs.declared.record.Record.TheVariants.{Birth, Conviction, Foreign, Held, OwnPut, OwnVoucher}
-use Rattle.sha2.specs.Sha256.{sha256}
 use Rattle.depot_base.specs.declared.update.Update.{Update}
 use Rattle.depot_base.specs.declared.voucher.Voucher.{Voucher}
 use Rattle.depot_base.specs.declared.statement.Statement.{Statement}
 use Rattle.depot_base.specs.declared.statement.Statement.TheVariants as statements
 use Rattle.depot_base.specs.declared.statement.Signed.{Signed}
-use Rattle.depot_model.specs.Texts.{text_of_statement, id_of_statement, id_of_update}
 use Rattle.depot_base.specs.declared.proof.Proof.{Proof}
 use Rattle.std.proofs.lemmas.Bool.Decides.{nat_tests}
-use Rattle.depot_model.specs.Lists.{is_among, is_one_of}
+use Rattle.depot_model.specs.Lists.{is_among, is_one_of, AreTogether}
 use Rattle.depot_model.specs.Journal.{own_by, accepted_by, foreign_by, proof_by, accepted, foreign, vouched, convicted, is_convicted, accused, update_in, voucher_in}
-use Rattle.depot_model.proofs.BodyLaws.{text_of_statement-Update}
 use Rattle.depot_model.proofs.Members.{among-append}
-use Rattle.depot_vouch.specs.VouchedView.{with_node, AreTogether}
+use Rattle.depot_vouch.specs.VouchedView.{with_node}
 use Rattle.depot_model.specs.Vouching.{own_voucher_by}
 use Rattle.depot_base.proofs.GeneralLaws.{or_none, flat_push}
 use Rattle.depot_accept.specs.StateView.{View, IsStateOf}
@@ -78,11 +74,6 @@ convict_grows v w p node named accepted foreign own vouched convicted = record {
   vouched = λ h. ap (is_among h) vouched ∙ or_none (is_among h v.vouched);
   convicted = λ n. ap (is_one_of n) convicted ∙ one_of_with v.convicted node n ∙ ap (λ (k : ℕ). is_one_of n v.convicted || (eqb k n || false)) (sym named);
 }
-
--- the id of a statement that is an update is that of the update
-pub id_of_its_update : (s : Statement) (u : Update) (id : List ℕ) → id ≡ id_of_statement s → s ≡ statements.Update u → id ≡ id_of_update u
-unfolding id_of_statement id_of_update
-id_of_its_update s u id is same = is ∙ ap (λ (t : Statement). sha256 (text_of_statement t)) same ∙ ap sha256 (text_of_statement-Update u)
 
 pub update_grows : {S : Type 0} (v w : View S) (s : Signed) (u : Update) → s.statement ≡ statements.Update u → w.accepted ≡ v.accepted ++ u ∷ [] → w.foreign ≡ v.foreign ++ s ∷ [] → Keeps v w → Grows v (Foreign s) w
 unfolding is_convicted
@@ -148,11 +139,6 @@ unfolding is_convicted is_silent
 silent_grows v (Birth node roster) silent = record { accepted = nothing_more v.accepted; foreign = nothing_more v.foreign; own_vouchers = nothing_more v.own_vouchers; vouched = λ h. or_none (is_among h v.vouched); convicted = λ n. or_none (is_one_of n v.convicted) }
 silent_grows v (Held value) silent = record { accepted = nothing_more v.accepted; foreign = nothing_more v.foreign; own_vouchers = nothing_more v.own_vouchers; vouched = λ h. or_none (is_among h v.vouched); convicted = λ n. or_none (is_one_of n v.convicted) }
 silent_grows v r silent = absurd cc
-
--- what follows from what holds where a result is Ok
-pub on_ok : {T E P Q : Type 0} (r : Result T E) → OnOk r Q → (Q → P) → OnOk r P
-on_ok (Ok v) held more = more held
-on_ok (Err e) held more = tt
 
 -- ---- a conviction that comes late
 

@@ -1,11 +1,20 @@
 -- A list of entries that follow one another is lawful.
-use Rattle.std.proofs.Common.{◌≡◌, ℕ, zero, suc, ◌+◌, ◌*◌, ◌<◌, ◌≤◌, ◌⊎◌, Bool, false, cond, List, [], ◌∷◌, ◌++◌, length, Option, Ok, Err, refl, sym, ap, subst, ◌∙◌, append_assoc, arith, inl, inr}
+use Rattle.std.proofs.Common.{◌≡◌, ℕ, zero, suc, ◌+◌, ◌*◌, ◌<◌, ◌≤◌, ◌⊎◌, Bool, false, cond, List, [], ◌∷◌, ◌++◌, ◌-◌, length, Option, Some, Ok, Err, refl, sym, ap, subst, ◌∙◌, append_assoc, arith, inl, inr}
 use Rattle.std.specs.List.{flat_map}
 use Rattle.std.proofs.Math.Nat.{suc-mul, mul-le-mul_right}
-use Rattle.std.proofs.lemmas.List.{length-append, append-nil}
+use Rattle.std.proofs.lemmas.List.{length-append, length_push, append-nil, get_or_push}
+use Rattle.std.proofs.lemmas.Option.{slice_get-get_or}
 use Rattle.depot_base.specs.Cursor.{Cursor}
 use Rattle.depot_base.specs.Format.{Format, Follows, last_of, read_entries, Misplaced, BadEntry, list_of}
 use Rattle.depot_base.proofs.FormatLaws.{IsBytes, cursor, Took, Lawful, bind_ok, bind_err, need_ok, need_err, ok_is, not_err}
+
+-- the last of a list with one more
+pub last_pushed : {E : Type 0} (front : List E) (e : E) → last_of (front ++ e ∷ []) ≡ Some e
+last_pushed front e =
+    let long = length_push front e in
+    let at : length (front ++ e ∷ []) - 1 ≡ length front = omega arith in
+    let here : length front < length (front ++ e ∷ []) = omega arith in
+    rw (at, slice_get-get_or (front ++ e ∷ []) (length front) e here, get_or_push front e e (length front) refl) refl
 
 -- some entries were taken behind front
 record Taken {E : Type 0} (entry : Format E) (may_follow : Option E → E → Bool) (n : ℕ) (front : List E) (c : Cursor) (all : List E) (d : Cursor) : Type 0 where

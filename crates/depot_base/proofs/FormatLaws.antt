@@ -54,7 +54,7 @@ weaken f m n le l = record {
 
 -- ---- steps
 
-pub bind_ok : {A B : Type 0} (r : Result A ℕ) (f : A → Result B ℕ) (y : B) → (r >>= f) ≡ Ok y → (x : A) × (r ≡ Ok x) × (f x ≡ Ok y)
+pub bind_ok : {A B F : Type 0} (r : Result A F) (f : A → Result B F) (y : B) → (r >>= f) ≡ Ok y → (x : A) × (r ≡ Ok x) × (f x ≡ Ok y)
 bind_ok (Ok x) f y e = (x, refl, e)
 bind_ok (Err d) f y e = absurd cc
 
@@ -63,7 +63,7 @@ bind_err (Ok x) f o e = inr (x, refl, e)
 bind_err (Err d) f o e = let p : d ≡ o = cc in inl (ap (λ (n : ℕ). Err n) p)
 
 -- a test that fails on true
-pub guard_ok : {A : Type 0} (b : Bool) (d : ℕ) (x : Result A ℕ) (y : A) → cond b (Err d) x ≡ Ok y → (b ≡ false) × (x ≡ Ok y)
+pub guard_ok : {A F : Type 0} (b : Bool) (d : F) (x : Result A F) (y : A) → cond b (Err d) x ≡ Ok y → (b ≡ false) × (x ≡ Ok y)
 guard_ok true d x y e = absurd cc
 guard_ok false d x y e = (refl, e)
 
@@ -72,7 +72,7 @@ guard_err true d x o e = inl (refl, cc)
 guard_err false d x o e = inr (refl, e)
 
 -- a test that fails on false
-pub need_ok : {A : Type 0} (b : Bool) (x : Result A ℕ) (d : ℕ) (y : A) → cond b x (Err d) ≡ Ok y → (b ≡ true) × (x ≡ Ok y)
+pub need_ok : {A F : Type 0} (b : Bool) (x : Result A F) (d : F) (y : A) → cond b x (Err d) ≡ Ok y → (b ≡ true) × (x ≡ Ok y)
 need_ok true x d y e = (refl, e)
 need_ok false x d y e = absurd cc
 
@@ -80,16 +80,16 @@ pub need_err : {A : Type 0} (b : Bool) (x : Result A ℕ) (d : ℕ) (o : ℕ) �
 need_err true x d o e = inl (refl, e)
 need_err false x d o e = inr (refl, cc)
 
-abbrev pub ok : {A : Type 0} → A → Result A ℕ
+abbrev pub ok : {A F : Type 0} → A → Result A F
 ok x = Ok x
 
-pub ok_is : {A : Type 0} (x y : A) → ok x ≡ ok y → x ≡ y
+pub ok_is : {A F : Type 0} (x y : A) → ok {F = F} x ≡ ok {F = F} y → x ≡ y
 ok_is x y e = cc
 
 abbrev err : {A : Type 0} → ℕ → Result A ℕ
 err {A} o = Err o
 
-pub not_err : {A : Type 0} (x : A) (o : ℕ) → ok x ≡ Err o → ⊥
+pub not_err : {A F : Type 0} (x : A) (o : F) → ok x ≡ Err o → ⊥
 not_err x o e = cc
 
 pub err_is : {A : Type 0} (m n : ℕ) → err {A = A} m ≡ err {A = A} n → m ≡ n

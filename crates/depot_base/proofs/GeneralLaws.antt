@@ -1,15 +1,18 @@
 -- Laws of tests, numbers, byte strings and lists that std lacks and that several crates need.
-use Rattle.std.proofs.Common.{◌≡◌, ℕ, zero, suc, ◌<◌, ◌≤◌, List, [], ◌∷◌, ◌++◌, length, Bool, true, false, ◌&&◌, ◌||◌, cond, eqb, Option, Some, None, refl, sym, ap, ◌∙◌, arith, inl, inr, ◌⊎◌}
+use Rattle.std.proofs.Common.{◌≡◌, ℕ, zero, suc, ◌<◌, ◌≤◌, List, [], ◌∷◌, ◌++◌, ◌+◌, take, drop, get_or, length, Bool, true, false, ◌&&◌, ◌||◌, cond, eqb, Option, Some, None, is_some, Vec, refl, sym, ap, ◌∙◌, arith, inl, inr, ◌⊎◌}
 use Rattle.std.specs.List.{AllByRecursion, filter, flat_map, list_any, slice_get}
 use Rattle.std.specs.Option.{option_map}
 use Rattle.std.specs.Ordering.{nat_cmp, is_lt, is_eq, ordering_then}
 use Rattle.std.specs.Str.{bytes_eq}
+use Rattle.std.specs.Cmp.Lexicographic.{slice_cmp}
+use Rattle.std.specs.declared.alloc.Global.{Global}
 use Rattle.std.specs.declared.cmp.Ordering.{Ordering}
 use Rattle.std.specs.declared.cmp.Ordering.TheVariants.{Less, Equal, Greater}
-use Rattle.std.proofs.Math.Bool.{or-false}
+use Rattle.std.proofs.Math.Bool.{or-false, or_assoc, or_comm}
 use Rattle.std.proofs.lemmas.Bool.Decides.{nat_tests}
 use Rattle.std.proofs.lemmas.Grind.{flat_map-append}
-use Rattle.std.proofs.lemmas.List.{append-nil}
+use Rattle.std.proofs.lemmas.List.{append-nil, take_more}
+use Rattle.std.proofs.lemmas.Option.{same_Some}
 use Rattle.std.proofs.lemmas.List.Folds.{list_any-append}
 use Rattle.std.proofs.lemmas.Slice.Eq.{bytes_eq-Decides}
 
@@ -18,6 +21,16 @@ use Rattle.std.proofs.lemmas.Slice.Eq.{bytes_eq-Decides}
 pub or_none : (a : Bool) → a ≡ (a || false)
 or_none true = refl
 or_none false = refl
+
+-- what implies a test adds nothing to it
+pub or_again : (a b : Bool) → (b ≡ true → a ≡ true) → a ≡ (a || (b || false))
+or_again true b h = refl
+or_again false true h = h refl
+or_again false false h = refl
+
+-- the second of three tests stands first
+pub or_swap : (a b c : Bool) → (b || (a || c)) ≡ ((a || b) || c)
+or_swap a b c = sym (or_assoc b a c) ∙ ap (λ (t : Bool). t || c) (or_comm b a)
 
 -- both aren't so and the first is: the second isn't
 pub second_fails : (a b : Bool) → a ≡ true → (a && b) ≡ false → b ≡ false
@@ -43,6 +56,11 @@ pub mapped-none : {X Y : Type 0} (f : X → Y) (o : Option X) → option_map f o
 mapped-none f None e = refl
 mapped-none f (Some x) e = absurd cc
 
+-- where there isn't something there is nothing
+pub is_none : {X : Type 0} (o : Option X) → is_some o ≡ false → o ≡ None
+is_none None e = refl
+is_none (Some x) e = absurd cc
+
 -- ---- numbers and orderings
 
 pub eqb_comm : (a b : ℕ) → eqb a b ≡ eqb b a
@@ -63,6 +81,10 @@ less_is Greater e = absurd cc
 
 -- ---- byte strings
 
+-- the order of byte strings
+abbrev pub vec_cmp : Vec ℕ Global → Vec ℕ Global → Ordering
+vec_cmp a b = slice_cmp nat_cmp a.items b.items
+
 pub same_bytes : (a : List ℕ) → bytes_eq a a ≡ true
 same_bytes a = (bytes_eq-Decides a a).1 refl
 
@@ -72,10 +94,24 @@ bytes_eq_comm a b = same_test (bytes_eq a b) (bytes_eq b a) (λ e. (bytes_eq-Dec
 
 -- ---- elements by their place
 
+-- what stands at one place is one
+pub same_at : {X : Type 0} (xs : List X) (i k : ℕ) (x y : X) → i ≡ k → slice_get xs i ≡ Some x → slice_get xs k ≡ Some y → x ≡ y
+same_at {X = X} xs i k x y same at_i at_k = same_Some _ _ (sym at_i ∙ (ap (slice_get xs) same ∙ at_k))
+
+-- the first i + 1 elements are the first i and the one that was read
+pub take_next : {X : Type 0} (xs : List X) (i : ℕ) (x : X) → i < length xs → x ≡ get_or xs i x → take (i + 1) xs ≡ take i xs ++ x ∷ []
+take_next {X = X} xs i x low is = take_more xs i x low ∙ ap (λ (y : X). take i xs ++ y ∷ []) (sym is)
+
 pub at_place : {X : Type 0} (xs : List X) (n : ℕ) → n < length xs → (x : X) × (slice_get xs n ≡ Some x)
 at_place [] n lt = absurd (omega arith)
 at_place (x ∷ xs) zero lt = (x, refl)
 at_place (x ∷ xs) (suc n) lt = at_place xs n (omega arith)
+
+-- a list, around the element at a place
+pub parts_at : {X : Type 0} (xs : List X) (n : ℕ) (x : X) → slice_get xs n ≡ Some x → xs ≡ take n xs ++ x ∷ drop (suc n) xs
+parts_at [] n x e = absurd cc
+parts_at (y ∷ ys) zero x e = let same : y ≡ x = cc in ap (λ (z : _). z ∷ ys) same
+parts_at (y ∷ ys) (suc n) x e = ap (λ (zs : _). y ∷ zs) (parts_at ys n x e)
 
 -- an element of a longer list is one of the list, or the new one
 pub from_pushed : {X : Type 0} (xs : List X) (y : X) (i : ℕ) (x : X) → slice_get (xs ++ y ∷ []) i ≡ Some x → (slice_get xs i ≡ Some x) ⊎ ((i ≡ length xs) × (y ≡ x))

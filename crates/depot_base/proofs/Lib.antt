@@ -1,6 +1,7 @@
 pub mod FormatLaws
 pub mod Numbers
 pub mod GeneralLaws
+pub mod MembershipLaws
 pub mod Combined
 pub mod EntryLists
 pub mod Loop

@@ -11,3 +11,4 @@ pub mod Facts
 pub mod Disk
 pub mod File
 pub mod Calls
+pub mod Membership

@@ -6,7 +6,7 @@ use Rattle.std.proofs.lemmas.List.{length-drop, take_all, get_or-drop}
 use Rattle.std.proofs.lemmas.Option.{slice_get_within}
 use Rattle.depot_lanes.specs.Lanes.{first_above}
 use Rattle.depot_lanes.proofs.LaneLaws.{first_above-Some, first_above-None, first_above-within}
-use Rattle.depot_base.proofs.GeneralLaws.{from_pushed, to_pushed, get_last}
+use Rattle.depot_base.proofs.GeneralLaws.{from_pushed, to_pushed, get_last, same_at}
 use Rattle.depot_clocks.specs.declared.row.Entry.{Entry}
 use Rattle.depot_clocks.specs.KeptRows.{HasEntry, HasCount, ArePut, AreAbove, NoneAbove, IsFirstFrom}
 
@@ -16,13 +16,10 @@ use Rattle.depot_clocks.specs.KeptRows.{HasEntry, HasCount, ArePut, AreAbove, No
 abbrev pub NoneUpTo : List Entry → ℕ → ℕ → Type 0
 NoneUpTo entries i chain = (k : ℕ) (e : Entry) → k < i → slice_get entries k ≡ Some e → e.chain ≡ chain → ⊥
 
-same_entry : (entries : List Entry) (i k : ℕ) (e f : Entry) → slice_get entries i ≡ Some e → slice_get entries k ≡ Some f → k ≡ i → e ≡ f
-same_entry entries i k e f at_e at_f same = let here : slice_get entries i ≡ Some f = subst (λ (j : ℕ). slice_get entries j ≡ Some f) same at_f in cc
-
 pub none_more : (entries : List Entry) (i chain : ℕ) (e : Entry) → NoneUpTo entries i chain → slice_get entries i ≡ Some e → (e.chain ≡ chain → ⊥) → NoneUpTo entries (i + 1) chain
 none_more entries i chain e none at other k f low at_f same = elim (cases_lt k i) [
   | inl lt ↦ none k f lt at_f same
-  | inr ge ↦ other (ap (λ (g : Entry). g.chain) (same_entry entries i k e f at at_f (omega (arith, low, ge))) ∙ same)
+  | inr ge ↦ other (ap (λ (g : Entry). g.chain) (same_at entries i k e f (omega (arith, low, ge)) at at_f) ∙ same)
 ]
 
 pub none_of_all : (entries : List Entry) (i chain : ℕ) → NoneUpTo entries i chain → length entries ≤ i → HasEntry entries chain → ⊥
@@ -35,7 +32,7 @@ WithinUpTo entries i row = (k : ℕ) (e : Entry) → k < i → slice_get entries
 pub within_more : (entries : List Entry) (i : ℕ) (row : List ℕ) (e : Entry) → WithinUpTo entries i row → slice_get entries i ≡ Some e → e.count ≤ get_or row e.chain 0 → WithinUpTo entries (i + 1) row
 within_more entries i row e within at le k f low at_f = elim (cases_lt k i) [
   | inl lt ↦ within k f lt at_f
-  | inr ge ↦ subst (λ (g : Entry). g.count ≤ get_or row g.chain 0) (same_entry entries i k e f at at_f (omega (arith, low, ge))) le
+  | inr ge ↦ subst (λ (g : Entry). g.count ≤ get_or row g.chain 0) (same_at entries i k e f (omega (arith, low, ge)) at at_f) le
 ]
 
 -- ---- entries put into a row

@@ -1,9 +1,10 @@
 -- A count is how many items there are.
-use Rattle.std.proofs.Common.{◌≡◌, ℕ, zero, suc, ◌<◌, ◌≤◌, List, [], ◌∷◌, ◌++◌, length, get_or, Some, refl, sym, ap, subst, ◌∙◌, arith, inl, inr}
+use Rattle.std.proofs.Common.{◌≡◌, ℕ, zero, suc, ◌<◌, ◌≤◌, List, [], ◌∷◌, ◌++◌, length, get_or, refl, sym, ap, subst, ◌∙◌, arith, inl, inr}
 use Rattle.std.proofs.Math.ListN.{get_or-append}
 use Rattle.std.proofs.Math.Seq.{get_or-append_seam}
 use Rattle.std.proofs.lemmas.Bool.{cases_lt}
 use Rattle.std.proofs.lemmas.List.{length-append, get_or_default}
+use Rattle.std.proofs.lemmas.Option.{same_Some}
 use Rattle.depot_clocks.specs.ChainItems.{ChainItem, IsAt, chain_length, IsCount, IsOfPast, IsTrueOf}
 use Rattle.depot_clocks.specs.KeptRows.{AreChained}
 use Rattle.depot_clocks.proofs.ItemPaths.{standing, up_to_low}
@@ -23,11 +24,8 @@ one_place : (items : List ChainItem) (a chain i j : ℕ) → IsAt items a chain 
 one_place items a chain i j is_i is_j =
     let at_i = standing items a chain i is_i in
     let at_j = standing items a chain j is_j in
-    let same : at_i.it ≡ at_j.it = some_same at_i.it at_j.it (sym at_i.at ∙ at_j.at) in
+    let same : at_i.it ≡ at_j.it = same_Some at_i.it at_j.it (sym at_i.at ∙ at_j.at) in
     omega (arith, at_i.at_place, at_j.at_place, ap (λ (x : ChainItem). x.place) same)
-  where
-    some_same : (x y : ChainItem) → Some x ≡ Some y → x ≡ y
-    some_same x y e = cc
 
 -- the first n items of a chain
 record Firsts (items : List ChainItem) (chain n : ℕ) : Type 0 where

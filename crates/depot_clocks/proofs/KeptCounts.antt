@@ -14,6 +14,7 @@ use Rattle.depot_clocks.specs.KeptRows.{AreChained, IsNext, HasEntry, HasCount, 
 use Rattle.depot_clocks.proofs.ItemPaths.{up_to_trans}
 use Rattle.depot_clocks.proofs.RowCounts.{one_count, counts_by_entry}
 use Rattle.depot_clocks.proofs.RowMaking.{next_row_changed}
+use Rattle.depot_base.proofs.GeneralLaws.{at_place}
 
 -- ---- what is kept of an item
 
@@ -125,13 +126,8 @@ count_in_row items item (Changed behind entries) kept chain = elim (find_entry e
 -- an item has a count of each chain
 some_count : (items : List ChainItem) (kept : List Kept) (chains item : ℕ) → KeepsItems items kept chains → item < length items → (chain : ℕ) → (n : ℕ) × IsCount items chain item n
 some_count items kept chains item keeps low chain =
-    let k = there kept item (omega (arith, low, keeps.as_many)) in
+    let k = at_place kept item (omega (arith, low, keeps.as_many)) in
     count_in_row items item k.0.row (keeps.each item k.0 k.1).row chain
-  where
-    there : (kept : List Kept) (item : ℕ) → item < length kept → (k : Kept) × (slice_get kept item ≡ Some k)
-    there [] item low = absurd (omega (arith, low))
-    there (k ∷ ks) zero low = (k, refl)
-    there (k ∷ ks) (suc item) low = there ks item (omega (arith, low))
 
 -- a row counts all exactly where no entry is above it
 pub within_by_entries : (items : List ChainItem) (kept : List Kept) (chains item : ℕ) (given : List ℕ) (result : Bool) → KeepsItems items kept chains → item < length items

@@ -2,7 +2,7 @@
 use Rattle.std.proofs.Common.{◌≡◌, ℕ, zero, suc, ◌+◌, ◌<◌, ◌≤◌, List, [], ◌∷◌, ◌++◌, length, get_or, max, Some, refl, sym, ap, subst, ◌∙◌, arith, inl, inr, slice_get}
 use Rattle.std.proofs.lemmas.Bool.{cases_lt}
 use Rattle.std.proofs.lemmas.Option.{slice_get_within}
-use Rattle.depot_base.proofs.GeneralLaws.{from_pushed}
+use Rattle.depot_base.proofs.GeneralLaws.{from_pushed, get_last}
 use Rattle.depot_clocks.specs.ChainItems.{ChainItem, Precedes, IsUpTo, chain_length, number_of_chains, IsCount, CountsAll, JoinsUpTo}
 use Rattle.depot_clocks.specs.KeptRows.{AreChained, IsNext}
 use Rattle.depot_clocks.proofs.ItemPaths.{standing, contained_at, contains_at, up_to_low, leads_down, up_to_parent, up_to_more, up_to_less, parent_of_last, last_has_parent}
@@ -80,12 +80,8 @@ count_own items x c next =
         | inl h ↦ omega (arith, c.placed a y h, ap (chain_length items) same, next.place)
         | inr h ↦ omega (arith, ap (λ (z : ChainItem). z.place) h.1)
       ];
-      only = λ a y at same low. c'.linked a (length items) y x at (at_last items x) same (omega (arith, low));
+      only = λ a y at same low. c'.linked a (length items) y x at (get_last items x) same (omega (arith, low));
     }
-  where
-    at_last : (xs : List ChainItem) (x : ChainItem) → slice_get (xs ++ x ∷ []) (length xs) ≡ Some x
-    at_last [] x = refl
-    at_last (z ∷ zs) x = at_last zs x
 
 -- ---- the parents' counts
 

@@ -7,7 +7,6 @@ use Rattle.depot_base.specs.Statement.{writer_of}
 use Rattle.depot_base.specs.declared.check.Check.{Check}
 use Rattle.depot_base.specs.declared.check.Check.TheVariants as check
 use Rattle.depot_base.specs.declared.proof.Kind.{Kind}
-use Rattle.depot_base.specs.declared.proof.Proof.{Proof}
 use Rattle.depot_base.specs.declared.record.Record.{Record}
 use Rattle.depot_base.specs.declared.record.Record.TheVariants.{Foreign, Conviction}
 use Rattle.depot_base.specs.declared.statement.Signed.{Signed}
@@ -18,6 +17,7 @@ use Rattle.depot_model.specs.Contradictions.{contradicts}
 use Rattle.depot_model.specs.Conviction.{proof_of}
 use Rattle.depot_model.specs.Journal.{foreign, is_convicted, is_vouched}
 use Rattle.depot_model.specs.Texts.{IsSigned, id_of_statement}
+use Rattle.depot_model.specs.Judgement.{IsContrary}
 use Rattle.depot_model.proofs.BodyLaws.{body_is_text}
 use Rattle.depot_model.proofs.ContradictionLaws.{contradicts_comm}
 use Rattle.depot_laws.proofs.Contrary.{IsOpponent, opponent_is, named_opponent_is, of_proof_of}
@@ -29,17 +29,13 @@ use Rattle.depot_decide.specs.Deciding.{IsDueBy}
 
 -- ---- the halves of a proof
 
--- they contradict each other in the kind of the proof
-abbrev AreContrary : Proof → Type 0
-AreContrary p = contradicts p.kind p.first.statement p.second.statement ≡ true
+contrary_made : (k : Kind) (a b : Signed) → contradicts k a.statement b.statement ≡ true → IsContrary (proof_of k a b)
+contrary_made k a b e = of_proof_of IsContrary k a b e (contradicts_comm k b.statement a.statement ∙ e)
 
-contrary_made : (k : Kind) (a b : Signed) → contradicts k a.statement b.statement ≡ true → AreContrary (proof_of k a b)
-contrary_made k a b e = of_proof_of AreContrary k a b e (contradicts_comm k b.statement a.statement ∙ e)
-
-contrary_halves : (k : Kind) (a b : Signed) → AreContrary (proof_of k a b) → contradicts k a.statement b.statement ≡ true
+contrary_halves : (k : Kind) (a b : Signed) → IsContrary (proof_of k a b) → contradicts k a.statement b.statement ≡ true
 unfolding proof_of
 contrary_halves k a b = choice (is_below a.body b.body) where
-  choice : (t : Bool) → AreContrary (cond t (record { kind = k; first = a; second = b }) (record { kind = k; first = b; second = a })) → contradicts k a.statement b.statement ≡ true
+  choice : (t : Bool) → IsContrary (cond t (record { kind = k; first = a; second = b }) (record { kind = k; first = b; second = a })) → contradicts k a.statement b.statement ≡ true
   choice true e = e
   choice false e = contradicts_comm k a.statement b.statement ∙ e
 
@@ -47,7 +43,7 @@ contrary_halves k a b = choice (is_below a.body b.body) where
 
 -- where these begin with a conviction, the halves of its proof are contrary
 abbrev StartContrary : List Record → Type 0
-StartContrary (Conviction p ∷ rs) = AreContrary p
+StartContrary (Conviction p ∷ rs) = IsContrary p
 StartContrary rs = Unit {0}
 
 due_start : (J : List Record) (s : Signed) (o : Option (Signed × Kind)) → ((by : Signed × Kind) → o ≡ Some by → IsOpponent (foreign J) s.statement by) → StartContrary (due J s o)
@@ -92,7 +88,7 @@ pub due_contradicts : (here : Setting) (J : List Record) (s : Signed) (found : F
 due_contradicts here J s found kept by at =
     let both : Some by.kept ≡ Some kept = sym by.known ∙ at in
     let same : by.kept ≡ kept = cc in
-    contrary_halves found.kind kept s (subst (λ (k : Signed). AreContrary (proof_of found.kind k s)) same (subst StartContrary by.first (growth_start here J s)))
+    contrary_halves found.kind kept s (subst (λ (k : Signed). IsContrary (proof_of found.kind k s)) same (subst StartContrary by.first (growth_start here J s)))
 
 -- ---- what is checked
 

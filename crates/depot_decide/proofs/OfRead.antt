@@ -17,7 +17,8 @@ use Rattle.depot_model.specs.Lists.{when}
 use Rattle.depot_model.specs.Texts.{id_of_statement}
 use Rattle.depot_model.specs.Journal.{foreign, is_convicted, is_vouched}
 use Rattle.depot_model.specs.Checks.{Setting, Given, given_statement, given_proof, given_value, content_of, opponent, forked_by, forked, refused_as_convicted, statement_checks, check_of_point, proof_checks, first_failed_check, is_known, answer_by, answer_to}
-use Rattle.depot_accept.proofs.ContentShows.{HoldsOfContent, Shows, shows_first, shows_append, shows_when, shows_content}
+use Rattle.depot_accept.proofs.ContentShows.{HoldsOfContent, shows_content}
+use Rattle.depot_model.proofs.FirstLaws.{Shows, shows_first, shows_append, shows_when}
 
 -- it is another check than that of the text
 abbrev pub IsOfRead : Check → Type 0

@@ -1,7 +1,6 @@
 -- What a node decides of a proof.
 use Rattle.std.proofs.Common.{◌≡◌, ℕ, Bool, true, false, eqb, List, [], ◌∷◌, Some, None, Ok, Err, refl, sym, ap, ◌∙◌}
 use Rattle.std.specs.List.{list_any}
-use Rattle.depot_base.specs.Statement.{writer_of}
 use Rattle.depot_base.specs.declared.check.Check.{Check}
 use Rattle.depot_base.specs.declared.proof.Proof.{Proof}
 use Rattle.depot_base.specs.declared.record.Record.{Record}
@@ -29,7 +28,7 @@ unfolding answer_to is_known first_failed_check
 when_new here J p passed free = rw (passed, free) refl
 
 -- whether the accused is convicted, by the state
-pub accused_in_state : {S : Type 0} (J : List Record) (v : View S) (p : Proof) (n : ℕ) (told convicted : Bool) → IsStateOf J v → n ≡ writer_of p.first.statement → told ≡ list_any (λ m. eqb m n) v.convicted → told ≡ convicted → is_convicted J (accused p) ≡ convicted
+pub accused_in_state : {S : Type 0} (J : List Record) (v : View S) (p : Proof) (n : ℕ) (told convicted : Bool) → IsStateOf J v → n ≡ accused p → told ≡ list_any (λ m. eqb m n) v.convicted → told ≡ convicted → is_convicted J (accused p) ≡ convicted
 accused_in_state J v p n told convicted state name is answer = ap (is_convicted J) (sym name) ∙ state.convicted n ∙ sym is ∙ answer
 
 -- ---- what is decided

@@ -21,6 +21,7 @@ use Rattle.depot_store.specs.RecordTexts.{IsTextOf}
 use Rattle.depot_store.specs.RoomByCounts.{HasGrown, HadNoRoom}
 use Rattle.depot_model.specs.Limits.{limit_of_own, limit_of_put, IsCutShort}
 use Rattle.depot_model.specs.Limits as limits
+use Rattle.depot_model.specs.Contents.{key_written, Writes}
 use Rattle.depot_model.proofs.LimitLaws.{limit_spent, limit_tips, limit_collides, limit_full, limit_none}
 use Rattle.depot_decide.specs.Putting.{told_of, put_records, IsTooWide, Puts, IsPlanned, IsRefused}
 use Rattle.depot_decide.specs.declared.put_answers.PutDone.{PutDone}
@@ -66,9 +67,9 @@ made_record_fits {here = here} {J = J} {u = u} {key = key} {value = value} m = o
 pub made_text : {here : Setting} {J : List Record} {u : Update} {key value : List ℕ} → IsMade here J u key value → (text : List ℕ) → text ≡ text_of_record (OwnPut u value) → IsTextOf (OwnPut u value) text
 made_text m text is = record { fits = made_record_fits m; is = is }
 
-next_key : (me : ℕ) (J : List Record) (key value : List ℕ) (u : Update) → u ≡ next_own me J key value → u.key ≡ key
+next_key : (me : ℕ) (J : List Record) (key value : List ℕ) (u : Update) → u ≡ next_own me J key value → Writes key u
 unfolding next_own
-next_key me J key value u next = ap (λ (x : Update). x.key) next
+next_key me J key value u next = ap key_written next
 
 -- it may be put where its id is fresh
 made_may : {here : Setting} {J : List Record} {u : Update} {key value : List ℕ} → IsMade here J u key value → (id : List ℕ) → id ≡ id_of_update u → IsFresh J id → MayPut here J u value

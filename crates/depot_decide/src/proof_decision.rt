@@ -11,7 +11,7 @@ use crate::decision::Decision;
 use depot_accept::State;
 use depot_base::{Check, DecodeError, Hash32, Memory, Proof, Record};
 use depot_judge::first_failed_point;
-use depot_model::{Half, JudgeError, Scheme, Taken};
+use depot_model::{JudgeError, Scheme, Taken};
 use depot_outside::Disk;
 use depot_store::{Growth, Store};
 use depot_update::{conviction_of_text, decode_proof};
@@ -80,10 +80,7 @@ fn check_of_point(proof: &Proof, point: &JudgeError) -> Check
 {
     match point {
         JudgeError::UnknownWriter(node) => Check::UnknownWriter(*node),
-        JudgeError::BadSignature(Half::First) => Check::BadSignature(proof.accused()),
-        JudgeError::BadSignature(Half::Second) => {
-            Check::BadSignature(proof.second.statement.writer())
-        }
+        JudgeError::BadSignature(half) => Check::BadSignature(half.of(proof).statement.writer()),
         _ => Check::NotContradictory,
     }
 }

@@ -108,10 +108,6 @@ fed_alike here s bytes old new back on c = record { appends = c.appends; brings 
 -- ---- the answer
 
 -- what holds of what is answered implies more
-pub if_ok : {X E : Type 0} (P Q : X → Type 0) (r : Result X E) → ((x : X) → P x → Q x) → IfOk r P → IfOk r Q
-if_ok P Q (Ok x) so p = so x p
-if_ok P Q (Err e) so p = tt
-
 pub if_both : {X E : Type 0} (P Q R : X → Type 0) (r : Result X E) → ((x : X) → P x → Q x → R x) → IfOk r P → IfOk r Q → IfOk r R
 if_both P Q R (Ok x) so p q = so x p q
 if_both P Q R (Err e) so p q = tt

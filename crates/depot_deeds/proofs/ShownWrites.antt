@@ -4,7 +4,6 @@ use Rattle.std.specs.Option.{option_to_list}
 use Rattle.std.specs.Prelude.{slice_get}
 use Rattle.std.proofs.lemmas.Grind.{flat_map-append}
 use Rattle.std.proofs.lemmas.List.{append-nil, map-append, take-append-drop}
-use Rattle.std.proofs.lemmas.Slice.Eq.{bytes_eq-Decides}
 use Rattle.depot_answers.specs.Answers.{spaced, text_of_write}
 use Rattle.depot_base.specs.declared.record.Record.{Record}
 use Rattle.depot_base.specs.declared.update.Update.{Update}
@@ -20,6 +19,7 @@ use Rattle.depot_model.specs.World.{Shown, value_under}
 use Rattle.depot_model.proofs.Elements.{one_more}
 use Rattle.depot_model.proofs.LatestLaws.{one_latest_list}
 use Rattle.depot_model.proofs.Members.{in_last, in_left}
+use Rattle.depot_model.proofs.ContentLaws.{writes-Decides}
 use Rattle.depot_world.specs.Deeds.{shown_of}
 use Rattle.depot_world.specs.ShownLatest.{latest_in}
 use Rattle.depot_deeds.specs.Printing.{shown_text}
@@ -38,7 +38,7 @@ shown_are here J key items l latest =
 -- the value that is held for the write of the key is the update's
 pub value_here : (J : List Record) (key : List ℕ) (u : Update) → Writes key u → value_under J key u ≡ value_of J u
 unfolding value_under value_of
-value_here J key u writes = rw ((bytes_eq-Decides u.key key).1 writes) refl
+value_here J key u writes = rw ((writes-Decides key u).1 writes) refl
 
 -- one more of them was printed
 pub printed_more : (J : List Record) (us : List Update) (key items : List ℕ) (i item : ℕ) (u : Update) (old new : List ℕ) (value : Option (List ℕ)) → i < length items → item ≡ get_or items i 0 → slice_get us item ≡ Some u → value ≡ value_under J key u

@@ -11,9 +11,10 @@ use Rattle.depot_model.specs.Stops.{LeavesAll, Lasts}
 use Rattle.depot_model.specs.Taking.{Outcome, no_room, answered, appended_by}
 use Rattle.depot_model.proofs.FeedGrowth.{feed_grows}
 use Rattle.depot_model.proofs.FeedLaws.{fed_in_pieces}
+use Rattle.depot_model.proofs.StopLaws.{idle_lasts}
 use Rattle.depot_feeds.specs.Lasting.{LastsIn, LastsFed}
 use Rattle.depot_feeds.specs.Pieces.{brought_by}
-use Rattle.depot_feeds.proofs.LastingStreams.{nothing_lasts, lasts_longer, lasts_joined}
+use Rattle.depot_feeds.proofs.LastingStreams.{lasts_longer, lasts_joined}
 use Rattle.depot_feeds.proofs.PieceLaws.{IsUnderWay}
 
 -- ---- what a frame brings
@@ -52,7 +53,7 @@ pub nothing_fed : {N : Type 0} {tells stopped : N → Bool} {records : N → Lis
     → (here : Setting) (s : Feeding) (bytes : List ℕ) (v : N) → s.journal ≡ records v → (IsTrue (tells v) → LeavesAll (records v) (stopped v) (may_leave v)) → LastsFed tells stopped records moment left_since may_leave here s bytes v v
 nothing_fed only_now here s bytes v same stable =
     let g = feed_grows here s bytes in
-    record { appends = g.more; brings = g.is ∙ ap (λ (J : List Record). J ++ g.more) same; lasts = lasts_longer v v [] g.more (nothing_lasts only_now v stable) }
+    record { appends = g.more; brings = g.is ∙ ap (λ (J : List Record). J ++ g.more) same; lasts = idle_lasts only_now v g.more stable }
 
 -- bytes that take one frame bring what it brings
 pub taken_brings : (here : Setting) (s now : Feeding) (bytes : List ℕ) (n : ℕ) (f : Frame) (J : List Record) → fed here s bytes ≡ fed_frame here n f now → now.journal ≡ J → (fed here s bytes).journal ≡ J ++ brought_by here J f

@@ -1,16 +1,15 @@
 -- What a stop leaves of calls on a node, one after another.
-use Rattle.std.proofs.Common.{◌≡◌, ◌≤◌, ◌⊎◌, ℕ, ◌+◌, Bool, true, false, IsTrue, List, [], ◌++◌, append_assoc, length, map, take, refl, sym, ap, subst, ◌∙◌, arith, inl, inr, ⊎_elim}
+use Rattle.std.proofs.Common.{◌≡◌, ◌≤◌, ◌⊎◌, ℕ, ◌+◌, Bool, true, false, IsTrue, List, [], ◌++◌, append_assoc, length, take, refl, sym, ap, subst, ◌∙◌, arith, inl, inr, ⊎_elim}
 use Rattle.std.proofs.lemmas.List.{append-nil, take_all, take-append-le}
 use Rattle.std.proofs.Math.Seq.{take-append_seam, take-append-add}
 use Rattle.depot_base.specs.Disk.{LeavesOnly}
-use Rattle.depot_base.specs.File.{IsFileOf}
 use Rattle.depot_base.specs.declared.record.Record.{Record}
 use Rattle.depot_model.specs.Checks.{Setting}
 use Rattle.depot_model.specs.Lawful.{IsLawful}
 use Rattle.depot_model.specs.Limits.{IsCutShort}
-use Rattle.depot_model.specs.Records.{text_of_record}
-use Rattle.depot_model.specs.Stops.{HasRecords, HasFront, HasAll, LeavesAll, Lasts}
+use Rattle.depot_model.specs.Stops.{HasRecords, HasFront, LeavesAll, Lasts}
 use Rattle.depot_feeds.specs.Lasting.{IsToAppend, LastsIn}
+use Rattle.depot_model.proofs.StopLaws.{idle_lasts}
 
 -- ---- all or a front
 
@@ -34,27 +33,6 @@ to_append here J new then failed lawful part = record { lawful = lawful; count =
 
 -- ---- a call that does nothing
 
--- all records of a node that runs are a front with none of the new ones
-none_of_new : (J : List Record) (stopped : Bool) (file : List ℕ) → stopped ≡ false → HasAll J stopped file → HasFront J [] file
-none_of_new J stopped file runs all = record {
-  count = 0;
-  has = subst (λ (x : List (List ℕ)). IsFileOf file x) (ap (λ (x : List (List ℕ)). map text_of_record J ++ x) (all.none runs) ∙ append-nil (map text_of_record J) ∙ ap (map text_of_record) (sym (append-nil J))) all.has;
-}
-
--- where nothing is done
-pub nothing_lasts : {N : Type 0} {tells stopped : N → Bool} {records : N → List Record} {moment : N → ℕ} {left_since : N → ℕ → List ℕ → Type 0} {may_leave : N → List ℕ → Type 0} → ((v : N) (file : List ℕ) → left_since v (moment v) file → may_leave v file)
-    → (v : N) → (IsTrue (tells v) → LeavesAll (records v) (stopped v) (may_leave v)) → Lasts tells stopped records moment left_since may_leave v v []
-nothing_lasts {stopped = stopped} {records = records} only_now v stable = record {
-  told = refl;
-  any_moment = λ t runs. record {
-    later = omega arith;
-    each = λ file left. none_of_new (records v) (stopped v) file runs (stable t file (only_now v file left));
-    before = λ t file _ left. inl left;
-  };
-  stable = stable;
-  untouched = λ _. record { same_moment = refl; no_more = λ t file left. left };
-}
-
 -- a call that appended nothing
 pub none_in : {N : Type 0} {tells stopped : N → Bool} {records : N → List Record} {moment : N → ℕ} {left_since : N → ℕ → List ℕ → Type 0} {may_leave : N → List ℕ → Type 0}
     → (here : Setting) (failed : Bool) (old new : N) → IsLawful here (records old) → records new ≡ records old → Lasts tells stopped records moment left_since may_leave old new [] → LastsIn tells stopped records moment left_since may_leave here failed old new
@@ -69,7 +47,7 @@ none_in {records = records} here failed old new lawful same lasts =
 -- a call that did nothing
 pub nothing_in : {N : Type 0} {tells stopped : N → Bool} {records : N → List Record} {moment : N → ℕ} {left_since : N → ℕ → List ℕ → Type 0} {may_leave : N → List ℕ → Type 0} → ((v : N) (file : List ℕ) → left_since v (moment v) file → may_leave v file)
     → (here : Setting) (failed : Bool) (v : N) → IsLawful here (records v) → (IsTrue (tells v) → LeavesAll (records v) (stopped v) (may_leave v)) → LastsIn tells stopped records moment left_since may_leave here failed v v
-nothing_in only_now here failed v lawful stable = none_in here failed v v lawful refl (nothing_lasts only_now v stable)
+nothing_in only_now here failed v lawful stable = none_in here failed v v lawful refl (idle_lasts only_now v [] stable)
 
 -- ---- one call, and then another
 

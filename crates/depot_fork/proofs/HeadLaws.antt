@@ -1,11 +1,10 @@
 -- The newest links of marks, with more of them.
-use Rattle.std.proofs.Common.{◌≡◌, ℕ, zero, suc, ◌+◌, ◌<◌, List, [], ◌∷◌, ◌++◌, length, take, get_or, Bool, true, false, cond, eqb, ◌&&◌, Option, Some, None, Result, Ok, Err, OnErr, refl, sym, ap, ◌∙◌, if◌then◌else◌}
+use Rattle.std.proofs.Common.{◌≡◌, ℕ, zero, suc, ◌+◌, ◌<◌, List, [], ◌∷◌, ◌++◌, length, take, get_or, Bool, true, false, cond, eqb, ◌&&◌, Option, Some, None, refl, sym, ap, ◌∙◌, if◌then◌else◌}
 use Rattle.std.specs.BTreeMap.{BTreeMap, get, Updates}
 use Rattle.std.specs.Ordering.{nat_cmp, is_eq}
 use Rattle.std.specs.Cmp.Lexicographic.{slice_cmp}
-use Rattle.std.proofs.lemmas.Grind.{take_at_read}
 use Rattle.std.proofs.lemmas.Map.Text.{is_eq-slice_cmp}
-use Rattle.depot_base.proofs.GeneralLaws.{is_eq-nat_cmp, is_eq-then}
+use Rattle.depot_base.proofs.GeneralLaws.{is_eq-nat_cmp, is_eq-then, take_next}
 use Rattle.depot_fork.specs.declared.marks.Mark.{Mark}
 use Rattle.depot_fork.specs.declared.marks.Mark.TheVariants as marks
 use Rattle.depot_fork.specs.declared.heads.Fresh.{Fresh}
@@ -40,7 +39,7 @@ newest_pushed before (g ∷ fs) f mark = newest_pushed (if same_mark g.mark mark
 pub settled_more : (old mid new : Settled) (fs : List Fresh) (i : ℕ) (f : Fresh) → i < length fs → f ≡ get_or fs i f → ((mark : Mark) → get mark_cmp mid mark ≡ newest_of (get mark_cmp old mark) (take i fs) mark) → Updates mark_cmp mid new f.mark (Some f.link)
     → (mark : Mark) → get mark_cmp new mark ≡ newest_of (get mark_cmp old mark) (take (i + 1) fs) mark
 settled_more old mid new fs i f low is so_far updates mark =
-    let front : take (i + 1) fs ≡ take i fs ++ f ∷ [] = (take_at_read fs i f low).1 ∙ ap (λ (g : Fresh). take i fs ++ g ∷ []) (sym is) in
+    let front = take_next fs i f low is in
     updates.0 mark
     ∙ ap (λ (b : Bool). cond b (Some f.link) (get mark_cmp mid mark)) (cmp_is_same f.mark mark)
     ∙ ap (λ (o : Option ℕ). cond (same_mark f.mark mark) (Some f.link) o) (so_far mark)
@@ -51,13 +50,8 @@ settled_more old mid new fs i f low is so_far updates mark =
 pub newest_more : (before : Option ℕ) (fs : List Fresh) (i : ℕ) (f : Fresh) (mark : Mark) (newest new : Option ℕ) → i < length fs → f ≡ get_or fs i f → newest ≡ newest_of before (take i fs) mark → new ≡ (if same_mark f.mark mark then Some f.link else newest)
     → new ≡ newest_of before (take (i + 1) fs) mark
 newest_more before fs i f mark newest new low is so_far one =
-    let front : take (i + 1) fs ≡ take i fs ++ f ∷ [] = (take_at_read fs i f low).1 ∙ ap (λ (g : Fresh). take i fs ++ g ∷ []) (sym is) in
+    let front = take_next fs i f low is in
     one ∙ ap (λ (o : Option ℕ). cond (same_mark f.mark mark) (Some f.link) o) so_far ∙ sym (newest_pushed before (take i fs) f mark) ∙ ap (λ (gs : List Fresh). newest_of before gs mark) (sym front)
-
--- what is said of an error
-pub on_err : {A E : Type 0} (r : Result A E) (P : Type 0) → P → OnErr r P
-on_err (Ok x) P said = tt
-on_err (Err e) P said = said
 
 -- to put the first of them in twice is to do it once
 twice : (before : Option ℕ) (fs : List Fresh) (i : ℕ) (mark : Mark) → newest_of (newest_of before (take i fs) mark) fs mark ≡ newest_of before fs mark

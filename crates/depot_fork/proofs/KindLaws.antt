@@ -4,7 +4,6 @@ use Rattle.std.specs.Str.{bytes_eq}
 use Rattle.std.specs.Bool.{Decides}
 use Rattle.std.proofs.lemmas.Bool.{eq-eqb, ne_eqb}
 use Rattle.std.proofs.lemmas.Slice.Eq.{bytes_eq-Decides}
-use Rattle.depot_base.specs.Format.{number}
 use Rattle.depot_base.specs.Statement.{writer_of, seq_of}
 use Rattle.depot_base.specs.declared.update.Update.{Update}
 use Rattle.depot_base.specs.declared.voucher.Voucher.{Voucher}
@@ -12,7 +11,7 @@ use Rattle.depot_base.specs.declared.statement.Statement.{Statement}
 use Rattle.depot_base.specs.declared.statement.Statement.TheVariants as statements
 use Rattle.depot_base.specs.declared.proof.Kind.TheVariants.{SameNumber}
 use Rattle.depot_base.proofs.Combined.{prefix_free}
-use Rattle.depot_model.specs.Texts.{IsStatement, text_of_statement, id_of_statement, id_of_update, statement, update_body}
+use Rattle.depot_model.specs.Texts.{IsStatement, text_of_statement, id_of_statement, statement}
 use Rattle.depot_model.specs.Contradictions.{is_of_kind, contradicts, kind_of}
 use Rattle.depot_model.proofs.TextLaws.{statement_lawful}
 use Rattle.depot_fork.specs.Kinds.{kind_by_prev}
@@ -93,14 +92,6 @@ bodies_by_fields a b r fits_a fits_b d = by_test r (bytes_eq (text_of_statement 
     by_test false false e f = refl
     by_test true false e f = let same : a ≡ b = d.0 e in let one : bytes_eq (text_of_statement a) (text_of_statement b) ≡ true = (bytes_eq-Decides (text_of_statement a) (text_of_statement b)).1 (ap (λ (s : Statement). text_of_statement s) same) in cc
     by_test false true e f = let same : a ≡ b = same_from_text a b fits_a fits_b ((bytes_eq-Decides (text_of_statement a) (text_of_statement b)).0 f) in let one : r ≡ true = d.1 same in cc
-
--- the id of an update is that of its statement
-pub update_id : (u : Update) → id_of_statement (statements.Update u) ≡ id_of_update u
-unfolding id_of_statement id_of_update statement update_body number
-update_id u = refl
-
-pub id_of_that : (a : Statement) (u : Update) (h : List ℕ) → a ≡ statements.Update u → h ≡ id_of_statement a → h ≡ id_of_update u
-id_of_that a u h is e = e ∙ ap (λ (s : Statement). id_of_statement s) is ∙ update_id u
 
 -- ids that were compared and differ
 pub ids_differ : (x y : List ℕ) (r : Bool) → r ≡ bytes_eq x y → r ≡ false → x ≡ y → ⊥

@@ -18,7 +18,7 @@ use Rattle.depot_fork.specs.declared.kept_entry.Entry.{Entry}
 use Rattle.depot_fork.specs.declared.marks.Mark.TheVariants as marks
 use Rattle.depot_fork.specs.StatementMarks.{has_mark, asked_of}
 use Rattle.depot_fork.specs.Keeping.{IsEntry, is_under}
-use Rattle.depot_fork.proofs.KindLaws.{update_id}
+use Rattle.depot_model.proofs.BodyLaws.{update_id}
 
 -- ---- tests
 

@@ -22,7 +22,7 @@ use Rattle.depot_model.specs.Limits.{Limit}
 use Rattle.depot_model.specs.Hello.{hello}
 use Rattle.depot_model.specs.Frames.{Frame}
 use Rattle.depot_model.specs.Vouching.{own_voucher_by, records_of, limit_of_vouchers}
-use Rattle.depot_model.specs.Bundle.{Signs, signed_with, signed_by, has_candidate, candidates, Parcel, candidate_parcel, candidate_parcels, wanted_parcel, hashes_of, parcels, statement_frame, value_frame, proof_frame, end_frame, frames_of, sent_for, sent_foreign, unvouched, proofs_for, vouchers_for, Bundle, bundle_frames, bundle_of, with_vouchers, bundled, bad_hello, other_roster, bundled_within, answer_to_hello, bundle_answer}
+use Rattle.depot_model.specs.Bundle.{Signs, signed_with, signed_by, has_candidate, candidates, Parcel, candidate_parcel, candidate_parcels, wanted_parcel, hashes_of, parcels, statement_frame, value_frame, proof_frame, end_frame, frames_of, sent_for, sent_foreign, unvouched, proofs_for, vouchers_for, Bundle, bundle_frames, bundle_of, with_vouchers, bundled, bad_hello, other_roster, bundled_within, answer_to_hello, bundle_answer, voucher_frame}
 use Rattle.depot_model.proofs.Members.{in_left, in_parts, from_map, from_filter}
 use Rattle.depot_model.proofs.TextLaws.{signed_lawful}
 use Rattle.depot_laws.proofs.Splits.{given_by, flat_gives, flat_left}
@@ -99,9 +99,9 @@ sent_carries sign J new h f on two =
       | inr value ↦ (let m = from_map value_frame f g.by.values value in absurd (omega (arith, two, ap (λ (k : Frame). k.tag) m.1.1)))
     ]
 
-voucher_carries : (sign : Signs) (K : List Record) (ids : List (List ℕ)) (f : Frame) → IsIn f (map (λ v. statement_frame (signed_with sign (statement.Voucher v))) (vouchers_for K ids)) → Carries sign K f
+voucher_carries : (sign : Signs) (K : List Record) (ids : List (List ℕ)) (f : Frame) → IsIn f (map (voucher_frame sign) (vouchers_for K ids)) → Carries sign K f
 voucher_carries sign K ids f on =
-    let m = from_map (λ (v : Voucher). statement_frame (signed_with sign (statement.Voucher v))) f (vouchers_for K ids) on in
+    let m = from_map (voucher_frame sign) f (vouchers_for K ids) on in
     let g = given_by own_voucher_by m.0 K (from_filter (λ (v : Voucher). list_any (λ i. is_among i ids) v.ids) m.0 (flat_map own_voucher_by K) m.1.0).0 in
     (signed_with sign (statement.Voucher m.0), (sym m.1.1, inl (statement.Voucher m.0, (flat_gives own_by (statement.Voucher m.0) g.by K (giver_in own_voucher_by m.0 K g) (voucher_is_own g.by m.0 g.given), refl))))
 
@@ -109,7 +109,7 @@ bundle_carries : (me : ℕ) (sign : Signs) (J : List Record) (h : Hello) (f : Fr
 unfolding bundle_of bundle_frames
 bundle_carries me sign J h f on two = elim (in_parts f (map proof_frame (proofs_for K h)) _ on) [
   | inl proof ↦ (let m = from_map proof_frame f (proofs_for K h) proof in absurd (omega (arith, two, ap (λ (k : Frame). k.tag) m.1.1)))
-  | inr behind ↦ elim (in_parts f (map (λ v. statement_frame (signed_with sign (statement.Voucher v))) (vouchers_for K (sent_foreign me xs))) _ behind) [
+  | inr behind ↦ elim (in_parts f (map (voucher_frame sign) (vouchers_for K (sent_foreign me xs))) _ behind) [
     | inl voucher ↦ voucher_carries sign K (sent_foreign me xs) f voucher
     | inr sent ↦ elim (in_parts f (flat_map frames_of xs) _ sent) [
       | inl this ↦ sent_carries sign J (records_of (bundle_of me sign J h).vouchers) h f this two

@@ -21,6 +21,7 @@ use Rattle.depot_model.specs.History.{is_prev_in}
 use Rattle.depot_model.specs.Items.{place_of_id, place_of_prev, places_where}
 use Rattle.depot_model.proofs.Members.{in_left, in_last, in_pushed, from_map, among_to, all_among_from}
 use Rattle.depot_model.proofs.Orders.{causal_front, parent_is_there, parents_of_last}
+use Rattle.depot_model.proofs.Elements.{in_at}
 use Rattle.depot_base.proofs.GeneralLaws.{get_last, any_push}
 use Rattle.depot_graph.specs.Causal.{is_causal}
 use Rattle.depot_graph.specs.Kept.{updates_in, child_lists, leaf_places, prev_places}
@@ -52,17 +53,12 @@ causal_to_test ids (u ∷ us) c = and_from _ _ (all_among_from (parents u) ids c
 
 -- ---- the prev
 
-in_place : (vs : List Update) (n : ℕ) (v : Update) → slice_get vs n ≡ Some v → IsIn v vs
-in_place [] n v e = absurd cc
-in_place (y ∷ ys) zero v e = let same : y ≡ v = cc in inl same
-in_place (y ∷ ys) (suc n) v e = inr (in_place ys n v e)
-
 apart_places : (us : List Update) (p k : ℕ) (w t : Update) → IsCausal [] us → slice_get us p ≡ Some w → slice_get us k ≡ Some t → id_of_update w ≡ id_of_update t → (p < k) ⊎ (k < p) → ⊥
 apart_places us p k w t c at_p at_k e (inl lt) = let same = one_place [] us p k w t c at_p at_k e in omega (arith, lt, same)
 apart_places us p k w t c at_p at_k e (inr gt) = let same = one_place [] us p k w t c at_p at_k e in omega (arith, gt, same)
 
 is_it : (h : List ℕ) (us : List Update) (k : ℕ) (t : Update) → IsCausal [] us → slice_get us k ≡ Some t → (o : Option ℕ) → place_of_id h us ≡ o → (bytes_eq (id_of_update t) h || false) ≡ is_place o k
-is_it h us k t c at_k None none = or_from (bytes_eq (id_of_update t) h) false (false_from_ne_true _ (λ e. has_no_place h us t none (in_place us k t at_k) ((bytes_eq-Decides (id_of_update t) h).0 e))) refl
+is_it h us k t c at_k None none = or_from (bytes_eq (id_of_update t) h) false (false_from_ne_true _ (λ e. has_no_place h us t none (in_at us k t at_k) ((bytes_eq-Decides (id_of_update t) h).0 e))) refl
 is_it h us k t c at_k (Some p) found =
     let at = position-Some (λ (u : Update). bytes_eq (id_of_update u) h) us p t found in
     let w = get_or us p t in
@@ -237,7 +233,7 @@ prev_places-push us u c =
     let then : Update → Option ℕ = λ v. place_of_prev v.prev (us ++ u ∷ []) in
     let before : Update → Option ℕ = λ v. place_of_prev v.prev us in
     map-append then us (u ∷ [])
-    ∙ (ap (λ (ps : List (Option ℕ)). ps ++ then u ∷ []) (same_images then before us (λ k t at_k. prev_stays us u t c (in_left t us (u ∷ []) (in_place us k t at_k))))
+    ∙ (ap (λ (ps : List (Option ℕ)). ps ++ then u ∷ []) (same_images then before us (λ k t at_k. prev_stays us u t c (in_left t us (u ∷ []) (in_at us k t at_k))))
     ∙ ap (λ (p : Option ℕ). prev_places us ++ p ∷ []) (prev_stays us u u c (in_last us u)))
 
 -- ---- what is found before the first write

@@ -17,7 +17,7 @@ use Rattle.depot_virtual.proofs.Placing.{spot_at}
 use Rattle.depot_virtual.specs.Spots.{chains_of, chain_length as spots_length}
 use Rattle.depot_clocks.specs.ChainItems.{ChainItem, LeadsTo, IsUpTo, IsAt, chain_length, number_of_chains, Precedes as ItemPrecedes}
 use Rattle.depot_clocks.proofs.ItemPaths.{up_to_trans}
-use Rattle.depot_base.proofs.GeneralLaws.{from_pushed}
+use Rattle.depot_base.proofs.GeneralLaws.{from_pushed, at_place}
 use Rattle.depot_graph.proofs.Front.{apart}
 use Rattle.depot_graph.specs.OrderLaws.{at_both}
 use Rattle.depot_graph.proofs.AddLaws.{is_fresh}
@@ -64,11 +64,7 @@ preceding us items a b t u c at_a at_b p =
     ]
 
 there : (us : List Update) (items : List ChainItem) (b : ℕ) (u : Update) → AreClocked us items → slice_get us b ≡ Some u → (x : ChainItem) × (slice_get items b ≡ Some x)
-there us items b u c at = item_at items b (omega (arith, slice_get_within us b u at, c.long)) where
-  item_at : (xs : List ChainItem) (n : ℕ) → n < length xs → (x : ChainItem) × (slice_get xs n ≡ Some x)
-  item_at [] n low = absurd (omega (arith, low))
-  item_at (x ∷ xs) zero low = (x, refl)
-  item_at (x ∷ xs) (suc n) low = item_at xs n (omega (arith, low))
+there us items b u c at = at_place items b (omega (arith, slice_get_within us b u at, c.long))
 
 -- one of the updates stands at a place
 pub place_of : (us : List Update) (t : Update) → IsIn t us → (n : ℕ) × (slice_get us n ≡ Some t)

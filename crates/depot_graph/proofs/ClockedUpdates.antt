@@ -18,7 +18,8 @@ use Rattle.depot_virtual.specs.Spots.{next_spot, spots, spots_behind, chains_of}
 use Rattle.depot_virtual.proofs.Placing.{spots_next}
 use Rattle.depot_virtual.proofs.ChainLengths.{next_place as spot_place, next_chain_low, next_behind}
 use Rattle.depot_clocks.specs.ChainItems.{ChainItem, IsLinked, chain_length, number_of_chains, Precedes as ItemPrecedes}
-use Rattle.depot_index.proofs.ItemLists.{IsIn as InList, from_contains, to_contains, all_of_in}
+use Rattle.depot_base.proofs.MembershipLaws.{from_contains, to_contains}
+use Rattle.depot_index.proofs.ItemLists.{all_of_in}
 use Rattle.depot_graph.specs.Kept.{prev_places}
 use Rattle.depot_graph.specs.Clocked.{parent_places, clock_item, clock_items_behind, clock_items}
 use Rattle.depot_graph.proofs.ItemPlaces.{has_place, own_place}
@@ -27,22 +28,22 @@ use Rattle.depot_graph.proofs.ClockedItems.{AreClocked, AreSpotted, clocked_none
 
 -- ---- the places of parents
 
-in_flat : (f : List ℕ → Option ℕ) (hs : List (List ℕ)) (a : ℕ) → InList a (flat_map (λ h. option_to_list (f h)) hs) → (h : List ℕ) × (IsIn h hs × (f h ≡ Some a))
+in_flat : (f : List ℕ → Option ℕ) (hs : List (List ℕ)) (a : ℕ) → IsIn a (flat_map (λ h. option_to_list (f h)) hs) → (h : List ℕ) × (IsIn h hs × (f h ≡ Some a))
 in_flat f [] a never = absurd never
 in_flat f (h ∷ hs) a on = go (f h) refl on (in_flat f hs a) where
-  go : (o : Option ℕ) → f h ≡ o → InList a (option_to_list o ++ flat_map (λ h. option_to_list (f h)) hs) → (InList a (flat_map (λ h. option_to_list (f h)) hs) → (k : List ℕ) × (IsIn k hs × (f k ≡ Some a))) → (k : List ℕ) × (IsIn k (h ∷ hs) × (f k ≡ Some a))
+  go : (o : Option ℕ) → f h ≡ o → IsIn a (option_to_list o ++ flat_map (λ h. option_to_list (f h)) hs) → (IsIn a (flat_map (λ h. option_to_list (f h)) hs) → (k : List ℕ) × (IsIn k hs × (f k ≡ Some a))) → (k : List ℕ) × (IsIn k (h ∷ hs) × (f k ≡ Some a))
   go None e on rest = let r = rest on in (r.0, (inr r.1.0, r.1.1))
   go (Some b) e (inl here) rest = (h, (inl refl, e ∙ ap (λ (n : ℕ). Some n) here))
   go (Some b) e (inr on) rest = let r = rest on in (r.0, (inr r.1.0, r.1.1))
 
-flat_in : (f : List ℕ → Option ℕ) (hs : List (List ℕ)) (h : List ℕ) (a : ℕ) → IsIn h hs → f h ≡ Some a → InList a (flat_map (λ h. option_to_list (f h)) hs)
+flat_in : (f : List ℕ → Option ℕ) (hs : List (List ℕ)) (h : List ℕ) (a : ℕ) → IsIn h hs → f h ≡ Some a → IsIn a (flat_map (λ h. option_to_list (f h)) hs)
 flat_in f [] h a never e = absurd never
 flat_in f (k ∷ hs) h a (inl here) e = go (f k) (ap f here ∙ e) where
-  go : (o : Option ℕ) → o ≡ Some a → InList a (option_to_list o ++ flat_map (λ h. option_to_list (f h)) hs)
+  go : (o : Option ℕ) → o ≡ Some a → IsIn a (option_to_list o ++ flat_map (λ h. option_to_list (f h)) hs)
   go None e = absurd cc
   go (Some b) e = let same : b ≡ a = cc in inl same
 flat_in f (k ∷ hs) h a (inr on) e = behind (f k) (flat_in f hs h a on e) where
-  behind : (o : Option ℕ) → InList a (flat_map (λ h. option_to_list (f h)) hs) → InList a (option_to_list o ++ flat_map (λ h. option_to_list (f h)) hs)
+  behind : (o : Option ℕ) → IsIn a (flat_map (λ h. option_to_list (f h)) hs) → IsIn a (option_to_list o ++ flat_map (λ h. option_to_list (f h)) hs)
   behind None there = there
   behind (Some b) there = inr there
 
@@ -52,21 +53,21 @@ id_at h us a t at e = let p = has_place h us a e in ap id_of_update (same_Some t
 
 pub parents_low : (us : List Update) (u : Update) (p : ℕ) → Contains (parent_places us u) p → p < length us
 parents_low us u p on =
-    let r = in_flat (λ h. place_of_id h us) (parents u) p (from_contains (parent_places us u) p on) in
+    let r = in_flat (λ h. place_of_id h us) (parents u) p (from_contains p (parent_places us u) on) in
     (position-Some (λ (t : Update). bytes_eq (id_of_update t) r.0) us p u r.1.1).0
 
 pub parents_named : (us : List Update) (u t : Update) (a : ℕ) → IsCausal [] us → slice_get us a ≡ Some t → (Contains (parent_places us u) a → IsIn (id_of_update t) (parents u)) × (IsIn (id_of_update t) (parents u) → Contains (parent_places us u) a)
 parents_named us u t a c at = (
   (λ on.
-      let r = in_flat (λ h. place_of_id h us) (parents u) a (from_contains (parent_places us u) a on) in
+      let r = in_flat (λ h. place_of_id h us) (parents u) a (from_contains a (parent_places us u) on) in
       subst (λ (h : List ℕ). IsIn h (parents u)) (sym (id_at r.0 us a t at r.1.1)) r.1.0),
-  (λ named. to_contains (parent_places us u) a (flat_in (λ h. place_of_id h us) (parents u) (id_of_update t) a named (own_place us a t c at))),
+  (λ named. to_contains a (parent_places us u) (flat_in (λ h. place_of_id h us) (parents u) (id_of_update t) a named (own_place us a t c at))),
 )
 
 -- the prev is one of the parents
 pub prev_is_parent : (us : List Update) (u : Update) (p : ℕ) → place_of_prev u.prev us ≡ Some p → Contains (parent_places us u) p
-prev_is_parent us u p e = to_contains (parent_places us u) p (go (bytes_eq u.prev zeros) e) where
-  go : (b : Bool) → cond b None (place_of_id u.prev us) ≡ Some p → InList p (flat_map (λ h. option_to_list (place_of_id h us)) (cond b [] (u.prev ∷ []) ++ map (λ d. d.id) u.deps))
+prev_is_parent us u p e = to_contains p (parent_places us u) (go (bytes_eq u.prev zeros) e) where
+  go : (b : Bool) → cond b None (place_of_id u.prev us) ≡ Some p → IsIn p (flat_map (λ h. option_to_list (place_of_id h us)) (cond b [] (u.prev ∷ []) ++ map (λ d. d.id) u.deps))
   go true e = absurd cc
   go false e = flat_in (λ h. place_of_id h us) (u.prev ∷ map (λ d. d.id) u.deps) u.prev p (inl refl) e
 
@@ -176,7 +177,7 @@ module _ (us : List Update) (u : Update) (items : List ChainItem) (spot : Spot) 
 
   pub next_parents : All (λ p. p < length items) parents
   next_parents = carried (λ xs s ps. All (λ p. p < length xs) ps)
-      (all_of_in (λ p. p < length (clock_items us)) (parent_places us u) (λ p on. omega (arith, parents_low us u p (to_contains (parent_places us u) p on), clock_long us next.causal)))
+      (all_of_in (λ p. p < length (clock_items us)) (parent_places us u) (λ p on. omega (arith, parents_low us u p (to_contains p (parent_places us u) on), clock_long us next.causal)))
 
   pub next_chain : spot.chain ≤ number_of_chains items
   next_chain = carried (λ xs s ps. s.chain ≤ number_of_chains xs) (clock_chain us u next.causal)

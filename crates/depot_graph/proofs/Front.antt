@@ -1,5 +1,5 @@
 -- The front of a list in which each parent stands before its children.
-use Rattle.std.proofs.Common.{◌≡◌, ℕ, zero, suc, ◌<◌, List, [], ◌∷◌, ◌++◌, take, drop, Some, true, refl, ap, subst, ◌∙◌, inl, inr, arith, slice_get}
+use Rattle.std.proofs.Common.{◌≡◌, ℕ, zero, suc, ◌<◌, List, [], ◌∷◌, ◌++◌, take, Some, true, refl, ap, subst, ◌∙◌, inl, inr, arith, slice_get}
 use Rattle.std.specs.Str.{bytes_eq}
 use Rattle.std.proofs.lemmas.Slice.Eq.{bytes_eq-Decides}
 use Rattle.depot_base.specs.declared.update.Update.{Update}
@@ -12,12 +12,6 @@ use Rattle.depot_model.proofs.Orders.{fresh, one_of_id, causal_front, parent_is_
 use Rattle.depot_model.proofs.Pasts.{past_in}
 
 -- ---- places
-
--- a list, around the element at a place
-pub parts_at : {X : Type 0} (xs : List X) (n : ℕ) (x : X) → slice_get xs n ≡ Some x → xs ≡ take n xs ++ x ∷ drop (suc n) xs
-parts_at [] n x e = absurd cc
-parts_at (y ∷ ys) zero x e = let same : y ≡ x = cc in ap (λ (z : _). z ∷ ys) same
-parts_at (y ∷ ys) (suc n) x e = ap (λ (zs : _). y ∷ zs) (parts_at ys n x e)
 
 -- the element at a place before n is one of the first n
 pub in_take : {X : Type 0} (xs : List X) (n a : ℕ) (x : X) → slice_get xs a ≡ Some x → a < n → IsIn x (take n xs)

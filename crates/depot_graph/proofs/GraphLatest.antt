@@ -6,6 +6,7 @@ use Rattle.depot_model.specs.Lists.{IsIn}
 use Rattle.depot_model.specs.Texts.{id_of_update}
 use Rattle.depot_model.specs.Order.{Precedes, past, IsCausal, IsLatest, AreLatestIn}
 use Rattle.depot_model.specs.Journal.{has_id}
+use Rattle.depot_model.specs.Contents.{key_written, Writes}
 use Rattle.depot_model.proofs.Members.{in_left, in_pushed, in_last, in_filter, from_filter}
 use Rattle.depot_model.proofs.Orders.{causal_front, precedes_wider, precedes_irreflexive}
 use Rattle.depot_model.proofs.Pasts.{past_of_next}
@@ -32,18 +33,18 @@ module _ (key : List ℕ) (us : List Update) (u : Update) (c : IsCausal [] (us +
   }
 
   -- one that is latest stays so where it isn't in the past of u, or u writes another key
-  latest_still : (v : Update) → IsLatest key (λ w. IsIn w us) (Precedes us) v → (u.key ≡ key → Precedes (us ++ u ∷ []) v u → ⊥) → IsLatest key (λ w. IsIn w (us ++ u ∷ [])) (Precedes (us ++ u ∷ [])) v
+  latest_still : (v : Update) → IsLatest key (λ w. IsIn w us) (Precedes us) v → (Writes key u → Precedes (us ++ u ∷ []) v u → ⊥) → IsLatest key (λ w. IsIn w (us ++ u ∷ [])) (Precedes (us ++ u ∷ [])) v
   latest_still v l free = record {
     known = more v l.known;
     writes = l.writes;
     last = λ w w_in same p. elim (in_pushed w us u w_in) [
       | inl before ↦ l.last w before same (precedes_in_front us (u ∷ []) v w c before p)
-      | inr is_u ↦ free (ap (λ (x : Update). x.key) is_u ∙ same) (subst (λ (x : Update). Precedes (us ++ u ∷ []) v x) (sym is_u) p)
+      | inr is_u ↦ free (ap key_written is_u ∙ same) (subst (λ (x : Update). Precedes (us ++ u ∷ []) v x) (sym is_u) p)
     ];
   }
 
   -- u itself, which nothing stands behind
-  last_is_latest : u.key ≡ key → IsLatest key (λ w. IsIn w (us ++ u ∷ [])) (Precedes (us ++ u ∷ [])) u
+  last_is_latest : Writes key u → IsLatest key (λ w. IsIn w (us ++ u ∷ [])) (Precedes (us ++ u ∷ [])) u
   last_is_latest writes = record {
     known = in_last us u;
     writes = writes;
@@ -54,11 +55,11 @@ module _ (key : List ℕ) (us : List Update) (u : Update) (c : IsCausal [] (us +
   }
 
   -- an update of another key leaves the latest writes
-  pub others_stay : (ts : List Update) → (u.key ≡ key → ⊥) → AreLatestIn key us ts → AreLatestIn key (us ++ u ∷ []) ts
+  pub others_stay : (ts : List Update) → (Writes key u → ⊥) → AreLatestIn key us ts → AreLatestIn key (us ++ u ∷ []) ts
   others_stay ts other old = record {
     all = λ v l. elim (in_pushed v us u l.known) [
       | inl before ↦ old.all v (latest_before v before l)
-      | inr is_u ↦ absurd (other (ap (λ (x : Update). x.key) is_u ∙ l.writes))
+      | inr is_u ↦ absurd (other (ap key_written is_u ∙ l.writes))
     ];
     only = λ v on. latest_still v (old.only v on) (λ same p. other same);
     rising = old.rising;
@@ -71,7 +72,7 @@ module _ (key : List ℕ) (us : List Update) (u : Update) (c : IsCausal [] (us +
   latest_is_free v on none = ap not (false_from_ne_true (has_id (past u us) (id_of_update v)) (λ e. none ((past_of_next us u v front).0 (has_past us v u front on e)).1))
 
   -- an update of the key leaves those that it doesn't follow, and stands among them
-  pub mended_are_latest : (ts : List Update) → u.key ≡ key → AreLatestIn key us ts → AreLatestIn key (us ++ u ∷ []) (put_listed u (filter (is_free us u) ts))
+  pub mended_are_latest : (ts : List Update) → Writes key u → AreLatestIn key us ts → AreLatestIn key (us ++ u ∷ []) (put_listed u (filter (is_free us u) ts))
   mended_are_latest ts writes old = record {
     all = λ v l. elim (in_pushed v us u l.known) [
       | inl before ↦

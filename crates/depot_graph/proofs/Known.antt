@@ -16,6 +16,7 @@ use Rattle.depot_model.proofs.Orders.{causal_push}
 use Rattle.depot_model.proofs.Elements.{in_at}
 use Rattle.depot_graph.proofs.ItemPlaces.{has_no_place}
 use Rattle.depot_graph.proofs.MappedFronts.{mapped_more}
+use Rattle.depot_base.proofs.GeneralLaws.{is_none}
 
 -- an id that is found is one of the ids
 found_is_in : (h : List ℕ) (us : List Update) (place : ℕ) → place_of_id h us ≡ Some place → IsIn h (map id_of_update us)
@@ -45,10 +46,6 @@ entry_is_known ids deps i d lt here known one h on =
       | inl old ↦ known h old
       | inr new ↦ elim new [ inl same ↦ subst (λ (k : List ℕ). IsIn k ids) same one | inr never ↦ absurd never ]
     ]
-
-is_none : (o : Option ℕ) → is_some o ≡ false → o ≡ None
-is_none None e = refl
-is_none (Some n) e = absurd cc
 
 -- an update whose parents are here and whose id isn't fits behind
 pub fits_behind : (us : List Update) (u : Update) (id : List ℕ) (o : Option ℕ) → IsCausal [] us → id ≡ id_of_update u → o ≡ place_of_id id us → is_some o ≡ false → ((h : List ℕ) → IsIn h (prevs u) → IsIn h (map id_of_update us))

@@ -1,21 +1,21 @@
 -- The latest items of each key, once an update more is written.
 use Rattle.std.proofs.Common.{◌≡◌, ℕ, ◌<◌, List, [], ◌∷◌, ◌++◌, length, Option, Some, Bool, true, false, cond, refl, sym, ap, subst, ◌∙◌, arith, inl, inr, All, Contains, slice_get, append_assoc, append-nil, true≢false}
 use Rattle.std.specs.Option.{option_to_list}
-use Rattle.std.specs.Str.{bytes_eq}
 use Rattle.std.proofs.lemmas.List.{length_push}
 use Rattle.std.proofs.lemmas.Option.{slice_get_within}
-use Rattle.std.proofs.lemmas.Slice.Eq.{bytes_eq-Decides}
 use Rattle.depot_base.specs.declared.update.Update.{Update}
 use Rattle.depot_model.specs.Lists.{IsIn}
 use Rattle.depot_model.specs.Order.{Precedes, IsCausal, AreLatestIn}
 use Rattle.depot_model.specs.Items.{PrecedesAt, updates_at}
+use Rattle.depot_model.specs.Contents.{key_written, Writes, writes}
 use Rattle.depot_model.proofs.Elements.{in_at}
 use Rattle.depot_model.proofs.LatestLaws.{one_latest_list}
-use Rattle.depot_model.proofs.Members.{in_left}
+use Rattle.depot_base.proofs.MembershipLaws.{from_contains, to_contains}
+use Rattle.depot_model.proofs.Members.{in_left, in_pushed, in_last}
 use Rattle.depot_model.proofs.Orders.{causal_front, precedes_wider}
+use Rattle.depot_model.proofs.ContentLaws.{writes-Decides}
 use Rattle.depot_index.specs.KeyLists.{KeyList, latest_of}
 use Rattle.depot_index.specs.LatestItems.{AreLatestOf, IsNewest, IsLatestWith}
-use Rattle.depot_index.proofs.ItemLists.{IsIn as InList, from_contains, to_contains, in_pushed, last_pushed, to_pushed as in_longer}
 use Rattle.depot_index.proofs.MendedLists.{latest_agree, latest_one}
 use Rattle.depot_base.proofs.GeneralLaws.{at_place, from_pushed, to_pushed, get_last}
 use Rattle.depot_graph.specs.KeptLatest.{mended, latest_places}
@@ -28,46 +28,46 @@ use Rattle.depot_graph.proofs.PlaceLaws.{AreBelow, below_at, kept_below, are_lat
 -- ---- the items that write a key
 
 -- where one update more writes the key, its item is one more
-more_writers : (key : List ℕ) (us : List Update) (u : Update) (among : List ℕ) → u.key ≡ key → AreWriters key us among → AreWriters key (us ++ u ∷ []) (among ++ length us ∷ [])
+more_writers : (key : List ℕ) (us : List Update) (u : Update) (among : List ℕ) → Writes key u → AreWriters key us among → AreWriters key (us ++ u ∷ []) (among ++ length us ∷ [])
 more_writers key us u among writes old a = (
-  (λ on. elim (in_pushed among (length us) a (from_contains (among ++ length us ∷ []) a on)) [
-    | inl before ↦ let r = (old a).0 (to_contains among a before) in (r.0, (to_pushed us u a r.0 r.1.0, r.1.1))
+  (λ on. elim (in_pushed a among (length us) (from_contains a (among ++ length us ∷ []) on)) [
+    | inl before ↦ let r = (old a).0 (to_contains a among before) in (r.0, (to_pushed us u a r.0 r.1.0, r.1.1))
     | inr here ↦ (u, (ap (slice_get (us ++ u ∷ [])) (sym here) ∙ get_last us u, writes))
   ]),
   (λ t at same. elim (from_pushed us u a t at) [
-    | inl before ↦ to_contains (among ++ length us ∷ []) a (in_longer among (length us) a (from_contains among a ((old a).1 t before same)))
-    | inr last ↦ subst (Contains (among ++ length us ∷ [])) (sym last.0) (to_contains (among ++ length us ∷ []) (length us) (last_pushed among (length us)))
+    | inl before ↦ to_contains a (among ++ length us ∷ []) (in_left a among ((length us) ∷ []) (from_contains a among ((old a).1 t before same)))
+    | inr last ↦ subst (Contains (among ++ length us ∷ [])) (sym last.0) (to_contains (length us) (among ++ length us ∷ []) (in_last among (length us)))
   ]),
 )
 
-same_writers : (key : List ℕ) (us : List Update) (u : Update) (among : List ℕ) → (u.key ≡ key → ⊥) → AreWriters key us among → AreWriters key (us ++ u ∷ []) among
+same_writers : (key : List ℕ) (us : List Update) (u : Update) (among : List ℕ) → (Writes key u → ⊥) → AreWriters key us among → AreWriters key (us ++ u ∷ []) among
 same_writers key us u among other old a = (
   (λ on. let r = (old a).0 on in (r.0, (to_pushed us u a r.0 r.1.0, r.1.1))),
   (λ t at same. elim (from_pushed us u a t at) [
     | inl before ↦ (old a).1 t before same
-    | inr last ↦ absurd (other (ap (λ (v : Update). v.key) last.1 ∙ same))
+    | inr last ↦ absurd (other (ap key_written last.1 ∙ same))
   ]),
 )
 
-writers_chosen : (b : Bool) (key : List ℕ) (us : List Update) (u : Update) (among : List ℕ) → bytes_eq u.key key ≡ b → AreWriters key us among → (more : List ℕ) × AreWriters key (us ++ u ∷ []) more
-writers_chosen true key us u among e old = (among ++ length us ∷ [], more_writers key us u among ((bytes_eq-Decides u.key key).0 e) old)
-writers_chosen false key us u among e old = (among, same_writers key us u among (λ same. true≢false (sym ((bytes_eq-Decides u.key key).1 same) ∙ e)) old)
+writers_chosen : (b : Bool) (key : List ℕ) (us : List Update) (u : Update) (among : List ℕ) → writes key u ≡ b → AreWriters key us among → (more : List ℕ) × AreWriters key (us ++ u ∷ []) more
+writers_chosen true key us u among e old = (among ++ length us ∷ [], more_writers key us u among ((writes-Decides key u).0 e) old)
+writers_chosen false key us u among e old = (among, same_writers key us u among (λ same. true≢false (sym ((writes-Decides key u).1 same) ∙ e)) old)
 
 writers_behind : (key : List ℕ) (front us : List Update) (among : List ℕ) → AreWriters key front among → (more : List ℕ) × AreWriters key (front ++ us) more
 writers_behind key front [] among old = (among, subst (λ (ws : List Update). AreWriters key ws among) (sym (append-nil front)) old)
 writers_behind key front (u ∷ us) among old =
-    let one = writers_chosen (bytes_eq u.key key) key front u among refl old in
+    let one = writers_chosen (writes key u) key front u among refl old in
     let all = writers_behind key (front ++ u ∷ []) us one.0 one.1 in
     (all.0, subst (λ (ws : List Update). AreWriters key ws all.0) (append_assoc front (u ∷ []) us) all.1)
 
 -- there is a list of the items that write a key
 some_writers : (key : List ℕ) (us : List Update) → (among : List ℕ) × AreWriters key us among
-some_writers key us = writers_behind key [] us [] (λ a. ((λ on. absurd (from_contains [] a on)), (λ u at same. absurd cc)))
+some_writers key us = writers_behind key [] us [] (λ a. ((λ on. absurd (from_contains a [] on)), (λ u at same. absurd cc)))
 
 -- ---- with one update more
 
 -- each of the places is that of an update
-there : (us : List Update) (ns : List ℕ) → AreBelow (length us) ns → (n : ℕ) → InList n ns → (u : Update) × (slice_get us n ≡ Some u)
+there : (us : List Update) (ns : List ℕ) → AreBelow (length us) ns → (n : ℕ) → IsIn n ns → (u : Update) × (slice_get us n ≡ Some u)
 there us [] below n never = absurd never
 there us (m ∷ ns) below n (inl here) = let r = at_place us m below.0 in (r.0, ap (slice_get us) (sym here) ∙ r.1)
 there us (m ∷ ns) below n (inr on) = there us ns below.1 n on
@@ -101,38 +101,38 @@ is_newest key us u among c writers a on =
     )
 
 -- where a list has the latest of the items of its key and of u, it has the places of the latest writes
-own_latest : (us : List Update) (u : Update) (new : List ℕ) → IsCausal [] (us ++ u ∷ []) → IsLatestWith (PrecedesAt (us ++ u ∷ [])) (ListedAt (us ++ u ∷ [])) (length us) (latest_places u.key us) new → new ≡ latest_places u.key (us ++ u ∷ [])
+own_latest : (us : List Update) (u : Update) (new : List ℕ) → IsCausal [] (us ++ u ∷ []) → IsLatestWith (PrecedesAt (us ++ u ∷ [])) (ListedAt (us ++ u ∷ [])) (length us) (latest_places (key_written u) us) new → new ≡ latest_places (key_written u) (us ++ u ∷ [])
 own_latest us u new c mends =
     let longer = us ++ u ∷ [] in
-    let among = some_writers u.key us in
-    let more = more_writers u.key us u among.0 refl among.1 in
-    let old : AreLatestOf (PrecedesAt longer) (ListedAt longer) among.0 (latest_places u.key us) =
-    latest_agree (PrecedesAt us) (ListedAt us) (PrecedesAt longer) (ListedAt longer) among.0 (latest_places u.key us)
+    let among = some_writers (key_written u) us in
+    let more = more_writers (key_written u) us u among.0 refl among.1 in
+    let old : AreLatestOf (PrecedesAt longer) (ListedAt longer) among.0 (latest_places (key_written u) us) =
+    latest_agree (PrecedesAt us) (ListedAt us) (PrecedesAt longer) (ListedAt longer) among.0 (latest_places (key_written u) us)
     (λ a b a_in b_in. let t = (among.1 a).0 a_in in let v = (among.1 b).0 b_in in precedes_agree us u a b t.0 v.0 c t.1.0 v.1.0)
-    (λ a b a_in b_in p. listed_agree us u a b p) (places_are_latest u.key us among.0 (causal_front [] us (u ∷ []) c) among.1) in
-    latest_one (PrecedesAt longer) (ListedAt longer) (among.0 ++ length us ∷ []) new (latest_places u.key longer) (λ a on. lists_no_self longer a) (λ a b a_in b_in p q. lists_on longer a b a p q)
-    (mends among.0 (is_newest u.key us u among.0 c among.1) old) (places_are_latest u.key longer (among.0 ++ length us ∷ []) c more)
+    (λ a b a_in b_in p. listed_agree us u a b p) (places_are_latest (key_written u) us among.0 (causal_front [] us (u ∷ []) c) among.1) in
+    latest_one (PrecedesAt longer) (ListedAt longer) (among.0 ++ length us ∷ []) new (latest_places (key_written u) longer) (λ a on. lists_no_self longer a) (λ a b a_in b_in p q. lists_on longer a b a p q)
+    (mends among.0 (is_newest (key_written u) us u among.0 c among.1) old) (places_are_latest (key_written u) longer (among.0 ++ length us ∷ []) c more)
 
 -- the index has the places of the latest writes of each key, once it was mended at that of u
 pub latest_kept : (us : List Update) (u : Update) (old new : List KeyList) → IsCausal [] (us ++ u ∷ []) → ((key : List ℕ) → latest_of key old ≡ latest_places key us)
-    → IsLatestWith (PrecedesAt (us ++ u ∷ [])) (ListedAt (us ++ u ∷ [])) (length us) (latest_of u.key old) (latest_of u.key new) → ((other : List ℕ) → (other ≡ u.key → ⊥) → latest_of other new ≡ latest_of other old)
+    → IsLatestWith (PrecedesAt (us ++ u ∷ [])) (ListedAt (us ++ u ∷ [])) (length us) (latest_of (key_written u) old) (latest_of (key_written u) new) → ((other : List ℕ) → (other ≡ key_written u → ⊥) → latest_of other new ≡ latest_of other old)
     → (key : List ℕ) → latest_of key new ≡ latest_places key (us ++ u ∷ [])
-latest_kept us u old new c kept own others key = go (bytes_eq key u.key) refl where
-  go : (b : Bool) → bytes_eq key u.key ≡ b → latest_of key new ≡ latest_places key (us ++ u ∷ [])
+latest_kept us u old new c kept own others key = go (writes key u) refl where
+  go : (b : Bool) → writes key u ≡ b → latest_of key new ≡ latest_places key (us ++ u ∷ [])
   go true e =
-      subst (λ (k : List ℕ). latest_of k new ≡ latest_places k (us ++ u ∷ [])) (sym ((bytes_eq-Decides key u.key).0 e))
-      (own_latest us u (latest_of u.key new) c (subst (λ (ns : List ℕ). IsLatestWith (PrecedesAt (us ++ u ∷ [])) (ListedAt (us ++ u ∷ [])) (length us) ns (latest_of u.key new)) (kept u.key) own))
+      subst (λ (k : List ℕ). latest_of k new ≡ latest_places k (us ++ u ∷ [])) ((writes-Decides key u).0 e)
+      (own_latest us u (latest_of (key_written u) new) c (subst (λ (ns : List ℕ). IsLatestWith (PrecedesAt (us ++ u ∷ [])) (ListedAt (us ++ u ∷ [])) (length us) ns (latest_of (key_written u) new)) (kept (key_written u)) own))
   go false e =
-      others key (λ same. true≢false (sym ((bytes_eq-Decides key u.key).1 same) ∙ e))
+      others key (λ same. true≢false (sym ((writes-Decides key u).1 (sym same)) ∙ e))
       ∙ (kept key ∙ sym (latest_places-push key us u ∙ ap (λ (b : Bool). cond b (mended u us (latest_places key us)) (latest_places key us)) e))
 
 -- the same where the updates then, the key of u and its item are given by equations
-pub index_kept : (us more : List Update) (u : Update) (key : List ℕ) (n : ℕ) (old new : List KeyList) → IsCausal [] (us ++ u ∷ []) → more ≡ us ++ u ∷ [] → key ≡ u.key → n ≡ length us → ((other : List ℕ) → latest_of other old ≡ latest_places other us)
+pub index_kept : (us more : List Update) (u : Update) (key : List ℕ) (n : ℕ) (old new : List KeyList) → IsCausal [] (us ++ u ∷ []) → more ≡ us ++ u ∷ [] → key ≡ key_written u → n ≡ length us → ((other : List ℕ) → latest_of other old ≡ latest_places other us)
     → IsLatestWith (PrecedesAt more) (ListedAt more) n (latest_of key old) (latest_of key new) → ((other : List ℕ) → (other ≡ key → ⊥) → latest_of other new ≡ latest_of other old) → (other : List ℕ) → latest_of other new ≡ latest_places other more
 index_kept us more u key n old new c longer is count kept own others other =
     let at_more = subst (λ (ws : List Update). IsLatestWith (PrecedesAt ws) (ListedAt ws) n (latest_of key old) (latest_of key new)) longer own in
     let at_key = subst (λ (k : List ℕ). IsLatestWith (PrecedesAt (us ++ u ∷ [])) (ListedAt (us ++ u ∷ [])) n (latest_of k old) (latest_of k new)) is at_more in
-    let at_item = subst (λ (m : ℕ). IsLatestWith (PrecedesAt (us ++ u ∷ [])) (ListedAt (us ++ u ∷ [])) m (latest_of u.key old) (latest_of u.key new)) count at_key in
+    let at_item = subst (λ (m : ℕ). IsLatestWith (PrecedesAt (us ++ u ∷ [])) (ListedAt (us ++ u ∷ [])) m (latest_of (key_written u) old) (latest_of (key_written u) new)) count at_key in
     latest_kept us u old new c kept at_item (λ k apart. others k (λ same. apart (same ∙ is))) other ∙ ap (latest_places other) (sym longer)
 
 -- the latest items of a key are items of what is there then

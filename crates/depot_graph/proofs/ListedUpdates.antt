@@ -1,5 +1,5 @@
 -- The latest items of a key are its latest writes.
-use Rattle.std.proofs.Common.{◌≡◌, ℕ, List, [], ◌∷◌, ◌++◌, Option, Some, None, Bool, true, refl, sym, ap, subst, ◌∙◌, inl, inr, Contains, IsTrue, slice_get}
+use Rattle.std.proofs.Common.{◌≡◌, ℕ, List, [], ◌∷◌, ◌++◌, Option, Some, Bool, true, refl, sym, subst, ◌∙◌, inl, inr, Contains, IsTrue, slice_get}
 use Rattle.std.specs.List.{AllByRecursion}
 use Rattle.std.specs.Option.{option_to_list}
 use Rattle.std.specs.Ordering.{is_lt}
@@ -8,9 +8,9 @@ use Rattle.depot_model.specs.Lists.{IsIn}
 use Rattle.depot_model.specs.Contents.{Writes}
 use Rattle.depot_model.specs.Order.{RisesStrictly, listed, AreLatestIn, IsCausal}
 use Rattle.depot_model.specs.Items.{PrecedesAt, updates_at}
-use Rattle.depot_model.proofs.Elements.{in_at}
+use Rattle.depot_model.proofs.Elements.{in_at, of_place, at_its_place}
 use Rattle.depot_index.specs.LatestItems.{RisesBy, AreLatestOf}
-use Rattle.depot_index.proofs.ItemLists.{IsIn as InList, from_contains, to_contains}
+use Rattle.depot_base.proofs.MembershipLaws.{from_contains, to_contains}
 use Rattle.depot_graph.specs.Listing.{ListedAt}
 use Rattle.depot_graph.specs.OrderLaws.{at_both, listed_both, one_place}
 use Rattle.depot_graph.proofs.ClockedItems.{place_of}
@@ -26,34 +26,18 @@ listed_tells us a b t u told at_a at_b is = (
 abbrev pub AreWriters : List ℕ → List Update → List ℕ → Type 0
 AreWriters key us among = (a : ℕ) → (Contains among a → (u : Update) × ((slice_get us a ≡ Some u) × Writes key u)) × ((u : Update) → slice_get us a ≡ Some u → Writes key u → Contains among a)
 
-at_in : (us : List Update) (ns : List ℕ) (n : ℕ) (u : Update) → InList n ns → slice_get us n ≡ Some u → IsIn u (updates_at us ns)
-at_in us [] n u never e = absurd never
-at_in us (m ∷ ns) n u (inl here) e = subst (λ (o : Option Update). IsIn u (option_to_list o ++ updates_at us ns)) (sym (ap (slice_get us) here ∙ e)) (inl refl)
-at_in us (m ∷ ns) n u (inr on) e = behind (slice_get us m) (at_in us ns n u on e) where
-  behind : (o : Option Update) → IsIn u (updates_at us ns) → IsIn u (option_to_list o ++ updates_at us ns)
-  behind None there = there
-  behind (Some t) there = inr there
-
-in_places : (us : List Update) (ns : List ℕ) (u : Update) → IsIn u (updates_at us ns) → (n : ℕ) × (InList n ns × (slice_get us n ≡ Some u))
-in_places us [] u never = absurd never
-in_places us (m ∷ ns) u on = go (slice_get us m) refl on (in_places us ns u) where
-  go : (o : Option Update) → slice_get us m ≡ o → IsIn u (option_to_list o ++ updates_at us ns) → (IsIn u (updates_at us ns) → (n : ℕ) × (InList n ns × (slice_get us n ≡ Some u))) → (n : ℕ) × (InList n (m ∷ ns) × (slice_get us n ≡ Some u))
-  go None e there rest = let r = rest there in (r.0, (inr r.1.0, r.1.1))
-  go (Some t) e (inl here) rest = (m, (inl refl, e ∙ ap (λ (v : Update). Some v) here))
-  go (Some t) e (inr there) rest = let r = rest there in (r.0, (inr r.1.0, r.1.1))
-
 -- two places of one update are one
 same_place : (us : List Update) (a b : ℕ) (t : Update) → IsCausal [] us → slice_get us a ≡ Some t → slice_get us b ≡ Some t → a ≡ b
 same_place us a b t c at_a at_b = one_place [] us a b t t c at_a at_b refl
 
-listed_all : (us : List Update) (n : ℕ) (t : Update) (ns : List ℕ) → slice_get us n ≡ Some t → ((m : ℕ) → InList m ns → (u : Update) × (slice_get us m ≡ Some u)) → AllByRecursion (λ u. is_lt (listed t u) ≡ true) (updates_at us ns) → AllByRecursion (ListedAt us n) ns
+listed_all : (us : List Update) (n : ℕ) (t : Update) (ns : List ℕ) → slice_get us n ≡ Some t → ((m : ℕ) → IsIn m ns → (u : Update) × (slice_get us m ≡ Some u)) → AllByRecursion (λ u. is_lt (listed t u) ≡ true) (updates_at us ns) → AllByRecursion (ListedAt us n) ns
 listed_all us n t [] e there all = tt
 listed_all us n t (m ∷ ns) e there all =
     let u = there m (inl refl) in
     let both = subst (λ (o : Option Update). AllByRecursion (λ u. is_lt (listed t u) ≡ true) (option_to_list o ++ updates_at us ns)) u.1 all in
     ((t, (e, (u.0, (u.1, both.0)))), listed_all us n t ns e (λ k on. there k (inr on)) both.1)
 
-listed_rises : (us : List Update) (ns : List ℕ) → ((m : ℕ) → InList m ns → (u : Update) × (slice_get us m ≡ Some u)) → RisesStrictly (updates_at us ns) → RisesBy (ListedAt us) ns
+listed_rises : (us : List Update) (ns : List ℕ) → ((m : ℕ) → IsIn m ns → (u : Update) × (slice_get us m ≡ Some u)) → RisesStrictly (updates_at us ns) → RisesBy (ListedAt us) ns
 listed_rises us [] there rises = tt
 listed_rises us (n ∷ ns) there rises =
     let t = there n (inl refl) in
@@ -61,7 +45,7 @@ listed_rises us (n ∷ ns) there rises =
     (listed_all us n t.0 ns t.1 (λ m on. there m (inr on)) both.0, listed_rises us ns (λ m on. there m (inr on)) both.1)
 
 -- the places of the latest writes are the latest of the items that write the key
-pub latest_items : (key : List ℕ) (us : List Update) (among latest : List ℕ) → IsCausal [] us → AreWriters key us among → ((n : ℕ) → InList n latest → (u : Update) × (slice_get us n ≡ Some u)) → AreLatestIn key us (updates_at us latest) → AreLatestOf (PrecedesAt us) (ListedAt us) among latest
+pub latest_items : (key : List ℕ) (us : List Update) (among latest : List ℕ) → IsCausal [] us → AreWriters key us among → ((n : ℕ) → IsIn n latest → (u : Update) × (slice_get us n ≡ Some u)) → AreLatestIn key us (updates_at us latest) → AreLatestOf (PrecedesAt us) (ListedAt us) among latest
 latest_items key us among latest c writers there l = record {
   all = λ a is.
       let t = (writers a).0 is.0 in
@@ -72,12 +56,12 @@ latest_items key us among latest c writers there l = record {
             let b = place_of us v v_in in
             is.1 b.0 ((writers b.0).1 v b.1 v_writes) ((at_both us a b.0 t.0 v t.1.0 b.1).1 p);
       }) in
-      let n = in_places us latest t.0 on in
-      to_contains latest a (subst (λ (m : ℕ). InList m latest) (same_place us n.0 a t.0 c n.1.1 t.1.0) n.1.0);
+      let n = of_place us latest t.0 on in
+      to_contains a latest (subst (λ (m : ℕ). IsIn m latest) (same_place us n.0 a t.0 c n.1.1 t.1.0) n.1.0);
   only = λ a on.
-      let a_in = from_contains latest a on in
+      let a_in = from_contains a latest on in
       let t = there a a_in in
-      let is = l.only t.0 (at_in us latest a t.0 a_in t.1) in (
+      let is = l.only t.0 (at_its_place us latest a t.0 a_in t.1) in (
         (writers a).1 t.0 t.1 is.writes,
         λ b b_on p.
             let v = (writers b).0 b_on in

@@ -3,8 +3,6 @@ use Rattle.std.proofs.Common.{◌≡◌, ℕ, zero, suc, ◌<◌, ◌+◌, List,
 use Rattle.std.specs.List.{AllByRecursion}
 use Rattle.std.specs.Option.{option_to_list, option_map_or}
 use Rattle.std.specs.Ordering.{is_lt}
-use Rattle.std.specs.Str.{bytes_eq}
-use Rattle.std.proofs.lemmas.Slice.Eq.{bytes_eq-Decides}
 use Rattle.std.proofs.lemmas.Option.{slice_get-get_or}
 use Rattle.std.proofs.lemmas.List.{length_push}
 use Rattle.depot_base.specs.declared.update.Update.{Update}
@@ -12,8 +10,10 @@ use Rattle.depot_model.specs.Texts.{id_of_update}
 use Rattle.depot_model.specs.Order.{listed, past, IsCausal, AreLatestIn}
 use Rattle.depot_model.specs.Items.{updates_at}
 use Rattle.depot_model.specs.Journal.{has_id}
+use Rattle.depot_model.specs.Contents.{Writes, writes}
 use Rattle.depot_model.proofs.Elements.{get_front}
 use Rattle.depot_model.proofs.Orders.{causal_front}
+use Rattle.depot_model.proofs.ContentLaws.{writes-Decides}
 use Rattle.depot_base.proofs.GeneralLaws.{get_last}
 use Rattle.depot_graph.specs.KeptLatest.{stands_before, put_place, is_apart, mended, latest_behind, latest_places}
 use Rattle.depot_graph.proofs.RisingLaws.{put_listed}
@@ -100,7 +100,7 @@ pub record AreLatestPlaces (key : List ℕ) (us : List Update) (ns : List ℕ) :
   pub below : AreBelow (length us) ns
   pub latest : AreLatestIn key us (updates_at us ns)
 
-mended_places : (key : List ℕ) (us : List Update) (u : Update) (ns : List ℕ) → IsCausal [] (us ++ u ∷ []) → u.key ≡ key → AreLatestPlaces key us ns → AreLatestPlaces key (us ++ u ∷ []) (mended u us ns)
+mended_places : (key : List ℕ) (us : List Update) (u : Update) (ns : List ℕ) → IsCausal [] (us ++ u ∷ []) → Writes key u → AreLatestPlaces key us ns → AreLatestPlaces key (us ++ u ∷ []) (mended u us ns)
 mended_places key us u ns c writes old = record {
   below = subst (λ (n : ℕ). AreBelow n (mended u us ns)) (sym (length_push us u)) (below_put us u (filter (is_apart u us) ns) (below_filter (is_apart u us) (length us) ns old.below));
   latest = subst (AreLatestIn key (us ++ u ∷ []))
@@ -108,15 +108,15 @@ mended_places key us u ns c writes old = record {
       (mended_are_latest key us u c (updates_at us ns) writes old.latest);
 }
 
-same_places : (key : List ℕ) (us : List Update) (u : Update) (ns : List ℕ) → IsCausal [] (us ++ u ∷ []) → (u.key ≡ key → ⊥) → AreLatestPlaces key us ns → AreLatestPlaces key (us ++ u ∷ []) ns
+same_places : (key : List ℕ) (us : List Update) (u : Update) (ns : List ℕ) → IsCausal [] (us ++ u ∷ []) → (Writes key u → ⊥) → AreLatestPlaces key us ns → AreLatestPlaces key (us ++ u ∷ []) ns
 same_places key us u ns c other old = record {
   below = subst (λ (n : ℕ). AreBelow n ns) (sym (length_push us u)) (below_more (length us) ns old.below);
   latest = subst (AreLatestIn key (us ++ u ∷ [])) (sym (updates_at-front us (u ∷ []) ns old.below)) (others_stay key us u c (updates_at us ns) other old.latest);
 }
 
-next_places : (b : Bool) (key : List ℕ) (us : List Update) (u : Update) (ns : List ℕ) → bytes_eq key u.key ≡ b → IsCausal [] (us ++ u ∷ []) → AreLatestPlaces key us ns → AreLatestPlaces key (us ++ u ∷ []) (cond b (mended u us ns) ns)
-next_places true key us u ns e c old = mended_places key us u ns c (sym ((bytes_eq-Decides key u.key).0 e)) old
-next_places false key us u ns e c old = same_places key us u ns c (λ same. differs (sym ((bytes_eq-Decides key u.key).1 (sym same)) ∙ e)) old where
+next_places : (b : Bool) (key : List ℕ) (us : List Update) (u : Update) (ns : List ℕ) → writes key u ≡ b → IsCausal [] (us ++ u ∷ []) → AreLatestPlaces key us ns → AreLatestPlaces key (us ++ u ∷ []) (cond b (mended u us ns) ns)
+next_places true key us u ns e c old = mended_places key us u ns c ((writes-Decides key u).0 e) old
+next_places false key us u ns e c old = same_places key us u ns c (λ same. differs (sym ((writes-Decides key u).1 same) ∙ e)) old where
   differs : true ≡ false → ⊥
   differs h = cc
 
@@ -126,9 +126,9 @@ behind_places key front [] ns c old = subst (λ (us : List Update). AreLatestPla
 behind_places key front (u ∷ us) ns c old =
     let whole : (front ++ u ∷ []) ++ us ≡ front ++ u ∷ us = append_assoc front (u ∷ []) us in
     let causal : IsCausal [] ((front ++ u ∷ []) ++ us) = subst (IsCausal []) (sym whole) c in
-    let next = cond (bytes_eq key u.key) (mended u front ns) ns in
+    let next = cond (writes key u) (mended u front ns) ns in
     subst (λ (ws : List Update). AreLatestPlaces key ws (latest_behind key (front ++ u ∷ []) next us)) whole
-    (behind_places key (front ++ u ∷ []) us next causal (next_places (bytes_eq key u.key) key front u ns refl (causal_front [] (front ++ u ∷ []) us causal) old))
+    (behind_places key (front ++ u ∷ []) us next causal (next_places (writes key u) key front u ns refl (causal_front [] (front ++ u ∷ []) us causal) old))
 
 -- what is mended update by update are the latest writes
 pub are_latest_places : (key : List ℕ) (us : List Update) → IsCausal [] us → AreLatestPlaces key us (latest_places key us)
@@ -141,13 +141,13 @@ pub kept_below : (key : List ℕ) (us : List Update) → IsCausal [] us → AreB
 kept_below key us c = (are_latest_places key us c).below
 
 -- one update more
-behind-push : (key : List ℕ) (front : List Update) (ns : List ℕ) (us : List Update) (u : Update) → latest_behind key front ns (us ++ u ∷ []) ≡ cond (bytes_eq key u.key) (mended u (front ++ us) (latest_behind key front ns us)) (latest_behind key front ns us)
+behind-push : (key : List ℕ) (front : List Update) (ns : List ℕ) (us : List Update) (u : Update) → latest_behind key front ns (us ++ u ∷ []) ≡ cond (writes key u) (mended u (front ++ us) (latest_behind key front ns us)) (latest_behind key front ns us)
 unfolding latest_behind
-behind-push key front ns [] u = ap (λ (ws : List Update). cond (bytes_eq key u.key) (mended u ws ns) ns) (sym (append-nil front))
+behind-push key front ns [] u = ap (λ (ws : List Update). cond (writes key u) (mended u ws ns) ns) (sym (append-nil front))
 behind-push key front ns (t ∷ us) u =
-    let next = cond (bytes_eq key t.key) (mended t front ns) ns in
+    let next = cond (writes key t) (mended t front ns) ns in
     behind-push key (front ++ t ∷ []) next us u
-    ∙ ap (λ (ws : List Update). cond (bytes_eq key u.key) (mended u ws (latest_behind key (front ++ t ∷ []) next us)) (latest_behind key (front ++ t ∷ []) next us)) (append_assoc front (t ∷ []) us)
+    ∙ ap (λ (ws : List Update). cond (writes key u) (mended u ws (latest_behind key (front ++ t ∷ []) next us)) (latest_behind key (front ++ t ∷ []) next us)) (append_assoc front (t ∷ []) us)
 
-pub latest_places-push : (key : List ℕ) (us : List Update) (u : Update) → latest_places key (us ++ u ∷ []) ≡ cond (bytes_eq key u.key) (mended u us (latest_places key us)) (latest_places key us)
+pub latest_places-push : (key : List ℕ) (us : List Update) (u : Update) → latest_places key (us ++ u ∷ []) ≡ cond (writes key u) (mended u us (latest_places key us)) (latest_places key us)
 latest_places-push key us u = behind-push key [] [] us u

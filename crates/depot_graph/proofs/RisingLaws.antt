@@ -6,7 +6,7 @@ use Rattle.depot_base.specs.declared.update.Update.{Update}
 use Rattle.depot_model.specs.Lists.{IsIn}
 use Rattle.depot_model.specs.Texts.{id_of_update}
 use Rattle.depot_model.specs.Order.{listed, RisesStrictly}
-use Rattle.depot_graph.specs.OrderLaws.{listed_trans, listed_back}
+use Rattle.depot_model.proofs.LatestLaws.{listed_trans, listed_back}
 
 -- u put in front of the first before which it stands
 unfoldable pub put_listed : Update → List Update → List Update

@@ -2,9 +2,8 @@
 use Rattle.std.specs.Prelude.{ℕ, List, [], ◌∷◌, ◌++◌, length, filter, Bool, false, true, not, slice_get, if◌then◌else◌}
 use Rattle.std.specs.Option.{option_map_or}
 use Rattle.std.specs.Ordering.{is_lt}
-use Rattle.std.specs.Str.{bytes_eq}
 use Rattle.depot_base.specs.declared.update.Update.{Update}
-use Rattle.depot_model.specs.Contents.{key_written}
+use Rattle.depot_model.specs.Contents.{writes}
 use Rattle.depot_model.specs.Order.{listed, past}
 use Rattle.depot_model.specs.Journal.{has_id}
 use Rattle.depot_model.specs.Texts.{id_of_update}
@@ -29,7 +28,7 @@ mended u us ns = put_place u us (filter (is_apart u us) ns)
 -- from the latest writes of a key in front, those once these updates stand behind
 unfoldable pub latest_behind : List ℕ → List Update → List ℕ → List Update → List ℕ
 latest_behind key front ns [] = ns
-latest_behind key front ns (u ∷ us) = latest_behind key (front ++ u ∷ []) (if bytes_eq key (key_written u) then mended u front ns else ns) us
+latest_behind key front ns (u ∷ us) = latest_behind key (front ++ u ∷ []) (if writes key u then mended u front ns else ns) us
 
 -- the places of the latest writes of a key
 abbrev pub latest_places : List ℕ → List Update → List ℕ

@@ -1,18 +1,13 @@
 -- The two orders of updates by places, by paths of parents and as they are listed, are orders.
 use Rattle.std.proofs.Common.{◌≡◌, ℕ, zero, suc, ◌<◌, ◌⊎◌, List, [], ◌∷◌, Some, Bool, true, false, refl, sym, ap, subst, ◌∙◌, arith, inl, inr, slice_get, length}
-use Rattle.std.specs.declared.cmp.Ordering.{Ordering}
-use Rattle.std.specs.declared.cmp.Ordering.TheVariants.{Less, Equal, Greater}
-use Rattle.std.specs.Ordering.{is_lt, is_eq, ordering_reverse}
+use Rattle.std.specs.Ordering.{is_lt}
 use Rattle.std.proofs.lemmas.Bool.{cases_order}
-use Rattle.std.proofs.lemmas.Cmp.{nat_list_cmp_total}
-use Rattle.std.proofs.lemmas.Map.Text.{is_eq-slice_cmp}
-use Rattle.std.proofs.lemmas.Slice.Eq.{bytes_eq-Decides}
 use Rattle.depot_base.specs.declared.update.Update.{Update}
 use Rattle.depot_model.specs.Texts.{id_of_update}
 use Rattle.depot_model.specs.Order.{IsParent, Precedes, listed, IsCausal}
 use Rattle.depot_model.specs.Items.{PrecedesAt}
 use Rattle.depot_model.proofs.Elements.{in_at, both_at}
-use Rattle.depot_model.proofs.LatestLaws.{rank, listed_one_way}
+use Rattle.depot_model.proofs.LatestLaws.{listed_one_way, listed_trans, listed_back}
 use Rattle.depot_model.proofs.Orders.{fresh, causal_behind, leads_trans, precedes_irreflexive}
 use Rattle.depot_base.proofs.GeneralLaws.{at_place}
 use Rattle.std.proofs.lemmas.Option.{same_Some}
@@ -41,30 +36,7 @@ precedes_on us a b d p q =
     let first = (at_both us a b before.first behind.first before.at_first behind.at_first).0 p in
     (before.first, (before.at_first, (behind.second, (behind.at_second, leads_trans (IsParent us) before.first behind.first behind.second first behind.holds))))
 
--- ---- the listed order of updates
-
-lt_is : (o : Ordering) → is_lt o ≡ true → o ≡ Less
-lt_is Less e = refl
-lt_is Equal e = absurd cc
-lt_is Greater e = absurd cc
-
-pub listed_trans : (t u v : Update) → is_lt (listed t u) ≡ true → is_lt (listed u v) ≡ true → is_lt (listed t v) ≡ true
-listed_trans t u v p q = ap is_lt (nat_list_cmp_total.trans (rank t) (rank u) (rank v) (lt_is _ p) (lt_is _ q))
-
-ends : (a b c : ℕ) (xs : List ℕ) (d e f : ℕ) (ys : List ℕ) → a ∷ b ∷ c ∷ xs ≡ d ∷ e ∷ f ∷ ys → xs ≡ ys
-ends a b c xs d e f ys h = cc
-
-tied_ids : (t u : Update) → listed t u ≡ Equal → id_of_update t ≡ id_of_update u
-tied_ids t u e = ends t.clock t.writer t.seq (id_of_update t) u.clock u.writer u.seq (id_of_update u) ((bytes_eq-Decides (rank t) (rank u)).0 (sym (is_eq-slice_cmp (rank t) (rank u)) ∙ ap is_eq e))
-
-turned : (o p : Ordering) → o ≡ ordering_reverse p → is_lt p ≡ false → (p ≡ Equal → ⊥) → is_lt o ≡ true
-turned o Less e n ne = absurd cc
-turned o Equal e n ne = absurd (ne refl)
-turned o Greater e n ne = ap is_lt e
-
--- of two with different ids one stands before the other
-pub listed_back : (u t : Update) → is_lt (listed u t) ≡ false → (id_of_update t ≡ id_of_update u → ⊥) → is_lt (listed t u) ≡ true
-listed_back u t n ne = turned (listed t u) (listed u t) (nat_list_cmp_total.antisymm (rank t) (rank u)) n (λ e. ne (sym (tied_ids u t e)))
+-- ---- by ids
 
 -- no id stands at two places
 pub one_place : (ids : List (List ℕ)) (us : List Update) (i j : ℕ) (t u : Update) → IsCausal ids us → slice_get us i ≡ Some t → slice_get us j ≡ Some u → id_of_update t ≡ id_of_update u → i ≡ j

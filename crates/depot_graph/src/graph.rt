@@ -364,7 +364,7 @@ impl Graph {
             items: &self.items,
             clocks: &self.clocks,
         };
-        let key = &item_at(&self.items, number).1.key;
+        let key = item_at(&self.items, number).1.key_written();
         let _ = self.latest.add(&order, key, number, steps);
         let _ = self.chains.add(prev);
         Ok(())

@@ -13,7 +13,7 @@ use Rattle.depot_model.specs.Texts.{id_of_update}
 use Rattle.depot_model.specs.Order.{IsCausal, Precedes, parents, prevs}
 use Rattle.depot_model.specs.History.{is_prev_in, leaves_of}
 use Rattle.depot_model.specs.Items.{AreLeaves, places_where, place_of_id, place_of_prev, children_of, children_by}
-use Rattle.depot_model.proofs.Elements.{in_at, both_at}
+use Rattle.depot_model.proofs.Elements.{in_at, both_at, of_place, at_its_place}
 use Rattle.depot_model.proofs.Members.{in_left, in_pushed, in_last, all_push, any_from, any_to, among_from, among_to, chosen_cases, chosen_front, chosen_behind, from_filter, in_filter}
 use Rattle.depot_model.proofs.Orders.{first_names_none, causal_behind}
 use Rattle.depot_model.proofs.RisingLists.{HaveSame}
@@ -21,14 +21,15 @@ use Rattle.depot_virtual.specs.Spots.{IsForest, IsTip, IsAt, spots, number_of_ch
 use Rattle.depot_virtual.proofs.Placing.{all_placed, back_by, tip_is_highest}
 use Rattle.depot_graph.specs.Kept.{prev_places}
 use Rattle.depot_graph.specs.UpdateRows.{IsJoinedRow}
+use Rattle.depot_graph.specs.OrderLaws.{one_place}
 use Rattle.depot_base.proofs.GeneralLaws.{at_place}
 use Rattle.depot_graph.proofs.ClockedItems.{place_of}
 use Rattle.depot_history.specs.Closure.{closure_of}
 use Rattle.depot_history.specs.PastLeaves.{standing}
 use Rattle.depot_history.specs.PastChains.{IsCovered, IsLast, IsLastCounted}
-use Rattle.depot_graph.proofs.ItemPlaces.{has_place, own_place, below_more}
+use Rattle.depot_graph.proofs.ItemPlaces.{has_place, below_more}
 use Rattle.depot_history.proofs.Reaching.{closure_in, closure_precedes, precedes_closure}
-use Rattle.depot_history.proofs.Sorting.{of_place, at_its_place, standing_is, is_standing}
+use Rattle.depot_history.proofs.Sorting.{standing_is, is_standing}
 
 -- ---- the places where a test holds
 
@@ -156,11 +157,9 @@ covered_in us items n t c at (m, (on, inr before)) =
 
 in_covered : (us : List Update) (items : List ℕ) (n : ℕ) (t : Update) → IsCausal [] us → slice_get us n ≡ Some t → IsIn t (closure_of items us) → IsCovered us items n
 in_covered us items n t c at on = elim (closure_precedes us items t c on) [
-  | inl here ↦ let p = of_place us items t here in (p.0, (p.1.0, inl (one_at us n p.0 t c at p.1.1)))
+  | inl here ↦ let p = of_place us items t here in (p.0, (p.1.0, inl (one_place [] us n p.0 t t c at p.1.1 refl)))
   | inr p ↦ let q = of_place us items p.0 p.1.0 in (q.0, (q.1.0, inr (t, (at, (p.0, (q.1.1, p.1.1))))))
-] where
-  one_at : (us : List Update) (n m : ℕ) (t : Update) → IsCausal [] us → slice_get us n ≡ Some t → slice_get us m ≡ Some t → n ≡ m
-  one_at us n m t c at also = let both : Some n ≡ Some m = sym (own_place us n t c at) ∙ own_place us m t c also in cc
+]
 
 -- what is last is a leaf of the past
 last_leaf : (us : List Update) (items : List ℕ) (n : ℕ) (t : Update) → IsCausal [] us → slice_get us n ≡ Some t → IsLast us items n → IsIn t (leaves_of (closure_of items us))

@@ -1,6 +1,6 @@
 -- What is hashed, and the entries that the next update names.
-use Rattle.std.proofs.Common.{◌≡◌, ℕ, ◌+◌, ◌<◌, add-one, take, get_or, ◌++◌, Bool, true, false, cond, not, ◌&&◌, eqb, List, [], ◌∷◌, length, map, Option, Some, None, unwrap_or, refl, sym, ap, subst, ◌∙◌, inl, inr}
-use Rattle.std.specs.Prelude.{slice_get, IfOk, Result, Ok, Err}
+use Rattle.std.proofs.Common.{◌≡◌, ℕ, ◌+◌, ◌<◌, add-one, take, get_or, ◌++◌, Bool, true, false, cond, not, eqb, List, [], ◌∷◌, length, map, Option, Some, None, unwrap_or, refl, sym, ap, subst, ◌∙◌, inl, inr}
+use Rattle.std.specs.Prelude.{slice_get}
 use Rattle.std.specs.List.{filter, flat_map, AllByRecursion}
 use Rattle.std.specs.Option.{option_to_list, option_map_or}
 use Rattle.std.specs.Str.{bytes_eq}
@@ -16,14 +16,14 @@ use Rattle.depot_model.specs.Order.{past, IsCausal, Precedes}
 use Rattle.depot_model.specs.History.{leaves_of, by_id, leaf_text, history_text, history_hash}
 use Rattle.depot_model.specs.Items.{at, place_of_id, place_of_prev, PrecedesAt, AreLeaves, updates_at}
 use Rattle.depot_model.specs.Journal.{has_id, named, prev_of}
-use Rattle.depot_model.specs.Own.{precedes_named, next_entries}
-use Rattle.depot_model.proofs.Elements.{in_at, both_at}
+use Rattle.depot_model.specs.Own.{precedes_named, next_entries, is_unseen}
+use Rattle.depot_model.proofs.Elements.{in_at, both_at, of_place, at_its_place}
 use Rattle.depot_model.proofs.Members.{in_left, in_right, in_pushed, all_push, from_filter, in_filter}
 use Rattle.depot_model.proofs.NamedIds.{named_is, named_some, has_id_from, has_id_to}
 use Rattle.depot_model.proofs.Orders.{one_of_id}
 use Rattle.depot_model.proofs.Pasts.{past_in, past_of_listed}
 use Rattle.depot_model.proofs.RisingLists.{HaveSame}
-use Rattle.depot_model.proofs.RisingUpdates.{AreApart, apart_from_causal, apart_filter, same_by_id}
+use Rattle.depot_model.proofs.RisingUpdates.{HaveOwnIds, own_ids_from_causal, own_ids_filter, same_by_id}
 use Rattle.depot_graph.proofs.ClockedItems.{place_of}
 use Rattle.depot_history.specs.Closure.{closure_of}
 use Rattle.depot_history.specs.PastLeaves.{row_of, leaf_in, standing, IsUnseen}
@@ -31,7 +31,7 @@ use Rattle.depot_history.specs.declared.leaf.Leaf.{Leaf}
 use Rattle.depot_graph.proofs.ItemPlaces.{has_place, own_place}
 use Rattle.depot_history.proofs.ChainLeaves.{leaves_stand}
 use Rattle.depot_history.proofs.Reaching.{reached_apart}
-use Rattle.depot_history.proofs.Sorting.{of_place, at_its_place, standing_is, is_standing, standing_apart}
+use Rattle.depot_history.proofs.Sorting.{standing_is, is_standing, standing_apart}
 
 -- ---- the history text
 
@@ -44,20 +44,20 @@ hash_is : (us s ts : List Update) (keys : List Leaf) (hash : List ℕ) → hash 
 unfolding history_hash history_text
 hash_is us s ts keys hash is are same = is ∙ ap (λ (ls : List Leaf). sha256 (flat_map row_of ls)) are ∙ ap sha256 (rows_of us (by_id ts)) ∙ ap (λ (xs : List Update). sha256 (flat_map leaf_text xs)) same
 
-leaves_apart : (s : List Update) → AreApart s → AreApart (leaves_of s)
+leaves_apart : (s : List Update) → HaveOwnIds s → HaveOwnIds (leaves_of s)
 unfolding leaves_of
-leaves_apart s apart = apart_filter _ s apart
+leaves_apart s apart = own_ids_filter _ s apart
 
 -- that of all
 pub hash_of_all : (us : List Update) (leaves : List ℕ) (keys : List Leaf) (hash : List ℕ) → IsCausal [] us → AreLeaves us leaves → hash ≡ sha256 (flat_map row_of keys) → keys ≡ map (leaf_in us) (by_id (standing us leaves)) → hash ≡ history_hash us
 hash_of_all us leaves keys hash c are is sorted =
-    hash_is us us (standing us leaves) keys hash is sorted (same_by_id (standing us leaves) (leaves_of us) (standing_apart us leaves c) (leaves_apart us (apart_from_causal [] us c)) (leaves_stand us leaves c are))
+    hash_is us us (standing us leaves) keys hash is sorted (same_by_id (standing us leaves) (leaves_of us) (standing_apart us leaves c) (leaves_apart us (own_ids_from_causal [] us c)) (leaves_stand us leaves c are))
 
 -- that of a past
 pub hash_of_past : (us : List Update) (items found : List ℕ) (keys : List Leaf) (hash : List ℕ) → IsCausal [] us → HaveSame (standing us found) (leaves_of (closure_of items us)) → hash ≡ sha256 (flat_map row_of keys) → keys ≡ map (leaf_in us) (by_id (standing us found)) → hash ≡ history_hash (closure_of items us)
 unfolding closure_of
 hash_of_past us items found keys hash c same is sorted =
-    hash_is us (closure_of items us) (standing us found) keys hash is sorted (same_by_id (standing us found) (leaves_of (closure_of items us)) (standing_apart us found c) (leaves_apart (closure_of items us) (reached_apart _ us (apart_from_causal [] us c))) same)
+    hash_is us (closure_of items us) (standing us found) keys hash is sorted (same_by_id (standing us found) (leaves_of (closure_of items us)) (standing_apart us found c) (leaves_apart (closure_of items us) (reached_apart _ us (own_ids_from_causal [] us c))) same)
 
 -- ---- what precedes the last own update
 
@@ -102,18 +102,15 @@ before_prev us h t n p c at place before = by_test (bytes_eq h zeros) place wher
 
 -- ---- the entries of the next own update
 
-abbrev goes_in : List Update → ℕ → List ℕ → Update → Bool
-goes_in us me h t = not (eqb t.writer me) && not (precedes_named us h t)
-
-unseen_goes_in : (us : List Update) (me : ℕ) (h : List ℕ) (last : Option ℕ) (n : ℕ) (t : Update) → IsCausal [] us → place_of_prev h us ≡ last → slice_get us n ≡ Some t → IsUnseen us me last n → goes_in us me h t ≡ true
-unseen_goes_in us me h last n t c is at unseen =
+unseen_is : (us : List Update) (me : ℕ) (h : List ℕ) (last : Option ℕ) (n : ℕ) (t : Update) → IsCausal [] us → place_of_prev h us ≡ last → slice_get us n ≡ Some t → IsUnseen us me last n → is_unseen me us h t ≡ true
+unseen_is us me h last n t c is at unseen =
     let other : t.writer ≡ me → ⊥ = λ same. let there : unseen.other.0 ≡ t = let both : Some unseen.other.0 ≡ Some t = sym unseen.other.1.0 ∙ at in cc in unseen.other.1.1 (ap (λ (x : Update). x.writer) there ∙ same) in
     and_from (not (eqb t.writer me)) (not (precedes_named us h t))
     (ap not (false_from_ne_true _ (λ e. other (eqb-true _ _ e))))
     (ap not (false_from_ne_true _ (λ e. let p = prev_before us h t n c at e in unseen.apart p.0 (sym is ∙ p.1.0) p.1.1)))
 
-goes_in_unseen : (us : List Update) (me : ℕ) (h : List ℕ) (last : Option ℕ) (n : ℕ) (t : Update) → IsCausal [] us → place_of_prev h us ≡ last → slice_get us n ≡ Some t → goes_in us me h t ≡ true → IsUnseen us me last n
-goes_in_unseen us me h last n t c is at e =
+is_of_unseen : (us : List Update) (me : ℕ) (h : List ℕ) (last : Option ℕ) (n : ℕ) (t : Update) → IsCausal [] us → place_of_prev h us ≡ last → slice_get us n ≡ Some t → is_unseen me us h t ≡ true → IsUnseen us me last n
+is_of_unseen us me h last n t c is at e =
     let parts = and_parts (not (eqb t.writer me)) (not (precedes_named us h t)) e in
     record {
       other = (t, (at, λ same. both_ways (eqb t.writer me) (not-true _ parts.0) (eq-eqb _ _ same)));
@@ -125,15 +122,15 @@ pub entries_are : (us : List Update) (me : ℕ) (h : List ℕ) (last : Option �
 unfolding next_entries
 entries_are us me h last leaves unseen c are is each =
     let all = leaves_stand us leaves c are in
-    same_by_id (standing us unseen) (filter (goes_in us me h) (leaves_of us)) (standing_apart us unseen c) (apart_filter (goes_in us me h) (leaves_of us) (leaves_apart us (apart_from_causal [] us c))) (record {
+    same_by_id (standing us unseen) (filter (is_unseen me us h) (leaves_of us)) (standing_apart us unseen c) (own_ids_filter (is_unseen me us h) (leaves_of us) (leaves_apart us (own_ids_from_causal [] us c))) (record {
       to = λ t on.
           let p = of_place us unseen t (standing_is us unseen t c on) in
           let known = (each p.0).0 p.1.0 in
-          in_filter (goes_in us me h) t (leaves_of us) (all.to t (is_standing us leaves t (at_its_place us leaves p.0 t known.0 p.1.1))) (unseen_goes_in us me h last p.0 t c is p.1.1 known.1);
+          in_filter (is_unseen me us h) t (leaves_of us) (all.to t (is_standing us leaves t (at_its_place us leaves p.0 t known.0 p.1.1))) (unseen_is us me h last p.0 t c is p.1.1 known.1);
       back = λ t on.
-          let f = from_filter (goes_in us me h) t (leaves_of us) on in
+          let f = from_filter (is_unseen me us h) t (leaves_of us) on in
           let p = of_place us leaves t (standing_is us leaves t c (all.back t f.0)) in
-          is_standing us unseen t (at_its_place us unseen p.0 t ((each p.0).1 (p.1.0, goes_in_unseen us me h last p.0 t c is p.1.1 f.1)) p.1.1);
+          is_standing us unseen t (at_its_place us unseen p.0 t ((each p.0).1 (p.1.0, is_of_unseen us me h last p.0 t c is p.1.1 f.1)) p.1.1);
     })
 
 -- ---- one item after the other
@@ -194,8 +191,3 @@ updates_back us (t ∷ ts) c within =
 pub items_within : (us ts : List Update) → IsCausal [] us → ((u : Update) → IsIn u ts → IsIn u us) → AllByRecursion (λ item. item < length us) (map (λ l. l.item) (map (leaf_in us) ts))
 items_within us [] c within = tt
 items_within us (t ∷ ts) c within = (slice_get_within us (leaf_in us t).item t (item_of us t c (within t (inl refl))), items_within us ts c (λ u on. within u (inr on)))
-
--- what holds of a value that is given
-pub if_ok : {T E : Type 0} (r : Result T E) (P Q : T → Type 0) → IfOk r P → ((v : T) → P v → Q v) → IfOk r Q
-if_ok (Ok v) P Q p more = more v p
-if_ok (Err e) P Q p more = tt

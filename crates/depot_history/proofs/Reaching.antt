@@ -11,7 +11,7 @@ use Rattle.depot_model.specs.Items.{updates_at}
 use Rattle.depot_model.proofs.Elements.{in_at}
 use Rattle.depot_model.proofs.Members.{all_at, all_from, in_map, from_map, in_parts, among_from, among_to, chosen_cases, chosen_behind, chosen_front}
 use Rattle.depot_model.proofs.Orders.{parent_precedes, leads_more, first_names_none, causal_behind, one_of_id, precedes_from}
-use Rattle.depot_model.proofs.RisingUpdates.{AreApart}
+use Rattle.depot_model.proofs.RisingUpdates.{HaveOwnIds}
 use Rattle.depot_model.proofs.Pasts.{named_by, is_named_by}
 use Rattle.depot_history.specs.Closure.{reached, closure_of}
 
@@ -131,10 +131,10 @@ past_is_reached u [] = refl
 past_is_reached u (t ∷ ts) = ap (λ (rest : List Update). cond (is_among (id_of_update t) (parents u) || is_named t rest) (t ∷ rest) rest) (past_is_reached u ts)
 
 -- no id stands twice in what is reached
-pub reached_apart : (ids : List (List ℕ)) (us : List Update) → AreApart us → AreApart (reached ids us)
+pub reached_apart : (ids : List (List ℕ)) (us : List Update) → HaveOwnIds us → HaveOwnIds (reached ids us)
 unfolding reached
 reached_apart ids [] apart = tt
 reached_apart ids (t ∷ ts) apart = by_test (is_among (id_of_update t) ids || is_named t (reached ids ts)) (reached_apart ids ts apart.1) where
-  by_test : (b : Bool) → AreApart (reached ids ts) → AreApart (cond b (t ∷ reached ids ts) (reached ids ts))
+  by_test : (b : Bool) → HaveOwnIds (reached ids ts) → HaveOwnIds (cond b (t ∷ reached ids ts) (reached ids ts))
   by_test true rest = (all_from (λ (u : Update). id_of_update u ≡ id_of_update t → ⊥) (reached ids ts) (λ u on. all_at (λ (u : Update). id_of_update u ≡ id_of_update t → ⊥) ts u apart.0 (reached_in ids ts u on)), rest)
   by_test false rest = rest

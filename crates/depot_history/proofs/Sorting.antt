@@ -1,16 +1,14 @@
 -- Leaves in order by writer and id, one put in after the other.
-use Rattle.std.proofs.Common.{◌≡◌, ℕ, ◌+◌, ◌<◌, Bool, true, false, cond, List, [], ◌∷◌, ◌++◌, length, map, take, get_or, Option, Some, None, unwrap_or, refl, sym, ap, subst, ◌∙◌, inl, inr}
+use Rattle.std.proofs.Common.{◌≡◌, ℕ, ◌+◌, ◌<◌, Bool, true, false, cond, List, [], ◌∷◌, ◌++◌, length, map, take, get_or, Option, Some, unwrap_or, refl, sym, ap, subst, ◌∙◌, inl, inr}
 use Rattle.std.specs.Prelude.{slice_get}
 use Rattle.std.specs.List.{filter}
-use Rattle.std.specs.Option.{option_to_list}
 use Rattle.std.specs.declared.cmp.Ordering.{Ordering}
 use Rattle.std.specs.declared.cmp.Ordering.TheVariants.{Less, Equal, Greater}
-use Rattle.std.specs.Ordering.{nat_cmp, is_lt, is_eq, ordering_then, ordering_reverse, match_ordering}
+use Rattle.std.specs.Ordering.{nat_cmp, is_lt, ordering_then, ordering_reverse, match_ordering}
 use Rattle.std.specs.Cmp.Lexicographic.{slice_cmp, nat_list_cmp_total}
 use Rattle.std.specs.BTreeSet.{insert_key}
 use Rattle.std.proofs.lemmas.Cmp.{nat_cmp_total}
-use Rattle.std.proofs.lemmas.Map.Text.{is_eq-slice_cmp}
-use Rattle.std.proofs.lemmas.Slice.Eq.{bytes_eq-Decides}
+use Rattle.std.proofs.lemmas.Map.Lookups.{exact_bytes}
 use Rattle.depot_base.specs.declared.update.Update.{Update}
 use Rattle.depot_model.specs.Lists.{IsIn, is_among}
 use Rattle.depot_model.specs.Texts.{id_of_update}
@@ -21,7 +19,7 @@ use Rattle.depot_model.proofs.Elements.{in_at, one_more}
 use Rattle.depot_model.proofs.Members.{in_parts, in_left, in_right, in_map, from_map, from_filter, in_filter, among_from, among_to, all_at, all_from}
 use Rattle.depot_model.proofs.Orders.{one_of_id}
 use Rattle.depot_model.proofs.RisingLists.{HaveSame}
-use Rattle.depot_model.proofs.RisingUpdates.{AreApart, apart_from_causal, apart_filter, Rises, rises_by_id, from_by_id, in_by_id, same_by_id}
+use Rattle.depot_model.proofs.RisingUpdates.{HaveOwnIds, own_ids_from_causal, own_ids_filter, Rises, rises_by_id, from_by_id, in_by_id, same_by_id}
 use Rattle.depot_history.specs.declared.leaf.Leaf.{Leaf}
 use Rattle.depot_history.specs.PastLeaves.{leaf_in, standing}
 use Rattle.depot_graph.proofs.ItemPlaces.{own_place}
@@ -40,9 +38,6 @@ decided Equal Less rest before same behind apart = refl
 decided Equal Greater rest before same behind apart = refl
 decided Equal Equal rest before same behind apart = absurd (apart refl)
 
-pub equal_ids : (a b : List ℕ) → slice_cmp nat_cmp a b ≡ Equal → a ≡ b
-equal_ids a b e = (bytes_eq-Decides a b).0 (sym (is_eq-slice_cmp a b) ∙ ap is_eq e)
-
 -- a leaf is put in where its update is
 pub insert_put : (us : List Update) (t : Update) (ts : List Update) → ((u : Update) → IsIn u ts → id_of_update u ≡ id_of_update t → ⊥)
     → insert_key leaf_cmp (map (leaf_in us) ts) (leaf_in us t) ≡ map (leaf_in us) (put_by_id t ts)
@@ -58,7 +53,7 @@ insert_put us t (u ∷ ts) apart =
     let ids_turned : slice_cmp nat_cmp (id_of_update t) (id_of_update u) ≡ ordering_reverse (slice_cmp nat_cmp (id_of_update u) (id_of_update t)) = nat_list_cmp_total.antisymm (id_of_update t) (id_of_update u) in
     ap (λ (o : Ordering). match_ordering (ordering_then o (ordering_then (slice_cmp nat_cmp (id_of_update t) (id_of_update u)) rest)) before same behind) writers_turned
     ∙ ap (λ (o : Ordering). match_ordering (ordering_then (ordering_reverse (nat_cmp u.writer t.writer)) (ordering_then o rest)) before same behind) ids_turned
-    ∙ decided (nat_cmp u.writer t.writer) (slice_cmp nat_cmp (id_of_update u) (id_of_update t)) rest before same behind (λ e. apart u (inl refl) (equal_ids (id_of_update u) (id_of_update t) e))
+    ∙ decided (nat_cmp u.writer t.writer) (slice_cmp nat_cmp (id_of_update u) (id_of_update t)) rest before same behind (λ e. apart u (inl refl) (exact_bytes (id_of_update u) (id_of_update t) e))
     ∙ through (is_lower u t) (insert_put us t ts (λ w on. apart w (inr on))) where
       through : (b : Bool) → insert_key leaf_cmp (map (leaf_in us) ts) (leaf_in us t) ≡ map (leaf_in us) (put_by_id t ts)
           → cond b (leaf_in us u ∷ insert_key leaf_cmp (map (leaf_in us) ts) (leaf_in us t)) (leaf_in us t ∷ leaf_in us u ∷ map (leaf_in us) ts) ≡ map (leaf_in us) (cond b (u ∷ put_by_id t ts) (t ∷ u ∷ ts))
@@ -113,29 +108,6 @@ insert_same us t (u ∷ ts) rise (inr there) =
 
 -- ---- what stands at some places
 
-from_option : {X : Type 0} (o : Option X) (x : X) → IsIn x (option_to_list o) → o ≡ Some x
-from_option None x never = absurd never
-from_option (Some y) x (inl here) = ap (λ (z : _). Some z) here
-from_option (Some y) x (inr never) = absurd never
-
--- what stands at these places stands at one of them
-pub of_place : (us : List Update) (places : List ℕ) (t : Update) → IsIn t (updates_at us places) → (n : ℕ) × (IsIn n places × (slice_get us n ≡ Some t))
-of_place us [] t never = absurd never
-of_place us (n ∷ ns) t on = elim (in_parts t (option_to_list (slice_get us n)) (updates_at us ns) on) [
-  | inl here ↦ (n, (inl refl, from_option (slice_get us n) t here))
-  | inr there ↦ let p = of_place us ns t there in (p.0, (inr p.1.0, p.1.1))
-]
-
-in_option : {X : Type 0} (o : Option X) (x : X) → o ≡ Some x → IsIn x (option_to_list o)
-in_option None x e = absurd cc
-in_option (Some y) x e = let same : y ≡ x = cc in inl same
-
--- and the other way
-pub at_its_place : (us : List Update) (places : List ℕ) (n : ℕ) (t : Update) → IsIn n places → slice_get us n ≡ Some t → IsIn t (updates_at us places)
-at_its_place us [] n t never at_n = never
-at_its_place us (m ∷ ms) n t (inl here) at_n = in_left t (option_to_list (slice_get us m)) (updates_at us ms) (in_option (slice_get us m) t (ap (slice_get us) here ∙ at_n))
-at_its_place us (m ∷ ms) n t (inr there) at_n = in_right t (option_to_list (slice_get us m)) (updates_at us ms) (at_its_place us ms n t there at_n)
-
 -- those that stand at some places are the updates there
 pub standing_is : (us : List Update) (places : List ℕ) (t : Update) → IsCausal [] us → IsIn t (standing us places) → IsIn t (updates_at us places)
 standing_is us places t c on =
@@ -147,8 +119,8 @@ is_standing us places t on =
     in_filter (λ (u : Update). is_among (id_of_update u) (map id_of_update (updates_at us places))) t us (at_places us places t on)
     (among_from (id_of_update t) (map id_of_update (updates_at us places)) (in_map id_of_update t (updates_at us places) on))
 
-pub standing_apart : (us : List Update) (places : List ℕ) → IsCausal [] us → AreApart (standing us places)
-standing_apart us places c = apart_filter (λ (u : Update). is_among (id_of_update u) (map id_of_update (updates_at us places))) us (apart_from_causal [] us c)
+pub standing_apart : (us : List Update) (places : List ℕ) → IsCausal [] us → HaveOwnIds (standing us places)
+standing_apart us places c = own_ids_filter (λ (u : Update). is_among (id_of_update u) (map id_of_update (updates_at us places))) us (own_ids_from_causal [] us c)
 
 -- what is sorted is of the list
 pub sorted_within : (us : List Update) (places : List ℕ) (t : Update) → IsIn t (by_id (standing us places)) → IsIn t us

@@ -1,47 +1,16 @@
 -- Lists of items: which are in them, those that are kept, and one more that is put in.
-use Rattle.std.proofs.Common.{◌≡◌, ℕ, zero, suc, ◌+◌, ◌<◌, ◌≤◌, ◌⊎◌, List, [], ◌∷◌, ◌++◌, length, take, drop, get_or, refl, sym, ap, subst, ◌∙◌, arith, inl, inr, Contains, All}
+use Rattle.std.proofs.Common.{◌≡◌, ℕ, zero, suc, ◌+◌, ◌<◌, ◌≤◌, ◌⊎◌, List, [], ◌∷◌, ◌++◌, length, take, drop, get_or, refl, sym, ap, subst, ◌∙◌, arith, inl, inr, All}
 use Rattle.std.specs.List.{AllByRecursion}
 use Rattle.std.proofs.Math.ListN.{set}
 use Rattle.std.proofs.lemmas.List.{get_or_default, take_more, take_more_set}
+use Rattle.depot_base.specs.Membership.{IsIn}
+use Rattle.depot_base.proofs.MembershipLaws.{in_read, to_contains}
 use Rattle.depot_index.specs.LatestItems.{RisesBy, AreKept}
 
 -- ---- which items are in a list
 
--- x is one of the list
-abbrev pub IsIn : ℕ → List ℕ → Type 0
-IsIn x [] = ⊥
-IsIn x (y ∷ ys) = (y ≡ x) ⊎ IsIn x ys
-
-in_at : (xs : List ℕ) (k x : ℕ) → k < length xs → get_or xs k 0 ≡ x → IsIn x xs
-in_at [] k x low is = absurd (omega (arith, low))
-in_at (y ∷ ys) zero x low is = inl is
-in_at (y ∷ ys) (suc k) x low is = inr (in_at ys k x (omega (arith, low)) is)
-
-pub from_contains : (xs : List ℕ) (x : ℕ) → Contains xs x → IsIn x xs
-from_contains xs x on = in_at xs on.0 x on.1 (get_or_default xs on.0 0 x on.1 ∙ on.2)
-
-pub to_contains : (xs : List ℕ) (x : ℕ) → IsIn x xs → Contains xs x
-to_contains [] x never = absurd never
-to_contains (y ∷ ys) x (inl here) = (zero, omega arith, here)
-to_contains (y ∷ ys) x (inr there) = let on = to_contains ys x there in (suc on.0, omega (arith, on.1), on.2)
-
 pub has_of_all : (P : ℕ → Type 0) (xs : List ℕ) → All P xs → (x : ℕ) → IsIn x xs → P x
-has_of_all P xs all x on = let at = to_contains xs x on in subst P at.2 (all at.0 x at.1)
-
-pub in_pushed : (xs : List ℕ) (item x : ℕ) → IsIn x (xs ++ item ∷ []) → IsIn x xs ⊎ (item ≡ x)
-in_pushed [] item x (inl here) = inr here
-in_pushed [] item x (inr never) = absurd never
-in_pushed (y ∷ ys) item x (inl here) = inl (inl here)
-in_pushed (y ∷ ys) item x (inr there) = elim (in_pushed ys item x there) [ inl h ↦ inl (inr h) | inr h ↦ inr h ]
-
-pub to_pushed : (xs : List ℕ) (item x : ℕ) → IsIn x xs → IsIn x (xs ++ item ∷ [])
-to_pushed [] item x never = absurd never
-to_pushed (y ∷ ys) item x (inl here) = inl here
-to_pushed (y ∷ ys) item x (inr there) = inr (to_pushed ys item x there)
-
-pub last_pushed : (xs : List ℕ) (item : ℕ) → IsIn item (xs ++ item ∷ [])
-last_pushed [] item = inl refl
-last_pushed (y ∷ ys) item = inr (last_pushed ys item)
+has_of_all P xs all x on = let at = to_contains x xs on in subst P at.2 (all at.0 x at.1)
 
 -- ---- the items that are kept
 
@@ -131,7 +100,7 @@ behind_rises listed (y ∷ ys) (suc n) item rises first on = behind_rises listed
 -- ---- a list that is gone over
 
 pub all_of_in : (P : ℕ → Type 0) (xs : List ℕ) → ((x : ℕ) → IsIn x xs → P x) → All P xs
-all_of_in P xs each k d low = each (get_or xs k d) (in_at xs k (get_or xs k d) low (get_or_default xs k 0 d low))
+all_of_in P xs each k d low = each (get_or xs k d) (in_read (get_or xs k d) xs k low (get_or_default xs k (get_or xs k d) d low))
 
 -- one item more, which isn't kept
 pub passed_over : (P : ℕ → Type 0) (old list : List ℕ) (i kept x : ℕ) → i < length old → x ≡ get_or old i 0 → AreKept P (take i old) (take kept list) → (P x → ⊥) → AreKept P (take (i + 1) old) (take kept list)

@@ -2,7 +2,9 @@
 use Rattle.std.proofs.Common.{◌≡◌, ℕ, zero, suc, ◌<◌, ◌⊎◌, List, [], ◌∷◌, ◌++◌, length, take, drop, get_or, refl, sym, ◌∙◌, subst, arith, inl, inr, Contains}
 use Rattle.std.specs.List.{AllByRecursion}
 use Rattle.depot_index.specs.LatestItems.{RisesBy, IsLatestOf, AreLatestOf, IsNewest, AreKept, IsPlaceFor, IsMended}
-use Rattle.depot_index.proofs.ItemLists.{IsIn, from_contains, to_contains, in_pushed, to_pushed, last_pushed, kept_in, in_kept, kept_rises, in_put, item_put, put_in, put_rises, behind_rises}
+use Rattle.depot_base.specs.Membership.{IsIn}
+use Rattle.depot_base.proofs.MembershipLaws.{from_contains, to_contains, in_pushed, in_left, in_last, all_at}
+use Rattle.depot_index.proofs.ItemLists.{kept_in, in_kept, kept_rises, in_put, item_put, put_in, put_rises, behind_rises}
 
 -- what is asked of an order of items where one more comes
 pub record Orders (precedes listed : ℕ → ℕ → Type 0) (item : ℕ) (items : List ℕ) : Type 0 where
@@ -42,29 +44,29 @@ pub latest_mended : (precedes listed : ℕ → ℕ → Type 0) (item : ℕ) (amo
 latest_mended precedes listed item among old new o (kept, (place, (k, (is_place, is)))) newest latest =
     let made : List ℕ = take place kept ++ item ∷ drop place kept in
     let P = IsApart precedes item in
-    let known : (a : ℕ) → IsIn a old → Contains among a = λ a on. (latest.only a (to_contains old a on)).0 in
+    let known : (a : ℕ) → IsIn a old → Contains among a = λ a on. (latest.only a (to_contains a old on)).0 in
     subst (AreLatestOf precedes listed (among ++ item ∷ [])) (sym is) (record {
-      all = λ a last. to_contains made a (elim (in_pushed among item a (from_contains (among ++ item ∷ []) a last.0)) [
+      all = λ a last. to_contains a made (elim (in_pushed a among item (from_contains a (among ++ item ∷ []) last.0)) [
         | inl on ↦
-            let still : IsLatestOf precedes among a = (to_contains among a on, λ b b_in. last.1 b (to_contains (among ++ item ∷ []) b (to_pushed among item b (from_contains among b b_in)))) in
-            let apart : P a = last.1 item (to_contains (among ++ item ∷ []) item (last_pushed among item)) in
-            in_put kept place item a (kept_in P old kept a k (from_contains old a (latest.all a still)) apart)
+            let still : IsLatestOf precedes among a = (to_contains a among on, λ b b_in. last.1 b (to_contains b (among ++ item ∷ []) (in_left b among (item ∷ []) (from_contains b among b_in)))) in
+            let apart : P a = last.1 item (to_contains item (among ++ item ∷ []) (in_last among item)) in
+            in_put kept place item a (kept_in P old kept a k (from_contains a old (latest.all a still)) apart)
         | inr here ↦ subst (λ (b : ℕ). IsIn b made) here (item_put kept place item)
       ]);
-      only = λ a on. elim (put_in kept place item a (from_contains made a on)) [
+      only = λ a on. elim (put_in kept place item a (from_contains a made on)) [
         | inl in_k ↦
             let r = in_kept P old kept a k in_k in
-            let was = latest.only a (to_contains old a r.0) in (
-              to_contains (among ++ item ∷ []) a (to_pushed among item a (from_contains among a was.0)),
-              λ b b_in p. elim (in_pushed among item b (from_contains (among ++ item ∷ []) b b_in)) [
-                | inl old_b ↦ was.1 b (to_contains among b old_b) p
+            let was = latest.only a (to_contains a old r.0) in (
+              to_contains a (among ++ item ∷ []) (in_left a among (item ∷ []) (from_contains a among was.0)),
+              λ b b_in p. elim (in_pushed b among item (from_contains b (among ++ item ∷ []) b_in)) [
+                | inl old_b ↦ was.1 b (to_contains b among old_b) p
                 | inr here ↦ r.1 (subst (precedes a) (sym here) p)
               ],
             )
         | inr here ↦ (
-          subst (Contains (among ++ item ∷ [])) here (to_contains (among ++ item ∷ []) item (last_pushed among item)),
-          λ b b_in p. let q : precedes item b = subst (λ (c : ℕ). precedes c b) (sym here) p in elim (in_pushed among item b (from_contains (among ++ item ∷ []) b b_in)) [
-            | inl old_b ↦ (newest b (to_contains among b old_b)).1 q
+          subst (Contains (among ++ item ∷ [])) here (to_contains item (among ++ item ∷ []) (in_last among item)),
+          λ b b_in p. let q : precedes item b = subst (λ (c : ℕ). precedes c b) (sym here) p in elim (in_pushed b among item (from_contains b (among ++ item ∷ []) b_in)) [
+            | inl old_b ↦ (newest b (to_contains b among old_b)).1 q
             | inr same ↦ o.no_self (subst (precedes item) (sym same) q)
           ],
         )
@@ -74,7 +76,7 @@ latest_mended precedes listed item among old new o (kept, (place, (k, (is_place,
 
 -- the latest of no items
 pub latest_of_none : (precedes listed : ℕ → ℕ → Type 0) → AreLatestOf precedes listed [] []
-latest_of_none precedes listed = record { all = λ a is. is.0; only = λ a on. (on, λ b b_in p. from_contains [] b b_in); rising = tt }
+latest_of_none precedes listed = record { all = λ a is. is.0; only = λ a on. (on, λ b b_in p. from_contains b [] b_in); rising = tt }
 
 -- the latest of some items are the same in orders that agree on these items
 pub latest_agree : (precedes listed precedes' listed' : ℕ → ℕ → Type 0) (among latest : List ℕ) → ((a b : ℕ) → Contains among a → Contains among b → (precedes a b → precedes' a b) × (precedes' a b → precedes a b))
@@ -82,7 +84,7 @@ pub latest_agree : (precedes listed precedes' listed' : ℕ → ℕ → Type 0) 
 latest_agree precedes listed precedes' listed' among latest same as_listed l = record {
   all = λ a is. l.all a (is.0, λ b on p. is.1 b on ((same a b is.0 on).0 p));
   only = λ a on. let was = l.only a on in (was.0, λ b b_in p. was.1 b b_in ((same a b was.0 b_in).1 p));
-  rising = rises_in listed listed' latest (λ a b a_in b_in. as_listed a b (l.only a (to_contains latest a a_in)).0 (l.only b (to_contains latest b b_in)).0) l.rising;
+  rising = rises_in listed listed' latest (λ a b a_in b_in. as_listed a b (l.only a (to_contains a latest a_in)).0 (l.only b (to_contains b latest b_in)).0) l.rising;
 }
   where
     all_in : (P Q : ℕ → Type 0) (xs : List ℕ) → ((x : ℕ) → IsIn x xs → P x → Q x) → AllByRecursion P xs → AllByRecursion Q xs
@@ -98,23 +100,14 @@ latest_agree precedes listed precedes' listed' among latest same as_listed l = r
 no_other_first : (listed : ℕ → ℕ → Type 0) (x y : ℕ) (xs ys : List ℕ) → (listed x x → ⊥) → (listed x y → listed y x → listed x x) → AllByRecursion (listed x) xs → AllByRecursion (listed y) ys → IsIn x (y ∷ ys) → IsIn y (x ∷ xs) → y ≡ x
 no_other_first listed x y xs ys no_self on all_x all_y (inl here) y_in = here
 no_other_first listed x y xs ys no_self on all_x all_y (inr later) (inl here) = sym here
-no_other_first listed x y xs ys no_self on all_x all_y (inr later) (inr also) = absurd (no_self (on (all_at (listed x) xs y all_x also) (all_at (listed y) ys x all_y later))) where
-  all_at : (P : ℕ → Type 0) (zs : List ℕ) (z : ℕ) → AllByRecursion P zs → IsIn z zs → P z
-  all_at P [] z all never = absurd never
-  all_at P (w ∷ zs) z all (inl here) = subst P here all.0
-  all_at P (w ∷ zs) z all (inr on) = all_at P zs z all.1 on
+no_other_first listed x y xs ys no_self on all_x all_y (inr later) (inr also) = absurd (no_self (on (all_at (listed x) xs y all_x also) (all_at (listed y) ys x all_y later)))
 
 -- behind the same first item stand the same items
 same_behind : (listed : ℕ → ℕ → Type 0) (x y : ℕ) (xs ys : List ℕ) → y ≡ x → (listed x x → ⊥) → AllByRecursion (listed x) xs → ((a : ℕ) → IsIn a (x ∷ xs) → IsIn a (y ∷ ys)) → (a : ℕ) → IsIn a xs → IsIn a ys
 same_behind listed x y xs ys same no_self all from a on = elim (from a (inr on)) [
-  | inl here ↦ absurd (no_self (subst (listed x) (sym here ∙ same) (all_at xs all on)))
+  | inl here ↦ absurd (no_self (subst (listed x) (sym here ∙ same) (all_at (listed x) xs a all on)))
   | inr there ↦ there
 ]
-  where
-    all_at : (zs : List ℕ) → AllByRecursion (listed x) zs → IsIn a zs → listed x a
-    all_at [] all never = absurd never
-    all_at (w ∷ zs) all (inl at) = subst (listed x) at all.0
-    all_at (w ∷ zs) all (inr on) = all_at zs all.1 on
 
 -- two rising lists of the same items are one
 pub rising_one : (listed : ℕ → ℕ → Type 0) (xs ys : List ℕ) → ((a : ℕ) → IsIn a xs → listed a a → ⊥) → ((a b : ℕ) → IsIn a xs → IsIn b xs → listed a b → listed b a → listed a a) → RisesBy listed xs → RisesBy listed ys
@@ -132,7 +125,7 @@ rising_one listed (x ∷ xs) (y ∷ ys) no_self on up_x up_y to from =
 
 pub latest_one : (precedes listed : ℕ → ℕ → Type 0) (among xs ys : List ℕ) → ((a : ℕ) → IsIn a among → listed a a → ⊥) → ((a b : ℕ) → IsIn a among → IsIn b among → listed a b → listed b a → listed a a) → AreLatestOf precedes listed among xs → AreLatestOf precedes listed among ys → xs ≡ ys
 latest_one precedes listed among xs ys no_self on first second =
-    let known : (a : ℕ) → IsIn a xs → IsIn a among = λ a a_in. from_contains among a (first.only a (to_contains xs a a_in)).0 in
+    let known : (a : ℕ) → IsIn a xs → IsIn a among = λ a a_in. from_contains a among (first.only a (to_contains a xs a_in)).0 in
     rising_one listed xs ys (λ a a_in. no_self a (known a a_in)) (λ a b a_in b_in. on a b (known a a_in) (known b b_in)) first.rising second.rising
-    (λ a a_in. from_contains ys a (second.all a (first.only a (to_contains xs a a_in))))
-    (λ a a_in. from_contains xs a (first.all a (second.only a (to_contains ys a a_in))))
+    (λ a a_in. from_contains a ys (second.all a (first.only a (to_contains a xs a_in))))
+    (λ a a_in. from_contains a xs (first.all a (second.only a (to_contains a ys a_in))))

@@ -11,7 +11,10 @@ use Rattle.std.specs.Map.{lookup, set_value}
 use Rattle.std.specs.Option.{option_map_or}
 use Rattle.std.specs.BTreeMap.{insert_entry}
 use Rattle.std.proofs.lemmas.Map.Text.{is_eq-slice_cmp}
+use Rattle.std.proofs.lemmas.Map.Lookups.{exact_bytes}
+use Rattle.std.proofs.lemmas.Map.Views.{tells_apart}
 use Rattle.std.proofs.lemmas.Slice.Eq.{bytes_eq-Decides}
+use Rattle.depot_base.proofs.GeneralLaws.{vec_cmp}
 use Rattle.depot_index.specs.KeyLists.{latest_of, room_of, key_lists}
 
 abbrev Entries : Type 0
@@ -68,7 +71,7 @@ twice false true x y z e = absurd cc
 twice false false x y z e = refl
 
 same_key : (key : List ℕ) (k : Vec ℕ Global) → is_key key k ≡ true → key ≡ k.items
-same_key key k e = (bytes_eq-Decides key k.items).0 (sym (is_eq-slice_cmp key k.items) ∙ e)
+same_key key k e = tells_apart exact_bytes key k.items e
 
 never_both : (other key : List ℕ) (k : Vec ℕ Global) → is_key key k ≡ false → bytes_eq other k.items ≡ true → bytes_eq other key ≡ true → ⊥
 never_both other key k apart p q =
@@ -87,16 +90,12 @@ read-set_value {X = X} f d key other (e ∷ es) v there = go (is_key key e.0) re
       ap (λ (x : X). cond (bytes_eq other e.0.items) (f e.1) x) (h there)
       ∙ swap (bytes_eq other e.0.items) (bytes_eq other key) (f e.1) (f v) (read f d other es) (never_both other key e.0 is)
 
--- the order of the keys
-abbrev pub key_cmp : Vec ℕ Global → Vec ℕ Global → Ordering
-key_cmp a b = slice_cmp nat_cmp a.items b.items
-
 -- a list that is put in, whether or not one is there
-pub read-insert_entry : {X : Type 0} (f : Vec ℕ Global → X) (d : X) (other : List ℕ) (es : Entries) (k v : Vec ℕ Global) → read f d other (insert_entry key_cmp es k v) ≡ cond (bytes_eq other k.items) (f v) (read f d other es)
+pub read-insert_entry : {X : Type 0} (f : Vec ℕ Global → X) (d : X) (other : List ℕ) (es : Entries) (k v : Vec ℕ Global) → read f d other (insert_entry vec_cmp es k v) ≡ cond (bytes_eq other k.items) (f v) (read f d other es)
 read-insert_entry f d other [] k v = refl
-read-insert_entry {X = X} f d other (e ∷ es) k v = go (key_cmp k e.0) refl (read-insert_entry f d other es k v) where
-  go : (o : Ordering) → key_cmp k e.0 ≡ o → read f d other (insert_entry key_cmp es k v) ≡ cond (bytes_eq other k.items) (f v) (read f d other es)
-      → read f d other (match_ordering o ((k, v) ∷ e ∷ es) ((e.0, v) ∷ es) (e ∷ insert_entry key_cmp es k v)) ≡ cond (bytes_eq other k.items) (f v) (cond (bytes_eq other e.0.items) (f e.1) (read f d other es))
+read-insert_entry {X = X} f d other (e ∷ es) k v = go (vec_cmp k e.0) refl (read-insert_entry f d other es k v) where
+  go : (o : Ordering) → vec_cmp k e.0 ≡ o → read f d other (insert_entry vec_cmp es k v) ≡ cond (bytes_eq other k.items) (f v) (read f d other es)
+      → read f d other (match_ordering o ((k, v) ∷ e ∷ es) ((e.0, v) ∷ es) (e ∷ insert_entry vec_cmp es k v)) ≡ cond (bytes_eq other k.items) (f v) (cond (bytes_eq other e.0.items) (f e.1) (read f d other es))
   go Less is h = refl
   go Equal is h = twice (bytes_eq other e.0.items) (bytes_eq other k.items) (f v) (f e.1) (read f d other es) (ap (bytes_eq other) (sym (same_key k.items e.0 (ap is_eq is))))
   go Greater is h =
@@ -114,10 +113,10 @@ latest_found key bytes es o same e = latest_read key es ∙ some_read (λ v. v.i
 pub room_found : (key bytes : List ℕ) (es : Entries) (o : Option (Vec ℕ Global)) → bytes ≡ key → o ≡ found_in bytes es → room_of key (key_lists es) ≡ option_map_or spare o 0
 room_found key bytes es o same e = room_read key es ∙ some_read spare 0 key bytes es o same e
 
-pub latest_put : (other : List ℕ) (es new : Entries) (k v : Vec ℕ Global) → new ≡ insert_entry key_cmp es k v → latest_of other (key_lists new) ≡ cond (bytes_eq other k.items) v.items (latest_of other (key_lists es))
+pub latest_put : (other : List ℕ) (es new : Entries) (k v : Vec ℕ Global) → new ≡ insert_entry vec_cmp es k v → latest_of other (key_lists new) ≡ cond (bytes_eq other k.items) v.items (latest_of other (key_lists es))
 latest_put other es new k v e = latest_read other new ∙ (ap (read (λ v. v.items) [] other) e ∙ (read-insert_entry (λ v. v.items) [] other es k v ∙ ap (λ (l : List ℕ). cond (bytes_eq other k.items) v.items l) (sym (latest_read other es))))
 
-pub room_put : (other : List ℕ) (es new : Entries) (k v : Vec ℕ Global) → new ≡ insert_entry key_cmp es k v → room_of other (key_lists new) ≡ cond (bytes_eq other k.items) (spare v) (room_of other (key_lists es))
+pub room_put : (other : List ℕ) (es new : Entries) (k v : Vec ℕ Global) → new ≡ insert_entry vec_cmp es k v → room_of other (key_lists new) ≡ cond (bytes_eq other k.items) (spare v) (room_of other (key_lists es))
 room_put other es new k v e = room_read other new ∙ (ap (read spare 0 other) e ∙ (read-insert_entry spare 0 other es k v ∙ ap (λ (n : ℕ). cond (bytes_eq other k.items) (spare v) n) (sym (room_read other es))))
 
 pub latest_set : (key other : List ℕ) (es new : Entries) (v : Vec ℕ Global) → is_some (found_in key es) ≡ true → new ≡ set_value (is_key key) es v → latest_of other (key_lists new) ≡ cond (bytes_eq other key) v.items (latest_of other (key_lists es))
@@ -151,13 +150,13 @@ chosen false m n p q = q
 
 -- ---- where room is found for a key
 
-pub reserved_same : (other key : List ℕ) (es new : Entries) (k v : Vec ℕ Global) → k.items ≡ key → v.items ≡ latest_of key (key_lists es) → new ≡ insert_entry key_cmp es k v → latest_of other (key_lists new) ≡ latest_of other (key_lists es)
+pub reserved_same : (other key : List ℕ) (es new : Entries) (k v : Vec ℕ Global) → k.items ≡ key → v.items ≡ latest_of key (key_lists es) → new ≡ insert_entry vec_cmp es k v → latest_of other (key_lists new) ≡ latest_of other (key_lists es)
 reserved_same other key es new k v k_is v_is e = latest_put other es new k v e ∙ at_each (λ (h : List ℕ). latest_of h (key_lists es)) other k.items v.items (v_is ∙ ap (λ (h : List ℕ). latest_of h (key_lists es)) (sym k_is))
 
-pub reserved_room : (key : List ℕ) (es new : Entries) (k v : Vec ℕ Global) → k.items ≡ key → 0 < spare v → new ≡ insert_entry key_cmp es k v → 0 < room_of key (key_lists new)
+pub reserved_room : (key : List ℕ) (es new : Entries) (k v : Vec ℕ Global) → k.items ≡ key → 0 < spare v → new ≡ insert_entry vec_cmp es k v → 0 < room_of key (key_lists new)
 reserved_room key es new k v k_is some e =
     let own : room_of k.items (key_lists new) ≡ spare v = room_put k.items es new k v e ∙ at_own k.items (spare v) (room_of k.items (key_lists es)) in
     subst (λ (h : List ℕ). 0 < room_of h (key_lists new)) k_is (subst (λ (n : ℕ). 0 < n) (sym own) some)
 
-pub reserved_rooms : (other : List ℕ) (es new : Entries) (k v : Vec ℕ Global) → 0 < spare v → new ≡ insert_entry key_cmp es k v → 0 < room_of other (key_lists es) → 0 < room_of other (key_lists new)
+pub reserved_rooms : (other : List ℕ) (es new : Entries) (k v : Vec ℕ Global) → 0 < spare v → new ≡ insert_entry vec_cmp es k v → 0 < room_of other (key_lists es) → 0 < room_of other (key_lists new)
 reserved_rooms other es new k v some e had = subst (λ (n : ℕ). 0 < n) (sym (room_put other es new k v e)) (chosen (bytes_eq other k.items) (spare v) (room_of other (key_lists es)) some had)

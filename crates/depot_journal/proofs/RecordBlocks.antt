@@ -2,7 +2,7 @@
 use Rattle.std.proofs.Common.{◌≡◌, ◌<◌, ℕ, List, [], ◌∷◌, ◌++◌, ◌+◌, length, length-append, take, drop, refl, ap, ◌∙◌, sym, arith, append_assoc, append-nil}
 use Rattle.std.proofs.lemmas.List.{take_at}
 use Rattle.std.proofs.lemmas.Grind.{common_steps}
-use Rattle.std.specs.Prelude.{Result, Ok, Err, OnOk, OnErr, IfOk, is_err, true, false}
+use Rattle.std.specs.Prelude.{Result, Ok, Err, OnOk, OnErr, is_err, true, false}
 use Rattle.depot_base.proofs.CallLaws.{framed_long}
 use Rattle.depot_base.specs.Disk.{IsWritten}
 use Rattle.depot_base.specs.File.{blocks, framed, closed_block}
@@ -41,25 +41,9 @@ appended s0 s1 s2 body bodies end (gate, rest, closed, file, at) w1 w2 =
       one_longer end body bodies (bodies ++ body ∷ []) at refl,
     )
 
-pub on_ok : {T E : Type 0} → (r : Result T E) (P Q : Type 0) → OnOk r Q → (Q → P) → OnOk r P
-on_ok (Ok x) P Q q f = f q
-on_ok (Err e) P Q q f = q
-
-pub if_ok : {T E : Type 0} → (r : Result T E) (P Q : T → Type 0) → IfOk r Q → ((x : T) → Q x → P x) → IfOk r P
-if_ok (Ok x) P Q q f = f x q
-if_ok (Err e) P Q q f = q
-
 pub if_not_err : {T E : Type 0} → (r : Result T E) (P : Type 0) → is_err r ≡ false → OnOk r P → P
 if_not_err (Ok x) P ok p = p
 if_not_err (Err e) P ok p = absurd cc
-
-pub on_err : {T E : Type 0} → (r : Result T E) (P : Type 0) → P → OnErr r P
-on_err (Ok x) P p = tt
-on_err (Err e) P p = p
-
-pub on_err_so : {T E : Type 0} → (r : Result T E) (P Q : Type 0) → OnErr r Q → (Q → P) → OnErr r P
-on_err_so (Ok x) P Q q f = q
-on_err_so (Err e) P Q q f = f q
 
 pub if_err : {T E : Type 0} → (r : Result T E) (P : Type 0) → is_err r ≡ true → OnErr r P → P
 if_err (Ok x) P failed p = absurd cc

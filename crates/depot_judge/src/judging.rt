@@ -22,8 +22,8 @@ pub fn first_failed_point<S: Scheme>(
     requires { IsProof proof.now }
     ensures { result ≡ first_failed_point S.verifies roster.now proof.now }
 {
-    let first = &proof.first;
-    let second = &proof.second;
+    let first = Half::First.of(proof);
+    let second = Half::Second.of(proof);
     let writer = first.statement.writer();
     let other = second.statement.writer();
     if !roster.has_node(writer) {
@@ -86,7 +86,7 @@ pub fn judge_proof<S: Scheme>(
     match first_failed_point(roster, scheme, proof) {
         Some(point) => Err(point),
         None => Ok(Verdict {
-            node: proof.first.statement.writer(),
+            node: proof.accused(),
             kind: proof.kind,
         }),
     }

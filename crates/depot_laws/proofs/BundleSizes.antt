@@ -13,7 +13,7 @@ use Rattle.depot_base.specs.declared.statement.Statement.TheVariants as statemen
 use Rattle.depot_base.specs.declared.update.Update.{Update}
 use Rattle.depot_base.specs.declared.voucher.Voucher.{Voucher}
 use Rattle.depot_model.specs.declared.hello.Hello.{Hello}
-use Rattle.depot_model.specs.Bundle.{Signs, signed_with, has_candidate, candidates, Parcel, frames_of, parcels, sent_for, sent_foreign, unvouched, statement_frame, proof_frame, end_frame, proofs_for, vouchers_for, with_vouchers, bundle_frames, bundle_of}
+use Rattle.depot_model.specs.Bundle.{Signs, has_candidate, candidates, Parcel, frames_of, parcels, sent_for, sent_foreign, unvouched, proof_frame, end_frame, proofs_for, vouchers_for, with_vouchers, bundle_frames, bundle_of, voucher_frame}
 use Rattle.depot_model.specs.Checks.{Setting}
 use Rattle.depot_model.specs.Frames.{Frame}
 use Rattle.depot_model.specs.Journal.{accepted, accepted_by, proof_by, update_in}
@@ -27,7 +27,8 @@ use Rattle.depot_laws.proofs.Groups.{vouchers_few}
 use Rattle.depot_laws.proofs.OwnTexts.{lawful_is_short}
 use Rattle.depot_laws.proofs.Parcels.{sent_in_front, candidates_for, told_of_parcels, same_with, own_with}
 
-one_told : (r : Record) → length (proof_by r) + length (own_voucher_by r) + length (accepted_by r) ≤ 1
+-- a record tells of one of them at most
+pub one_told : (r : Record) → length (proof_by r) + length (own_voucher_by r) + length (accepted_by r) ≤ 1
 one_told (Birth node h) = omega arith
 one_told (OwnPut u value) = omega arith
 one_told (OwnVoucher v) = omega arith
@@ -106,5 +107,5 @@ bundle_is_short here sign J h l =
     let vs : List Voucher = new_vouchers me J (unvouched me J xs) in
     let K : List Record = with_vouchers J vs in
     let fronts = front_short me J h vs (sent_foreign me xs) (new_short me sign J h) in
-    let count = frames_long (proofs_for K h) (vouchers_for K (sent_foreign me xs)) (λ v. statement_frame (signed_with sign (statement.Voucher v))) (flat_map frames_of xs) (end_frame (bundle_of me sign J h).more) in
+    let count = frames_long (proofs_for K h) (vouchers_for K (sent_foreign me xs)) (voucher_frame sign) (flat_map frames_of xs) (end_frame (bundle_of me sign J h).more) in
     omega (arith, count, fronts, lawful_is_short here J l, sent_is_short sign J h)

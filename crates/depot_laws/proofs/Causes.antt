@@ -21,6 +21,7 @@ use Rattle.depot_model.specs.Journal.{accepted, accepted_by, update_in, own, own
 use Rattle.depot_model.specs.Own.{entry_of, next_entries, next_own, IsFresh}
 use Rattle.depot_model.specs.Checks.{Setting, given_statement, content_of, is_kept, answer_to}
 use Rattle.depot_model.specs.Lawful.{MayFollow, IsAllowed, IsLawful}
+use Rattle.depot_model.specs.Contents.{key_written}
 use Rattle.depot_model.proofs.Members.{in_parts, in_map, from_map, from_filter}
 use Rattle.depot_model.proofs.Orders.{causal_push}
 use Rattle.depot_laws.proofs.Splits.{given_by, given_too, silent, lawful_from_end, accepted_push}
@@ -139,7 +140,7 @@ update_in_is (statement.Voucher v) u never = absurd never
 -- what a record accepts joins those before it
 pub record_joins : (here : Setting) (J : List Record) (r : Record) (u : Update) → MayFollow here J r → IsIn u (accepted_by r) → Joins (accepted J) u
 record_joins here J (Birth node h) u may never = absurd never
-record_joins here J (OwnPut w value) u may (inl same) = subst (λ (x : Update). Joins (accepted J) x) same (own_joins here.me J w w.key value may.next may.fresh)
+record_joins here J (OwnPut w value) u may (inl same) = subst (λ (x : Update). Joins (accepted J) x) same (own_joins here.me J w (key_written w) value may.next may.fresh)
 record_joins here J (OwnPut w value) u may (inr never) = absurd never
 record_joins here J (OwnVoucher v) u may never = absurd never
 record_joins here J (Foreign s) u may on = taken_joins here J s u (update_in_is s.statement u on) may.0
@@ -193,8 +194,8 @@ pub lawful_is_causal : (here : Setting) (J : List Record) → IsLawful here J �
 lawful_is_causal here J l = lawful_from_end here (λ (x : List Record). IsCausal [] (accepted x)) no_updates (with_one_more here) J l
 
 -- an own update that is written next
-pub put_is_causal : (here : Setting) (J : List Record) (u : Update) (value : List ℕ) → IsLawful here J → u ≡ next_own here.me J u.key value → IsFresh J (id_of_update u) → IsCausal [] (accepted J ++ u ∷ [])
-put_is_causal here J u value l next fresh = joined_is_causal (accepted J) u (lawful_is_causal here J l) (own_joins here.me J u u.key value next fresh)
+pub put_is_causal : (here : Setting) (J : List Record) (u : Update) (value : List ℕ) → IsLawful here J → u ≡ next_own here.me J (key_written u) value → IsFresh J (id_of_update u) → IsCausal [] (accepted J ++ u ∷ [])
+put_is_causal here J u value l next fresh = joined_is_causal (accepted J) u (lawful_is_causal here J l) (own_joins here.me J u (key_written u) value next fresh)
 
 -- an update of another that is new
 pub taken_is_causal : (here : Setting) (J : List Record) (s : Signed) (u : Update) → IsLawful here J → s.statement ≡ statement.Update u → answer_to here J (given_statement s) ≡ Ok New → IsCausal [] (accepted J ++ u ∷ [])

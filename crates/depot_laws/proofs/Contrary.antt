@@ -21,7 +21,7 @@ use Rattle.depot_model.specs.Conviction.{proof_of}
 use Rattle.depot_model.specs.Journal.{foreign, foreign_by, accused}
 use Rattle.depot_model.specs.Checks.{Setting, given_statement, answer_to, opponent, is_update_with, named_opponent, proof_checks}
 use Rattle.depot_model.specs.Lawful.{IsAllowed, IsLawful}
-use Rattle.depot_model.proofs.FirstLaws.{first_is}
+use Rattle.depot_model.proofs.FirstLaws.{first_is, when-both}
 use Rattle.depot_model.proofs.ContradictionLaws.{same_writer}
 use Rattle.depot_model.proofs.JudgementLaws.{IsGood-proof_of}
 use Rattle.depot_laws.proofs.Splits.{given_by}
@@ -34,12 +34,8 @@ use Rattle.depot_laws.proofs.LawfulRecords.{IsSigned-from_record}
 abbrev pub kinds : Statement → Statement → List (Option Kind)
 kinds a b = when (contradicts SameNumber a b) SameNumber ∷ when (contradicts SamePrev a b) SamePrev ∷ when (contradicts Backward a b) Backward ∷ []
 
-shown : (b : Bool) (k l : Kind) → when b k ≡ Some l → (b ≡ true) × (k ≡ l)
-shown true k l e = (refl, cc)
-shown false k l e = absurd cc
-
 shown_kind : (a b : Statement) (k l : Kind) → when (contradicts k a b) k ≡ Some l → contradicts l a b ≡ true
-shown_kind a b k l e = let w = shown (contradicts k a b) k l e in subst (λ (x : Kind). contradicts x a b ≡ true) w.1 w.0
+shown_kind a b k l e = let w = when-both (contradicts k a b) k l e in subst (λ (x : Kind). contradicts x a b ≡ true) w.1 w.0
 
 -- the kind in which two contradict each other
 pub kind_is : (a b : Statement) (k : Kind) → kind_of a b ≡ Some k → contradicts k a b ≡ true

@@ -18,7 +18,8 @@ use Rattle.depot_model.specs.Journal.{accepted, accepted_by, own, foreign, forei
 use Rattle.depot_model.specs.Own.{next_own}
 use Rattle.depot_model.proofs.Members.{in_left, in_map}
 use Rattle.depot_model.proofs.Orders.{leads_one}
-use Rattle.depot_model.specs.Contents.{NamedValue, writes, IsValueOf}
+use Rattle.depot_model.proofs.Elements.{in_at}
+use Rattle.depot_model.specs.Contents.{NamedValue, writes, IsValueOf, key_written, value_named}
 use Rattle.depot_model.specs.World.{Shown, Read, Correct, World, setting_of, value_under, IsWorld, writes_of, signed_in, signed_met, IsAuthentic, IsCollisionFree}
 use Rattle.depot_model.specs.Causality.{write, read_at, puts_of, Edge, ObservedBefore, HasPut, IsExact}
 use Rattle.depot_laws.proofs.Splits.{given_by, given_too, flat_gives}
@@ -26,7 +27,6 @@ use Rattle.depot_laws.proofs.Contrary.{foreign_is}
 use Rattle.depot_laws.proofs.ChainLaws.{brought}
 use Rattle.depot_laws.proofs.Puts.{put_at, put_allowed, put_from_own, put_writer}
 use Rattle.depot_laws.proofs.Worlds.{taken_in, in_split, one_node, journal_lawful, taken_lawful, write_from, value_hashed}
-use Rattle.depot_laws.proofs.Observed.{in_place}
 use Rattle.depot_laws.proofs.Traces.{path_is_observed, seen_is_accepted, seen_precedes}
 
 -- ---- values
@@ -45,13 +45,13 @@ from_first hashes (v ∷ vs) w on = elim (kept_value (is_among (sha256 v) hashes
 ]
 
 -- one of these values, with this hash
-record HasHash (vs : List (List ℕ)) (h v : List ℕ) : Type 0 where
+pub record HasHash (vs : List (List ℕ)) (h v : List ℕ) : Type 0 where
   pub on : IsIn v vs
   pub hash : sha256 v ≡ h
 
-with_hash : (h : List ℕ) (vs : List (List ℕ)) (v : List ℕ) → value_with h vs ≡ Some v → HasHash vs h v
-with_hash h [] v e = absurd cc
-with_hash h (w ∷ ws) v e = found (bytes_eq (sha256 w) h) refl e (λ later. with_hash h ws v later) where
+pub value_with_is : (vs : List (List ℕ)) (h v : List ℕ) → value_with h vs ≡ Some v → HasHash vs h v
+value_with_is [] h v e = absurd cc
+value_with_is (w ∷ ws) h v e = found (bytes_eq (sha256 w) h) refl e (λ later. value_with_is ws h v later) where
   found : (b : Bool) → bytes_eq (sha256 w) h ≡ b → cond b (Some w) (value_with h ws) ≡ Some v → (value_with h ws ≡ Some v → HasHash ws h v) → HasHash (w ∷ ws) h v
   found true is e behind = let same : w ≡ v = cc in record { on = inl same; hash = ap sha256 (sym same) ∙ (bytes_eq-Decides (sha256 w) h).0 is }
   found false is e behind = let l = behind e in record { on = inr l.on; hash = l.hash }
@@ -59,13 +59,13 @@ with_hash h (w ∷ ws) v e = found (bytes_eq (sha256 w) h) refl e (λ later. wit
 -- a value of the journal, with the hash and the length that the update's write of the key names
 record IsHeldFor (J : List Record) (key : List ℕ) (u : Update) (v : List ℕ) : Type 0 where
   pub on : IsIn v (flat_map value_by J)
-  pub hash : sha256 v ≡ u.value_hash
+  pub hash : sha256 v ≡ (value_named u).hash
   pub named : IsValueOf key u v
 
-chosen : (u : Update) (o : Option (List ℕ)) (v : List ℕ) → option_and_then (λ w. when (length w == u.value_len) w) o ≡ Some v → (o ≡ Some v) × (length v ≡ u.value_len)
+chosen : (u : Update) (o : Option (List ℕ)) (v : List ℕ) → option_and_then (λ w. when (length w == (value_named u).size) w) o ≡ Some v → (o ≡ Some v) × (length v ≡ (value_named u).size)
 chosen u None v e = absurd cc
-chosen u (Some w) v e = fitting (length w == u.value_len) refl e where
-  fitting : (b : Bool) → (length w == u.value_len) ≡ b → when b w ≡ Some v → (Some w ≡ Some v) × (length v ≡ u.value_len)
+chosen u (Some w) v e = fitting (length w == (value_named u).size) refl e where
+  fitting : (b : Bool) → (length w == (value_named u).size) ≡ b → when b w ≡ Some v → (Some w ≡ Some v) × (length v ≡ (value_named u).size)
   fitting true is e = let same : w ≡ v = cc in (e, ap length (sym same) ∙ eqb-true _ _ is)
   fitting false is e = absurd cc
 
@@ -78,15 +78,15 @@ same_names h k m n one two = ap (λ (x : List ℕ). as_named x m) one ∙ ap (as
 value_is : (J : List Record) (key : List ℕ) (u : Update) (v : List ℕ) → value_under J key u ≡ Some v → IsHeldFor J key u v
 unfolding value_under
 value_is J key u v e = by_key (writes key u) refl e where
-  by_key : (b : Bool) → writes key u ≡ b → option_and_then (held_as J) (when b (record { hash = u.value_hash; size = u.value_len })) ≡ Some v → IsHeldFor J key u v
+  by_key : (b : Bool) → writes key u ≡ b → option_and_then (held_as J) (when b (value_named u)) ≡ Some v → IsHeldFor J key u v
   by_key false is e = absurd cc
   by_key true is e =
-      let c = chosen u (value_with u.value_hash (held J)) v e in
-      let h = with_hash u.value_hash (held J) v c.0 in
+      let c = chosen u (value_with (value_named u).hash (held J)) v e in
+      let h = value_with_is (held J) (value_named u).hash v c.0 in
       record {
         on = from_first [] (flat_map value_by J) v h.on;
         hash = h.hash;
-        named = ap (λ b. when b (record { hash = u.value_hash; size = u.value_len })) is ∙ same_names u.value_hash (sha256 v) u.value_len (length v) (sym h.hash) (sym c.1);
+        named = ap (λ b. when b (value_named u)) is ∙ same_names (value_named u).hash (sha256 v) (value_named u).size (length v) (sym h.hash) (sym c.1);
       }
 
 -- what holds of each value that is shown
@@ -106,9 +106,9 @@ same_latest key A B R S us to back on off latest = record {
 
 -- ---- the put of a correct node
 
-put_value_hash : (me : ℕ) (J : List Record) (u : Update) (value : List ℕ) → u ≡ next_own me J u.key value → u.value_hash ≡ sha256 value
+put_value_hash : (me : ℕ) (J : List Record) (u : Update) (value : List ℕ) → u ≡ next_own me J (key_written u) value → (value_named u).hash ≡ sha256 value
 unfolding next_own
-put_value_hash me J u value next = ap (λ (x : Update). x.value_hash) next
+put_value_hash me J u value next = ap (λ (x : Update). (value_named x).hash) next
 
 -- a statement of another that is kept stands in the world
 pub kept_in_world : (W : World) (c : Correct) (s : Signed) → IsIn c W.nodes → IsIn s (foreign c.journal) → IsIn s (signed_met W)
@@ -150,7 +150,7 @@ module _ (W : World) (world : IsWorld W) (authentic : IsAuthentic W) (free : IsC
   exact c place r c_on r_at =
       let J = take r.at c.journal in
       let l = taken_lawful W world c r.at c_on in
-      let answered = (world.correct c c_on).reads r (in_place r c.reads place r_at) in
+      let answered = (world.correct c c_on).reads r (in_at c.reads place r r_at) in
       let each : (x : Update) → IsIn x (accepted J) → IsIn x (writes_of W) = λ x on. write_from W c x c_on (taken_in accepted_by x r.at c.journal on) in
       record {
         latest = same_latest r.key (λ u. IsIn u (accepted J)) (λ u. ObservedBefore W (write u) (read_at c place r)) (Precedes (accepted J)) (λ t u. ObservedBefore W (write t) (write u)) (map (λ (s : Shown). s.update) r.answer)

@@ -26,7 +26,7 @@ use Rattle.depot_model.specs.Conviction.{proof_of}
 use Rattle.depot_model.specs.Journal.{accepted, accepted_by, foreign, foreign_by, update_in, named, has_id, is_convicted}
 use Rattle.depot_model.specs.Checks.{Setting, Sight, given_statement, sight, lost, missing, wrong_prev, wrong_entry, wrong_entries, wrong_dep, behind, backward, not_above, clock_low, clock_far, bad_history, content_checks, content_of, opponent, forked_by, forked, refused_as_convicted, is_kept, answer_to, due, is_update_with, named_opponent, exposed, growth_by, growth}
 use Rattle.depot_model.specs.Lawful.{IsLawful}
-use Rattle.depot_model.proofs.FirstLaws.{when-some, first_is, each_is_none}
+use Rattle.depot_model.proofs.FirstLaws.{each_is_none, Shows, shows_when, shows_map, shows_append, shows_first, when-both}
 use Rattle.depot_model.proofs.Members.{any_from, any_to, among_from}
 use Rattle.depot_model.proofs.Orders.{one_of_id}
 use Rattle.depot_laws.specs.Verdicts.{ConvictsWriter}
@@ -47,24 +47,6 @@ abbrev IsPlain : Check → Type 0
 IsPlain (check.Forked kept came kind) = ⊥
 IsPlain (check.Backward h) = ⊥
 IsPlain c = Unit {0}
-
--- what a row shows, if it shows something, is so
-abbrev Shows : (Check → Type 0) → Option Check → Type 0
-Shows P o = (c : Check) → o ≡ Some c → P c
-
-shows_when : (P : Check → Type 0) (test : Bool) (e : Check) → P e → Shows P (when test e)
-shows_when P test e p c shown = subst P (when-some test e c shown) p
-
-shows_map : {X : Type 0} (P : Check → Type 0) (row : X → Option Check) (xs : List X) → ((x : X) → Shows P (row x)) → AllByRecursion (Shows P) (map row xs)
-shows_map P row [] each = tt
-shows_map P row (x ∷ xs) each = (each x, shows_map P row xs each)
-
-shows_both : (P : Check → Type 0) (os ps : List (Option Check)) → AllByRecursion (Shows P) os → AllByRecursion (Shows P) ps → AllByRecursion (Shows P) (os ++ ps)
-shows_both P [] ps all more = more
-shows_both P (o ∷ os) ps all more = (all.0, shows_both P os ps all.1 more)
-
-shows_first : (P : Check → Type 0) (os : List (Option Check)) → AllByRecursion (Shows P) os → Shows P (first os)
-shows_first P os each c shown = first_is P os c each shown
 
 plain_lost : (h : List ℕ) (o : Option Update) → Shows IsPlain (lost h o)
 plain_lost h None c shown = let same : check.Missing h ≡ c = cc in subst IsPlain same tt
@@ -87,13 +69,13 @@ plain_low u h None c shown = absurd cc
 plain_low u h (Some t) c shown = shows_when IsPlain _ (check.ClockLow h) tt c shown
 
 plain_missing : (u : Update) (seen : Sight) → Shows IsPlain (missing u seen)
-plain_missing u seen = shows_first IsPlain _ (shows_both IsPlain _ _ (shows_map IsPlain (lost u.prev) seen.before (plain_lost u.prev)) (shows_map IsPlain (λ (e : Dep × Option Update). lost e.0.id e.1) seen.entries (λ e. plain_lost e.0.id e.1)))
+plain_missing u seen = shows_first IsPlain _ (shows_append IsPlain _ _ (shows_map IsPlain (lost u.prev) seen.before (plain_lost u.prev)) (shows_map IsPlain (λ (e : Dep × Option Update). lost e.0.id e.1) seen.entries (λ e. plain_lost e.0.id e.1)))
 
 plain_dep : (u : Update) (seen : Sight) → Shows IsPlain (wrong_dep u seen)
-plain_dep u seen = shows_first IsPlain _ (shows_both IsPlain _ _ (shows_map IsPlain (wrong_prev u) seen.before (plain_prev u)) (plain_entries 1 seen.entries))
+plain_dep u seen = shows_first IsPlain _ (shows_append IsPlain _ _ (shows_map IsPlain (wrong_prev u) seen.before (plain_prev u)) (plain_entries 1 seen.entries))
 
 plain_clock : (u : Update) (seen : Sight) → Shows IsPlain (clock_low u seen)
-plain_clock u seen = shows_first IsPlain _ (shows_both IsPlain _ _ (shows_map IsPlain (not_above u u.prev) seen.before (plain_low u u.prev)) (shows_map IsPlain (λ (e : Dep × Option Update). not_above u e.0.id e.1) seen.entries (λ e. plain_low u e.0.id e.1)))
+plain_clock u seen = shows_first IsPlain _ (shows_append IsPlain _ _ (shows_map IsPlain (not_above u u.prev) seen.before (plain_low u u.prev)) (shows_map IsPlain (λ (e : Dep × Option Update). not_above u e.0.id e.1) seen.entries (λ e. plain_low u e.0.id e.1)))
 
 plain_convicted : (J : List Record) (s : Statement) → Shows IsPlain (refused_as_convicted J s)
 unfolding refused_as_convicted
@@ -174,10 +156,6 @@ record HasStepBack (us : List Update) (u : Update) (h : List ℕ) : Type 0 where
   pub writer : prev.writer ≡ u.writer
   pub back : (leb u.seq prev.seq || leb u.clock prev.clock) ≡ true
 
-shown_when : (test : Bool) (e c : Check) → when test e ≡ Some c → (test ≡ true) × (e ≡ c)
-shown_when true e c shown = (refl, cc)
-shown_when false e c shown = absurd cc
-
 backward_hash : (g h : List ℕ) → check.Backward g ≡ check.Backward h → g ≡ h
 backward_hash g h e = cc
 
@@ -185,7 +163,7 @@ seen_back : (us : List Update) (u : Update) (h : List ℕ) (o : Option Update) �
 seen_back us u h None is on right back = absurd cc
 seen_back us u h (Some t) is on right back =
     let n = named_is us u.prev t is in
-    let w = shown_when _ (check.Backward u.prev) (check.Backward h) back in
+    let w = when-both _ (check.Backward u.prev) (check.Backward h) back in
     let same : u.prev ≡ h = backward_hash u.prev h w.1 in
     record {
       prev = t;

@@ -17,12 +17,13 @@ use Rattle.depot_model.specs.Journal.{accepted, update_in, last_own}
 use Rattle.depot_model.specs.Checks.{Setting}
 use Rattle.depot_model.specs.Room.{foreign_leaves, take_an_update, HasRoom}
 use Rattle.depot_model.specs.Lawful.{IsAllowed, IsLawful}
+use Rattle.depot_model.specs.Contents.{key_written}
 use Rattle.depot_model.proofs.Members.{any_from, among_from, from_filter}
 use Rattle.depot_laws.proofs.Splits.{lawful_from_end}
 use Rattle.depot_laws.proofs.Tests.{fails_from_not}
 use Rattle.depot_laws.proofs.JournalLimits.{within_from_room}
 use Rattle.depot_laws.proofs.Causes.{lawful_is_causal}
-use Rattle.depot_model.proofs.RisingUpdates.{AreApart, apart_from_causal, apart_filter}
+use Rattle.depot_model.proofs.RisingUpdates.{HaveOwnIds, own_ids_from_causal, own_ids_filter}
 use Rattle.depot_laws.proofs.Counts.{silent_leaves, put_count}
 use Rattle.depot_laws.proofs.Puts.{put_from_writer, put_at, put_allowed, put_is_accepted}
 use Rattle.depot_laws.proofs.Follows.{in_prevs, in_line}
@@ -35,7 +36,7 @@ taken_few here J s u is room =
     (within_from_room here.me J (Foreign s ∷ []) room).writers takes
 
 few_more : (here : Setting) (J : List Record) (r : Record) → IsLawful here J → IsAllowed here J r → length (foreign_leaves here.me J) ≤ 4096 → length (foreign_leaves here.me (J ++ r ∷ [])) ≤ 4096
-few_more here J (OwnPut u value) l allowed before = omega (arith, before, put_count here J u u.key value l allowed.may.next allowed.may.fresh)
+few_more here J (OwnPut u value) l allowed before = omega (arith, before, put_count here J u (key_written u) value l allowed.may.next allowed.may.fresh)
 few_more here J (Foreign s) l allowed before = by_statement s.statement refl where
   by_statement : (x : Statement) → s.statement ≡ x → length (foreign_leaves here.me (J ++ Foreign s ∷ [])) ≤ 4096
   by_statement (statement.Update u) is = taken_few here J s u is allowed.room
@@ -69,7 +70,7 @@ own_leaf_is_last here J t l on mine =
     ]
 
 -- updates of one id that stand apart are one at most
-one_at_most : (us : List Update) (h : List ℕ) → AreApart us → ((t : Update) → IsIn t us → id_of_update t ≡ h) → length us ≤ 1
+one_at_most : (us : List Update) (h : List ℕ) → HaveOwnIds us → ((t : Update) → IsIn t us → id_of_update t ≡ h) → length us ≤ 1
 one_at_most [] h apart same = omega arith
 one_at_most (t ∷ []) h apart same = omega arith
 one_at_most (t ∷ u ∷ us) h apart same = absurd (apart.0.0 (same u (inr (inl refl)) ∙ sym (same t (inl refl))))
@@ -83,7 +84,7 @@ unfolding foreign_leaves leaves_of
 few_leaves here J l =
     let leaves = leaves_of (accepted J) in
     let mine = filter (λ (t : Update). t.writer == here.me) leaves in
-    let apart = apart_filter (λ (t : Update). t.writer == here.me) leaves (apart_filter _ (accepted J) (apart_from_causal [] (accepted J) (lawful_is_causal here J l))) in
+    let apart = own_ids_filter (λ (t : Update). t.writer == here.me) leaves (own_ids_filter _ (accepted J) (own_ids_from_causal [] (accepted J) (lawful_is_causal here J l))) in
     let one = one_at_most mine (last_own J) apart (λ t on. let f = from_filter (λ (x : Update). x.writer == here.me) t leaves on in own_leaf_is_last here J t l f.0 (eqb-true _ _ f.1)) in
     let both = length-filter_both (λ (t : Update). not (t.writer == here.me)) (λ (t : Update). t.writer == here.me) (λ t. twice (t.writer == here.me)) leaves in
     let foreign = few_foreign here J l in

@@ -21,6 +21,7 @@ use Rattle.depot_model.proofs.Members.{in_left, in_right, in_last, in_map, any_f
 use Rattle.depot_model.proofs.Orders.{leads_one, leads_more, leads_trans, precedes_child, precedes_wider, parent_precedes, fresh, one_of_id, first_names_none, causal_behind, child_is_behind}
 use Rattle.depot_model.proofs.Pasts.{past_in, past_of_listed, past_of_next}
 use Rattle.depot_model.specs.Causality.{puts_of}
+use Rattle.depot_model.specs.Contents.{key_written}
 use Rattle.depot_laws.proofs.Splits.{flat_left, flat_gives, flat_cases, lawful_before, lawful_from_end, accepted_push}
 use Rattle.depot_model.proofs.RisingUpdates.{in_by_id}
 use Rattle.depot_model.proofs.NamedIds.{named_is, has_id_to}
@@ -103,7 +104,7 @@ IsInLine J = (t : Update) → IsIn t (puts_of J) → (id_of_update t ≡ last_ow
 next_stays : (J : List Record) (r : Record) (t : Update) → HasNext J t → HasNext (J ++ r ∷ []) t
 next_stays J r t n = record { next = n.next; on = flat_left put_by n.next J (r ∷ []) n.on; prev = n.prev }
 
-put_in_line : (me : ℕ) (J : List Record) (u : Update) (value : List ℕ) → u ≡ next_own me J u.key value → IsInLine J → IsInLine (J ++ OwnPut u value ∷ [])
+put_in_line : (me : ℕ) (J : List Record) (u : Update) (value : List ℕ) → u ≡ next_own me J (key_written u) value → IsInLine J → IsInLine (J ++ OwnPut u value ∷ [])
 unfolding next_own
 put_in_line me J u value next before t on = elim (flat_cases put_by t J (OwnPut u value) on) [
   | inl old ↦ inr (elim (before t old) [
@@ -163,12 +164,12 @@ behind_prev : (us : List Update) (h : List ℕ) (t : Update) → IsCausal [] us 
 unfolding precedes_named prev_of
 behind_prev us h t c t_on e = before_named us h t (bytes_eq h zeros) (named us h) refl refl c t_on e
 
-next_prev : (me : ℕ) (J : List Record) (u : Update) (value : List ℕ) → u ≡ next_own me J u.key value → u.prev ≡ last_own J
+next_prev : (me : ℕ) (J : List Record) (u : Update) (value : List ℕ) → u ≡ next_own me J (key_written u) value → u.prev ≡ last_own J
 unfolding next_own
 next_prev me J u value next = ap (λ (x : Update). x.prev) next
 
 -- a leaf of another writer that doesn't precede the prev is an entry
-leaf_is_entry : (me : ℕ) (J : List Record) (u : Update) (value : List ℕ) (t : Update) → u ≡ next_own me J u.key value → IsIn t (accepted J) → is_prev_in (accepted J) (id_of_update t) ≡ false → (t.writer == me) ≡ false → precedes_named (accepted J) (last_own J) t ≡ false → IsIn (id_of_update t) (parents u)
+leaf_is_entry : (me : ℕ) (J : List Record) (u : Update) (value : List ℕ) (t : Update) → u ≡ next_own me J (key_written u) value → IsIn t (accepted J) → is_prev_in (accepted J) (id_of_update t) ≡ false → (t.writer == me) ≡ false → precedes_named (accepted J) (last_own J) t ≡ false → IsIn (id_of_update t) (parents u)
 unfolding next_own next_entries leaves_of
 leaf_is_entry me J u value t next on last other behind =
     let us = accepted J in
@@ -178,7 +179,7 @@ leaf_is_entry me J u value t next on last other behind =
     entry_is_parent u (entry_of t) (subst (λ (ds : List Dep). IsIn (entry_of t) ds) (sym (ap (λ (x : Update). x.deps) next)) entry)
 
 -- a leaf is a parent of the next own update, or precedes its prev
-leaf_follows : (here : Setting) (J : List Record) (u : Update) (value : List ℕ) (t : Update) → IsLawful here J → u ≡ next_own here.me J u.key value → IsIn t (accepted J) → is_prev_in (accepted J) (id_of_update t) ≡ false → Precedes (accepted J ++ u ∷ []) t u
+leaf_follows : (here : Setting) (J : List Record) (u : Update) (value : List ℕ) (t : Update) → IsLawful here J → u ≡ next_own here.me J (key_written u) value → IsIn t (accepted J) → is_prev_in (accepted J) (id_of_update t) ≡ false → Precedes (accepted J ++ u ∷ []) t u
 leaf_follows here J u value t l next on last =
     let us = accepted J in
     let above = in_left t us (u ∷ []) on in
@@ -203,7 +204,7 @@ leaf_follows here J u value t l next on last =
 -- ---- all that is accepted
 
 -- each accepted update precedes the next own one
-pub next_follows : (here : Setting) (J : List Record) (u : Update) (value : List ℕ) (t : Update) → IsLawful here J → u ≡ next_own here.me J u.key value → IsIn t (accepted J) → Precedes (accepted J ++ u ∷ []) t u
+pub next_follows : (here : Setting) (J : List Record) (u : Update) (value : List ℕ) (t : Update) → IsLawful here J → u ≡ next_own here.me J (key_written u) value → IsIn t (accepted J) → Precedes (accepted J ++ u ∷ []) t u
 next_follows here J u value t l next on =
     let us = accepted J in
     let leaf = leaf_of [] us t (lawful_is_causal here J l) on in
@@ -244,7 +245,7 @@ past_is_whole ids u (x ∷ xs) c all =
       chosen false e = absurd cc
 
 -- the past of the next own update is all that is accepted
-pub past_of_own : (here : Setting) (J : List Record) (u : Update) (value : List ℕ) → IsLawful here J → u ≡ next_own here.me J u.key value → past u (accepted J) ≡ accepted J
+pub past_of_own : (here : Setting) (J : List Record) (u : Update) (value : List ℕ) → IsLawful here J → u ≡ next_own here.me J (key_written u) value → past u (accepted J) ≡ accepted J
 past_of_own here J u value l next =
     let c = lawful_is_causal here J l in
     past_is_whole [] u (accepted J) c (λ t on. (past_of_next (accepted J) u t c).1 (on, next_follows here J u value t l next on))

@@ -55,6 +55,11 @@ content_same J p (statement.Voucher v) all = tt
 
 -- ---- one more record
 
+-- a journal that has begun stays so with more behind it
+pub still_some : (J new : List Record) → is_empty J ≡ false → is_empty (J ++ new) ≡ false
+still_some [] new e = absurd cc
+still_some (r ∷ J) new e = refl
+
 pub nonempty_more : (J : List Record) (r : Record) → is_empty (J ++ r ∷ []) ≡ false
 nonempty_more [] r = refl
 nonempty_more (j ∷ J) r = refl

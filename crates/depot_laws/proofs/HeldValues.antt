@@ -12,7 +12,7 @@ use Rattle.depot_model.specs.Journal.{first_values, held, value_by, value_with, 
 use Rattle.depot_model.specs.Contents.{NamedValue}
 use Rattle.depot_model.proofs.Members.{among-append}
 use Rattle.depot_base.proofs.GeneralLaws.{bytes_eq_comm}
-use Rattle.depot_laws.proofs.Exact.{from_first}
+use Rattle.depot_laws.proofs.Exact.{from_first, value_with_is}
 
 -- ---- the first value of each hash
 
@@ -44,19 +44,6 @@ pub held_is_brought : (J : List Record) (v : List ℕ) → IsIn v (held J) → I
 held_is_brought J v on = from_first [] (flat_map value_by J) v on
 
 -- ---- the value of a hash
-
--- a value of these has this hash
-pub record HasHash (vs : List (List ℕ)) (h v : List ℕ) : Type 0 where
-  pub on : IsIn v vs
-  pub hash : sha256 v ≡ h
-
-with_step : (b : Bool) (x v h : List ℕ) (vs : List (List ℕ)) → bytes_eq (sha256 x) h ≡ b → cond b (Some x) (value_with h vs) ≡ Some v → (value_with h vs ≡ Some v → HasHash vs h v) → HasHash (x ∷ vs) h v
-with_step true x v h vs is e later = let same : x ≡ v = cc in record { on = inl same; hash = ap sha256 (sym same) ∙ (bytes_eq-Decides (sha256 x) h).0 is }
-with_step false x v h vs is e later = let r = later e in record { on = inr r.on; hash = r.hash }
-
-pub value_with_is : (vs : List (List ℕ)) (h v : List ℕ) → value_with h vs ≡ Some v → HasHash vs h v
-value_with_is [] h v e = absurd cc
-value_with_is (x ∷ vs) h v e = with_step (bytes_eq (sha256 x) h) x v h vs refl e (value_with_is vs h v)
 
 -- the only value of a hash is found by it
 pub value_found : (vs : List (List ℕ)) (h v : List ℕ) → IsIn v vs → sha256 v ≡ h → ((w : List ℕ) → IsIn w vs → sha256 w ≡ h → w ≡ v) → value_with h vs ≡ Some v

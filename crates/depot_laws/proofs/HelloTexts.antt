@@ -16,22 +16,23 @@ use Rattle.depot_model.specs.Texts.{IsRoster, IsUpdate, hash_of_roster}
 use Rattle.depot_model.specs.History.{leaves_of, by_id, is_lower}
 use Rattle.depot_model.specs.Journal.{accepted, is_convicted, holds}
 use Rattle.depot_model.specs.Checks.{Setting}
-use Rattle.depot_model.specs.Contents.{NamedValue, values_named}
+use Rattle.depot_model.specs.Contents.{NamedValue, values_named, value_named}
 use Rattle.depot_model.specs.Lawful.{IsLawful, is_empty}
 use Rattle.depot_model.specs.Hello.{hello_leaf, hello_leaf_rises, hello, IsHello, named_leaf, convicted_nodes, lacking, hello_of}
 use Rattle.depot_model.proofs.FieldFacts.{update_facts, roster_facts}
-use Rattle.depot_model.proofs.Members.{all_at, all_from, from_map, from_filter}
+use Rattle.depot_model.proofs.Members.{all_at, all_from, from_map, from_filter, from_take}
 use Rattle.depot_model.proofs.RisingLists.{RisesBy}
 use Rattle.depot_base.proofs.GeneralLaws.{filter_short}
+use Rattle.depot_base.proofs.EntryLists.{last_pushed}
 use Rattle.depot_laws.proofs.Splits.{given_by}
-use Rattle.depot_model.proofs.RisingUpdates.{from_by_id, apart_from_causal, apart_filter, rises_by_id, by_id_length}
+use Rattle.depot_model.proofs.RisingUpdates.{from_by_id, own_ids_from_causal, own_ids_filter, rises_by_id, by_id_length}
 use Rattle.depot_laws.proofs.Rosters.{entries_fit}
 use Rattle.depot_laws.proofs.Births.{roster_hash_is_digest, digest_from_length}
 use Rattle.depot_laws.proofs.Causes.{leaf_is_on, lawful_is_causal}
 use Rattle.depot_laws.proofs.Sorted.{then_lower}
 use Rattle.depot_laws.proofs.OwnTexts.{me_fits, accepted_fit, writer_fits, id_is_digest}
 use Rattle.depot_laws.proofs.Groups.{from_rising}
-use Rattle.depot_laws.proofs.RisingBytes.{rising_rises, last_pushed, rising_follow, digests_follow}
+use Rattle.depot_laws.proofs.RisingBytes.{rising_rises, rising_follow, digests_follow}
 use Rattle.depot_laws.proofs.FewLeaves.{few_leaves}
 use Rattle.depot_laws.proofs.Worlds.{giver_in}
 
@@ -44,12 +45,6 @@ rises_filter before test (x ∷ xs) rise = by_test (test x) (rises_filter before
   by_test : (b : Bool) → RisesBy before (filter test xs) → RisesBy before (cond b (x ∷ filter test xs) (filter test xs))
   by_test true rest = (all_from (λ y. before x y ≡ true) (filter test xs) (λ y on. all_at (λ z. before x z ≡ true) xs y rise.0 (from_filter test y xs on).0), rest)
   by_test false rest = rest
-
-from_take : {X : Type 0} (n : ℕ) (x : X) (xs : List X) → IsIn x (take n xs) → IsIn x xs
-from_take zero x xs never = absurd never
-from_take (suc n) x [] never = absurd never
-from_take (suc n) x (y ∷ ys) (inl here) = inl here
-from_take (suc n) x (y ∷ ys) (inr there) = inr (from_take n x ys there)
 
 -- a beginning of a rising list rises
 rises_take : {X : Type 0} (before : X → X → Bool) (n : ℕ) (xs : List X) → RisesBy before xs → RisesBy before (take n xs)
@@ -128,12 +123,12 @@ unfolding leaf_before leaves_of
 leaves_follow here J l =
     let us = accepted J in
     let leaves = leaves_of us in
-    rising_follow hello_leaf hello_leaf_rises leaf_before (λ x y e. e) [] (map named_leaf (by_id leaves)) (named_rise (by_id leaves) (rises_by_id leaves (apart_filter _ us (apart_from_causal [] us (lawful_is_causal here J l))))) (λ x on. refl)
+    rising_follow hello_leaf hello_leaf_rises leaf_before (λ x y e. e) [] (map named_leaf (by_id leaves)) (named_rise (by_id leaves) (rises_by_id leaves (own_ids_filter _ us (own_ids_from_causal [] us (lawful_is_causal here J l))))) (λ x on. refl)
     (λ x on. let t = from_map named_leaf x (by_id leaves) on in subst (λ (k : HelloLeaf). hello_leaf.fits k) t.1.1 (leaf_fits t.0 (accepted_fit here J t.0 l (leaf_is_on us t.0 (from_by_id t.0 leaves t.1.0)))))
 
 -- ---- wanted values
 
-value_hash_fits : (u : Update) → IsUpdate u → digest.fits u.value_hash
+value_hash_fits : (u : Update) → IsUpdate u → digest.fits (value_named u).hash
 value_hash_fits u fits = (update_facts u fits).value_hash
 
 -- the values that an update names have digests as their hashes

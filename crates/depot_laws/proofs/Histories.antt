@@ -9,7 +9,7 @@ use Rattle.depot_model.specs.Order.{prevs}
 use Rattle.depot_model.specs.History.{is_prev_in, leaves_of, by_id, leaf_text, history_text, history_hash}
 use Rattle.depot_model.proofs.Members.{any_from, any_to, from_filter, in_filter}
 use Rattle.depot_model.proofs.RisingLists.{HaveSame}
-use Rattle.depot_model.proofs.RisingUpdates.{AreApart, apart_filter, same_by_id}
+use Rattle.depot_model.proofs.RisingUpdates.{HaveOwnIds, own_ids_filter, same_by_id}
 use Rattle.depot_base.proofs.GeneralLaws.{same_test}
 
 turned : (us vs : List Update) → HaveSame us vs → HaveSame vs us
@@ -29,8 +29,8 @@ leaf_in us vs same t on =
     in_filter (λ (u : Update). not (is_prev_in vs (id_of_update u))) t vs (same.to t leaf.0) (sym (ap not test) ∙ leaf.1)
 
 -- two lists with the same members have one history, where no id stands twice in either
-pub same_history : (us vs : List Update) → AreApart us → AreApart vs → HaveSame us vs → history_hash us ≡ history_hash vs
+pub same_history : (us vs : List Update) → HaveOwnIds us → HaveOwnIds vs → HaveSame us vs → history_hash us ≡ history_hash vs
 unfolding history_hash history_text leaves_of
 same_history us vs apart_u apart_v same =
-    let leaves : by_id (leaves_of us) ≡ by_id (leaves_of vs) = same_by_id (leaves_of us) (leaves_of vs) (apart_filter _ us apart_u) (apart_filter _ vs apart_v) (record { to = leaf_in us vs same; back = leaf_in vs us (turned us vs same) }) in
+    let leaves : by_id (leaves_of us) ≡ by_id (leaves_of vs) = same_by_id (leaves_of us) (leaves_of vs) (own_ids_filter _ us apart_u) (own_ids_filter _ vs apart_v) (record { to = leaf_in us vs same; back = leaf_in vs us (turned us vs same) }) in
     ap (λ (ts : List Update). sha256 (flat_map leaf_text ts)) leaves

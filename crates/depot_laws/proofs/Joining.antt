@@ -32,7 +32,7 @@ use Rattle.depot_laws.proofs.Taken.{AllNone, none_from_passes}
 use Rattle.depot_laws.proofs.Convictions.{convicted_by, convicts_accused}
 use Rattle.depot_laws.proofs.Contrary.{opponent_is, checks_of_good}
 use Rattle.depot_laws.proofs.GoodProofs.{IsGoodAt}
-use Rattle.depot_laws.proofs.Growing.{front_of, added_is, grown_is_lawful}
+use Rattle.depot_laws.proofs.Growing.{front_of, added_is, grown_is_lawful, still_some}
 use Rattle.depot_laws.proofs.OwnSteps.{own_writer}
 use Rattle.depot_laws.proofs.OwnAgree.{own_agree}
 use Rattle.depot_laws.proofs.Worlds.{journal_lawful}
@@ -103,7 +103,7 @@ module _ (W : World) (a v : Correct) (K : List Record) (m : Meeting W a v K) whe
   pub joined_more : (C new : List Record) → HasJoined C → IsLawful (setting_of W a) (C ++ new) → MayJoin new → HasJoined (C ++ new)
   joined_more C new j lawful may = record {
     lawful = lawful;
-    some = still_some C j.some;
+    some = still_some C new j.some;
     kept = λ u on. subst (λ (us : List Update). IsIn u us) (sym (flat_map-append accepted_by C new)) (in_left u (accepted C) (accepted new) (j.kept u on));
     from = λ u on. elim (parts_of accepted_by C new u on) [ inl old ↦ j.from u old | inr now ↦ inr (may.from u now) ];
     hashed = λ x on. elim (parts_of value_by C new x on) [ inl old ↦ j.hashed x old | inr now ↦ may.hashed x now ];
@@ -114,10 +114,7 @@ module _ (W : World) (a v : Correct) (K : List Record) (m : Meeting W a v K) whe
           | inl old ↦ both_ways _ j.spares (convicts_accused C p.0 v.node old p.1.1)
           | inr now ↦ may.spares p.0 now p.1.1
         ]);
-  } where
-    still_some : (C : List Record) → is_empty C ≡ false → is_empty (C ++ new) ≡ false
-    still_some [] e = absurd cc
-    still_some (r ∷ C) e = refl
+  }
 
   -- ---- a step
 

@@ -22,7 +22,7 @@ use Rattle.depot_model.specs.Taking.{at_start, outcome_within, outcome_of, Form,
 use Rattle.depot_model.proofs.TextLaws.{signed_lawful, proof_lawful}
 use Rattle.depot_laws.specs.Given.{HasText}
 use Rattle.depot_laws.specs.Streams.{AreBytes, IsInOrder}
-use Rattle.depot_laws.proofs.Growing.{grown_is_lawful}
+use Rattle.depot_laws.proofs.Growing.{grown_is_lawful, still_some}
 use Rattle.depot_laws.proofs.Feeds.{frame_leaves_none}
 
 -- ---- what a payload gives has a text
@@ -50,10 +50,6 @@ given_has_text f x bytes e = form_has_text (form_of f.tag) f.payload x bytes e
 
 -- ---- the journal
 
-some_more : (J new : List Record) → is_empty J ≡ false → is_empty (J ++ new) ≡ false
-some_more [] new e = absurd cc
-some_more (j ∷ J) new e = refl
-
 -- a lawful journal that has begun
 record IsGood (here : Setting) (J : List Record) : Type 0 where
   pub lawful : IsLawful here J
@@ -70,7 +66,7 @@ given_keeps here n s (Ok x) fits g = by_room (full_by here.me s.journal (growth 
   by_room : (o : Option Full) → full_by here.me s.journal (growth here s.journal x) ≡ o → IsGood here (after_outcome n s (outcome_within o (answer_to here s.journal x) (growth here s.journal x))).journal
   by_room None room = subst (λ (J : List Record). IsGood here J) (sym (counted_journal n (answer_to here s.journal x) (growth here s.journal x) s)) (record {
     lawful = grown_is_lawful here s.journal x g.lawful g.some (fits x refl) room;
-    some = some_more s.journal (growth here s.journal x) g.some;
+    some = still_some s.journal (growth here s.journal x) g.some;
   })
   by_room (Some what) full = g
 

@@ -21,7 +21,7 @@ use Rattle.std.proofs.Math.Bool.{or-false}
 use Rattle.depot_laws.specs.Leaves.{follows_leaf}
 use Rattle.depot_model.proofs.NamedIds.{has_id_from, has_id_to, new_id}
 use Rattle.depot_laws.proofs.Causes.{Joins}
-use Rattle.depot_model.proofs.RisingUpdates.{AreApart, apart_from_causal, apart_filter}
+use Rattle.depot_model.proofs.RisingUpdates.{HaveOwnIds, own_ids_from_causal, own_ids_filter}
 
 -- ---- filters
 
@@ -113,7 +113,7 @@ no_id : (t : Update) (ts : List Update) (h : List ℕ) → AllByRecursion (λ u.
 no_id t ts h other e = false_from_ne_true (has_id ts h) (λ has. let x = has_id_to ts h has in all_at (λ (u : Update). id_of_update u ≡ id_of_update t → ⊥) ts x.0 other x.1.0 (x.1.1 ∙ sym e))
 
 -- where no id stands twice, one update has an id, or none
-count_id : (K : List Update) (h : List ℕ) → AreApart K → length (filter (λ t. bytes_eq (id_of_update t) h) K) ≡ cond (has_id K h) 1 0
+count_id : (K : List Update) (h : List ℕ) → HaveOwnIds K → length (filter (λ t. bytes_eq (id_of_update t) h) K) ≡ cond (has_id K h) 1 0
 unfolding has_id
 count_id [] h apart = refl
 count_id (t ∷ ts) h apart = step (bytes_eq (id_of_update t) h) refl (count_id ts h apart.1) where
@@ -125,17 +125,17 @@ count_id (t ∷ ts) h apart = step (bytes_eq (id_of_update t) h) refl (count_id 
       ap suc zero_left
   step false is rest = rest
 
-before_if : (b : Bool) (h : List ℕ) (K : List Update) → AreApart K → length (filter (λ t. is_among (id_of_update t) (cond b [] (h ∷ []))) K) ≡ cond (not b && has_id K h) 1 0
+before_if : (b : Bool) (h : List ℕ) (K : List Update) → HaveOwnIds K → length (filter (λ t. is_among (id_of_update t) (cond b [] (h ∷ []))) K) ≡ cond (not b && has_id K h) 1 0
 before_if true h K apart = filter_none K
 before_if false h K apart = ap length (filter_agree (λ (t : Update). is_among (id_of_update t) (h ∷ [])) (λ (t : Update). bytes_eq (id_of_update t) h) (λ t. or-false (bytes_eq (id_of_update t) h)) K) ∙ count_id K h apart
 
 -- how many it takes the place of
-before_count : (K : List Update) (u : Update) → AreApart K → length (filter (is_before u) K) ≡ cond (not (bytes_eq u.prev zeros) && has_id K u.prev) 1 0
+before_count : (K : List Update) (u : Update) → HaveOwnIds K → length (filter (is_before u) K) ≡ cond (not (bytes_eq u.prev zeros) && has_id K u.prev) 1 0
 before_count K u apart = before_if (bytes_eq u.prev zeros) u.prev K apart
 
-leaves_apart : (us : List Update) → IsCausal [] us → AreApart (leaves_of us)
+leaves_apart : (us : List Update) → IsCausal [] us → HaveOwnIds (leaves_of us)
 unfolding leaves_of
-leaves_apart us c = apart_filter _ us (apart_from_causal [] us c)
+leaves_apart us c = own_ids_filter _ us (own_ids_from_causal [] us c)
 
 named_not : (h : List ℕ) → bytes_eq h zeros ≡ false → h ≡ zeros → ⊥
 named_not h e = iff_false (bytes_eq-Decides h zeros) e
@@ -172,7 +172,7 @@ pub others_count : (me : ℕ) (us : List Update) (u : Update) → IsCausal [] us
     → length (filter (is_other me) (leaves_of (us ++ u ∷ []))) ≡ length (filter (is_other me) (leaves_of us)) + cond (follows_leaf us u) 0 1
 others_count me us u c j other theirs =
     let count = leaves_count me us u c j in
-    let taken = before_count (filter (is_other me) (leaves_of us)) u (apart_filter (is_other me) (leaves_of us) (leaves_apart us c)) ∙ ap one_if (same_leaf me us u theirs) in
+    let taken = before_count (filter (is_other me) (leaves_of us)) u (own_ids_filter (is_other me) (leaves_of us) (leaves_apart us c)) ∙ ap one_if (same_leaf me us u theirs) in
     let new : one_if (is_other me u) ≡ 1 = ap one_if other in
     less_one (follows_leaf us u) _ _ (omega (arith, count, taken, new))
 
@@ -182,6 +182,6 @@ pub own_count : (me : ℕ) (us : List Update) (u : Update) → IsCausal [] us �
     → length (filter (is_other me) (leaves_of (us ++ u ∷ []))) ≡ length (filter (is_other me) (leaves_of us))
 own_count me us u c j own mine =
     let count = leaves_count me us u c j in
-    let taken = before_count (filter (is_other me) (leaves_of us)) u (apart_filter (is_other me) (leaves_of us) (leaves_apart us c)) ∙ ap one_if (own_leaf me us u mine) in
+    let taken = before_count (filter (is_other me) (leaves_of us)) u (own_ids_filter (is_other me) (leaves_of us) (leaves_apart us c)) ∙ ap one_if (own_leaf me us u mine) in
     let new : one_if (is_other me u) ≡ 0 = ap one_if own in
     omega (arith, count, taken, new)

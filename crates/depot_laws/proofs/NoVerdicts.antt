@@ -1,5 +1,5 @@
 -- No proof that was recorded or judged in a world names a correct node.
-use Rattle.std.proofs.Common.{◌≡◌, List, true, None, Ok, refl, sym, subst, ◌∙◌, inl, inr}
+use Rattle.std.proofs.Common.{◌≡◌, List, None, Ok, refl, sym, subst, ◌∙◌, inl, inr}
 use Rattle.std.specs.List.{flat_map}
 use Rattle.std.proofs.lemmas.Bool.{eqb-true}
 use Rattle.depot_base.specs.Statement.{writer_of}
@@ -10,9 +10,8 @@ use Rattle.depot_base.specs.declared.record.Record.{Record}
 use Rattle.depot_base.specs.declared.record.Record.TheVariants.{Birth, OwnPut, OwnVoucher, Foreign, Conviction, Held}
 use Rattle.depot_model.specs.declared.taken.Taken.TheVariants.{New}
 use Rattle.depot_model.specs.Lists.{IsIn}
-use Rattle.depot_model.specs.Contradictions.{contradicts}
 use Rattle.depot_model.specs.Roster.{Verifies}
-use Rattle.depot_model.specs.Judgement.{first_failed_point}
+use Rattle.depot_model.specs.Judgement.{first_failed_point, IsContrary}
 use Rattle.depot_model.specs.Journal.{accused, proof_by}
 use Rattle.depot_model.specs.Checks.{Setting, given_proof, answer_to}
 use Rattle.depot_model.specs.Lawful.{MayFollow}
@@ -29,18 +28,15 @@ use Rattle.depot_laws.proofs.Worlds.{giver_in, journal_lawful}
 
 -- ---- what a good proof shows
 
-abbrev Shows : Proof → Type 0
-Shows p = contradicts p.kind p.first.statement p.second.statement ≡ true
-
 -- where no point fails, the halves contradict each other
-judged_shows : (verifies : Verifies) (r : List RosterEntry) (p : Proof) → first_failed_point verifies r p ≡ None → Shows p
+judged_shows : (verifies : Verifies) (r : List RosterEntry) (p : Proof) → first_failed_point verifies r p ≡ None → IsContrary p
 judged_shows verifies r p good = (passes verifies r p good).contradict
 
 -- and so where a node takes it
-taken_shows : (here : Setting) (J : List Record) (p : Proof) → answer_to here J (given_proof p) ≡ Ok New → Shows p
+taken_shows : (here : Setting) (J : List Record) (p : Proof) → answer_to here J (given_proof p) ≡ Ok New → IsContrary p
 taken_shows here J p e = judged_shows here.verifies here.listed p (new_is_good here J p e).good
 
-recorded_shows : (here : Setting) (J : List Record) (r : Record) (p : Proof) → MayFollow here J r → IsIn p (proof_by r) → Shows p
+recorded_shows : (here : Setting) (J : List Record) (r : Record) (p : Proof) → MayFollow here J r → IsIn p (proof_by r) → IsContrary p
 recorded_shows here J (Conviction q) p may (inl same) = taken_shows here J p (subst (λ (x : Proof). answer_to here J (given_proof x) ≡ Ok New) same may)
 recorded_shows here J (Conviction q) p may (inr never) = absurd never
 recorded_shows here J (Birth node h) p may never = absurd never
@@ -75,7 +71,7 @@ judged_half W p s on half = in_right s (flat_map (λ (c : Correct). flat_map sig
 
 module _ (W : World) (world : IsWorld W) (authentic : IsAuthentic W) where
   -- both halves would be the node's own, and these agree
-  none_shown : (c : Correct) (p : Proof) → IsIn c W.nodes → ((s : Signed) → IsIn s (halves p) → IsIn s (signed_met W)) → Shows p → accused p ≡ c.node → ⊥
+  none_shown : (c : Correct) (p : Proof) → IsIn c W.nodes → ((s : Signed) → IsIn s (halves p) → IsIn s (signed_met W)) → IsContrary p → accused p ≡ c.node → ⊥
   none_shown c p c_on stand shows named =
       let writer : writer_of p.first.statement ≡ writer_of p.second.statement = eqb-true _ _ (same_writer p.kind p.first.statement p.second.statement shows) in
       own_agree (setting_of W c) c.journal (journal_lawful W world c c_on) p.first.statement p.second.statement

@@ -23,6 +23,7 @@ use Rattle.depot_model.specs.Lawful.{MayPut, MayVouch, MayFollow, IsLawful}
 use Rattle.depot_model.proofs.Members.{among_to}
 use Rattle.depot_model.proofs.ContradictionLaws.{contradicts_comm, other_body}
 use Rattle.depot_model.specs.Chains.{IsEarlierStep}
+use Rattle.depot_model.specs.Contents.{key_written}
 use Rattle.depot_base.proofs.GeneralLaws.{flat_push}
 use Rattle.depot_laws.proofs.Splits.{flat_cases, lawful_from_end}
 use Rattle.depot_model.proofs.NamedIds.{has_id_from}
@@ -53,7 +54,7 @@ open_more : (here : Setting) (J : List Record) (r : Record) → IsLawful here J 
 open_more here J (OwnPut w value) l may before x (inl old) e = not_named J w x may.fresh (accepted_prev here J x l (own_in_accepted x J old)) e
 open_more here J (OwnPut w value) l may before x (inr (inl now)) e =
     let same : w ≡ x = cc in
-    not_named J w w may.fresh (put_prev here J w w.key value l may.next) (ap (λ (y : Update). y.prev) same ∙ e)
+    not_named J w w may.fresh (put_prev here J w (key_written w) value l may.next) (ap (λ (y : Update). y.prev) same ∙ e)
 open_more here J (OwnPut w value) l may before x (inr (inr never)) e = never
 open_more here J (OwnVoucher v) l may before x (inl old) e = before x old e
 open_more here J (OwnVoucher v) l may before x (inr (inl now)) e = absurd cc
@@ -90,7 +91,7 @@ put_agrees here J w value SameNumber a l may on e =
 put_agrees here J w value SamePrev (statement.Update x) l may on e = open_end here J l x on ((bytes_eq-Decides x.prev w.prev).0 e ∙ ap (λ (x : Update). x.prev) may.next)
 put_agrees here J w value SamePrev (statement.Voucher v) l may on e = absurd cc
 put_agrees here J w value Backward (statement.Update x) l may on e = elim (or_cases (goes_back x w) (goes_back w x) e) [
-  | inl back ↦ not_back x w back (below_next here J x w w.key value l may.next on)
+  | inl back ↦ not_back x w back (below_next here J x w (key_written w) value l may.next on)
   | inr ahead ↦
       let named : x.prev ≡ id_of_update w = (prevs_is x (id_of_update w) (among_to (id_of_update w) (prevs x) (and_parts _ _ ahead).0)).0 in
       not_named J w x may.fresh (accepted_prev here J x l (own_in_accepted x J on)) named

@@ -18,6 +18,7 @@ use Rattle.depot_model.specs.Lawful.{IsLawful}
 use Rattle.depot_model.proofs.Members.{in_left, in_right, in_parts, in_pushed, in_map, from_map}
 use Rattle.depot_model.proofs.Orders.{one_of_id, precedes_irreflexive, leads_one}
 use Rattle.depot_model.specs.Chains.{IsEarlierStep}
+use Rattle.depot_model.specs.Contents.{key_written}
 use Rattle.depot_base.proofs.GeneralLaws.{all_both}
 use Rattle.depot_laws.proofs.Tests.{first-none}
 use Rattle.depot_model.proofs.NamedIds.{named_some, has_id_from}
@@ -62,12 +63,12 @@ record SeesEntry (us : List Update) (e : Dep × Option Update) : Type 0 where
   pub is : e ≡ (entry_of update, Some update)
   pub on : IsIn update us
 
-module _ (here : Setting) (J : List Record) (u : Update) (value : List ℕ) (lawful : IsLawful here J) (next : u ≡ next_own here.me J u.key value) (fresh : IsFresh J (id_of_update u)) where
+module _ (here : Setting) (J : List Record) (u : Update) (value : List ℕ) (lawful : IsLawful here J) (next : u ≡ next_own here.me J (key_written u) value) (fresh : IsFresh J (id_of_update u)) where
   causal : IsCausal [] (accepted J)
   causal = lawful_is_causal here J lawful
 
   clock_is : u.clock ≡ greatest_clock (accepted J) + 1
-  clock_is = ap (λ (x : Update). x.clock) next ∙ next_clock here.me J u.key value
+  clock_is = ap (λ (x : Update). x.clock) next ∙ next_clock here.me J (key_written u) value
 
   above : (t : Update) → IsIn t (accepted J) → t.clock < u.clock
   above t on = omega (arith, clock_is, clock_below t (accepted J) on)
@@ -94,7 +95,7 @@ module _ (here : Setting) (J : List Record) (u : Update) (value : List ℕ) (law
   sees_prev o on =
       let h = from_map (named (accepted J)) o (prevs u) on in
       let p = prevs_is u h.0 h.1.0 in
-      elim (put_prev here J u u.key value lawful next) [
+      elim (put_prev here J u (key_written u) value lawful next) [
         | inl none ↦ absurd (p.1 none)
         | inr t ↦ record { prev = t.prev; is = sym h.1.1 ∙ named_some [] (accepted J) h.0 t.prev causal t.known (t.id ∙ p.0); on = t.known; writer = t.writer; earlier = t.earlier }
       ]

@@ -1,5 +1,5 @@
 -- The next own update of a lawful journal has a text, and the journal with it is lawful.
-use Rattle.std.proofs.Common.{◌≡◌, ℕ, ◌+◌, ◌^◌, ◌<◌, ◌≤◌, Bool, true, false, not, ◌&&◌, eqb, List, [], ◌∷◌, ◌++◌, map, length, None, refl, sym, ap, subst, ◌∙◌, arith, length-append, inl, inr}
+use Rattle.std.proofs.Common.{◌≡◌, ℕ, ◌+◌, ◌^◌, ◌<◌, ◌≤◌, true, false, not, eqb, List, [], ◌∷◌, ◌++◌, map, length, None, refl, sym, ap, subst, ◌∙◌, arith, length-append, inl, inr}
 use Rattle.std.specs.List.{filter}
 use Rattle.std.specs.Int.{w8, w16, w32, w64}
 use Rattle.std.proofs.lemmas.Bool.{and_parts}
@@ -19,10 +19,11 @@ use Rattle.depot_model.specs.Texts.{update_fields, update_body, IsUpdate, IsStat
 use Rattle.depot_model.specs.Records.{own_put, birth, tagged, record_text, IsRecord, journal_bytes}
 use Rattle.depot_model.specs.History.{history_hash, leaves_of, by_id, greatest_clock}
 use Rattle.depot_model.specs.Journal.{accepted, accepted_by, own, own_by, last_own}
-use Rattle.depot_model.specs.Own.{entry_of, precedes_named, next_entries, next_own, IsFresh, leaf_count}
+use Rattle.depot_model.specs.Own.{entry_of, precedes_named, next_entries, next_own, IsFresh, leaf_count, is_unseen}
 use Rattle.depot_model.specs.Checks.{Setting}
 use Rattle.depot_model.specs.Room.{full_by}
 use Rattle.depot_model.specs.Lawful.{IsAllowed, IsLawful, is_birth, is_empty}
+use Rattle.depot_model.specs.Contents.{key_written, value_named, Writes}
 use Rattle.depot_model.proofs.FieldFacts.{update_facts}
 use Rattle.depot_model.proofs.BodyLaws.{IsUpdate-from_statement, IsStatement-from_update, IsStatement-from_signed}
 use Rattle.depot_model.proofs.TextLaws.{update_body_lawful}
@@ -30,7 +31,7 @@ use Rattle.depot_model.proofs.RecordLaws.{update_of_own_put}
 use Rattle.depot_laws.proofs.Splits.{given_by, lawful_push, lawful_from_end}
 use Rattle.depot_laws.proofs.Tests.{fails_from_not}
 use Rattle.depot_model.proofs.Members.{from_filter}
-use Rattle.depot_model.proofs.RisingUpdates.{from_by_id, AreApart, apart_from_causal, apart_filter, rises_by_id}
+use Rattle.depot_model.proofs.RisingUpdates.{from_by_id, HaveOwnIds, own_ids_from_causal, own_ids_filter, rises_by_id}
 use Rattle.depot_laws.proofs.JournalLimits.{within_from_room}
 use Rattle.depot_laws.proofs.LawfulRecords.{IsSigned-from_record, IsStatement-from_own_voucher}
 use Rattle.depot_laws.proofs.Causes.{last_own_cases, update_in_is, leaf_is_on, lawful_is_causal}
@@ -123,12 +124,9 @@ pub entry_fits : (u : Update) → IsUpdate u → dep.fits (entry_of u)
 unfolding dep
 entry_fits u fits = (writer_fits u fits, (clock_fits u fits, (id_is_digest u, refl)))
 
-abbrev wanted : ℕ → List Update → List ℕ → Update → Bool
-wanted me us prev t = not (eqb t.writer me) && not (precedes_named us prev t)
-
-entries_apart : (here : Setting) (J : List Record) (prev : List ℕ) → IsLawful here J → AreApart (filter (wanted here.me (accepted J) prev) (leaves_of (accepted J)))
+entries_apart : (here : Setting) (J : List Record) (prev : List ℕ) → IsLawful here J → HaveOwnIds (filter (is_unseen here.me (accepted J) prev) (leaves_of (accepted J)))
 unfolding leaves_of
-entries_apart here J prev l = apart_filter (wanted here.me (accepted J) prev) _ (apart_filter _ (accepted J) (apart_from_causal [] (accepted J) (lawful_is_causal here J l)))
+entries_apart here J prev l = own_ids_filter (is_unseen here.me (accepted J) prev) _ (own_ids_filter _ (accepted J) (own_ids_from_causal [] (accepted J) (lawful_is_causal here J l)))
 
 -- what an entry of the next own update names
 record IsWanted (me : ℕ) (us : List Update) (t : Update) : Type 0 where
@@ -138,7 +136,7 @@ record IsWanted (me : ℕ) (us : List Update) (t : Update) : Type 0 where
 is_wanted : (me : ℕ) (us : List Update) (prev : List ℕ) (t : Update) → IsIn t (next_entries me us prev) → IsWanted me us t
 unfolding next_entries
 is_wanted me us prev t on =
-    let f = from_filter (wanted me us prev) t (leaves_of us) (from_by_id t (filter (wanted me us prev) (leaves_of us)) on) in
+    let f = from_filter (is_unseen me us prev) t (leaves_of us) (from_by_id t (filter (is_unseen me us prev) (leaves_of us)) on) in
     record { on = leaf_is_on us t f.0; other = fails_from_not _ (and_parts (not (eqb t.writer me)) (not (precedes_named us prev t)) f.1).0 }
 
 -- the entries of the next own update have a text
@@ -146,7 +144,7 @@ pub next_entries_fit : (here : Setting) (J : List Record) (prev : List ℕ) → 
 unfolding list_of next_entries
 next_entries_fit here J prev l =
     let us = accepted J in
-    let left = filter (wanted here.me us prev) (leaves_of us) in
+    let left = filter (is_unseen here.me us prev) (leaves_of us) in
     let rise = rises_by_id left (entries_apart here J prev l) in
     (entries_follow here.me [] (by_id left) rise (λ u on. refl) (λ u on. entry_fits u (accepted_fit here J u l (is_wanted here.me us prev u on).on)) (λ u on. (is_wanted here.me us prev u on).other), refl)
 
@@ -227,7 +225,7 @@ unfolding number
 put_tag = (omega arith, omega arith)
 
 -- an own update with its value has a text
-pub IsRecord-OwnPut : (u : Update) (value : List ℕ) → IsUpdate u → length value ≡ u.value_len → IsRecord (OwnPut u value)
+pub IsRecord-OwnPut : (u : Update) (value : List ℕ) → IsUpdate u → length value ≡ (value_named u).size → IsRecord (OwnPut u value)
 unfolding record_text tagged own_put inner bytes_of
 IsRecord-OwnPut u value fits long =
     let short = update_body_lawful.short u fits in
@@ -249,14 +247,14 @@ own_fits here J u key value l some is_key is_value next few =
 -- and so has its record
 pub own_record_fits : (here : Setting) (J : List Record) (u : Update) (key value : List ℕ) → IsLawful here J → is_empty J ≡ false → IsKey key → IsValue value → u ≡ next_own here.me J key value → length u.deps ≤ 1024 → IsRecord (OwnPut u value)
 own_record_fits here J u key value l some is_key is_value next few =
-    IsRecord-OwnPut u value (own_fits here J u key value l some is_key is_value next few) (sym (ap (λ (x : Update). x.value_len) next ∙ next_value_len here.me J key value))
+    IsRecord-OwnPut u value (own_fits here J u key value l some is_key is_value next few) (sym (ap (λ (x : Update). (value_named x).size) next ∙ next_value_len here.me J key value))
 
 -- the journal with it is lawful
 pub own_put_is_lawful : (here : Setting) (J : List Record) (u : Update) (key value : List ℕ) → IsLawful here J → is_empty J ≡ false → IsKey key → IsValue value → u ≡ next_own here.me J key value
     → IsFresh J (id_of_update u) → length u.deps ≤ 1024 → length (own J) < leaf_count here.listed here.me → full_by here.me J (OwnPut u value ∷ []) ≡ None → IsLawful here (J ++ OwnPut u value ∷ [])
 own_put_is_lawful here J u key value l some is_key is_value next fresh few leaf room =
-    let is : u.key ≡ key = ap (λ (x : Update). x.key) next ∙ next_key here.me J key value in
-    let same : u ≡ next_own here.me J u.key value = next ∙ ap (λ (k : List ℕ). next_own here.me J k value) (sym is) in
+    let is : Writes key u = ap key_written next ∙ next_key here.me J key value in
+    let same : u ≡ next_own here.me J (key_written u) value = next ∙ ap (λ (k : List ℕ). next_own here.me J k value) (sym is) in
     lawful_push here J (OwnPut u value) l (record {
       first = sym some;
       text = own_record_fits here J u key value l some is_key is_value next few;

@@ -19,6 +19,7 @@ use Rattle.depot_model.specs.Lawful.{MayFollow, IsLawful}
 use Rattle.depot_model.proofs.FirstLaws.{each_is_none, when-none}
 use Rattle.depot_model.proofs.Orders.{one_of_id}
 use Rattle.depot_model.specs.Chains.{HasPrev}
+use Rattle.depot_model.specs.Contents.{key_written}
 use Rattle.depot_laws.proofs.Splits.{given_by, flat_left, lawful_before}
 use Rattle.depot_laws.proofs.Tests.{all_left}
 use Rattle.depot_model.proofs.NamedIds.{named_is}
@@ -91,7 +92,7 @@ put_prev here J u key value l next =
 -- an update that a record accepts knows its prev
 pub record_prev : (here : Setting) (J : List Record) (r : Record) (u : Update) → IsLawful here J → MayFollow here J r → IsIn u (accepted_by r) → KnowsPrev (accepted J) u
 record_prev here J (Birth node h) u l may never = absurd never
-record_prev here J (OwnPut w value) u l may (inl same) = subst (λ (x : Update). KnowsPrev (accepted J) x) same (put_prev here J w w.key value l may.next)
+record_prev here J (OwnPut w value) u l may (inl same) = subst (λ (x : Update). KnowsPrev (accepted J) x) same (put_prev here J w (key_written w) value l may.next)
 record_prev here J (OwnPut w value) u l may (inr never) = absurd never
 record_prev here J (OwnVoucher v) u l may never = absurd never
 record_prev here J (Foreign s) u l may on = content_prev (accepted J) u (content_of_new here J s u (update_in_is s.statement u on) (new_is here J s may.0))

@@ -18,7 +18,7 @@ use Rattle.depot_model.specs.Checks.{Setting}
 use Rattle.depot_model.specs.Contents.{NamedValue, values_named}
 use Rattle.depot_model.specs.Vouching.{own_vouchers, new_vouchers, records_of}
 use Rattle.depot_model.specs.Frames.{Frame, text_of_frame, IsFrame}
-use Rattle.depot_model.specs.Bundle.{Signs, signed_with, Parcel, parcels, sent_for, statement_frame, proof_frame, frames_of, sent_foreign, unvouched, proofs_for, vouchers_for, end_frame, bundle_frames, with_vouchers, bundle_of, bytes_of_bundle}
+use Rattle.depot_model.specs.Bundle.{Signs, Parcel, parcels, sent_for, proof_frame, frames_of, sent_foreign, unvouched, proofs_for, vouchers_for, end_frame, bundle_frames, with_vouchers, bundle_of, bytes_of_bundle, voucher_frame}
 use Rattle.depot_model.specs.Feeding.{Closing, out_of_room, Feeding, feeding_from, passed, fed, fed_frame, ending_of, ending_by, report_of}
 use Rattle.depot_model.specs.World.{Correct, World, setting_of, IsWorld, IsAuthentic, IsCollisionFree}
 use Rattle.depot_model.proofs.Members.{in_left}
@@ -45,7 +45,7 @@ bundle_vouchers me sign J h = refl
 
 -- without more, a bundle's frames are these and End
 shape_of : (me : ℕ) (sign : Signs) (K : List Record) (h : Hello) (xs : List Parcel) → List Frame
-shape_of me sign K h xs = map proof_frame (proofs_for K h) ++ (map (λ w. statement_frame (signed_with sign (statement.Voucher w))) (vouchers_for K (sent_foreign me xs)) ++ flat_map frames_of xs)
+shape_of me sign K h xs = map proof_frame (proofs_for K h) ++ (map (voucher_frame sign) (vouchers_for K (sent_foreign me xs)) ++ flat_map frames_of xs)
 
 regroup : (a b c d : List Frame) → a ++ (b ++ (c ++ d)) ≡ (a ++ (b ++ c)) ++ d
 regroup a b c d = ap (λ (fs : List Frame). a ++ fs) (sym (append_assoc b c d)) ∙ sym (append_assoc a (b ++ c) d)
@@ -60,7 +60,7 @@ bundle_is me sign J h e =
     let K = with_vouchers J (bundle_of me sign J h).vouchers in
     let xs = sent_for sign J h in
     let a = map proof_frame (proofs_for K h) in
-    let b : List Parcel → List Frame = λ ys. map (λ (w : Voucher). statement_frame (signed_with sign (statement.Voucher w))) (vouchers_for K (sent_foreign me ys)) in
+    let b : List Parcel → List Frame = λ ys. map (voucher_frame sign) (vouchers_for K (sent_foreign me ys)) in
     bundle_told me sign J h ∙ regroup a (b xs) (flat_map frames_of xs) (end_frame (bundle_of me sign J h).more ∷ [])
     ∙ ap (λ (ys : List Parcel). (a ++ (b ys ++ flat_map frames_of ys)) ++ end_frame (bundle_of me sign J h).more ∷ []) (sent_is_all me sign J h e)
     ∙ ap (λ (more : Bool). (a ++ (b (parcels sign J h) ++ flat_map frames_of (parcels sign J h))) ++ end_frame more ∷ []) e

@@ -2,6 +2,7 @@
 use Rattle.std.proofs.Common.{◌≡◌, ℕ, List, [], ◌∷◌, ◌++◌, map, Bool, true, false, cond, Option, None, Some, refl, sym, ap, subst, ◌∙◌, inl, inr}
 use Rattle.std.specs.List.{flat_map}
 use Rattle.std.proofs.lemmas.Grind.{flat_map-append}
+use Rattle.std.proofs.lemmas.List.{map-append}
 use Rattle.depot_base.specs.declared.voucher.Voucher.{Voucher}
 use Rattle.depot_base.specs.declared.statement.Statement.TheVariants as statement
 use Rattle.depot_base.specs.declared.proof.Proof.{Proof}
@@ -13,7 +14,7 @@ use Rattle.depot_model.specs.Journal.{own, own_by, proof_by, value_by, held, val
 use Rattle.depot_model.specs.Checks.{given_statement, given_proof}
 use Rattle.depot_model.specs.Vouching.{own_voucher_by, own_vouchers}
 use Rattle.depot_model.specs.Frames.{Frame}
-use Rattle.depot_model.specs.Bundle.{Signs, signed_with, Parcel, wanted_parcel, statement_frame, value_frame, proof_frame, frames_of}
+use Rattle.depot_model.specs.Bundle.{Signs, signed_with, Parcel, wanted_parcel, value_frame, proof_frame, frames_of, voucher_frame}
 use Rattle.depot_model.specs.World.{Correct, World, setting_of}
 use Rattle.depot_laws.specs.Rejoin.{IsWellSigned}
 use Rattle.depot_laws.proofs.Splits.{given_by, given_too, flat_gives}
@@ -21,7 +22,8 @@ use Rattle.depot_laws.proofs.LawfulRecords.{IsProof-from_record}
 use Rattle.depot_laws.proofs.GoodProofs.{IsGoodAt, new_is_good}
 use Rattle.depot_laws.proofs.OwnTexts.{own_statement_fits}
 use Rattle.depot_laws.proofs.Worlds.{giver_in, value_hashed}
-use Rattle.depot_laws.proofs.HeldValues.{held_is, value_with_is}
+use Rattle.depot_laws.proofs.HeldValues.{held_is}
+use Rattle.depot_laws.proofs.Exact.{value_with_is}
 use Rattle.depot_laws.proofs.Meetings.{Meeting, sender_lawful, reader_lawful, reader_authentic, reader_spares}
 use Rattle.depot_laws.proofs.Joining.{HasJoined, IsVoucherOf, proof_step, voucher_step}
 use Rattle.depot_laws.proofs.Arrivals.{voucher_after, vouched_more}
@@ -33,10 +35,6 @@ use Rattle.depot_laws.proofs.Candidates.{signed_is, signed_fits}
 -- the values of parcels
 abbrev pub values_of : List Parcel → List (List ℕ)
 values_of xs = flat_map (λ x. x.values) xs
-
-map_append : {X Y : Type 0} (f : X → Y) (xs ys : List X) → map f (xs ++ ys) ≡ map f xs ++ map f ys
-map_append f [] ys = refl
-map_append f (x ∷ xs) ys = ap (λ (zs : List _). f x ∷ zs) (map_append f xs ys)
 
 -- one wanted value, or none
 one_wanted : Option (List ℕ) → List Parcel
@@ -62,7 +60,7 @@ wanted_frames J sent (h ∷ hs) =
     let here : flat_map frames_of (wanted_parcel J sent h) ≡ map value_frame (values_of (wanted_parcel J sent h)) = subst (λ (xs : List Parcel). flat_map frames_of xs ≡ map value_frame (values_of xs)) (sym (wanted_is J sent h)) (one_wanted_frames (cond (is_among h sent) None (value_with h (held J)))) in
     let rest = flat_map (wanted_parcel J sent) hs in
     flat_map-append frames_of (wanted_parcel J sent h) rest ∙ ap (λ (fs : List Frame). fs ++ flat_map frames_of rest) here ∙ ap (λ (fs : List Frame). map value_frame (values_of (wanted_parcel J sent h)) ++ fs) (wanted_frames J sent hs)
-    ∙ sym (map_append value_frame (values_of (wanted_parcel J sent h)) (values_of rest)) ∙ ap (map value_frame) (sym (flat_map-append (λ (x : Parcel). x.values) (wanted_parcel J sent h) rest))
+    ∙ sym (map-append value_frame (values_of (wanted_parcel J sent h)) (values_of rest)) ∙ ap (map value_frame) (sym (flat_map-append (λ (x : Parcel). x.values) (wanted_parcel J sent h) rest))
 
 one_wanted_value : (o : Option (List ℕ)) (x : List ℕ) → IsIn x (values_of (one_wanted o)) → o ≡ Some x
 unfolding one_wanted
@@ -141,9 +139,6 @@ module _ (W : World) (a v : Correct) (K : List Record) (m : Meeting W a v K) whe
   }
 
   -- ---- vouchers
-
-  abbrev pub voucher_frame : Signs → Voucher → Frame
-  voucher_frame sign w = statement_frame (signed_with sign (statement.Voucher w))
 
   pub own_voucher_is : (w : Voucher) → IsIn w (own_vouchers K) → IsIn (statement.Voucher w) (own K)
   own_voucher_is w on = let g = given_by own_voucher_by w K on in given_too own_voucher_by own_by w (statement.Voucher w) K g (voucher_is_own g.by w g.given)

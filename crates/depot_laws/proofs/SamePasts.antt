@@ -17,12 +17,13 @@ use Rattle.depot_model.proofs.Members.{all_at, all_from, any_to, among_to, chose
 use Rattle.depot_model.proofs.Orders.{parent_is_there}
 use Rattle.depot_model.proofs.Pasts.{past_in, past_takes}
 use Rattle.depot_model.specs.World.{Correct, World, setting_of, IsWorld, IsCollisionFree}
+use Rattle.depot_model.specs.Contents.{key_written}
 use Rattle.depot_laws.specs.Parents.{HasParents}
 use Rattle.depot_laws.proofs.Splits.{lawful_before}
 use Rattle.depot_model.proofs.NamedIds.{has_id_from, has_id_to, named_some}
 use Rattle.depot_laws.proofs.Taken.{HasId}
 use Rattle.depot_laws.proofs.Causes.{own_joins, lawful_is_causal}
-use Rattle.depot_model.proofs.RisingUpdates.{AreApart, apart_from_causal}
+use Rattle.depot_model.proofs.RisingUpdates.{HaveOwnIds, own_ids_from_causal}
 use Rattle.depot_laws.proofs.Follows.{prev_is_parent, entry_is_parent}
 use Rattle.depot_laws.proofs.OwnContent.{own_passes}
 use Rattle.depot_model.proofs.RisingLists.{HaveSame}
@@ -75,11 +76,11 @@ same_past us vs u agree c_u c_v there_u there_v = record {
   back = past_over vs us u (λ t w t_on w_on e. sym (agree w t w_on t_on (sym e))) c_u there_u vs (λ t on. on);
 }
 
-past_apart : (u : Update) (us : List Update) → AreApart us → AreApart (past u us)
+past_apart : (u : Update) (us : List Update) → HaveOwnIds us → HaveOwnIds (past u us)
 unfolding past
 past_apart u [] apart = tt
 past_apart u (x ∷ xs) apart = choice (is_named x (u ∷ past u xs)) (past_apart u xs apart.1) where
-  choice : (b : Bool) → AreApart (past u xs) → AreApart (cond b (x ∷ past u xs) (past u xs))
+  choice : (b : Bool) → HaveOwnIds (past u xs) → HaveOwnIds (cond b (x ∷ past u xs) (past u xs))
   choice true rest = (all_from (λ (t : Update). id_of_update t ≡ id_of_update x → ⊥) (past u xs) (λ t on. all_at (λ (t : Update). id_of_update t ≡ id_of_update x → ⊥) xs t apart.0 (past_in u xs t on)), rest)
   choice false rest = rest
 
@@ -105,7 +106,7 @@ same_sight us vs u agree c_u c_v there_u there_v =
     let one : (h : List ℕ) → IsIn h (parents u) → named us h ≡ named vs h = λ h on. same_named us vs u h agree c_u c_v there_u there_v on in
     let before : map (named us) (prevs u) ≡ map (named vs) (prevs u) = map_same (named us) (named vs) (prevs u) (λ h on. one h (prev_is_parent u h on)) in
     let entries : map (λ (d : Dep). (d, named us d.id)) u.deps ≡ map (λ (d : Dep). (d, named vs d.id)) u.deps = map_same (λ (d : Dep). (d, named us d.id)) (λ (d : Dep). (d, named vs d.id)) u.deps (λ d on. ap (λ (o : Option Update). (d, o)) (one d.id (entry_is_parent u d on))) in
-    let history : history_hash (past u us) ≡ history_hash (past u vs) = same_history (past u us) (past u vs) (past_apart u us (apart_from_causal [] us c_u)) (past_apart u vs (apart_from_causal [] vs c_v)) (same_past us vs u agree c_u c_v there_u there_v) in
+    let history : history_hash (past u us) ≡ history_hash (past u vs) = same_history (past u us) (past u vs) (past_apart u us (own_ids_from_causal [] us c_u)) (past_apart u vs (own_ids_from_causal [] vs c_v)) (same_past us vs u agree c_u c_v there_u there_v) in
     same_parts _ _ _ _ _ _ before entries history where
       made : List (Option Update) → List (Dep × Option Update) → List ℕ → Sight
       made b e h = record { before = b; entries = e; history = h }
@@ -151,6 +152,6 @@ own_passes_there W c d before u value after n world free c_on d_on is there =
     let may : MayPut here before u value = ((journal_lawful W world c c_on).each before (OwnPut u value) after is).may in
     let lawful = lawful_before here c.journal before (OwnPut u value) after (journal_lawful W world c c_on) is in
     let front : take (length before) c.journal ≡ before = ap (take (length before)) is ∙ take-append_seam before (OwnPut u value ∷ after) in
-    let mine = has_parents before u (own_joins c.node before u u.key value may.next may.fresh).there in
+    let mine = has_parents before u (own_joins c.node before u (key_written u) value may.next may.fresh).there in
     let same = contents_agree W world free c d c_on d_on (length before) n u (subst (λ (J : List Record). HasParents J u) (sym front) mine) there in
     ap first (sym same ∙ ap (λ (J : List Record). content_of J (statement.Update u)) front) ∙ own_passes here before u value lawful may.next may.fresh

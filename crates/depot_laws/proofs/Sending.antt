@@ -46,12 +46,9 @@ use Rattle.depot_laws.proofs.Candidates.{signed_fits, IsSource, IsTold, told_of,
 
 -- ---- readings of more records
 
-read_more : {X : Type 0} (f : Record → List X) (x : X) (C more : List Record) → IsIn x (flat_map f C) → IsIn x (flat_map f (C ++ more))
-read_more f x C more on = flat_left f x C more on
-
 -- what a reading has it has behind frames
 pub read_behind : {X : Type 0} (f : Record → List X) (x : X) (here : Setting) (C : List Record) (fs : List Frame) → IsIn x (flat_map f C) → IsIn x (flat_map f (taking here C fs))
-read_behind f x here C fs on = kept_by_taking (λ (D : List Record). IsIn x (flat_map f D)) (read_more f x) here C fs on
+read_behind f x here C fs on = kept_by_taking (λ (D : List Record). IsIn x (flat_map f D)) (flat_left f x) here C fs on
 
 pub vouched_behind : (h : List ℕ) (here : Setting) (C : List Record) (fs : List Frame) → IsIn h (vouched C) → IsIn h (vouched (taking here C fs))
 vouched_behind h here C fs on = kept_by_taking (λ (D : List Record). IsIn h (vouched D)) (λ D more. vouched_more D more h) here C fs on

@@ -11,8 +11,8 @@ use Rattle.depot_model.specs.Lists.{IsIn}
 use Rattle.depot_model.specs.History.{is_lower}
 use Rattle.depot_model.specs.Own.{entry_of}
 use Rattle.depot_model.proofs.Members.{all_at}
-use Rattle.depot_laws.proofs.RisingBytes.{last_pushed}
 use Rattle.depot_model.proofs.RisingUpdates.{Rises}
+use Rattle.depot_base.proofs.EntryLists.{last_pushed}
 
 pub then_lower : (less same : Bool) (o : Ordering) → is_lt (ordering_then (cond less Less (cond same Equal Greater)) o) ≡ true → (less || (same && is_lt o)) ≡ true
 then_lower true same o e = refl

@@ -14,6 +14,7 @@ use Rattle.std.proofs.lemmas.Bool.{cases_order}
 use Rattle.depot_laws.proofs.Puts.{put_by, PutAt, put_at, put_is_accepted}
 use Rattle.depot_laws.proofs.Worlds.{in_split, write_from}
 use Rattle.depot_laws.proofs.Traces.{writes_follow}
+use Rattle.depot_base.proofs.GeneralLaws.{same_at}
 
 -- ---- one before another
 
@@ -64,10 +65,6 @@ stand x y (z ∷ zs) (inr one) (inr two) = elim (stand x y zs one two) [
   | inr other ↦ inr (elim other [ inl first ↦ inl (inr first) | inr second ↦ inr (inr second) ])
 ]
 
--- one of a list at a place is one
-one_at : {X : Type 0} (x y : X) (xs : List X) (i j : ℕ) → i ≡ j → slice_get xs i ≡ Some x → slice_get xs j ≡ Some y → x ≡ y
-one_at x y xs i j same x_at y_at = let e : Some x ≡ Some y = sym x_at ∙ ap (slice_get xs) same ∙ y_at in cc
-
 -- ---- own updates in their order
 
 -- an own update is put before or behind so many records
@@ -113,7 +110,7 @@ total c (read_at d place r) (write u) one two = inr (elim (put_parts u r.at c.jo
 total c (read_at d i r) (read_at e j s) one two = elim (cases_order i j) [
   | inl same ↦
       let node : d ≡ e = one.0 ∙ sym two.0 in
-      let answer : r ≡ s = one_at r s c.reads i j same one.1 two.1 in
+      let answer : r ≡ s = same_at c.reads i j r s same one.1 two.1 in
       inl cc
   | inr other ↦ inr other
 ]

@@ -33,6 +33,7 @@ use Rattle.depot_model.proofs.TextLaws.{update_body_lawful}
 use Rattle.depot_model.proofs.Orders.{precedes_irreflexive, leads_one}
 use Rattle.depot_model.specs.World.{Shown, Read, Correct, World, value_under, signed_met, writes_of, IsRead, IsCorrect, IsWorld, hashed_texts, IsAuthentic, IsCollisionFree}
 use Rattle.depot_model.specs.Causality.{Operation, write, read_at, IsOperation, Edge, ObservedBefore, IsForkJoinCausal}
+use Rattle.depot_model.specs.Contents.{Writes}
 use Rattle.depot_laws.proofs.ForkJoin.{fork_join_causal}
 use Rattle.depot_laws.proofs.Births.{born}
 use Rattle.depot_laws.proofs.Causes.{lawful_is_causal}
@@ -169,7 +170,7 @@ world reads = record { verifies = all_verify; listed = two_nodes; nodes = first_
 u_causal : IsCausal [] (u ∷ [])
 u_causal = lawful_is_causal (node 2) second_journal second_lawful
 
-writes_key : u.key ≡ k
+writes_key : Writes k u
 unfolding u next_own
 writes_key = refl
 

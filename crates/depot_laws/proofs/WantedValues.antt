@@ -1,7 +1,6 @@
 -- Which values are wanted: each value of a lawful journal is named by an update that it accepted.
-use Rattle.std.proofs.Common.{◌≡◌, ℕ, ◌==◌, List, ◌∷◌, ◌++◌, length, true, ◌&&◌, Ok, refl, sym, ap, subst, ◌∙◌, inl, inr, arith}
+use Rattle.std.proofs.Common.{◌≡◌, ℕ, List, ◌∷◌, ◌++◌, length, true, Ok, refl, sym, ap, subst, ◌∙◌, inl, inr, arith}
 use Rattle.std.specs.List.{flat_map}
-use Rattle.std.specs.Str.{bytes_eq}
 use Rattle.std.proofs.lemmas.Slice.Eq.{bytes_eq-Decides}
 use Rattle.std.proofs.lemmas.Bool.{eq-eqb, and_from}
 use Rattle.sha2.specs.Sha256.{sha256}
@@ -13,7 +12,7 @@ use Rattle.depot_model.specs.declared.taken.Taken.TheVariants.{New}
 use Rattle.depot_model.specs.Lists.{IsIn}
 use Rattle.depot_model.specs.Records.{IsRecord}
 use Rattle.depot_model.specs.Journal.{accepted, accepted_by, value_by, is_wanted}
-use Rattle.depot_model.specs.Contents.{NamedValue, values_named, names_value}
+use Rattle.depot_model.specs.Contents.{NamedValue, values_named, names_value, key_written, value_named}
 use Rattle.depot_model.specs.Own.{next_own}
 use Rattle.depot_model.specs.Checks.{Setting, given_value, first_failed_check, is_known, answer_to}
 use Rattle.depot_model.specs.Lawful.{MayFollow, IsLawful}
@@ -33,7 +32,7 @@ unfolding is_wanted
 wanted_over us vs h size each e = let u = any_to (λ (u : Update). names_value u h size) us e in any_from (λ (u : Update). names_value u h size) u.0 vs (each u.0 u.1.0) u.1.1
 
 names_its_value : (u : Update) (n : NamedValue) (x : List ℕ) → IsIn n (values_named u) → sha256 x ≡ n.hash → length x ≡ n.size → names_value u (sha256 x) (length x) ≡ true
-names_its_value u n x (inl same) hash size = and_from _ _ ((bytes_eq-Decides u.value_hash (sha256 x)).1 (ap (λ (k : NamedValue). k.hash) same ∙ sym hash)) (eq-eqb u.value_len (length x) (ap (λ (k : NamedValue). k.size) same ∙ sym size))
+names_its_value u n x (inl same) hash size = and_from _ _ ((bytes_eq-Decides (value_named u).hash (sha256 x)).1 (ap (λ (k : NamedValue). k.hash) same ∙ sym hash)) (eq-eqb (value_named u).size (length x) (ap (λ (k : NamedValue). k.size) same ∙ sym size))
 names_its_value u n x (inr never) hash size = absurd never
 
 -- a value is wanted where an update names it
@@ -43,15 +42,15 @@ wanted_by us u n x on named hash size = any_from (λ (t : Update). names_value t
 
 -- ---- the values of a journal
 
-put_names : (me : ℕ) (J : List Record) (u : Update) (value : List ℕ) → u ≡ next_own me J u.key value → (u.value_hash ≡ sha256 value) × (u.value_len ≡ length value)
+put_names : (me : ℕ) (J : List Record) (u : Update) (value : List ℕ) → u ≡ next_own me J (key_written u) value → ((value_named u).hash ≡ sha256 value) × ((value_named u).size ≡ length value)
 unfolding next_own
-put_names me J u value next = (ap (λ (x : Update). x.value_hash) next, ap (λ (x : Update). x.value_len) next)
+put_names me J u value next = (ap (λ (x : Update). (value_named x).hash) next, ap (λ (x : Update). (value_named x).size) next)
 
-put_wants : (me : ℕ) (J : List Record) (u : Update) (value : List ℕ) (us : List Update) → u ≡ next_own me J u.key value → IsIn u us → is_wanted us (sha256 value) (length value) ≡ true
+put_wants : (me : ℕ) (J : List Record) (u : Update) (value : List ℕ) (us : List Update) → u ≡ next_own me J (key_written u) value → IsIn u us → is_wanted us (sha256 value) (length value) ≡ true
 unfolding is_wanted
 put_wants me J u value us next on =
     let n = put_names me J u value next in
-    any_from (λ (t : Update). bytes_eq t.value_hash (sha256 value) && (t.value_len == length value)) u us on (and_from _ _ ((bytes_eq-Decides u.value_hash (sha256 value)).1 n.0) (eq-eqb u.value_len (length value) n.1))
+    any_from (λ (t : Update). names_value t (sha256 value) (length value)) u us on (and_from _ _ ((bytes_eq-Decides (value_named u).hash (sha256 value)).1 n.0) (eq-eqb (value_named u).size (length value) n.1))
 
 held_was_wanted : (here : Setting) (J : List Record) (x : List ℕ) → answer_to here J (given_value x) ≡ Ok New → is_wanted (accepted J) (sha256 x) (length x) ≡ true
 unfolding answer_to first_failed_check

@@ -17,7 +17,7 @@ use Rattle.depot_model.specs.Checks.{given_statement, given_proof, given_value}
 use Rattle.depot_model.specs.Contents.{NamedValue, values_named}
 use Rattle.depot_model.specs.Vouching.{own_vouchers}
 use Rattle.depot_model.specs.Frames.{Frame}
-use Rattle.depot_model.specs.Bundle.{Signs, signed_with, candidate_parcels, wanted_parcel, hashes_of, parcels, statement_frame, value_frame, proof_frame, frames_of, sent_foreign, proofs_for, vouchers_for}
+use Rattle.depot_model.specs.Bundle.{Signs, signed_with, candidate_parcels, wanted_parcel, hashes_of, parcels, statement_frame, value_frame, proof_frame, frames_of, sent_foreign, proofs_for, vouchers_for, voucher_frame}
 use Rattle.depot_model.specs.World.{Correct, World, setting_of}
 use Rattle.depot_model.proofs.Members.{in_left, in_right, in_map, any_from, among_from, from_filter, in_filter}
 use Rattle.depot_base.proofs.GeneralLaws.{all_both}
@@ -32,7 +32,7 @@ use Rattle.depot_laws.proofs.Arrivals.{IsValueFor}
 use Rattle.depot_laws.proofs.PlainFrames.{IsPlainFrame, plain_proof, plain_statement, plain_value, all_mapped}
 use Rattle.depot_laws.proofs.Carrying.{taking, RoomFor, taking_append, room_front, room_behind, AreCarried, carry_append, carry_each}
 use Rattle.depot_laws.proofs.Sending.{read_behind, value_sort, IsReady, candidates_are_plain, send_candidates}
-use Rattle.depot_laws.proofs.Rejoining.{values_of, wanted_frames, wanted_value_on, joined_first, IsRecorded, recorded, proof_sort, voucher_frame, own_voucher_is, voucher_of, voucher_sort}
+use Rattle.depot_laws.proofs.Rejoining.{values_of, wanted_frames, wanted_value_on, joined_first, IsRecorded, recorded, proof_sort, own_voucher_is, voucher_of, voucher_sort}
 
 -- The reader a made its hello when its journal was P. The sender v makes its bundle when its journal is J; these records with the
 -- bundle's vouchers behind them name each sent update of another. The sender's own statements among these frames are well signed.
@@ -56,17 +56,17 @@ module _ (W : World) (a v : Correct) (P later : List Record) (hello_was : a.jour
 
   -- the frames in front of End
   pub frames : List Frame
-  frames = map proof_frame proofs ++ (map (voucher_frame W a v (J ++ vouchers) m sign) named_vouchers ++ (candidate_frames ++ map value_frame wanted_values))
+  frames = map proof_frame proofs ++ (map (voucher_frame sign) named_vouchers ++ (candidate_frames ++ map value_frame wanted_values))
 
   -- they are those of a bundle that leaves nothing out
-  pub frames_are : map proof_frame (proofs_for (J ++ vouchers) (hello_at W a P)) ++ (map (λ w. statement_frame (signed_with sign (statement.Voucher w))) (vouchers_for (J ++ vouchers) (sent_foreign v.node (parcels sign J (hello_at W a P)))) ++ flat_map frames_of (parcels sign J (hello_at W a P))) ≡ frames
+  pub frames_are : map proof_frame (proofs_for (J ++ vouchers) (hello_at W a P)) ++ (map (voucher_frame sign) (vouchers_for (J ++ vouchers) (sent_foreign v.node (parcels sign J (hello_at W a P)))) ++ flat_map frames_of (parcels sign J (hello_at W a P))) ≡ frames
   unfolding frames proofs named_vouchers wanted_values candidate_frames parcels
   frames_are =
       let front = candidate_parcels sign J [] (candidates_for J (hello_at W a P)) in
       let wanted = flat_map (wanted_parcel J (hashes_of front)) (hello_at W a P).wanted in
       let split : flat_map frames_of (front ++ wanted) ≡ flat_map frames_of front ++ map value_frame (values_of wanted) =
       flat_map-append frames_of front wanted ∙ ap (λ (fs : List Frame). flat_map frames_of front ++ fs) (wanted_frames J (hashes_of front) (hello_at W a P).wanted) in
-      ap (λ (fs : List Frame). map proof_frame (proofs_for (J ++ vouchers) (hello_at W a P)) ++ (map (λ w. statement_frame (signed_with sign (statement.Voucher w))) (vouchers_for (J ++ vouchers) (sent_foreign v.node (parcels sign J (hello_at W a P)))) ++ fs)) split
+      ap (λ (fs : List Frame). map proof_frame (proofs_for (J ++ vouchers) (hello_at W a P)) ++ (map (voucher_frame sign) (vouchers_for (J ++ vouchers) (sent_foreign v.node (parcels sign J (hello_at W a P)))) ++ fs)) split
 
   -- ---- each is a plain frame
 
@@ -91,17 +91,17 @@ module _ (W : World) (a v : Correct) (P later : List Record) (hello_was : a.jour
     voucher_is w on =
         let mine = voucher_on w on in
         voucher_of W a v (J ++ vouchers) m sign w mine (signs (statement.Voucher w) (own_voucher_is W a v (J ++ vouchers) m w mine)
-        (framed (statement_frame (signed_with sign (statement.Voucher w))) (in_right _ (map proof_frame proofs) _ (in_left _ (map (voucher_frame W a v (J ++ vouchers) m sign) named_vouchers) _ (in_map (voucher_frame W a v (J ++ vouchers) m sign) w named_vouchers on)))))
+        (framed (voucher_frame sign w) (in_right _ (map proof_frame proofs) _ (in_left _ (map (voucher_frame sign) named_vouchers) _ (in_map (voucher_frame sign) w named_vouchers on)))))
 
     candidate_framed : (f : Frame) → IsIn f candidate_frames → IsIn f all
     unfolding frames
-    candidate_framed f on = framed f (in_right f (map proof_frame proofs) _ (in_right f (map (voucher_frame W a v (J ++ vouchers) m sign) named_vouchers) _ (in_left f candidate_frames (map value_frame wanted_values) on)))
+    candidate_framed f on = framed f (in_right f (map proof_frame proofs) _ (in_right f (map (voucher_frame sign) named_vouchers) _ (in_left f candidate_frames (map value_frame wanted_values) on)))
 
     pub frames_are_plain : AllByRecursion IsPlainFrame frames
     unfolding frames candidate_frames
     frames_are_plain =
         all_both IsPlainFrame (map proof_frame proofs) _ (all_mapped proof_frame proofs (λ p on. plain_proof p (recorded W a v (J ++ vouchers) m p (proof_on p on)).fits))
-        (all_both IsPlainFrame (map (voucher_frame W a v (J ++ vouchers) m sign) named_vouchers) _ (all_mapped (voucher_frame W a v (J ++ vouchers) m sign) named_vouchers (λ w on. plain_statement (signed_with sign (statement.Voucher w)) (voucher_is w on).fits))
+        (all_both IsPlainFrame (map (voucher_frame sign) named_vouchers) _ (all_mapped (voucher_frame sign) named_vouchers (λ w on. plain_statement (signed_with sign (statement.Voucher w)) (voucher_is w on).fits))
         (all_both IsPlainFrame (flat_map frames_of (candidate_parcels sign J [] (candidates_for J (hello_at W a P)))) (map value_frame wanted_values)
         (candidates_are_plain W a v P later hello_was J vouchers sent m sign all signs [] [] (candidates_for J (hello_at W a P)) refl candidate_framed)
         (all_mapped value_frame wanted_values (λ x on. plain_value x (value_fits (setting_of W v) J x (sender_lawful W a v J sent) (wanted_on x on))))))
@@ -137,14 +137,14 @@ module _ (W : World) (a v : Correct) (P later : List Record) (hello_was : a.jour
     take_all room =
         let here = setting_of W a in
         let one = map proof_frame proofs in
-        let two = map (voucher_frame W a v (J ++ vouchers) m sign) named_vouchers in
+        let two = map (voucher_frame sign) named_vouchers in
         let three = flat_map frames_of (candidate_parcels sign J [] (candidates_for J (hello_at W a P))) in
         let four = map value_frame wanted_values in
         let first = carry_each W a v (J ++ vouchers) m proof_frame (λ p. given_proof p) (λ C p. IsRecorded W a v (J ++ vouchers) m p) (λ C p. Unit {0}) (proof_sort W a v (J ++ vouchers) m) a.journal proofs (joined_first W a v (J ++ vouchers) m)
         (λ p on. recorded W a v (J ++ vouchers) m p (proof_on p on)) (room_front here a.journal one (two ++ (three ++ four)) room) in
         let C1 = taking here a.journal one in
         let room1 = room_behind here a.journal one (two ++ (three ++ four)) room in
-        let second = carry_each W a v (J ++ vouchers) m (voucher_frame W a v (J ++ vouchers) m sign) (λ w. given_statement (signed_with sign (statement.Voucher w))) (λ C w. IsVoucherOf W a v (J ++ vouchers) m (signed_with sign (statement.Voucher w)) w) (λ C w. (h : List ℕ) → IsIn h w.ids → IsIn h (vouched C))
+        let second = carry_each W a v (J ++ vouchers) m (voucher_frame sign) (λ w. given_statement (signed_with sign (statement.Voucher w))) (λ C w. IsVoucherOf W a v (J ++ vouchers) m (signed_with sign (statement.Voucher w)) w) (λ C w. (h : List ℕ) → IsIn h w.ids → IsIn h (vouched C))
         (voucher_sort W a v (J ++ vouchers) m sign) C1 named_vouchers first.carried.joined voucher_is (room_front here C1 two (three ++ four) room1) in
         let C2 = taking here C1 two in
         let room2 = room_behind here C1 two (three ++ four) room1 in

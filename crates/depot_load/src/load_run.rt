@@ -1,7 +1,6 @@
 //! A load is replayed, and summed up.
 ghost use Rattle.std.specs.Prelude.{◌≡◌, ◌++◌, ℕ, take, IsTrue, IfOk, OnOk, OnErr, IsErrOf};
 ghost use Rattle.depot_base.specs.Faults.{HasCause};
-ghost use Rattle.depot_base.specs.Reading.{AddsFrontOf};
 ghost use Rattle.depot_load.specs.Loads.{load_of};
 ghost use Rattle.depot_load.specs.Summaries.{summary_of};
 ghost use Rattle.depot_world.specs.Transcript.{transcript_of};
@@ -10,7 +9,8 @@ use crate::load_laws::loads_are_schedules;
 use crate::making::make_load;
 use crate::summing::summary;
 use depot_base::{Bytes, Items, Memory};
-use depot_outside::{MemSink, OutError, Sink};
+use depot_outside::{MemSink, Sink};
+use depot_plays::write;
 use depot_replay::{ReplayError, replay};
 use std::alloc::Global;
 
@@ -34,21 +34,6 @@ fn summed_up(alloc: Global, number: u32) -> Result<Bytes, Memory>
 {
     let sink = replayed(alloc, number)?;
     summary(alloc, number, sink.bytes())
-}
-
-/// Writes bytes.
-fn write<K: Sink>(out: &mut K, bytes: &[u8]) -> Result<(), ReplayError>
-    ensures done { IsTrue (K.tells out.old) → OnOk result (K.written out.new ≡ K.written out.old ++ bytes.now) }
-    ensures front { IsTrue (K.tells out.old) → OnErr result (AddsFrontOf (K.written out.old) bytes.now (K.written out.new)) }
-    ensures tells { K.tells out.new ≡ K.tells out.old }
-    ensures cause { HasCause (K.faults out.old) (K.faults out.new) (IsErrOf result ReplayError.Sink) }
-    ensures faultless { K.is_faultless out.old → K.is_faultless out.new × (K.faults out.new ≡ K.faults out.old) }
-{
-    match out.write(bytes) {
-        Ok(()) => Ok(()),
-        Err(OutError::Memory) => Err(ReplayError::Memory),
-        Err(OutError::Failed) => Err(ReplayError::Sink),
-    }
 }
 
 /// Replays the load of this number, its nodes over disks in memory, and writes the line that sums up its transcript (`summary`), in one write. After an error a front of

@@ -1,5 +1,5 @@
 -- Elements of a list by their places, from 0.
-use Rattle.std.proofs.Common.{◌≡◌, ℕ, zero, suc, ◌+◌, ◌<◌, List, [], ◌∷◌, ◌++◌, length, map, take, drop, get_or, Option, Some, refl, sym, ap, subst, ◌∙◌, arith, add-one, inl, inr}
+use Rattle.std.proofs.Common.{◌≡◌, ℕ, zero, suc, ◌+◌, ◌<◌, List, [], ◌∷◌, ◌++◌, length, map, take, drop, get_or, Option, Some, None, refl, sym, ap, subst, ◌∙◌, arith, add-one, inl, inr}
 use Rattle.std.specs.List.{slice_get, AllByRecursion, flat_map}
 use Rattle.std.specs.Option.{option_to_list}
 use Rattle.std.proofs.Math.Seq.{drop-cons, take-suc}
@@ -8,6 +8,7 @@ use Rattle.std.proofs.lemmas.Option.{slice_get_within, get_or_from_slice_get}
 use Rattle.depot_base.specs.declared.update.Update.{Update}
 use Rattle.depot_model.specs.Lists.{IsIn}
 use Rattle.depot_model.specs.Items.{at, updates_at}
+use Rattle.depot_base.proofs.MembershipLaws.{in_left, in_right, in_parts}
 
 -- what stands at a place is one of the list
 pub in_at : {X : Type 0} (xs : List X) (n : ℕ) (x : X) → slice_get xs n ≡ Some x → IsIn x xs
@@ -57,3 +58,31 @@ one_more us places i n t lt is at_n =
     let f : ℕ → List Update = λ place. option_to_list (slice_get us place) in
     let longer : take (i + 1) places ≡ take i places ++ n ∷ [] = rw add-one (take-suc places i 0 lt ∙ ap (λ (k : ℕ). take i places ++ k ∷ []) (sym is)) in
     ap (flat_map f) longer ∙ flat_map-append f (take i places) (n ∷ []) ∙ ap (λ (o : Option Update). updates_at us (take i places) ++ (option_to_list o ++ [])) at_n
+
+-- ---- what there may be
+
+-- what is one of the list of what there may be is what there is
+pub from_option : {X : Type 0} (o : Option X) (x : X) → IsIn x (option_to_list o) → o ≡ Some x
+from_option None x never = absurd never
+from_option (Some y) x (inl here) = ap (λ (z : _). Some z) here
+from_option (Some y) x (inr never) = absurd never
+
+pub in_option : {X : Type 0} (o : Option X) (x : X) → o ≡ Some x → IsIn x (option_to_list o)
+in_option None x e = absurd cc
+in_option (Some y) x e = let same : y ≡ x = cc in inl same
+
+-- ---- what stands at some places
+
+-- what stands at these places stands at one of them
+pub of_place : (us : List Update) (places : List ℕ) (t : Update) → IsIn t (updates_at us places) → (n : ℕ) × (IsIn n places × (slice_get us n ≡ Some t))
+of_place us [] t never = absurd never
+of_place us (n ∷ ns) t on = elim (in_parts t (option_to_list (slice_get us n)) (updates_at us ns) on) [
+  | inl here ↦ (n, (inl refl, from_option (slice_get us n) t here))
+  | inr there ↦ let p = of_place us ns t there in (p.0, (inr p.1.0, p.1.1))
+]
+
+-- and the other way
+pub at_its_place : (us : List Update) (places : List ℕ) (n : ℕ) (t : Update) → IsIn n places → slice_get us n ≡ Some t → IsIn t (updates_at us places)
+at_its_place us [] n t never at_n = never
+at_its_place us (m ∷ ms) n t (inl here) at_n = in_left t (option_to_list (slice_get us m)) (updates_at us ms) (in_option (slice_get us m) t (ap (slice_get us) here ∙ at_n))
+at_its_place us (m ∷ ms) n t (inr there) at_n = in_right t (option_to_list (slice_get us m)) (updates_at us ms) (at_its_place us ms n t there at_n)

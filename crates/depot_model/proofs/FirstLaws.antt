@@ -1,5 +1,5 @@
--- What the first of a list of options says of each of them.
-use Rattle.std.proofs.Common.{◌≡◌, Bool, true, false, List, [], ◌∷◌, Option, Some, None, refl}
+-- What the first of a list of options says of each of them, and each of them of it.
+use Rattle.std.proofs.Common.{◌≡◌, Bool, true, false, List, [], ◌∷◌, ◌++◌, map, Option, Some, None, refl, subst}
 use Rattle.std.specs.List.{AllByRecursion}
 use Rattle.depot_model.specs.Lists.{when, first}
 
@@ -24,3 +24,28 @@ when-none false x e = refl
 pub when-some : {X : Type 0} (test : Bool) (x y : X) → when test x ≡ Some y → x ≡ y
 when-some true x y e = cc
 when-some false x y e = absurd cc
+
+-- and that the test holds
+pub when-both : {X : Type 0} (test : Bool) (x y : X) → when test x ≡ Some y → (test ≡ true) × (x ≡ y)
+when-both true x y e = (refl, cc)
+when-both false x y e = absurd cc
+
+-- ---- what holds of each that is shown
+
+-- it holds of what is shown, if something is
+abbrev pub Shows : {Y : Type 0} → (Y → Type 0) → Option Y → Type 0
+Shows {Y} P o = (y : Y) → o ≡ Some y → P y
+
+pub shows_when : {Y : Type 0} (P : Y → Type 0) (test : Bool) (y : Y) → P y → Shows P (when test y)
+shows_when P test y holds z e = subst P (when-some test y z e) holds
+
+pub shows_map : {X Y : Type 0} (P : Y → Type 0) (row : X → Option Y) (xs : List X) → ((x : X) → Shows P (row x)) → AllByRecursion (Shows P) (map row xs)
+shows_map P row [] each = tt
+shows_map P row (x ∷ xs) each = (each x, shows_map P row xs each)
+
+pub shows_append : {Y : Type 0} (P : Y → Type 0) (os ps : List (Option Y)) → AllByRecursion (Shows P) os → AllByRecursion (Shows P) ps → AllByRecursion (Shows P) (os ++ ps)
+shows_append P [] ps all more = more
+shows_append P (o ∷ os) ps all more = (all.0, shows_append P os ps all.1 more)
+
+pub shows_first : {Y : Type 0} (P : Y → Type 0) (os : List (Option Y)) → AllByRecursion (Shows P) os → Shows P (first os)
+shows_first P os all y e = first_is P os y all e

@@ -20,7 +20,7 @@ use Rattle.depot_model.specs.Lists.{when}
 use Rattle.depot_model.specs.Texts.{proof, number_of_kind, kind_of_number, IsSigned, IsProof}
 use Rattle.depot_model.specs.Roster.{Verifies, key_of, has_node, is_signed}
 use Rattle.depot_model.specs.Contradictions.{contradicts}
-use Rattle.depot_model.specs.Judgement.{points, first_failed_point, verdict_of, judged_by, IsTextOfProof, IsJudgementOf}
+use Rattle.depot_model.specs.Judgement.{points, first_failed_point, verdict_of, judged_by, IsTextOfProof, IsJudgementOf, IsContrary, is_contrary}
 use Rattle.depot_model.specs.Conviction.{proof_of, IsGood, Convicts}
 use Rattle.depot_model.proofs.BodyLaws.{body_is_text}
 use Rattle.depot_model.proofs.FirstLaws.{each_is_none, first_is, when-none, when-some}
@@ -46,7 +46,7 @@ has_node_from_is_signed verifies r s e = let k = key_from_is_signed verifies r s
 -- no point fails where each holds
 pub no_point_fails : (verifies : Verifies) (r : List RosterEntry) (p : Proof)
     → is_signed verifies r p.first ≡ true → is_signed verifies r p.second ≡ true
-    → is_below p.first.body p.second.body ≡ true → contradicts p.kind p.first.statement p.second.statement ≡ true
+    → is_below p.first.body p.second.body ≡ true → is_contrary p ≡ true
     → first_failed_point verifies r p ≡ None
 unfolding points
 no_point_fails verifies r p first_signed second_signed below contradict =
@@ -83,7 +83,7 @@ pub record Passes (verifies : Verifies) (r : List RosterEntry) (p : Proof) : Typ
   pub first_signed : is_signed verifies r p.first ≡ true
   pub second_signed : is_signed verifies r p.second ≡ true
   pub one_writer : writer_of p.first.statement ≡ writer_of p.second.statement
-  pub contradict : contradicts p.kind p.first.statement p.second.statement ≡ true
+  pub contradict : IsContrary p
 
 each_passes : (verifies : Verifies) (r : List RosterEntry) (p : Proof) → AllByRecursion (λ (o : Option JudgeError). o ≡ None) (points verifies r p) → Passes verifies r p
 unfolding points
@@ -126,7 +126,7 @@ record IsInOrder (p : Proof) : Type 0 where
   pub first_fits : IsSigned p.first
   pub second_fits : IsSigned p.second
   pub below : is_below p.first.body p.second.body ≡ true
-  pub contradict : contradicts p.kind p.first.statement p.second.statement ≡ true
+  pub contradict : IsContrary p
 
 chosen : (P : Proof → Type 0) (t : Bool) (p q : Proof) → (t ≡ true → P p) → (t ≡ false → P q) → P (cond t p q)
 chosen P true p q yes_p no_q = yes_p refl

@@ -49,5 +49,6 @@ pub mod RoomExamples
 pub mod LawfulExamples
 pub mod TakingExamples
 pub mod SchemeExamples
+pub mod StopLaws
 pub mod CallsOnDisk
 pub mod NodeCallExamples

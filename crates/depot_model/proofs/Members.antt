@@ -1,42 +1,15 @@
 -- Membership, and the tests that decide it.
-use Rattle.std.proofs.Common.{◌≡◌, ℕ, zero, suc, ◌<◌, List, [], ◌∷◌, ◌++◌, map, length, get_or, Bool, true, false, ◌||◌, ◌&&◌, cond, refl, sym, ap, subst, ◌∙◌, arith, inl, inr, ◌⊎◌}
-use Rattle.std.specs.List.{AllByRecursion, Contains, filter, list_any, list_all}
+use Rattle.std.proofs.Common.{◌≡◌, ℕ, zero, suc, List, [], ◌∷◌, ◌++◌, map, take, Bool, true, false, ◌||◌, ◌&&◌, cond, refl, sym, ap, subst, ◌∙◌, inl, inr, ◌⊎◌}
+use Rattle.std.specs.List.{AllByRecursion, filter, list_any, list_all}
 use Rattle.std.specs.List.Sorted.{IsPermutation}
 use Rattle.std.specs.Str.{bytes_eq}
+use Rattle.std.proofs.Math.Bool.{or_assoc, and_assoc}
 use Rattle.std.proofs.lemmas.List.Sorted.{Contains-permutation}
 use Rattle.std.proofs.lemmas.Slice.Eq.{bytes_eq-Decides}
 use Rattle.std.proofs.lemmas.Bool.{or_cases, or_left, or_right, and_parts, and_from}
+pub use Rattle.depot_base.proofs.MembershipLaws.{in_left, in_right, in_parts, in_pushed, in_last, all_at, all_from}
+use Rattle.depot_base.proofs.MembershipLaws.{from_contains, to_contains}
 use Rattle.depot_model.specs.Lists.{IsIn, is_among}
-
--- ---- lists behind one another
-
--- what is one of the first list is one of both
-pub in_left : {X : Type 0} (x : X) (xs ys : List X) → IsIn x xs → IsIn x (xs ++ ys)
-in_left x [] ys never = absurd never
-in_left x (y ∷ xs) ys (inl here) = inl here
-in_left x (y ∷ xs) ys (inr there) = inr (in_left x xs ys there)
-
--- what is one of the second list is one of both
-pub in_right : {X : Type 0} (x : X) (xs ys : List X) → IsIn x ys → IsIn x (xs ++ ys)
-in_right x [] ys on = on
-in_right x (y ∷ xs) ys on = inr (in_right x xs ys on)
-
--- what is one of both is one of the first or of the second
-pub in_parts : {X : Type 0} (x : X) (xs ys : List X) → IsIn x (xs ++ ys) → IsIn x xs ⊎ IsIn x ys
-in_parts x [] ys on = inr on
-in_parts x (y ∷ xs) ys (inl here) = inl (inl here)
-in_parts x (y ∷ xs) ys (inr there) = elim (in_parts x xs ys there) [ inl front ↦ inl (inr front) | inr back ↦ inr back ]
-
--- what is one of a list or the last behind it
-pub in_pushed : {X : Type 0} (x : X) (xs : List X) (y : X) → IsIn x (xs ++ y ∷ []) → IsIn x xs ⊎ (y ≡ x)
-in_pushed x xs y on = elim (in_parts x xs (y ∷ []) on) [
-  | inl front ↦ inl front
-  | inr back ↦ elim back [ inl here ↦ inr here | inr never ↦ absurd never ]
-]
-
--- the last is one of the list
-pub in_last : {X : Type 0} (xs : List X) (y : X) → IsIn y (xs ++ y ∷ [])
-in_last xs y = in_right y xs (y ∷ []) (inl refl)
 
 -- ---- map
 
@@ -53,17 +26,6 @@ from_map f y (x ∷ xs) (inl here) = (x, (inl refl, here))
 from_map f y (x ∷ xs) (inr there) = let r = from_map f y xs there in (r.0, (inr r.1.0, r.1.1))
 
 -- ---- what holds of all
-
--- what holds of all holds of each
-pub all_at : {X : Type 0} (P : X → Type 0) (xs : List X) (x : X) → AllByRecursion P xs → IsIn x xs → P x
-all_at P [] x all never = absurd never
-all_at P (y ∷ ys) x all (inl here) = subst P here all.0
-all_at P (y ∷ ys) x all (inr there) = all_at P ys x all.1 there
-
--- what holds of each holds of all
-pub all_from : {X : Type 0} (P : X → Type 0) (xs : List X) → ((x : X) → IsIn x xs → P x) → AllByRecursion P xs
-all_from P [] each = tt
-all_from P (y ∷ ys) each = (each y (inl refl), all_from P ys (λ x on. each x (inr on)))
 
 -- what holds of all of a list, and of one more behind it
 pub all_push : {X : Type 0} (P : X → Type 0) (xs : List X) (x : X) → AllByRecursion P xs → P x → AllByRecursion P (xs ++ x ∷ [])
@@ -104,21 +66,22 @@ pub all_among_from : (hs ids : List (List ℕ)) → AllByRecursion (λ h. IsIn h
 all_among_from [] ids all = refl
 all_among_from (h ∷ hs) ids all = and_from (is_among h ids) _ (among_from h ids all.0) (all_among_from hs ids all.1)
 
+-- one of the first n is one of the list
+pub from_take : {X : Type 0} (n : ℕ) (x : X) (xs : List X) → IsIn x (take n xs) → IsIn x xs
+from_take zero x xs never = absurd never
+from_take (suc n) x [] never = absurd never
+from_take (suc n) x (y ∷ ys) (inl here) = inl here
+from_take (suc n) x (y ∷ ys) (inr there) = inr (from_take n x ys there)
+
 -- one of both is one of the first or of the second
 pub among-append : (h : List ℕ) (xs ys : List (List ℕ)) → is_among h (xs ++ ys) ≡ (is_among h xs || is_among h ys)
 among-append h [] ys = refl
-among-append h (x ∷ xs) ys = ap (λ (b : Bool). bytes_eq h x || b) (among-append h xs ys) ∙ regroup (bytes_eq h x) (is_among h xs) (is_among h ys) where
-  regroup : (a b c : Bool) → (a || (b || c)) ≡ ((a || b) || c)
-  regroup true b c = refl
-  regroup false b c = refl
+among-append h (x ∷ xs) ys = ap (λ (b : Bool). bytes_eq h x || b) (among-append h xs ys) ∙ sym (or_assoc (bytes_eq h x) (is_among h xs) (is_among h ys))
 
 -- all of both pass where all of the first and all of the second do
 pub all-append : {X : Type 0} (test : X → Bool) (xs ys : List X) → list_all test (xs ++ ys) ≡ (list_all test xs && list_all test ys)
 all-append test [] ys = refl
-all-append test (x ∷ xs) ys = ap (λ (b : Bool). test x && b) (all-append test xs ys) ∙ regroup (test x) (list_all test xs) (list_all test ys) where
-  regroup : (a b c : Bool) → (a && (b && c)) ≡ ((a && b) && c)
-  regroup true b c = refl
-  regroup false b c = refl
+all-append test (x ∷ xs) ys = ap (λ (b : Bool). test x && b) (all-append test xs ys) ∙ sym (and_assoc (test x) (list_all test xs) (list_all test ys))
 
 -- a test of what each gives is a test of each
 pub all-map : {X Y : Type 0} (test : Y → Bool) (f : X → Y) (xs : List X) → list_all test (map f xs) ≡ list_all (λ x. test (f x)) xs
@@ -145,19 +108,9 @@ chosen_front false x y ys e same = absurd cc
 
 -- ---- lists in another order
 
-contains_from : {X : Type 0} (x : X) (xs : List X) → IsIn x xs → Contains xs x
-contains_from x [] never = absurd never
-contains_from x (y ∷ ys) (inl here) = (0, omega arith, here)
-contains_from x (y ∷ ys) (inr there) = let r = contains_from x ys there in (suc r.0, omega (arith, r.1), r.2)
-
-in_at : {X : Type 0} (x : X) (xs : List X) (k : ℕ) → k < length xs → get_or xs k x ≡ x → IsIn x xs
-in_at x [] k lt e = absurd (omega arith)
-in_at x (y ∷ ys) zero lt e = inl e
-in_at x (y ∷ ys) (suc k) lt e = inr (in_at x ys k (omega arith) e)
-
 -- a list in another order has the same members
 pub in_permuted : {X : Type 0} (x : X) (xs ys : List X) → IsPermutation xs ys → IsIn x xs → IsIn x ys
-in_permuted x xs ys p on = let c = Contains-permutation xs ys x p (contains_from x xs on) in in_at x ys c.0 c.1 c.2
+in_permuted x xs ys p on = from_contains x ys (Contains-permutation xs ys x p (to_contains x xs on))
 
 -- ---- lists that are filtered
 

@@ -68,22 +68,22 @@ lower_or_above t u not_lower other =
 -- ---- ids that differ
 
 -- no id stands twice
-abbrev pub AreApart : List Update → Type 0
-AreApart [] = Unit {0}
-AreApart (t ∷ ts) = AllByRecursion (λ u. id_of_update u ≡ id_of_update t → ⊥) ts × AreApart ts
+abbrev pub HaveOwnIds : List Update → Type 0
+HaveOwnIds [] = Unit {0}
+HaveOwnIds (t ∷ ts) = AllByRecursion (λ u. id_of_update u ≡ id_of_update t → ⊥) ts × HaveOwnIds ts
 
 -- where each parent stands before its children, no id stands twice
-pub apart_from_causal : (ids : List (List ℕ)) (us : List Update) → IsCausal ids us → AreApart us
-apart_from_causal ids [] c = tt
-apart_from_causal ids (x ∷ xs) c =
+pub own_ids_from_causal : (ids : List (List ℕ)) (us : List Update) → IsCausal ids us → HaveOwnIds us
+own_ids_from_causal ids [] c = tt
+own_ids_from_causal ids (x ∷ xs) c =
     let behind = causal_behind ids x xs c in
-    (all_from (λ (u : Update). id_of_update u ≡ id_of_update x → ⊥) xs (λ u on e. fresh (id_of_update x ∷ ids) xs u behind on (inl (sym e))), apart_from_causal (id_of_update x ∷ ids) xs behind)
+    (all_from (λ (u : Update). id_of_update u ≡ id_of_update x → ⊥) xs (λ u on e. fresh (id_of_update x ∷ ids) xs u behind on (inl (sym e))), own_ids_from_causal (id_of_update x ∷ ids) xs behind)
 
 -- nor in what is left of them
-pub apart_filter : (test : Update → Bool) (us : List Update) → AreApart us → AreApart (filter test us)
-apart_filter test [] apart = tt
-apart_filter test (x ∷ xs) apart = choice (test x) (apart_filter test xs apart.1) where
-  choice : (b : Bool) → AreApart (filter test xs) → AreApart (cond b (x ∷ filter test xs) (filter test xs))
+pub own_ids_filter : (test : Update → Bool) (us : List Update) → HaveOwnIds us → HaveOwnIds (filter test us)
+own_ids_filter test [] apart = tt
+own_ids_filter test (x ∷ xs) apart = choice (test x) (own_ids_filter test xs apart.1) where
+  choice : (b : Bool) → HaveOwnIds (filter test xs) → HaveOwnIds (cond b (x ∷ filter test xs) (filter test xs))
   choice true rest = (all_from (λ (u : Update). id_of_update u ≡ id_of_update x → ⊥) (filter test xs) (λ u on. all_at (λ (u : Update). id_of_update u ≡ id_of_update x → ⊥) xs u apart.0 (from_filter test u xs on).0), rest)
   choice false rest = rest
 
@@ -111,7 +111,7 @@ rises_put t (u ∷ us) rise other = choice (is_lower u t) refl (rises_put t us r
       ((lower, all_from (λ (x : Update). is_lower t x ≡ true) us (λ x on. lower_trans t u x lower (all_at (λ (x : Update). is_lower u x ≡ true) us x rise.0 on))), rise)
 
 -- updates in their order rise, where no id stands twice
-pub rises_by_id : (us : List Update) → AreApart us → Rises (by_id us)
+pub rises_by_id : (us : List Update) → HaveOwnIds us → Rises (by_id us)
 unfolding by_id
 rises_by_id [] apart = tt
 rises_by_id (t ∷ ts) apart = rises_put t (by_id ts) (rises_by_id ts apart.1) (all_from (λ (u : Update). id_of_update u ≡ id_of_update t → ⊥) (by_id ts) (λ u on. all_at (λ (u : Update). id_of_update u ≡ id_of_update t → ⊥) ts u apart.0 (from_by_id u ts on)))
@@ -121,7 +121,7 @@ lower_one_way : (t u : Update) → is_lower t u ≡ true → is_lower u t ≡ tr
 lower_one_way t u one two = less_one_way (slice_cmp nat_cmp (u.writer ∷ id_of_update u) (t.writer ∷ id_of_update t)) (slice_cmp nat_cmp (t.writer ∷ id_of_update t) (u.writer ∷ id_of_update u)) (nat_list_cmp_total.antisymm (u.writer ∷ id_of_update u) (t.writer ∷ id_of_update t)) one two
 
 -- two lists with the same members are put in one order, where no id stands twice in either
-pub same_by_id : (us vs : List Update) → AreApart us → AreApart vs → HaveSame us vs → by_id us ≡ by_id vs
+pub same_by_id : (us vs : List Update) → HaveOwnIds us → HaveOwnIds vs → HaveSame us vs → by_id us ≡ by_id vs
 same_by_id us vs apart_u apart_v same = one_rising is_lower (by_id us) (by_id vs) lower_one_way (rises_by_id us apart_u) (rises_by_id vs apart_v) (record {
   to = λ t on. in_by_id t vs (same.to t (from_by_id t us on));
   back = λ t on. in_by_id t us (same.back t (from_by_id t vs on));

@@ -118,6 +118,10 @@ parcels sign J h =
 abbrev pub statement_frame : Signed → Frame
 statement_frame s = record { tag = 2; payload = text_of_signed s }
 
+-- the frame of an own voucher
+abbrev pub voucher_frame : Signs → Voucher → Frame
+voucher_frame sign v = statement_frame (signed_with sign (statement.Voucher v))
+
 -- the frame of a value
 abbrev pub value_frame : List ℕ → Frame
 value_frame v = record { tag = 3; payload = v }
@@ -184,7 +188,7 @@ end_frame more = record { tag = 4; payload = (if more then 1 else 0) ∷ [] }
 unfoldable pub bundle_frames : ℕ → Signs → List Record → Hello → List Parcel → Bool → List Frame
 bundle_frames me sign J h xs more =
     map proof_frame (proofs_for J h) ++
-    (map (λ v. statement_frame (signed_with sign (statement.Voucher v))) (vouchers_for J (sent_foreign me xs)) ++
+    (map (voucher_frame sign) (vouchers_for J (sent_foreign me xs)) ++
     (flat_map frames_of xs ++ end_frame more ∷ []))
 
 -- how many frames of each sort there are beside End, the new vouchers standing in the journal

@@ -1,5 +1,5 @@
 -- What a judge says of a proof.
-use Rattle.std.specs.Prelude.{◌≡◌, List, [], ◌∷◌, ℕ, not, ◌==◌, Option, Some, None, Result, Ok, Err}
+use Rattle.std.specs.Prelude.{◌≡◌, List, [], ◌∷◌, ℕ, Bool, true, not, ◌==◌, Option, Some, None, Result, Ok, Err}
 use Rattle.std.specs.Str.{bytes_eq}
 use Rattle.depot_base.specs.Format.{FirstFault}
 use Rattle.depot_base.specs.Parts.{is_below}
@@ -13,6 +13,7 @@ use Rattle.depot_model.specs.declared.judgement.Half.TheVariants.{First, Second}
 use Rattle.depot_model.specs.declared.judgement.JudgeError.{JudgeError}
 use Rattle.depot_model.specs.declared.judgement.JudgeError.TheVariants as point
 use Rattle.depot_model.specs.Lists.{when, first}
+use Rattle.depot_model.specs.Contents.{accused}
 use Rattle.depot_model.specs.Texts.{IsProof, text_of_proof, proof}
 use Rattle.depot_model.specs.Contradictions.{contradicts}
 use Rattle.depot_model.specs.Roster.{Verifies, has_node, is_signed}
@@ -21,6 +22,13 @@ use Rattle.depot_model.specs.Roster.{Verifies, has_node, is_signed}
 abbrev pub half_of : Half → Proof → Signed
 half_of First p = p.first
 half_of Second p = p.second
+
+-- the halves of a proof contradict each other in its kind, as a test and as a fact
+abbrev pub is_contrary : Proof → Bool
+is_contrary p = contradicts p.kind p.first.statement p.second.statement
+
+abbrev pub IsContrary : Proof → Type 0
+IsContrary p = is_contrary p ≡ true
 
 -- the points of a proof in their order, each with what it carries where it fails
 unfoldable pub points : Verifies → List RosterEntry → Proof → List (Option JudgeError)
@@ -34,7 +42,7 @@ points verifies r p =
     when (not (a == b)) (point.TwoWriters a b) ∷
     when (bytes_eq p.first.body p.second.body) point.Same ∷
     when (not (is_below p.first.body p.second.body)) point.WrongOrder ∷
-    when (not (contradicts p.kind p.first.statement p.second.statement)) (point.NotContradictory p.kind) ∷ []
+    when (not (is_contrary p)) (point.NotContradictory p.kind) ∷ []
 
 -- the first point that fails, or none
 abbrev pub first_failed_point : Verifies → List RosterEntry → Proof → Option JudgeError
@@ -42,7 +50,7 @@ first_failed_point verifies r p = first (points verifies r p)
 
 -- the verdict of a proof that fails no point
 abbrev pub verdict_of : Proof → Verdict
-verdict_of p = record { node = writer_of p.first.statement; kind = p.kind }
+verdict_of p = record { node = accused p; kind = p.kind }
 
 -- the first point that fails, and where none does the verdict
 abbrev pub judged_by : Option JudgeError → Proof → Result Verdict JudgeError

@@ -1,16 +1,16 @@
 -- Membership and the like, by cases on the list.
-use Rattle.std.specs.Prelude.{◌≡◌, ℕ, List, [], ◌∷◌, Bool, Option, Some, None, ◌⊎◌, ◌==◌, if◌then◌else◌}
+use Rattle.std.specs.Prelude.{◌≡◌, ℕ, List, [], ◌∷◌, Bool, Option, Some, None, ◌||◌, ◌==◌, if◌then◌else◌}
 use Rattle.std.specs.List.{list_any}
 use Rattle.std.specs.Str.{bytes_eq}
-
--- x is one of the list
-abbrev pub IsIn : {X : Type 0} → X → List X → Type 0
-IsIn x [] = ⊥
-IsIn x (y ∷ ys) = (y ≡ x) ⊎ IsIn x ys
+pub use Rattle.depot_base.specs.Membership.{IsIn}
 
 -- whether these bytes are one of the list
 abbrev pub is_among : List ℕ → List (List ℕ) → Bool
 is_among h hs = list_any (bytes_eq h) hs
+
+-- just the members of the first list and of the second are among the third
+abbrev pub AreTogether : List (List ℕ) → List (List ℕ) → List (List ℕ) → Type 0
+AreTogether old more new = (h : List ℕ) → is_among h new ≡ (is_among h old || is_among h more)
 
 -- whether a number is one of these
 abbrev pub is_one_of : ℕ → List ℕ → Bool

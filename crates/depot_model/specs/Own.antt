@@ -21,9 +21,13 @@ entry_of t = record { writer = t.writer; clock = t.clock; id = id_of_update t }
 unfoldable pub precedes_named : List Update → List ℕ → Update → Bool
 precedes_named us h t = option_map_or (λ p. has_id (past p us) (id_of_update t)) (prev_of us h) false
 
+-- t is of another writer, and doesn't precede the update that a prev names
+abbrev pub is_unseen : ℕ → List Update → List ℕ → Update → Bool
+is_unseen me us prev t = not (t.writer == me) && not (precedes_named us prev t)
+
 -- the updates that the next own one names: the leaves of other writers that don't precede the last own update
 unfoldable pub next_entries : ℕ → List Update → List ℕ → List Update
-next_entries me us prev = by_id (filter (λ t. not (t.writer == me) && not (precedes_named us prev t)) (leaves_of us))
+next_entries me us prev = by_id (filter (is_unseen me us prev) (leaves_of us))
 
 -- the one update that a correct node makes next
 unfoldable pub next_own : ℕ → List Record → List ℕ → List ℕ → Update

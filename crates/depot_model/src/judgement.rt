@@ -1,6 +1,8 @@
 //! What a judge answers.
+ghost use Rattle.std.specs.Prelude.{◌≡◌};
+ghost use Rattle.depot_model.specs.Judgement.{half_of};
 
-use depot_base::{Kind, NodeId};
+use depot_base::{Kind, NodeId, Proof, Signed};
 
 /// A node is convicted: two statements that it signed contradict each other in this kind.
 #[derive(Clone, Copy, Debug, PartialEq, Eq)]
@@ -18,6 +20,18 @@ pub enum Half {
     First,
     /// The second.
     Second,
+}
+
+impl Half {
+    /// The statement that it is of this proof.
+    pub fn of(self, proof: &Proof) -> &Signed
+        ensures { result.now ≡ half_of self proof.now }
+    {
+        match self {
+            Half::First => &proof.first,
+            Half::Second => &proof.second,
+        }
+    }
 }
 
 /// The first point in which a text fails to prove a contradiction, in the order of the variants.

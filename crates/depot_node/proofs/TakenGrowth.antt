@@ -13,7 +13,7 @@ use Rattle.depot_model.specs.Stops.{Lasts, LeavesAll}
 use Rattle.depot_model.specs.Taking.{Form, TakesAs, growth_of_text}
 use Rattle.depot_model.proofs.TakeLaws.{one_answer}
 use Rattle.depot_decide.specs.Deciding.{IsCarriedOut}
-use Rattle.depot_node.proofs.LastingCalls.{idle_lasts}
+use Rattle.depot_model.proofs.StopLaws.{idle_lasts}
 
 -- Where this is decided of a text, whatever comes of it is what a node answers to the text.
 abbrev pub IsOfText : Form → Setting → List Record → List ℕ → Result Taken Check → List Record → Type 0

@@ -4,10 +4,10 @@ use Rattle.std.specs.Prelude.{option_to_list, option_map, slice_get, IfSome}
 use Rattle.std.specs.List.{AllByRecursion, filter, flat_map, list_any}
 use Rattle.std.specs.Str.{bytes_eq}
 use Rattle.std.proofs.Math.Seq.{take-suc}
-use Rattle.std.proofs.Math.Bool.{or_comm, or-false}
+use Rattle.std.proofs.Math.Bool.{or-false}
 use Rattle.std.proofs.lemmas.List.{take-append-drop}
 use Rattle.std.proofs.lemmas.Option.{slice_get-get_or, slice_get-map}
-use Rattle.std.proofs.lemmas.Grind.{flat_map-append, take_at_read}
+use Rattle.std.proofs.lemmas.Grind.{flat_map-append}
 use Rattle.std.proofs.lemmas.Bool.{eqb-true, eq-eqb}
 use Rattle.sha2.specs.Sha256.{sha256}
 use Rattle.depot_base.specs.Statement.{writer_of}
@@ -18,7 +18,7 @@ use Rattle.depot_base.specs.declared.statement.Signed.{Signed}
 use Rattle.depot_base.specs.declared.record.Record.{Record}
 use Rattle.depot_base.specs.declared.record.Record.TheVariants.{Birth, OwnPut, OwnVoucher, Foreign, Conviction, Held}
 use Rattle.depot_model.specs.declared.hello.Hello.{Hello}
-use Rattle.depot_model.specs.Lists.{IsIn, is_among}
+use Rattle.depot_model.specs.Lists.{IsIn, is_among, AreTogether}
 use Rattle.depot_model.specs.Texts.{IsSigned, text_of_signed, id_of_update}
 use Rattle.depot_model.specs.Records.{IsRecord, text_of_record}
 use Rattle.depot_model.specs.Journal.{accepted, accepted_by, own_by, foreign_by, update_in, held, held_as, value_with}
@@ -26,22 +26,22 @@ use Rattle.depot_model.specs.Contents.{NamedValue, values_named, value_named}
 use Rattle.depot_model.specs.Checks.{Setting}
 use Rattle.depot_model.specs.Lawful.{IsLawful}
 use Rattle.depot_model.specs.Bundle.{Signs, signed_with, signed_by, is_candidate, has_candidate, candidates, records_where, candidate_places, Parcel, values_behind, candidate_parcel, candidate_parcels, wanted_parcel, hashes_of, parcels, sent_foreign}
-use Rattle.depot_model.proofs.Elements.{get_front}
+use Rattle.depot_model.proofs.Elements.{get_front, in_at}
 use Rattle.depot_model.proofs.Members.{among-append, all_at}
 use Rattle.depot_model.proofs.TextLaws.{signed_is_short}
 use Rattle.depot_laws.proofs.Splits.{flat_gives, lawful_texts}
-use Rattle.depot_laws.proofs.Observed.{in_place}
 use Rattle.depot_laws.proofs.Causes.{none_or_one}
 use Rattle.depot_laws.proofs.LawfulRecords.{IsSigned-from_record}
 use Rattle.depot_laws.proofs.OwnTexts.{own_statement_fits}
 use Rattle.depot_laws.proofs.OwnSteps.{own_writer}
 use Rattle.depot_laws.proofs.ChainLaws.{foreign_writer}
-use Rattle.depot_laws.proofs.HeldValues.{held_as_is, held_is_brought, value_with_is}
+use Rattle.depot_laws.proofs.HeldValues.{held_as_is, held_is_brought}
+use Rattle.depot_laws.proofs.Exact.{value_with_is}
 use Rattle.depot_laws.proofs.WantedValues.{value_fits}
 use Rattle.depot_laws.proofs.Candidates.{signed_fits, behind_is}
-use Rattle.depot_base.proofs.GeneralLaws.{get_last, flat_push}
+use Rattle.depot_base.proofs.GeneralLaws.{get_last, flat_push, or_swap, take_next}
 use Rattle.depot_frames.specs.declared.sending.Sending.{Sending}
-use Rattle.depot_offers.specs.Choosing.{IsCutAt, TellsAt, records_at, foreign_ids, hashes_named, HasToo, AreAlike, value_parcels}
+use Rattle.depot_offers.specs.Choosing.{IsCutAt, TellsAt, records_at, foreign_ids, hashes_named, AreAlike, value_parcels}
 use Rattle.depot_offers.proofs.FitLaws.{cut_on}
 
 -- ---- the places of the candidates
@@ -94,7 +94,7 @@ pub record IsReadAt (J : List Record) (r : Record) (text : List ℕ) : Type 0 wh
 
 pub read_at : (here : Setting) (J : List Record) (place : ℕ) (r : Record) (text : List ℕ) → IsLawful here J → slice_get J place ≡ Some r → slice_get (map text_of_record J) place ≡ Some text → IsReadAt J r text
 read_at here J place r text l at e =
-    let on = in_place r J place at in
+    let on = in_at J place r at in
     let same : Some (text_of_record r) ≡ Some text = sym (slice_get-map text_of_record J place ∙ ap (option_map text_of_record) at) ∙ e in
     record { on = on; fits = lawful_texts here J r l on; is = cc }
 
@@ -177,9 +177,9 @@ hashes_found J sent r u None one e = ap (map sha256) e
 hashes_found J sent r u (Some v) one e =
     let named : flat_map values_named (accepted_by r) ≡ value_named u ∷ [] = ap (flat_map values_named) one in
     let b = behind_is J sent (flat_map values_named (accepted_by r)) v (subst (λ (vs : List (List ℕ)). IsIn v vs) e (inl refl)) in
-    let hash : sha256 v ≡ u.value_hash = (held_as_is J b.name v b.held).hash ∙ of_name b.name (subst (λ (ns : List NamedValue). IsIn b.name ns) named b.on) in
+    let hash : sha256 v ≡ (value_named u).hash = (held_as_is J b.name v b.held).hash ∙ of_name b.name (subst (λ (ns : List NamedValue). IsIn b.name ns) named b.on) in
     ap (map (λ (n : NamedValue). n.hash)) named ∙ ap (λ (h : List ℕ). h ∷ []) (sym hash) ∙ ap (map sha256) e where
-      of_name : (n : NamedValue) → IsIn n (value_named u ∷ []) → n.hash ≡ u.value_hash
+      of_name : (n : NamedValue) → IsIn n (value_named u ∷ []) → n.hash ≡ (value_named u).hash
       of_name n (inl same) = sym (ap (λ (k : NamedValue). k.hash) same)
       of_name n (inr never) = absurd never
 
@@ -196,12 +196,6 @@ found_is_short here J sent ns None l e = tt
 found_is_short here J sent ns (Some v) l e = let short = behind_fits here J sent ns v l (subst (λ (vs : List (List ℕ)). IsIn v vs) e (inl refl)) in omega (arith, short)
 
 -- ---- one candidate after another
-
-or_swap : (a b c : Bool) → (b || (a || c)) ≡ ((a || b) || c)
-or_swap true true c = refl
-or_swap true false c = refl
-or_swap false true c = refl
-or_swap false false c = refl
 
 -- candidates behind others: the hashes that are sent before them are those of the parcels of the others
 record Behind (sign : Signs) (J : List Record) (sent : List (List ℕ)) (rs qs : List Record) : Type 0 where
@@ -237,10 +231,9 @@ last_parcel sign J keys rs r alike =
     b.is ∙ ap (λ (x : Parcel). candidate_parcels sign J [] rs ++ x ∷ []) (candidate_alike sign J b.hashes keys r (λ h. b.members h ∙ or-false _ ∙ sym (alike h)))
 
 -- the hashes with those of one parcel more
-pub alike_push : (keys new : List (List ℕ)) (xs : List Parcel) (x : Parcel) → AreAlike keys (hashes_of xs) → HasToo keys (map sha256 x.values) new → AreAlike new (hashes_of (xs ++ x ∷ []))
+pub alike_push : (keys new : List (List ℕ)) (xs : List Parcel) (x : Parcel) → AreAlike keys (hashes_of xs) → AreTogether keys (map sha256 x.values) new → AreAlike new (hashes_of (xs ++ x ∷ []))
 alike_push keys new xs x alike too h =
-    too h ∙ ap (λ (c : Bool). is_among h (map sha256 x.values) || c) (alike h)
-    ∙ or_comm (is_among h (map sha256 x.values)) (is_among h (hashes_of xs))
+    too h ∙ ap (λ (c : Bool). c || is_among h (map sha256 x.values)) (alike h)
     ∙ sym (among-append h (hashes_of xs) (map sha256 x.values))
     ∙ ap (is_among h) (sym (flat_push (λ (y : Parcel). map sha256 y.values) xs x))
 
@@ -254,7 +247,7 @@ pub record IsNext (J : List Record) (places : List ℕ) (i : ℕ) : Type 0 where
   pub all : records_at J places ≡ records_at J (take (i + 1) places) ++ rest
 
 pub tells_at : (J : List Record) (places : List ℕ) (i : ℕ) → i < length places → AllByRecursion (TellsAt J) places → TellsAt J (get_or places i 0)
-tells_at J places i lt all = all_at (TellsAt J) places (get_or places i 0) all (in_place (get_or places i 0) places i (slice_get-get_or places i 0 lt))
+tells_at J places i lt all = all_at (TellsAt J) places (get_or places i 0) all (in_at places i (get_or places i 0) (slice_get-get_or places i 0 lt))
 
 pub next_place : (J : List Record) (places : List ℕ) (i : ℕ) → i < length places → AllByRecursion (TellsAt J) places → IsNext J places i
 next_place J places i lt all =
@@ -306,7 +299,7 @@ wanted_is_short here J keys h v l e = held_is_short here J h v l (wanted_is_held
 -- the parcels of one hash more
 pub wanted_push : (J : List Record) (keys hs : List (List ℕ)) (i : ℕ) (h : List ℕ) (xs : List Parcel) → i < length hs → h ≡ get_or hs i h → (xs ++ flat_map (wanted_parcel J keys) (take i hs)) ++ wanted_parcel J keys h ≡ xs ++ flat_map (wanted_parcel J keys) (take (i + 1) hs)
 wanted_push J keys hs i h xs lt is =
-    let front : take (i + 1) hs ≡ take i hs ++ h ∷ [] = (take_at_read hs i h lt).1 ∙ ap (λ (y : List ℕ). take i hs ++ y ∷ []) (sym is) in
+    let front = take_next hs i h lt is in
     append_assoc xs (flat_map (wanted_parcel J keys) (take i hs)) (wanted_parcel J keys h)
     ∙ ap (λ (ys : List Parcel). xs ++ ys) (sym (ap (flat_map (wanted_parcel J keys)) front ∙ flat_push (wanted_parcel J keys) (take i hs) h))
 

@@ -20,12 +20,12 @@ use Rattle.depot_model.specs.Records.{tagged, record_text, tag_of, text_of_recor
 use Rattle.depot_model.specs.Journal.{accused, proof_by}
 use Rattle.depot_model.specs.Vouching.{own_voucher_by}
 use Rattle.depot_model.specs.Frames.{Frame, text_of_frame}
-use Rattle.depot_model.specs.Bundle.{Signs, proof_frame, proofs_for, vouchers_for, end_frame}
+use Rattle.depot_model.specs.Bundle.{Signs, proof_frame, proofs_for, vouchers_for, end_frame, voucher_frame}
 use Rattle.depot_laws.proofs.BundleSizes.{few_told}
 use Rattle.depot_base.proofs.GeneralLaws.{flat_push, filter_short}
 use Rattle.depot_offers.specs.declared.front.Front.{Front}
 use Rattle.depot_offers.specs.Choosing.{AreAlike}
-use Rattle.depot_offers.specs.Fronts.{IsFront, voucher_frame, is_in_front}
+use Rattle.depot_offers.specs.Fronts.{IsFront, is_in_front}
 use Rattle.depot_offers.specs.declared.bundle_stream.Bundled.{Bundled}
 use Rattle.depot_offers.specs.BundleStreams.{IsStream, IsJoined}
 use Rattle.depot_frames.specs.declared.sending.Sending.{Sending}

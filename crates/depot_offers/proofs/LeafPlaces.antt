@@ -21,13 +21,13 @@ use Rattle.depot_model.specs.Checks.{Setting}
 use Rattle.depot_model.specs.Lawful.{IsLawful}
 use Rattle.depot_model.specs.Hello.{named_leaf, record_place, AreLeafPlaces, convicted_nodes, wanted_of, hello_of}
 use Rattle.depot_model.proofs.Orders.{one_of_id}
-use Rattle.depot_laws.proofs.Observed.{in_place}
 use Rattle.depot_laws.proofs.Splits.{flat_gives}
 use Rattle.depot_model.proofs.RisingUpdates.{from_by_id}
 use Rattle.depot_model.proofs.NamedIds.{has_id_to}
 use Rattle.depot_laws.proofs.Causes.{lawful_is_causal, leaf_is_on}
 use Rattle.sha2.specs.Sha256.{sha256}
 use Rattle.depot_model.proofs.BodyLaws.{body_is_text_of_update}
+use Rattle.depot_model.proofs.Elements.{in_at}
 use Rattle.depot_laws.proofs.LawfulRecords.{IsSigned-from_record}
 use Rattle.depot_base.proofs.GeneralLaws.{flat_push}
 use Rattle.depot_offers.specs.RecordLeaves.{leaf_list, leaf_in, leaf_at}
@@ -45,7 +45,7 @@ pub text_at : (J : List Record) (place : ℕ) (text : List ℕ) → slice_get (m
 text_at J place text e = by_item (slice_get J place) refl (sym (slice_get-map text_of_record J place) ∙ e) where
   by_item : (o : Option Record) → slice_get J place ≡ o → option_map text_of_record o ≡ Some text → IsTextAt J place text
   by_item None at is = absurd cc
-  by_item (Some r) at is = record { item = r; at = at; on = in_place r J place at; is = cc }
+  by_item (Some r) at is = record { item = r; at = at; on = in_at J place r at; is = cc }
 
 -- ---- the leaf of a place
 
@@ -83,7 +83,7 @@ place_of_update here (x ∷ J) place t l on e =
     let r = get_or (x ∷ J) place x in
     let at : slice_get (x ∷ J) place ≡ Some r = slice_get-get_or (x ∷ J) place x found.0 in
     let one = has_id_to (accepted_by r) (id_of_update t) found.1 in
-    let on_too = flat_gives accepted_by one.0 r (x ∷ J) (in_place r (x ∷ J) place at) one.1.0 in
+    let on_too = flat_gives accepted_by one.0 r (x ∷ J) (in_at (x ∷ J) place r at) one.1.0 in
     let same : one.0 ≡ t = one_of_id [] (accepted (x ∷ J)) one.0 t (lawful_is_causal here (x ∷ J) l) on_too on one.1.1 in
     record { below = found.0; leaf = ap leaf_in at ∙ ap (map named_leaf) (accepts_this r one.0 one.1.0) ∙ ap (λ (u : Update). named_leaf u ∷ []) same }
 

@@ -3,9 +3,9 @@ use Rattle.std.proofs.Common.{◌≡◌, ℕ, ◌+◌, ◌<◌, length, take, ge
 use Rattle.std.specs.List.{filter}
 use Rattle.std.proofs.lemmas.List.{append-nil}
 use Rattle.std.proofs.lemmas.List.Elements.{filter-append}
-use Rattle.std.proofs.lemmas.Grind.{take_at_read}
 use Rattle.depot_base.specs.declared.record.Record.{Record}
 use Rattle.depot_model.specs.Vouching.{is_mine_vouched}
+use Rattle.depot_base.proofs.GeneralLaws.{take_next}
 
 abbrev left_of : List Record → List (List ℕ) → List (List ℕ)
 left_of J hs = filter (λ (i : List ℕ). not (is_mine_vouched J i)) hs
@@ -18,5 +18,5 @@ left_more J left new i e is = is ∙ ap (λ (b : Bool). left ++ cond (not b) (i 
 
 pub left_push : (J : List Record) (xs left new : List (List ℕ)) (i : ℕ) (x : List ℕ) → i < length xs → x ≡ get_or xs i x → left ≡ left_of J (take i xs) → new ≡ left ++ left_of J (x ∷ []) → new ≡ left_of J (take (i + 1) xs)
 left_push J xs left new i x lt is before more =
-    let front : take (i + 1) xs ≡ take i xs ++ x ∷ [] = (take_at_read xs i x lt).1 ∙ ap (λ (y : List ℕ). take i xs ++ y ∷ []) (sym is) in
+    let front = take_next xs i x lt is in
     more ∙ ap (λ (hs : List (List ℕ)). hs ++ left_of J (x ∷ [])) before ∙ sym (ap (left_of J) front ∙ filter-append (λ (k : List ℕ). not (is_mine_vouched J k)) (take i xs) (x ∷ []))

@@ -4,10 +4,9 @@ use Rattle.std.specs.List.{flat_map}
 use Rattle.depot_base.specs.declared.record.Record.{Record}
 use Rattle.depot_model.specs.declared.hello.Hello.{Hello}
 use Rattle.depot_model.specs.Frames.{text_of_frame}
-use Rattle.depot_model.specs.Bundle.{Signs, proof_frame, end_frame, proofs_for, vouchers_for}
+use Rattle.depot_model.specs.Bundle.{Signs, proof_frame, end_frame, proofs_for, vouchers_for, voucher_frame}
 use Rattle.depot_frames.specs.declared.sending.Sending.{Sending}
 use Rattle.depot_offers.specs.declared.front.Front.{Front}
-use Rattle.depot_offers.specs.Fronts.{voucher_frame}
 use Rattle.depot_offers.specs.declared.bundle_stream.Bundled.{Bundled}
 
 -- The stream is the proofs, the vouchers, what is sent, and End; and its frames are counted.

@@ -1,10 +1,10 @@
 -- What a bundle sends of updates and values, as far as it is chosen.
-use Rattle.std.specs.Prelude.{◌≡◌, ℕ, ◌+◌, List, [], ◌∷◌, ◌++◌, length, map, Bool, true, false, Option, Some, None, option_to_list, slice_get, Result, Ok, Err, is_some, if◌then◌else◌, ◌||◌}
+use Rattle.std.specs.Prelude.{◌≡◌, ℕ, ◌+◌, List, [], ◌∷◌, ◌++◌, length, map, Bool, true, false, Option, Some, None, option_to_list, slice_get, Result, Ok, Err, is_some, if◌then◌else◌}
 use Rattle.std.specs.List.{flat_map}
 use Rattle.depot_base.specs.declared.update.Update.{Update}
 use Rattle.depot_base.specs.declared.record.Record.{Record}
 use Rattle.depot_base.specs.declared.record.Record.TheVariants.{Foreign}
-use Rattle.depot_model.specs.Lists.{is_among}
+use Rattle.depot_model.specs.Lists.{is_among, AreTogether}
 use Rattle.depot_model.specs.Texts.{id_of_update}
 use Rattle.depot_model.specs.Journal.{accepted_by, update_in}
 use Rattle.depot_model.specs.Frames.{text_of_frame}
@@ -72,17 +72,13 @@ foreign_ids r = []
 abbrev pub hashes_named : Record → Option (List ℕ) → List (List ℕ)
 hashes_named r found = if is_some found then map (λ n. n.hash) (flat_map values_named (accepted_by r)) else []
 
--- a set has these hashes and those that it had
-abbrev pub HasToo : List (List ℕ) → List (List ℕ) → List (List ℕ) → Type 0
-HasToo old more new = (h : List ℕ) → is_among h new ≡ (is_among h more || is_among h old)
-
 -- the two have the same members
 abbrev pub AreAlike : List (List ℕ) → List (List ℕ) → Type 0
 AreAlike some others = (h : List ℕ) → is_among h some ≡ is_among h others
 
 -- after an answer that all has room the set has these hashes too
 abbrev pub AddsHashes : {E : Type 0} → List (List ℕ) → List (List ℕ) → Result Bool E → List (List ℕ) → Type 0
-AddsHashes old more (Ok true) new = HasToo old more new
+AddsHashes old more (Ok true) new = AreTogether old more new
 AddsHashes old more (Ok false) new = Unit {0}
 AddsHashes old more (Err e) new = Unit {0}
 

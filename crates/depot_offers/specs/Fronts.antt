@@ -1,18 +1,13 @@
 -- What stands in front of the updates and values of a bundle.
 use Rattle.std.specs.Prelude.{◌≡◌, ℕ, List, length, map, Bool, true, false}
 use Rattle.std.specs.List.{flat_map}
-use Rattle.depot_base.specs.declared.voucher.Voucher.{Voucher}
 use Rattle.depot_base.specs.declared.statement.Statement.TheVariants as statement
 use Rattle.depot_base.specs.declared.record.Record.{Record}
 use Rattle.depot_base.specs.declared.record.Record.TheVariants.{OwnVoucher, Conviction}
 use Rattle.depot_model.specs.declared.hello.Hello.{Hello}
-use Rattle.depot_model.specs.Frames.{Frame, text_of_frame}
-use Rattle.depot_model.specs.Bundle.{Signs, signed_with, statement_frame, proof_frame, proofs_for, vouchers_for}
+use Rattle.depot_model.specs.Frames.{text_of_frame}
+use Rattle.depot_model.specs.Bundle.{Signs, proof_frame, proofs_for, vouchers_for, voucher_frame}
 use Rattle.depot_offers.specs.declared.front.Front.{Front}
-
--- the frame of an own voucher
-abbrev pub voucher_frame : Signs → Voucher → Frame
-voucher_frame sign v = statement_frame (signed_with sign (statement.Voucher v))
 
 -- These are the frames of the proofs for a hello and of the own vouchers that name one of these ids, as far as these records go,
 -- and how many there are.

@@ -2,11 +2,12 @@
 ghost use Rattle.std.specs.Prelude.{◌≡◌, false, map, length, OnOk, IfOk, is_some, option_copied, option_to_list};
 ghost use Rattle.std.specs.List.{flat_map};
 ghost use Rattle.depot_base.specs.declared.record.Record.{Record};
+ghost use Rattle.depot_model.specs.Lists.{AreTogether};
 ghost use Rattle.depot_model.specs.Journal.{accepted_by, held, value_with};
 ghost use Rattle.depot_model.specs.Contents.{values_named};
 ghost use Rattle.depot_model.specs.Records.{IsRecord};
 ghost use Rattle.depot_model.specs.Bundle.{values_behind};
-ghost use Rattle.depot_offers.specs.Choosing.{foreign_ids, hashes_named, HasToo};
+ghost use Rattle.depot_offers.specs.Choosing.{foreign_ids, hashes_named};
 
 use crate::hashes::{Hashes, add_hash, has_hash};
 use depot_base::{Hash32, Memory, Record, Statement, Update};
@@ -70,7 +71,7 @@ pub(crate) fn add_found(
     item: &Record,
     found: Option<&[u8]>,
 ) -> Result<(), Memory>
-    ensures { OnOk result (HasToo hashes.old.keys (hashes_named item.now (option_copied found.entry)) hashes.new.keys) }
+    ensures { OnOk result (AreTogether hashes.old.keys (hashes_named item.now (option_copied found.entry)) hashes.new.keys) }
 {
     match (found, accepted_in(item)) {
         (Some(_), Some(update)) => add_hash(hashes, update.value_named().hash),

@@ -1,7 +1,7 @@
 //! Sets of digests.
 ghost use Rattle.std.specs.Prelude.{◌≡◌, ℕ, List, [], ◌∷◌, OnOk, IfOk};
-ghost use Rattle.depot_model.specs.Lists.{is_among};
-ghost use Rattle.depot_offers.specs.Choosing.{HasToo, AreAlike};
+ghost use Rattle.depot_model.specs.Lists.{is_among, AreTogether};
+ghost use Rattle.depot_offers.specs.Choosing.{AreAlike};
 
 use depot_base::{Hash32, Memory};
 use indexmap::IndexSet;
@@ -19,7 +19,7 @@ pub(crate) fn has_hash(hashes: &Hashes, hash: &Hash32) -> bool
 
 /// Puts a digest in.
 pub(crate) fn add_hash(hashes: &mut Hashes, hash: Hash32) -> Result<(), Memory>
-    ensures { OnOk result (HasToo hashes.old.keys (hash ∷ []) hashes.new.keys) }
+    ensures { OnOk result (AreTogether hashes.old.keys (hash ∷ []) hashes.new.keys) }
 {
     match hashes.insert(hash) {
         Ok(_) => Ok(()),

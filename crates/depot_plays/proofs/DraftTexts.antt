@@ -26,7 +26,7 @@ use Rattle.depot_laws.proofs.NewVouchers.{voucher_fits}
 use Rattle.depot_laws.proofs.OwnTexts.{entry_fits, id_is_digest, value_is_digest}
 use Rattle.depot_laws.proofs.LawfulRecords.{IsStatement-from_own_voucher}
 use Rattle.depot_laws.proofs.Sorted.{entries_follow}
-use Rattle.depot_model.proofs.RisingUpdates.{AreApart, rises_by_id, from_by_id, by_id_length as long_by_id}
+use Rattle.depot_model.proofs.RisingUpdates.{HaveOwnIds, rises_by_id, from_by_id, by_id_length as long_by_id}
 use Rattle.depot_schedule.specs.Vocabulary.{FitsHistory}
 use Rattle.depot_schedule.specs.declared.event.HistoryWord.{HistoryWord}
 use Rattle.depot_schedule.specs.declared.event.HistoryWord.TheVariants as history_word
@@ -55,11 +55,11 @@ new_firsts ids (x ∷ us) u on = choice (is_among (id_of_update x) ids) refl on 
       both_ways (is_among h (ids ++ id_of_update x ∷ [])) (more there) (among-append h ids (id_of_update x ∷ []) ∙ or_left (is_among h ids) (is_among h (id_of_update x ∷ [])) e))
 
 -- no id stands twice
-apart_firsts : (ids : List (List ℕ)) (us : List Update) → AreApart (firsts_behind ids us)
+apart_firsts : (ids : List (List ℕ)) (us : List Update) → HaveOwnIds (firsts_behind ids us)
 unfolding firsts_behind
 apart_firsts ids [] = tt
 apart_firsts ids (x ∷ us) = choice (is_among (id_of_update x) ids) (apart_firsts ids us) (apart_firsts (ids ++ id_of_update x ∷ []) us) where
-  choice : (b : Bool) → AreApart (firsts_behind ids us) → AreApart (firsts_behind (ids ++ id_of_update x ∷ []) us) → AreApart (cond b (firsts_behind ids us) (x ∷ firsts_behind (ids ++ id_of_update x ∷ []) us))
+  choice : (b : Bool) → HaveOwnIds (firsts_behind ids us) → HaveOwnIds (firsts_behind (ids ++ id_of_update x ∷ []) us) → HaveOwnIds (cond b (firsts_behind ids us) (x ∷ firsts_behind (ids ++ id_of_update x ∷ []) us))
   choice true same more = same
   choice false same more = (
     all_from (λ (v : Update). id_of_update v ≡ id_of_update x → ⊥) (firsts_behind (ids ++ id_of_update x ∷ []) us) (λ v on e.

@@ -1,10 +1,11 @@
 -- What is printed of events, one after the other.
 use Rattle.std.proofs.Common.{◌≡◌, ℕ, suc, ◌+◌, ◌<◌, List, [], ◌∷◌, ◌++◌, length, get_or, take, drop, Some, refl, sym, ap, subst, ◌∙◌, append_assoc, take-append-drop, drop-cons, arith}
 use Rattle.std.proofs.lemmas.Option.{slice_get-get_or}
-use Rattle.std.proofs.lemmas.List.{append-nil, take_more}
+use Rattle.std.proofs.lemmas.List.{append-nil}
 use Rattle.depot_base.specs.Faults.{HasCause}
 use Rattle.depot_base.specs.Reading.{AddsFrontOf}
 use Rattle.depot_base.proofs.Writing.{begins_with, begins_further}
+use Rattle.depot_base.proofs.GeneralLaws.{take_next}
 use Rattle.depot_model.specs.Lists.{IsIn}
 use Rattle.depot_model.proofs.Elements.{in_at}
 use Rattle.depot_schedule.specs.declared.event.Event.{Event}
@@ -32,13 +33,10 @@ printed-append stage run (e ∷ es) fs =
     let d = done stage run e in
     ap (λ (t : List ℕ). lines_of e d ++ t) (printed-append stage d.run es fs) ∙ sym (append_assoc (lines_of e d) (printed stage d.run es) (printed stage (run_after stage d.run es) fs))
 
-next_event : (es : List Event) (i : ℕ) (e : Event) → i < length es → e ≡ get_or es i e → take (i + 1) es ≡ take i es ++ e ∷ []
-next_event es i e within is = take_more es i e within ∙ ap (λ (x : Event). take i es ++ x ∷ []) (sym is)
-
 -- the run after one event more
 pub run_more : (stage : Stage) (run : Run) (es : List Event) (i : ℕ) (e : Event) → i < length es → e ≡ get_or es i e → (done stage (run_after stage run (take i es)) e).run ≡ run_after stage run (take (i + 1) es)
 unfolding run_after
-run_more stage run es i e within is = sym (ap (run_after stage run) (next_event es i e within is) ∙ run_after-append stage run (take i es) (e ∷ []))
+run_more stage run es i e within is = sym (ap (run_after stage run) (take_next es i e within is) ∙ run_after-append stage run (take i es) (e ∷ []))
 
 one_printed : (stage : Stage) (run : Run) (e : Event) → printed stage run (e ∷ []) ≡ lines_of e (done stage run e)
 unfolding printed
@@ -51,7 +49,7 @@ printed_more stage run es i e old before lines new within is so_far told written
     let front = printed stage run (take i es) in
     let then = run_after stage run (take i es) in
     written ∙ ap (λ (t : List ℕ). t ++ lines) so_far ∙ append_assoc old front lines
-    ∙ ap (λ (t : List ℕ). old ++ t) (sym (ap (printed stage run) (next_event es i e within is) ∙ printed-append stage run (take i es) (e ∷ []) ∙ ap (λ (t : List ℕ). front ++ t) (one_printed stage then e ∙ sym told)))
+    ∙ ap (λ (t : List ℕ). old ++ t) (sym (ap (printed stage run) (take_next es i e within is) ∙ printed-append stage run (take i es) (e ∷ []) ∙ ap (λ (t : List ℕ). front ++ t) (one_printed stage then e ∙ sym told)))
 
 rest_printed : (stage : Stage) (run : Run) (es : List Event) (i : ℕ) → printed stage run es ≡ printed stage run (take i es) ++ printed stage (run_after stage run (take i es)) (drop i es)
 rest_printed stage run es i = ap (printed stage run) (sym (take-append-drop i es)) ∙ printed-append stage run (take i es) (drop i es)

@@ -27,5 +27,5 @@ mod updates;
 pub use actor::{Actor, Told};
 pub use begins::Begins;
 pub use play::Play;
-pub use playing::{begun, play_all};
+pub use playing::{begun, play_all, write};
 pub use replay_error::ReplayError;

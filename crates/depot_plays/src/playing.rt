@@ -72,8 +72,8 @@ pub fn play_all<A: Actor, S: Scheme, G: Signer, K: Sink>(
     Ok(())
 }
 
-/// Writes bytes.
-fn write<K: Sink>(out: &mut K, bytes: &[u8]) -> Result<(), ReplayError>
+/// Writes bytes to a sink. After an error a front of them went out; `Sink` has its cause in a call that failed.
+pub fn write<K: Sink>(out: &mut K, bytes: &[u8]) -> Result<(), ReplayError>
     ensures done { IsTrue (K.tells out.old) → OnOk result (K.written out.new ≡ K.written out.old ++ bytes.now) }
     ensures front { IsTrue (K.tells out.old) → OnErr result (AddsFrontOf (K.written out.old) bytes.now (K.written out.new)) }
     ensures tells { K.tells out.new ≡ K.tells out.old }

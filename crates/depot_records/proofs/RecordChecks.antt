@@ -21,6 +21,7 @@ use Rattle.depot_model.proofs.Members.{all_at, all_from}
 use Rattle.depot_model.specs.Own.{next_own, IsFresh, leaf_count}
 use Rattle.depot_model.specs.RecordFaults.{given_by, IsAtPlace}
 use Rattle.depot_model.specs.Texts.{id_of_update}
+use Rattle.depot_model.specs.Contents.{key_written}
 use Rattle.depot_decide.specs.Deciding.{IsDecided}
 use Rattle.depot_records.specs.ReadRecords.{IsGood, IsChecked, TakesNew, fault_of}
 use Rattle.depot_records.specs.declared.record_check.ReadError.{ReadError}
@@ -95,8 +96,8 @@ good_statement here J s answer decided new d taken short =
 -- ---- own updates
 
 -- it may be put
-pub good_put : (here : Setting) (J : List Record) (u next : Update) (value id : List ℕ) (new : List Record) → u ≡ next → next ≡ next_own here.me J u.key value
-    → length (own J) < leaf_count here.listed here.me → length (next_own here.me J u.key value).deps ≤ MOST_ENTRIES → id ≡ id_of_update u → IsFresh J id → new ≡ OwnPut u value ∷ [] → IsGood here J (OwnPut u value) new
+pub good_put : (here : Setting) (J : List Record) (u next : Update) (value id : List ℕ) (new : List Record) → u ≡ next → next ≡ next_own here.me J (key_written u) value
+    → length (own J) < leaf_count here.listed here.me → length (next_own here.me J (key_written u) value).deps ≤ MOST_ENTRIES → id ≡ id_of_update u → IsFresh J id → new ≡ OwnPut u value ∷ [] → IsGood here J (OwnPut u value) new
 good_put here J u next value id new same is leaf narrow named fresh one = record {
   alone = one;
   may = record {

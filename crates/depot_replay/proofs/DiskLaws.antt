@@ -1,6 +1,7 @@
 -- Calls on a disk in memory, and the stop that waits on it.
 use Rattle.std.proofs.Common.{◌≡◌, ◌↔◌, ◌≤◌, ◌<◌, ◌⊎◌, ℕ, zero, suc, ◌-◌, List, [], ◌∷◌, ◌++◌, nat_le, Bool, true, false, Option, None, Some, Contains, refl, sym, ap, subst, ◌∙◌, inl, inr, arith}
 use Rattle.std.proofs.lemmas.Bool.{leb-true, leb-false, le-leb, lt-leb}
+use Rattle.std.proofs.lemmas.Option.{same_Some}
 use Rattle.depot_base.specs.Calls.{Call, Made, made, made_but_last, FailsAmong, asks_length, reads_at, writes_at, syncs}
 use Rattle.depot_outside.specs.Images.{synced_as}
 use Rattle.depot_outside.specs.StopImages.{counted_down, due, left_by, numbered}
@@ -75,14 +76,11 @@ pub comes_now : (next : Option Stop) (image : Image) → due next ≡ Some image
 comes_now None image due_now = absurd cc
 comes_now (Some stop) image due_now = let now = is_now stop image due_now in record { armed = record { call = stop.call; image = number_of stop.image }; waits = refl; call_is = omega (arith, now.0); image_is = ap number_of now.1 }
 
-pub some_is : (a b : Armed) → Some a ≡ Some b → a ≡ b
-some_is a b e = cc
-
 pub comes_later : (next : Option Stop) (place : ℕ) (image : Image) → due next ≡ None → ComesIn (counted_down next) place image → ComesIn next (suc place) image
 comes_later None place image none c = let wrong : None ≡ Some c.armed = c.waits in absurd cc
 comes_later (Some stop) place image none c =
     let h = is_later stop none in
-    let same = some_is (record { call = stop.call - 1; image = number_of stop.image }) c.armed (sym (ap armed_of (nearer stop h)) ∙ c.waits) in
+    let same = same_Some (record { call = stop.call - 1; image = number_of stop.image }) c.armed (sym (ap armed_of (nearer stop h)) ∙ c.waits) in
     record {
       armed = record { call = stop.call; image = number_of stop.image };
       waits = refl;

@@ -1,12 +1,13 @@
 -- When the stop that waits comes.
 use Rattle.std.proofs.Common.{◌≡◌, ◌≤◌, ◌<◌, ℕ, suc, ◌-◌, List, [], ◌∷◌, length, Option, None, Some, sym, ap, subst, ◌∙◌, inl, inr, arith}
+use Rattle.std.proofs.lemmas.Option.{same_Some}
 use Rattle.depot_base.specs.Calls.{Call, made, FailsAmong}
 use Rattle.depot_outside.specs.Stopping.{State, Leads}
 use Rattle.depot_outside.specs.declared.stops.Image.{Image}
 use Rattle.depot_outside.specs.declared.stops.Stop.{Stop}
 use Rattle.depot_world.specs.Run.{Armed}
 use Rattle.depot_replay.specs.Disks.{IsAtRest, Stopped, armed_of}
-use Rattle.depot_replay.proofs.DiskLaws.{ComesIn, FailsIn, Gone, StoppedIn, comes_later, comes_now, failed_on, fails_in, led_on, some_is, still_none, waits_a_call}
+use Rattle.depot_replay.proofs.DiskLaws.{ComesIn, FailsIn, Gone, StoppedIn, comes_later, comes_now, failed_on, fails_in, led_on, still_none, waits_a_call}
 
 -- ---- calls of which none fails
 
@@ -87,5 +88,5 @@ none_fails s t calls rest none f =
 pub none_fails_yet : (s t : State) (calls : List Call) (a : Armed) → IsAtRest s → armed_of s.next ≡ Some a → length calls < a.call → FailsAmong Leads s t calls → ⊥
 none_fails_yet s t calls a rest waits behind f =
     let w = stops_within s t calls rest.faultless (fails_in s t calls f) in
-    let same = ap (λ (x : Armed). x.call) (some_is a w.stops.comes.armed (sym waits ∙ w.stops.comes.waits)) in
+    let same = ap (λ (x : Armed). x.call) (same_Some a w.stops.comes.armed (sym waits ∙ w.stops.comes.waits)) in
     omega (arith, behind, same, w.within, w.stops.comes.call_is)

@@ -2,10 +2,9 @@
 use Rattle.std.proofs.Common.{◌≡◌, ℕ, suc, ◌+◌, ◌==◌, List, [], ◌∷◌, ◌++◌, take, drop, Bool, true, false, Some, refl, sym, ap, ◌∙◌}
 use Rattle.std.specs.List.{filter, flat_map}
 use Rattle.std.specs.Prelude.{slice_get}
-use Rattle.std.proofs.Math.Seq.{drop-cons}
 use Rattle.std.proofs.lemmas.Bool.{eq-eqb, eqb-true}
 use Rattle.std.proofs.lemmas.Grind.{flat_map-append}
-use Rattle.std.proofs.lemmas.List.{take-append-drop, take_more}
+use Rattle.std.proofs.lemmas.List.{take_more}
 use Rattle.std.proofs.lemmas.List.Elements.{filter-append}
 use Rattle.std.proofs.lemmas.Option.{get_or_from_slice_get, slice_get_within}
 use Rattle.depot_base.specs.Statement.{writer_of}
@@ -19,8 +18,9 @@ use Rattle.depot_laws.proofs.Taken.{new_is}
 use Rattle.depot_model.specs.Checks.{Setting}
 use Rattle.depot_model.specs.Journal.{accepted, accepted_by, own, own_by, update_in}
 use Rattle.depot_model.specs.Lawful.{IsLawful, MayFollow}
+use Rattle.depot_model.specs.Contents.{key_written}
 use Rattle.depot_world.specs.Run.{first_update, own_update}
-use Rattle.depot_base.proofs.GeneralLaws.{flat_push}
+use Rattle.depot_base.proofs.GeneralLaws.{flat_push, parts_at}
 use Rattle.depot_laws.proofs.Counts.{next_writer}
 
 -- ---- which they are
@@ -45,7 +45,7 @@ of_statement me (statement.Voucher v) other = refl
 -- those of a record that may follow
 of_record : (here : Setting) (J : List Record) (r : Record) → MayFollow here J r → flat_map update_in (own_by r) ≡ filter (is_by here.me) (accepted_by r)
 of_record here J (Birth node roster) may = refl
-of_record here J (OwnPut u value) may = sym (passes (is_by here.me) u (eq-eqb u.writer here.me (ap (λ (x : Update). x.writer) may.next ∙ next_writer here.me J u.key value)))
+of_record here J (OwnPut u value) may = sym (passes (is_by here.me) u (eq-eqb u.writer here.me (ap (λ (x : Update). x.writer) may.next ∙ next_writer here.me J (key_written u) value)))
 of_record here J (OwnVoucher v) may = refl
 of_record here J (Foreign s) may = of_statement here.me s.statement (new_is here J s may.0).passes.other
 of_record here J (Conviction p) may = refl
@@ -71,14 +71,10 @@ own_by_seq here J seq l = ap (λ (us : List Update). first_update (filter (has_s
 both_parts : (me seq : ℕ) (us vs : List Update) → of_seq me seq (us ++ vs) ≡ of_seq me seq us ++ of_seq me seq vs
 both_parts me seq us vs = ap (filter (has_seq seq)) (filter-append (is_by me) us vs) ∙ filter-append (has_seq seq) (filter (is_by me) us) (filter (is_by me) vs)
 
-split_at : (us : List Update) (i : ℕ) (u : Update) → slice_get us i ≡ Some u → us ≡ take i us ++ u ∷ drop (suc i) us
-split_at us i u at =
-    sym (take-append-drop i us) ∙ ap (λ (x : List Update). take i us ++ x) (drop-cons us i u (slice_get_within us i u at) ∙ ap (λ (x : Update). x ∷ drop (suc i) us) (get_or_from_slice_get us i u u at))
-
 -- it is found behind some that it isn't among
 pub found : (me seq : ℕ) (us : List Update) (i : ℕ) (u : Update) → slice_get us i ≡ Some u → of_seq me seq (take i us) ≡ [] → u.writer ≡ me → u.seq ≡ seq → first_update (of_seq me seq us) ≡ Some u
 found me seq us i u at before writer number =
-    ap (λ (x : List Update). first_update (of_seq me seq x)) (split_at us i u at)
+    ap (λ (x : List Update). first_update (of_seq me seq x)) (parts_at us i u at)
     ∙ ap first_update (both_parts me seq (take i us) (u ∷ drop (suc i) us) ∙ ap (λ (x : List Update). x ++ of_seq me seq (u ∷ drop (suc i) us)) before)
     ∙ rw (eq-eqb u.writer me writer) (rw (eq-eqb u.seq seq number) refl)
 

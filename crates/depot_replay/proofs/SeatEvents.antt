@@ -1,10 +1,11 @@
 -- What an event of a seated node came to: it went as it goes, or a stop fell into it.
-use Rattle.std.proofs.Common.{◌≡◌, ℕ, ◌+◌, ◌-◌, ◌*◌, List, [], ◌∷◌, ◌++◌, append_assoc, length, length-append, take, drop, false, Option, None, Some, refl, sym, ap, subst, ◌∙◌, arith}
+use Rattle.std.proofs.Common.{◌≡◌, ℕ, ◌+◌, ◌-◌, ◌*◌, List, [], ◌++◌, append_assoc, length, length-append, take, drop, false, Option, None, Some, refl, sym, ap, subst, ◌∙◌, arith}
 use Rattle.std.proofs.Math.Seq.{drop-append_seam}
 use Rattle.std.proofs.lemmas.List.{append-nil, take-append-drop}
 use Rattle.depot_base.specs.Calls.{Call, made}
 use Rattle.depot_base.specs.declared.record.Record.{Record}
 use Rattle.depot_laws.proofs.Splits.{lawful_front}
+use Rattle.depot_laws.proofs.Growing.{still_some}
 use Rattle.depot_model.specs.Bundle.{Signs}
 use Rattle.depot_model.specs.Lawful.{IsLawful, is_empty}
 use Rattle.depot_model.specs.Roster.{Verifies}
@@ -76,10 +77,6 @@ module _ {v : View} {s t : State} {K longer : List Record} {failed : Type 0} (c 
 
   pub left_by_cut : failed → List Record
   left_by_cut f = v.journal ++ take (standing_after (cut_of f).stopped.armed) c.new
-
-  still_some : (J more : List Record) → is_empty J ≡ false → is_empty (J ++ more) ≡ false
-  still_some [] more none = absurd cc
-  still_some (r ∷ J) more some = refl
 
   pub begun_cut : (f : failed) → IsBegunOn v.here t (left_by_cut f)
   unfolding left_by_cut

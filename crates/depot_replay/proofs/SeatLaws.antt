@@ -4,7 +4,7 @@ use Rattle.std.proofs.Math.Seq.{drop-cons}
 use Rattle.std.proofs.lemmas.Bool.{le-leb, lt-leb}
 use Rattle.std.proofs.lemmas.List.{append-nil, length-map, map-append, take-map, take_at, take-append-drop}
 use Rattle.std.proofs.lemmas.List.Sums.{sum_by-cons}
-use Rattle.std.proofs.lemmas.Option.{slice_get-get_or}
+use Rattle.std.proofs.lemmas.Option.{slice_get-get_or, same_Some}
 use Rattle.depot_base.specs.Calls.{Call, made, FailsAmong, calls_to_append_all}
 use Rattle.depot_base.specs.File.{AreWithinLimits, IsFileOf, StandsFor, blocks, framed}
 use Rattle.depot_base.specs.declared.record.Record.{Record}
@@ -21,7 +21,6 @@ use Rattle.depot_replay.specs.Disks.{Stopped, armed_of}
 use Rattle.depot_replay.specs.Seats.{IsKeptOn, StandIn}
 use Rattle.depot_replay.proofs.DiskAppends.{appends_rest, appends_stand, stopped_appending}
 use Rattle.depot_replay.proofs.DiskStops.{comes_after, nearer_after, none_waits_after}
-use Rattle.depot_replay.proofs.DiskLaws.{some_is}
 
 -- ---- the file of a journal
 
@@ -96,7 +95,7 @@ to_come_after s t calls to_come led a waits = by_armed (armed_of s.next) refl wh
   by_armed : (o : Option Armed) → armed_of s.next ≡ o → 1 ≤ a.call
   by_armed None none = let never : None ≡ Some a = sym (none_waits_after s t calls led none) ∙ waits in absurd cc
   by_armed (Some b) is =
-      let same = some_is (record { call = b.call - length calls; image = b.image }) a (sym (nearer_after s t calls b led is) ∙ waits) in
+      let same = same_Some (record { call = b.call - length calls; image = b.image }) a (sym (nearer_after s t calls b led is) ∙ waits) in
       omega (arith, comes_after s t calls b led is (to_come b is), ap (λ (x : Armed). x.call) same)
 
 -- the disk has the records that were appended, too

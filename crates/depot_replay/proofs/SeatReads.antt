@@ -1,6 +1,6 @@
 -- Events of a seated node that append nothing: reads, hellos, and starts.
-use Rattle.std.proofs.Common.{◌≡◌, ℕ, zero, suc, take, ◌-◌, ◌*◌, List, [], ◌++◌, length, None, Result, Ok, Err, refl, sym, ap, ◌∙◌, arith}
-use Rattle.std.specs.Prelude.{IfErr, codes}
+use Rattle.std.proofs.Common.{◌≡◌, ℕ, zero, suc, take, ◌-◌, ◌*◌, List, [], ◌++◌, length, None, refl, sym, ap, ◌∙◌, arith}
+use Rattle.std.specs.Prelude.{codes}
 use Rattle.std.proofs.Math.Seq.{drop-length}
 use Rattle.std.proofs.lemmas.List.{append-nil}
 use Rattle.depot_answers.specs.Answers.{numbered, spaced, text_of_named}
@@ -20,11 +20,6 @@ use Rattle.depot_deeds.specs.Printing.{lines_of_deed, shown_text}
 use Rattle.depot_replay.specs.Seats.{stopped_line}
 use Rattle.depot_replay.proofs.SeatEvents.{IsThen, came_stopped, came_well}
 use Rattle.depot_replay.proofs.SeatLaws.{IsToCome}
-
--- what holds of a refusal implies more
-pub if_err : {X E : Type 0} (P Q : E → Type 0) (r : Result X E) → ((e : E) → P e → Q e) → IfErr r P → IfErr r Q
-if_err P Q (Ok x) so p = tt
-if_err P Q (Err e) so p = so e p
 
 -- one of some calls failed, as the states of a disk see it
 pub fails_there : {D : Type 0} {after : D → List Made → D → Type 0} (old new : D) (s t : State) (calls : List Call) → ((made : List Made) → after old made new → Leads s made t) → FailsAmong after old new calls → FailsAmong Leads s t calls

@@ -2,6 +2,7 @@
 use Rattle.std.proofs.Common.{◌≡◌, ◌≤◌, ℕ, ◌+◌, ◌-◌, List, [], ◌∷◌, ◌++◌, length, map, false, Some, None, refl, sym, ap, subst, ◌∙◌, inl, arith}
 use Rattle.std.proofs.lemmas.Bool.{lt-leb}
 use Rattle.std.proofs.lemmas.List.{append-nil}
+use Rattle.std.proofs.lemmas.Option.{same_Some}
 use Rattle.depot_base.specs.Calls.{Call, made, FailsAmong, asks_length, calls_to_append_all, calls_to_start, syncs, writes_at}
 use Rattle.depot_base.specs.declared.record.Record.{Record}
 use Rattle.depot_base.specs.declared.record.Record.TheVariants.{Birth}
@@ -22,7 +23,7 @@ use Rattle.depot_replay.specs.Seats.{IsBegunOn, IsKeptOn, StandIn}
 use Rattle.depot_replay.proofs.DiskAppends.{appends_rest, appends_stand, synced_rest, synced_same, wrote}
 use Rattle.depot_replay.proofs.DiskStarts as starts
 use Rattle.depot_replay.proofs.DiskStops.{nearer_after, none_waits_after}
-use Rattle.depot_replay.proofs.DiskLaws.{Gone, armed_numbered, led_on, some_is}
+use Rattle.depot_replay.proofs.DiskLaws.{Gone, armed_numbered, led_on}
 use Rattle.depot_replay.proofs.SeatLaws.{IsToCome, has_records, none_to_come, stand_in, to_come_after, two_bytes}
 
 -- ---- a start from a journal that has begun
@@ -143,7 +144,7 @@ armed_begun here s u J stop begun is from_one = subst (λ (x : State). IsBegunOn
   kept = record {
     at_rest = record { synced = begun.kept.at_rest.synced; faultless = begun.kept.at_rest.faultless };
     stand = begun.kept.stand;
-    to_come = λ a waits. let same = ap (λ (x : Armed). x.call) (some_is _ a waits) in omega (arith, from_one, same);
+    to_come = λ a waits. let same = ap (λ (x : Armed). x.call) (same_Some _ a waits) in omega (arith, from_one, same);
   };
 })
 

@@ -1,6 +1,5 @@
 -- What going through the updates leaves uncovered are the latest writes.
 use Rattle.std.proofs.Common.{◌≡◌, ℕ, List, [], ◌∷◌, Bool, true, not, ◌&&◌, ◌||◌, refl, sym, ap, subst, ◌∙◌, inl, inr, ◌⊎◌}
-use Rattle.std.proofs.lemmas.Slice.Eq.{bytes_eq-Decides}
 use Rattle.std.proofs.lemmas.Bool.{or_cases, or_left, or_right, and_parts, and_from, not-true, both_ways, cases_Bool}
 use Rattle.depot_base.specs.declared.update.Update.{Update}
 use Rattle.depot_model.specs.Lists.{IsIn, is_among}
@@ -8,14 +7,15 @@ use Rattle.depot_model.specs.Texts.{id_of_update}
 use Rattle.depot_model.specs.Order.{IsPath, IsParent, Precedes, parents, IsCausal, IsLatest}
 use Rattle.depot_model.proofs.Members.{among_from, among_to, chosen_cases, chosen_behind, chosen_front}
 use Rattle.depot_model.proofs.Orders.{leads_more, parent_precedes, precedes_wider, causal_behind, child_is_behind, path_behind}
-use Rattle.depot_model.specs.Contents.{writes as writes_key}
+use Rattle.depot_model.proofs.ContentLaws.{writes-Decides}
+use Rattle.depot_model.specs.Contents.{writes as writes_key, Writes}
 use Rattle.depot_scan.specs.Covered.{covers, uncovered}
 
-writes_is : (key : List ℕ) (u : Update) → writes_key key u ≡ true → u.key ≡ key
-writes_is key u e = (bytes_eq-Decides u.key key).0 e
+writes_is : (key : List ℕ) (u : Update) → writes_key key u ≡ true → Writes key u
+writes_is key u e = (writes-Decides key u).0 e
 
-is_written : (key : List ℕ) (u : Update) → u.key ≡ key → writes_key key u ≡ true
-is_written key u e = (bytes_eq-Decides u.key key).1 e
+is_written : (key : List ℕ) (u : Update) → Writes key u → writes_key key u ≡ true
+is_written key u e = (writes-Decides key u).1 e
 
 -- ---- what is covered precedes a write
 

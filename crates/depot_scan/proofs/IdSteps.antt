@@ -7,7 +7,7 @@ use Rattle.depot_base.specs.declared.update.Update.{Update}
 use Rattle.depot_base.specs.declared.update.Dep.{Dep}
 use Rattle.depot_model.specs.Lists.{is_among}
 use Rattle.depot_model.specs.Order.{prevs, parents}
-use Rattle.depot_base.proofs.GeneralLaws.{bytes_eq_comm}
+use Rattle.depot_base.proofs.GeneralLaws.{bytes_eq_comm, or_swap}
 use Rattle.depot_model.proofs.Members.{all-append, all-map, among-append}
 use Rattle.depot_scan.specs.Ids.{Marks, PutsMark, is_known, is_covered, IsUncovered, HasMore}
 use Rattle.depot_scan.specs.declared.log_ids.Ids.{Ids}
@@ -47,8 +47,4 @@ all_parents test u = all-append test (prevs u) (map (λ d. d.id) u.deps) ∙ ap 
 
 -- some ids were added, and then others
 pub more_trans : (xs ys : List (List ℕ)) (old mid new : List ℕ → Bool) → HasMore xs old mid → HasMore ys mid new → HasMore (xs ++ ys) old new
-more_trans xs ys old mid new a b h = b h ∙ (ap (λ (t : Bool). is_among h ys || t) (a h) ∙ (turn (is_among h xs) (is_among h ys) (old h) ∙ sym (ap (λ (t : Bool). t || old h) (among-append h xs ys)))) where
-  turn : (a b c : Bool) → (b || (a || c)) ≡ ((a || b) || c)
-  turn true true c = refl
-  turn true false c = refl
-  turn false b c = refl
+more_trans xs ys old mid new a b h = b h ∙ (ap (λ (t : Bool). is_among h ys || t) (a h) ∙ (or_swap (is_among h xs) (is_among h ys) (old h) ∙ sym (ap (λ (t : Bool). t || old h) (among-append h xs ys))))

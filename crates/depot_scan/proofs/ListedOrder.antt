@@ -8,24 +8,23 @@ use Rattle.std.specs.Cmp.{IsStrictWeakOrder}
 use Rattle.std.proofs.lemmas.Fn.{always_returns_same}
 use Rattle.std.specs.Cmp.Lexicographic.{slice_cmp}
 use Rattle.std.specs.Str.{bytes_eq}
-use Rattle.std.specs.Ordering.{nat_cmp, is_lt, is_eq, ordering_reverse}
+use Rattle.std.specs.Ordering.{nat_cmp, is_lt}
 use Rattle.std.specs.declared.cmp.Ordering.{Ordering}
-use Rattle.std.specs.declared.cmp.Ordering.TheVariants.{Less, Equal, Greater}
+use Rattle.std.specs.declared.cmp.Ordering.TheVariants.{Less}
 use Rattle.std.proofs.lemmas.Cmp.{nat_list_cmp_total}
 use Rattle.std.proofs.lemmas.List.{get_or-map, length-map}
 use Rattle.std.proofs.lemmas.List.Sorted.{ranks_by, IsPermutation-map, IsPermutation-reverse, IsPermutation-trans, IsPermutation-sym}
 use Rattle.std.proofs.lemmas.Map.Keys.{IsDistinct-IsPermutation, apart_from_distinct, sorted_head, sorted_tail, sorted_from_all_adjacent}
-use Rattle.std.proofs.lemmas.Map.Text.{is_eq-slice_cmp}
-use Rattle.std.proofs.lemmas.Bool.{both_ways}
 use Rattle.std.proofs.lemmas.Slice.Eq.{bytes_eq-Decides}
 use Rattle.depot_base.specs.declared.update.Update.{Update}
 use Rattle.depot_model.specs.Lists.{IsIn}
 use Rattle.depot_model.specs.Texts.{id_of_update}
 use Rattle.depot_model.specs.Order.{listed, RisesStrictly, AreLatestIn, IsCausal}
 use Rattle.depot_model.proofs.Members.{in_permuted}
-use Rattle.depot_model.proofs.LatestLaws.{rank}
+use Rattle.depot_model.proofs.LatestLaws.{rank, one_rank}
 use Rattle.depot_model.proofs.Orders.{fresh, causal_behind}
-use Rattle.depot_base.proofs.GeneralLaws.{bytes_eq_comm}
+use Rattle.depot_model.proofs.ContradictionLaws.{below_or_above}
+use Rattle.depot_base.proofs.GeneralLaws.{bytes_eq_comm, less_is}
 use Rattle.depot_scan.specs.Bodies.{updates}
 use Rattle.depot_model.specs.Contents.{writes as writes_key}
 use Rattle.depot_scan.specs.Covered.{covers, uncovered}
@@ -46,12 +45,6 @@ sorted_by_listed {g = g} {f = f} bs sorted each =
     sorted stands_before (ranks_by nat_list_cmp_total (λ (b : Body). rank b.update))
     (always_returns_same g (λ a r. is_lt r ≡ stands_before a.0.now a.1.0.now) f (λ a r f' k. (ap is_lt (each a r f' k).0, (each a r f' k).1)))
 
-tails : (a b c : ℕ) (xs : List ℕ) (d e f : ℕ) (ys : List ℕ) → a ∷ b ∷ c ∷ xs ≡ d ∷ e ∷ f ∷ ys → xs ≡ ys
-tails a b c xs d e f ys h = cc
-
-same_id : (t u : Update) → rank t ≡ rank u → id_of_update t ≡ id_of_update u
-same_id t u e = tails t.clock t.writer t.seq (id_of_update t) u.clock u.writer u.seq (id_of_update u) e
-
 -- ---- ranks that differ
 
 abbrev ranks : List Update → List (List ℕ)
@@ -61,7 +54,7 @@ not_rank : (t : Update) (us : List Update) → ((u : Update) → IsIn u us → i
 not_rank t [] apart = tt
 not_rank t (u ∷ us) apart = (differs (bytes_eq (rank t) (rank u)) refl, not_rank t us (λ v on. apart v (inr on))) where
   differs : (b : Bool) → bytes_eq (rank t) (rank u) ≡ b → b ≡ false
-  differs true e = absurd (apart u (inl refl) (same_id t u ((bytes_eq-Decides (rank t) (rank u)).0 e)))
+  differs true e = absurd (apart u (inl refl) (one_rank t u ((bytes_eq-Decides (rank t) (rank u)).0 e)))
   differs false e = refl
 
 distinct_ranks : (key : List ℕ) (ids : List (List ℕ)) (us : List Update) → IsCausal ids us → IsDistinct bytes_eq (ranks (uncovered key us))
@@ -74,14 +67,8 @@ distinct_ranks key ids (x ∷ xs) c = pick (writes_key key x && not (covers key 
 
 -- ---- a sorted list
 
-turned : (o p : Ordering) → o ≡ ordering_reverse p → is_lt p ≡ false → (p ≡ Equal → ⊥) → o ≡ Less
-turned o Less e n ne = absurd cc
-turned o Equal e n ne = absurd (ne refl)
-turned o Greater e n ne = e
-
 below : (a b : List ℕ) → is_lt (compared b a) ≡ false → bytes_eq a b ≡ false → compared a b ≡ Less
-below a b not_above apart = turned (compared a b) (compared b a) (nat_list_cmp_total.antisymm a b) not_above
-    (λ e. both_ways (bytes_eq a b) apart (bytes_eq_comm a b ∙ (sym (is_eq-slice_cmp b a) ∙ ap is_eq e)))
+below a b not_above apart = less_is _ (below_or_above b a not_above (bytes_eq_comm b a ∙ apart))
 
 -- the ranks of sorted bodies, one behind the other
 adjacent : (bs : List Body) → IsSortedBy stands_before bs → IsDistinct bytes_eq (ranks (updates bs)) → (k : ℕ) → k + 1 < length (ranks (updates bs)) → compared (get_or (ranks (updates bs)) k []) (get_or (ranks (updates bs)) (k + 1) []) ≡ Less

@@ -9,7 +9,9 @@ use Rattle.std.specs.Str.{bytes_eq}
 use Rattle.std.specs.Map.{lookup}
 use Rattle.std.specs.BTreeMap.{insert_entry}
 use Rattle.std.proofs.lemmas.Map.Text.{is_eq-slice_cmp}
+use Rattle.std.proofs.lemmas.Map.Lookups.{exact_bytes}
 use Rattle.std.proofs.lemmas.Slice.Eq.{bytes_eq-Decides}
+use Rattle.depot_base.proofs.GeneralLaws.{vec_cmp}
 use Rattle.depot_schedule.specs.declared.event.Event.{Event}
 use Rattle.depot_schedule.specs.declared.verb.Made.{Made}
 use Rattle.depot_schedule.specs.Vocabulary.{label_made, if_named, first_or, named_by}
@@ -21,10 +23,6 @@ Entries = List (Vec ℕ Global × Made)
 -- what a look-up finds
 abbrev found_in : List ℕ → Entries → Option Made
 found_in label es = lookup (λ (k : Vec ℕ Global). is_eq (slice_cmp nat_cmp label k.items)) es
-
--- the order of the labels
-abbrev label_cmp : Vec ℕ Global → Vec ℕ Global → Ordering
-label_cmp a b = slice_cmp nat_cmp a.items b.items
 
 chosen : (b c : Bool) → b ≡ c → (v : Made) (x y : Option Made) → x ≡ y → cond b (Some v) x ≡ cond c (Some v) y
 chosen b c e v x y h = rw (e, h) refl
@@ -51,20 +49,17 @@ in_front : (u : Bool) (v : Made) (o : Option Made) → cond u (Some v) o ≡ fir
 in_front true v o = refl
 in_front false v o = refl
 
-same_label : (k e : Vec ℕ Global) → label_cmp k e ≡ Equal → k.items ≡ e.items
-same_label k e h = (bytes_eq-Decides k.items e.items).0 (sym (is_eq-slice_cmp k.items e.items) ∙ ap is_eq h)
-
-other_label : (k e : Vec ℕ Global) → label_cmp k e ≡ Greater → bytes_eq k.items e.items ≡ false
+other_label : (k e : Vec ℕ Global) → vec_cmp k e ≡ Greater → bytes_eq k.items e.items ≡ false
 other_label k e h = sym (is_eq-slice_cmp k.items e.items) ∙ ap is_eq h
 
 -- a label that is put in names what it was put in with, and nothing else changes
-pub named_in-insert_entry : (label : List ℕ) (es : Entries) (k : Vec ℕ Global) (v : Made) → named_in label (insert_entry label_cmp es k v) ≡ first_or (if_named label (Some (k.items, v))) (named_in label es)
+pub named_in-insert_entry : (label : List ℕ) (es : Entries) (k : Vec ℕ Global) (v : Made) → named_in label (insert_entry vec_cmp es k v) ≡ first_or (if_named label (Some (k.items, v))) (named_in label es)
 named_in-insert_entry label [] k v = in_front (bytes_eq label k.items) v None
-named_in-insert_entry label (e ∷ es) k v = by (label_cmp k e.0) refl (named_in-insert_entry label es k v) where
-  by : (o : Ordering) → label_cmp k e.0 ≡ o → named_in label (insert_entry label_cmp es k v) ≡ first_or (if_named label (Some (k.items, v))) (named_in label es)
-      → named_in label (match_ordering o ((k, v) ∷ e ∷ es) ((e.0, v) ∷ es) (e ∷ insert_entry label_cmp es k v)) ≡ first_or (if_named label (Some (k.items, v))) (named_in label (e ∷ es))
+named_in-insert_entry label (e ∷ es) k v = by (vec_cmp k e.0) refl (named_in-insert_entry label es k v) where
+  by : (o : Ordering) → vec_cmp k e.0 ≡ o → named_in label (insert_entry vec_cmp es k v) ≡ first_or (if_named label (Some (k.items, v))) (named_in label es)
+      → named_in label (match_ordering o ((k, v) ∷ e ∷ es) ((e.0, v) ∷ es) (e ∷ insert_entry vec_cmp es k v)) ≡ first_or (if_named label (Some (k.items, v))) (named_in label (e ∷ es))
   by Less is rest = in_front (bytes_eq label k.items) v (named_in label (e ∷ es))
-  by Equal is rest = kept (bytes_eq label k.items) (bytes_eq label e.0.items) v e.1 (named_in label es) (ap (bytes_eq label) (same_label k e.0 is))
+  by Equal is rest = kept (bytes_eq label k.items) (bytes_eq label e.0.items) v e.1 (named_in label es) (ap (bytes_eq label) (exact_bytes k.items e.0.items is))
   by Greater is rest =
       ap (λ (o : Option Made). cond (bytes_eq label e.0.items) (Some e.1) o) rest
       ∙ turn (bytes_eq label e.0.items) (bytes_eq label k.items) v e.1 (named_in label es) (λ a b.

@@ -5,10 +5,12 @@ use Rattle.std.specs.Str.{bytes_eq}
 use Rattle.std.proofs.lemmas.Bool.{le-leb, eqb-true, and_from, false_from_ne_true}
 use Rattle.std.proofs.lemmas.List.{nil_from_length}
 use Rattle.std.proofs.lemmas.Slice.Eq.{bytes_eq-Decides}
+pub use Rattle.depot_base.proofs.FormatLaws.{bind_ok, need_ok, ok_is}
 use Rattle.depot_schedule.specs.declared.line_fault.LineFault.{LineFault}
 use Rattle.depot_schedule.specs.declared.line_fault.LineFault.TheVariants as is
 use Rattle.depot_schedule.specs.Spelling.{is_word, is_within}
-use Rattle.depot_schedule.specs.Language.{◌>>=◌, or_fault, Word, Words, such_that, dash, or_none, or_empty, FitsOption, FitsIfAny, next, word, made, optional, last, counted, texts_of}
+use Rattle.depot_base.specs.Format.{◌>>=◌}
+use Rattle.depot_schedule.specs.Language.{or_fault, Word, Words, such_that, dash, or_none, or_empty, FitsOption, FitsIfAny, next, word, made, optional, last, counted, texts_of}
 use Rattle.depot_schedule.proofs.GatherSteps.{ok}
 
 -- Each word is read as its value and as nothing else, and it is a word of a line.
@@ -35,21 +37,9 @@ pub record LawfulLine {C E : Type 0} (f : Words C E) (low high : ℕ) (remade : 
 
 -- ---- steps
 
-pub bind_ok : {A B F : Type 0} (r : Result A F) (f : A → Result B F) (y : B) → (r >>= f) ≡ Ok y → (x : A) × (r ≡ Ok x) × (f x ≡ Ok y)
-bind_ok (Ok x) f y e = (x, refl, e)
-bind_ok (Err d) f y e = absurd cc
-
--- a test that fails on false
-pub need_ok : {A F : Type 0} (b : Bool) (x : Result A F) (d : F) (y : A) → cond b x (Err d) ≡ Ok y → (b ≡ true) × (x ≡ Ok y)
-need_ok true x d y e = (refl, e)
-need_ok false x d y e = absurd cc
-
 pub or_fault_ok : {A F : Type 0} (o : Option A) (f : F) (a : A) → or_fault o f ≡ Ok a → o ≡ Some a
 or_fault_ok None f a e = absurd cc
 or_fault_ok (Some b) f a e = cc
-
-pub ok_is : {A : Type 0} (x y : A) → ok x ≡ ok y → x ≡ y
-ok_is x y e = cc
 
 pub not_ok : {A : Type 0} (f : LineFault) (y : A) → Err f ≡ ok y → ⊥
 not_ok f y e = cc

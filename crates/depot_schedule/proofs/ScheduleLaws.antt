@@ -5,6 +5,7 @@ use Rattle.std.specs.Fmt.{decimal}
 use Rattle.std.specs.Str.{bytes_eq}
 use Rattle.std.proofs.lemmas.Bool.{ltb-false, le-ltb, and_parts, and_from, or_parts, not-false, not-true}
 use Rattle.std.proofs.lemmas.List.{append-nil, nil_from_length, length-map, map-append}
+use Rattle.depot_base.proofs.FormatLaws.{guard_ok}
 use Rattle.depot_schedule.specs.declared.line_fault.LineFault.{LineFault}
 use Rattle.depot_schedule.specs.declared.line_fault.LineFault.TheVariants as is
 use Rattle.depot_schedule.specs.declared.member.Member.{Member}
@@ -12,7 +13,8 @@ use Rattle.depot_schedule.specs.declared.event.Event.{Event}
 use Rattle.depot_schedule.specs.declared.schedule.Schedule.{Schedule}
 use Rattle.depot_schedule.specs.declared.verb.Verb.{Verb}
 use Rattle.depot_schedule.specs.Spelling.{is_word, is_word_byte, number_word}
-use Rattle.depot_schedule.specs.Language.{◌>>=◌, or_fault, split, join}
+use Rattle.depot_base.specs.Format.{◌>>=◌}
+use Rattle.depot_schedule.specs.Language.{or_fault, split, join}
 use Rattle.depot_schedule.specs.EventLines.{verb_of, line_of, name_of, verb_named}
 use Rattle.depot_schedule.specs.Schedules.{with_member, with_event, before_members, before_events, scheme_name, member_name, first_words, scheme_words, member_words, event_words, words_of_schedule, text_of_line, text_of_schedule, has_correct, may_join, FitsMember, FitMembers, FitsEvent, FitEvents, IsSchedule, Line, lines_of_parts, lines_of, first_of, is_empty, are_words, read_first, scheme_named, blank, read_scheme, Head, member, misplaced, other, head_named, has_events, read_member, read_event, read_by, read_line, in_line, checked, read_rest, read_second, read_all, schedule_of}
 use Rattle.depot_schedule.proofs.LanguageLaws.{bind_ok, need_ok, or_fault_ok, is_same, ok_is}
@@ -23,18 +25,14 @@ use Rattle.depot_schedule.proofs.EventLineLaws.{row_lawful, name_is}
 
 -- ---- steps
 
-pub no_ok : {A F : Type 0} (b : Bool) (d : F) (x : Result A F) (y : A) → cond b (Err d) x ≡ Ok y → (b ≡ false) × (x ≡ Ok y)
-no_ok true d x y e = absurd cc
-no_ok false d x y e = (refl, e)
-
 in_line_ok : {A : Type 0} (n : ℕ) (r : Result A LineFault) (a : A) → in_line n r ≡ Ok a → r ≡ Ok a
 in_line_ok n (Ok x) a e = cc
 in_line_ok n (Err f) a e = absurd cc
 
 pub checked_ok : {A : Type 0} (n : ℕ) (line : Line) (read : List (List ℕ) → Result A LineFault) (a : A) → checked n line read ≡ Ok a → (line.ended ≡ true) × (n ≤ 100000) × (read (split 32 line.text) ≡ Ok a)
 checked_ok n line read a e =
-    let x = no_ok (not line.ended) (n, is.End) (cond (ltb 100000 n) (Err (n, is.Long)) (in_line n (read (split 32 line.text)))) a e in
-    let y = no_ok (ltb 100000 n) (n, is.Long) (in_line n (read (split 32 line.text))) a x.1 in
+    let x = guard_ok (not line.ended) (n, is.End) (cond (ltb 100000 n) (Err (n, is.Long)) (in_line n (read (split 32 line.text)))) a e in
+    let y = guard_ok (ltb 100000 n) (n, is.Long) (in_line n (read (split 32 line.text))) a x.1 in
     (not-false line.ended x.0, ltb-false _ _ y.0, in_line_ok n _ a y.1)
 
 -- ---- lines of words
@@ -186,7 +184,7 @@ pub data Adds (s : Schedule) (ws : List (List ℕ)) (t : Schedule) : Type 0 wher
 member_takes : (s : Schedule) (is_correct : Bool) (name : List ℕ) (ws : List (List ℕ)) (t : Schedule) → name ≡ member_name is_correct → read_member s is_correct (name ∷ ws) ≡ Ok t → Adds s (name ∷ ws) t
 member_takes s is_correct name [] t named e = absurd cc
 member_takes s is_correct name (id ∷ []) t named e =
-    let p = no_ok (has_events s || is_empty id) is.Header (or_fault (number_word 1 65535 id) is.Number >>= λ n. cond (may_join s (record { node = n; correct = is_correct })) (Ok (with_member s (record { node = n; correct = is_correct }))) (Err is.Header)) t e in
+    let p = guard_ok (has_events s || is_empty id) is.Header (or_fault (number_word 1 65535 id) is.Number >>= λ n. cond (may_join s (record { node = n; correct = is_correct })) (Ok (with_member s (record { node = n; correct = is_correct }))) (Err is.Header)) t e in
     let q = or_parts (has_events s) (is_empty id) p.0 in
     let b = bind_ok (or_fault (number_word 1 65535 id) is.Number) (λ n. cond (may_join s (record { node = n; correct = is_correct })) (Ok (with_member s (record { node = n; correct = is_correct }))) (Err is.Header)) t p.1 in
     let m : Member = record { node = b.0; correct = is_correct } in
@@ -198,7 +196,7 @@ member_takes s is_correct name (id ∷ x ∷ xs) t named e = absurd cc
 
 event_takes : (s : Schedule) (name : List ℕ) (ws : List (List ℕ)) (t : Schedule) → has_correct s.members ≡ true → read_event s (name ∷ ws) ≡ Ok t → Adds s (name ∷ ws) t
 event_takes s name ws t some e =
-    let p = no_ok (not (are_words (name ∷ ws))) is.Word (or_fault (verb_named name) is.Word >>= λ v. (line_of v).read s ws >>= λ e. Ok (with_event s e)) t e in
+    let p = guard_ok (not (are_words (name ∷ ws))) is.Word (or_fault (verb_named name) is.Word >>= λ v. (line_of v).read s ws >>= λ e. Ok (with_event s e)) t e in
     let b = bind_ok (or_fault (verb_named name) is.Word) (λ v. (line_of v).read s ws >>= λ e. Ok (with_event s e)) t p.1 in
     let d = bind_ok ((line_of b.0).read s ws) (λ e. Ok (with_event s e)) t b.2 in
     let l = (row_lawful b.0).line.takes s ws d.0 d.1 in

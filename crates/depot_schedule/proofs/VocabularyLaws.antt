@@ -18,7 +18,8 @@ use Rattle.depot_schedule.specs.declared.event.HistoryWord.{HistoryWord}
 use Rattle.depot_schedule.specs.declared.event.HistoryWord.TheVariants.{Right, Given}
 use Rattle.depot_schedule.specs.declared.schedule.Schedule.{Schedule}
 use Rattle.depot_schedule.specs.Spelling.{is_word, is_word_byte, is_label, is_label_byte, is_letter, is_digit, is_within}
-use Rattle.depot_schedule.specs.Language.{◌>>=◌, split, join, Word, or_none, or_empty, FitAll, with_parts, read_parts, parts_of}
+use Rattle.depot_base.specs.Format.{◌>>=◌}
+use Rattle.depot_schedule.specs.Language.{split, join, Word, or_none, or_empty, FitAll, with_parts, read_parts, parts_of}
 use Rattle.depot_schedule.specs.Vocabulary.{id, correct, faulty, seq, clock, any_u32, piece_size, stop_call, image, digest, label, new_label, made_label, update_label, signed_label, is_correct, is_faulty, named_by, is_update, is_signed, kind_named, kind, history, FitsHistory, text_of_history, FitsRef, text_of_ref, ref_of, reference, references}
 use Rattle.depot_schedule.proofs.LanguageLaws.{LawfulWord, bind_ok, need_ok, if_some, or_fault_ok, is_same, such_that_lawful, or_none_lawful, or_empty_lawful, ok_is}
 use Rattle.depot_schedule.proofs.Splitting.{lacks, split_none, split_at, split_join, join_split, split_some, all_weaker, all_append, all_join}

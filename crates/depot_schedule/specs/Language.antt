@@ -6,15 +6,10 @@
 use Rattle.std.specs.Prelude.{◌≡◌, ℕ, ◌<◌, Bool, true, List, [], ◌∷◌, length, map, Option, Some, None, Result, Ok, Err, nat_le, ◌==◌, if◌then◌else◌}
 use Rattle.std.specs.List.{slice_split, join_with_byte}
 use Rattle.std.specs.Str.{bytes_eq}
+use Rattle.depot_base.specs.Format.{◌>>=◌}
 use Rattle.depot_schedule.specs.declared.line_fault.LineFault.{LineFault}
 use Rattle.depot_schedule.specs.declared.line_fault.LineFault.TheVariants as is
 use Rattle.depot_schedule.specs.Spelling.{is_within}
-
--- what the second makes of the value that the first gave; else the fault of the first
-infixl 10 ◌>>=◌
-abbrev pub ◌>>=◌ : {A B F : Type 0} → Result A F → (A → Result B F) → Result B F
-(Ok a) >>= f = f a
-(Err e) >>= f = Err e
 
 -- the value, or this fault where there is none
 abbrev pub or_fault : {A F : Type 0} → Option A → F → Result A F

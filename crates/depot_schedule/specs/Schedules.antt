@@ -10,7 +10,8 @@ use Rattle.depot_schedule.specs.declared.member.Member.{Member}
 use Rattle.depot_schedule.specs.declared.event.Event.{Event}
 use Rattle.depot_schedule.specs.declared.schedule.Schedule.{Schedule}
 use Rattle.depot_schedule.specs.Spelling.{number_word}
-use Rattle.depot_schedule.specs.Language.{◌>>=◌, or_fault, split, join}
+use Rattle.depot_base.specs.Format.{◌>>=◌}
+use Rattle.depot_schedule.specs.Language.{or_fault, split, join}
 use Rattle.depot_schedule.specs.Vocabulary.{is_declared}
 use Rattle.depot_schedule.specs.EventLines.{verb_of, line_of, name_of, verb_named}
 

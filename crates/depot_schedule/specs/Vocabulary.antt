@@ -22,7 +22,8 @@ use Rattle.depot_schedule.specs.declared.schedule.Schedule.{Schedule}
 use Rattle.depot_schedule.specs.declared.verb.Made.{Made}
 use Rattle.depot_schedule.specs.declared.verb.Made.TheVariants as made
 use Rattle.depot_schedule.specs.Spelling.{is_within, number_word, hex_word, sized, is_label}
-use Rattle.depot_schedule.specs.Language.{◌>>=◌, or_fault, split, Word, such_that, or_empty, parts_of}
+use Rattle.depot_base.specs.Format.{◌>>=◌}
+use Rattle.depot_schedule.specs.Language.{or_fault, split, Word, such_that, or_empty, parts_of}
 
 -- ---- what the schedule so far says of nodes and labels
 

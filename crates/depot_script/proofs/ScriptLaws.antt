@@ -3,12 +3,14 @@ use Rattle.std.proofs.Common.{◌≡◌, ℕ, ◌+◌, ◌≤◌, true, not, Lis
 use Rattle.std.specs.List.{list_all, flat_map}
 use Rattle.std.proofs.lemmas.Bool.{and_from}
 use Rattle.std.proofs.lemmas.List.Folds.{flat_map-map}
+use Rattle.depot_base.proofs.FormatLaws.{guard_ok}
 use Rattle.depot_schedule.specs.declared.line_fault.LineFault.TheVariants as is
 use Rattle.depot_schedule.specs.Spelling.{is_word}
-use Rattle.depot_schedule.specs.Language.{◌>>=◌, or_fault, FitAll, nothing}
+use Rattle.depot_base.specs.Format.{◌>>=◌}
+use Rattle.depot_schedule.specs.Language.{or_fault, FitAll, nothing}
 use Rattle.depot_schedule.specs.Schedules.{text_of_line, Line, lines_of, are_words, in_line, checked}
 use Rattle.depot_schedule.proofs.LanguageLaws.{bind_ok, or_fault_ok}
-use Rattle.depot_schedule.proofs.ScheduleLaws.{no_ok, checked_ok, line_of_text, are_words_of, checked_again, lines_again, AllEnded, words_of_line, lines_text}
+use Rattle.depot_schedule.proofs.ScheduleLaws.{checked_ok, line_of_text, are_words_of, checked_again, lines_again, AllEnded, words_of_line, lines_text}
 use Rattle.depot_script.specs.declared.command.Command.{Command}
 use Rattle.depot_script.specs.declared.command_verb.Verb.{Verb}
 use Rattle.depot_script.specs.Commands.{verb_of, name_of, form_of, verb_named}
@@ -25,7 +27,7 @@ record IsCommandOf (words : List (List ℕ)) (c : Command) : Type 0 where
 command_takes : (words : List (List ℕ)) (c : Command) → read_command words ≡ Ok c → IsCommandOf words c
 command_takes [] c e = absurd cc
 command_takes (name ∷ ws) c e =
-    let p = no_ok (not (are_words (name ∷ ws))) is.Word (or_fault (verb_named name) is.Word >>= λ v. (form_of v).read nothing ws) c e in
+    let p = guard_ok (not (are_words (name ∷ ws))) is.Word (or_fault (verb_named name) is.Word >>= λ v. (form_of v).read nothing ws) c e in
     let b = bind_ok (or_fault (verb_named name) is.Word) (λ v. (form_of v).read nothing ws) c p.1 in
     let l = (form_lawful b.0).line.takes nothing ws c b.2 in
     let v : verb_of c ≡ b.0 = (form_lawful b.0).is c l.0 in

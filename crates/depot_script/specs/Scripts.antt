@@ -4,7 +4,8 @@ use Rattle.std.specs.List.{flat_map}
 use Rattle.depot_base.specs.declared.limits.TheConstants.{MOST_LINES}
 use Rattle.depot_schedule.specs.declared.line_fault.LineFault.{LineFault}
 use Rattle.depot_schedule.specs.declared.line_fault.LineFault.TheVariants as is
-use Rattle.depot_schedule.specs.Language.{◌>>=◌, or_fault, FitAll, nothing}
+use Rattle.depot_base.specs.Format.{◌>>=◌}
+use Rattle.depot_schedule.specs.Language.{or_fault, FitAll, nothing}
 use Rattle.depot_schedule.specs.Schedules.{text_of_line, Line, lines_of, are_words, checked}
 use Rattle.depot_script.specs.declared.command.Command.{Command}
 use Rattle.depot_script.specs.Commands.{verb_of, name_of, form_of, verb_named}

@@ -46,11 +46,6 @@ pub bundle_ends_calmly : (a : BundleAnswer) → EndsCalmly (ending_of_bundle a)
 bundle_ends_calmly (bundled b) = tt
 bundle_ends_calmly other = tt
 
--- there is nothing
-pub is_nothing : {X : Type 0} (o : Option X) → is_some o ≡ false → o ≡ None
-is_nothing None none = refl
-is_nothing (Some x) none = cc
-
 -- there is something
 pub isnt_nothing : {X : Type 0} (o : Option X) → is_some o ≡ true → o ≡ None → ⊥
 isnt_nothing None some none = cc

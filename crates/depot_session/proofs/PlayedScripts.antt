@@ -1,7 +1,7 @@
 -- A script that is played, command by command.
 use Rattle.std.proofs.Common.{◌≡◌, ◌≤◌, ◌<◌, ℕ, suc, ◌+◌, Bool, false, IsTrue, List, [], ◌∷◌, ◌++◌, append_assoc, length, get_or, take, drop, take-append-drop, drop-cons, Some, None, Result, Ok, Err, refl, sym, ap, subst, ◌∙◌, arith, inl, inr}
 use Rattle.std.specs.Prelude.{is_err}
-use Rattle.std.proofs.lemmas.List.{append-nil, take_all, take_more}
+use Rattle.std.proofs.lemmas.List.{append-nil, take_all}
 use Rattle.std.proofs.lemmas.List.Concat.{flat_map-append}
 use Rattle.std.specs.List.{flat_map}
 use Rattle.depot_base.specs.declared.record.Record.{Record}
@@ -28,6 +28,7 @@ use Rattle.depot_session.proofs.CorrectSteps.{step_is_correct}
 use Rattle.depot_session.proofs.StepGrowth.{step_stays}
 use Rattle.depot_session.proofs.GoingOn.{GoOn, all_done, ended_answers, go_on_more, more_answers, script_grows}
 use Rattle.depot_session.proofs.Uncalled.{leaves_all}
+use Rattle.depot_base.proofs.GeneralLaws.{take_next}
 
 -- ---- what holds between two commands
 
@@ -51,10 +52,6 @@ pub record AreDone {N O : Type 0} (g : Ghosts N O) (now : N) (here : Setting) (s
   pub correct : IsCorrect (world_at here) s.correct → IsCorrect (world_at here) (answers_of here sign s done).session.correct
 
 -- ---- places
-
--- so many commands and one more
-next_command : (cs : List Command) (i : ℕ) (c : Command) → i < length cs → c ≡ get_or cs i c → take (i + 1) cs ≡ take i cs ++ c ∷ []
-next_command cs i c within is = take_more cs i c within ∙ ap (λ (x : Command). take i cs ++ x ∷ []) (sym is)
 
 -- so many commands, the next one, and the rest
 command_between : (cs : List Command) (i : ℕ) (c : Command) → i < length cs → c ≡ get_or cs i c → cs ≡ take i cs ++ c ∷ drop (suc i) cs
@@ -222,7 +219,7 @@ module _ {N O F K : Type 0} (g : Ghosts N O) (f : shelf_of.Ghosts F) (k : sink_o
     pub are_done_more : TurnsAt c (Ok tt) (g.stands mid) (g.signature_of mid) → AreDone g new (g.stands first) (g.signature_of first) s (take (i + 1) cs) (shelves f shelf_first shelf_new) (sinks k out_first out_new)
     are_done_more turns =
         let t = next_turns (Ok tt) turns in
-        subst (λ (done : List Command). AreDone g new (g.stands first) (g.signature_of first) s done (shelves f shelf_first shelf_new) (sinks k out_first out_new)) (sym (next_command cs i c within is)) (done_more s (take i cs) c kept are stays t.0 t.1)
+        subst (λ (done : List Command). AreDone g new (g.stands first) (g.signature_of first) s done (shelves f shelf_first shelf_new) (sinks k out_first out_new)) (sym (take_next cs i c within is)) (done_more s (take i cs) c kept are stays t.0 t.1)
 
     -- the next command ends the run or is cut short
     pub plays_to : (e : Ending) → TurnsAt c (Err e) (g.stands mid) (g.signature_of mid) → Plays g first new (g.stands first) (g.signature_of first) s cs (shelves f shelf_first shelf_new) (sinks k out_first out_new) (Err e)
@@ -288,7 +285,7 @@ tells_of_end first now quiet = record { never_falls = omega (arith, quiet); quie
 
 -- what so many commands and one more load
 one_more_loads : (cs : List Command) (i : ℕ) (c : Command) → i < length cs → c ≡ get_or cs i c → flat_map loads_of (take (i + 1) cs) ≡ flat_map loads_of (take i cs) ++ loads_of c
-one_more_loads cs i c within is = ap (flat_map loads_of) (next_command cs i c within is) ∙ flat_map-append loads_of (take i cs) (c ∷ []) ∙ ap (λ (x : List (List ℕ)). flat_map loads_of (take i cs) ++ x) (append-nil (loads_of c))
+one_more_loads cs i c within is = ap (flat_map loads_of) (take_next cs i c within is) ∙ flat_map-append loads_of (take i cs) (c ∷ []) ∙ ap (λ (x : List (List ℕ)). flat_map loads_of (take i cs) ++ x) (append-nil (loads_of c))
 
 -- the next command loads its files
 pub loads_more : (cs : List Command) (i : ℕ) (c : Command) (first mid new : List (List ℕ)) → i < length cs → c ≡ get_or cs i c → mid ≡ first ++ flat_map loads_of (take i cs) → new ≡ mid ++ loads_of c → new ≡ first ++ flat_map loads_of (take (i + 1) cs)

@@ -11,6 +11,7 @@ use Rattle.depot_base.proofs.FormatLaws.{IsBytes, cursor, not_err}
 use Rattle.depot_base.proofs.PartLaws.{u16_lawful}
 use Rattle.depot_base.proofs.Combined.{whole_again, whole_faults, whole_stops}
 use Rattle.depot_base.proofs.Decoding.{in_one_way}
+use Rattle.depot_base.proofs.EntryLists.{last_pushed}
 use Rattle.depot_model.specs.declared.roster_format.RosterError.{RosterError}
 use Rattle.depot_model.specs.declared.roster_format.RosterError.TheVariants as error
 use Rattle.depot_model.specs.Texts.{IsRoster, text_of_roster, roster}
@@ -19,7 +20,7 @@ use Rattle.depot_model.proofs.TextLaws.{roster_lawful}
 use Rattle.depot_sign.specs.declared.text.Stop.{Stop}
 use Rattle.depot_sign.specs.declared.text.Stop.TheVariants as stop
 use Rattle.depot_sign.specs.RosterReading.{checked_count, count_or_stop, entries_or_stop, whole_or_stop}
-use Rattle.depot_sign.proofs.RosterEntries.{ends, last_of-append}
+use Rattle.depot_sign.proofs.RosterEntries.{ends}
 use Rattle.depot_sign.proofs.Agreeing.{Agrees, agree}
 use Rattle.depot_sign.proofs.ReaderStops.{IsNoField, after_good, part_is, headed, stops_behind, great_is, count_is, Repeats, repeats, stops_at_repeated}
 
@@ -53,7 +54,7 @@ repeated_stops text node h =
     let bytes = numeral w16 h.count ++ behind in
     let counted = good_count 2 h.count behind (omega (arith, h.fewer)) (omega (arith, h.limit)) in
     let twice : entries_or_stop h.count [] (cursor 4 behind) ≡ Err (stop.Twice h.again.node) =
-    stops_at_repeated good [] h.count 4 h.rest h.before h.again h.fewer h.follow (last_of-append h.front h.before) (h.first ∙ sym h.second) h.fits in
+    stops_at_repeated good [] h.count 4 h.rest h.before h.again h.fewer h.follow (last_pushed h.front h.before) (h.first ∙ sym h.second) h.fits in
     let named : entries_or_stop h.count [] (cursor 4 behind) ≡ Err (stop.Twice node) = twice ∙ ap (λ (n : ℕ). Err (stop.Twice n)) h.second in
     rw h.parts (stops_behind bytes (stop.Twice node) (rw counted named))
 
@@ -80,7 +81,7 @@ some_is d e is = cc
 node_stands : (text : List ℕ) (count : ℕ) (bytes : List ℕ) (s : Stop) → text ≡ 1 ∷ 4 ∷ (numeral w16 count ++ bytes) → count ≤ 256 → Repeats count [] bytes s → IsCause text s
 node_stands text count bytes s parts limit r =
     let d = ends r.more (some_last r.more r.before r.last) in
-    let last : d.last ≡ r.before = some_is d.last r.before (sym (last_of-append d.front d.last) ∙ sym (ap (λ (es : List RosterEntry). last_of es) d.is) ∙ r.last) in
+    let last : d.last ≡ r.before = some_is d.last r.before (sym (last_pushed d.front d.last) ∙ sym (ap (λ (es : List RosterEntry). last_of es) d.is) ∙ r.last) in
     let P : List RosterEntry → Type 0 =
     λ es. (text ≡ 1 ∷ 4 ∷ (numeral w16 count ++ (flat_map roster_entry.text es ++ (roster_entry.text r.again ++ r.rest)))) × (length es < count) × Follows roster_entry roster_entry_rises [] es in
     let good : P r.more = (parts ∙ ap (λ (l : List ℕ). 1 ∷ 4 ∷ (numeral w16 count ++ l)) r.parts, r.fewer, r.follow) in

@@ -8,25 +8,19 @@ use Rattle.std.specs.Option.{option_map_or}
 use Rattle.std.specs.Ordering.{nat_cmp, is_eq}
 use Rattle.std.specs.Str.{bytes_eq}
 use Rattle.std.specs.declared.alloc.Global.{Global}
-use Rattle.std.specs.declared.cmp.Ordering.{Ordering}
 use Rattle.std.proofs.lemmas.Bool.{false_from_ne_true}
-use Rattle.std.proofs.lemmas.Map.Text.{is_eq-slice_cmp}
+use Rattle.std.proofs.lemmas.Map.Lookups.{exact_bytes}
+use Rattle.std.proofs.lemmas.Map.Views.{tells_apart}
 use Rattle.std.proofs.lemmas.Slice.Eq.{bytes_eq-Decides}
+use Rattle.depot_base.proofs.GeneralLaws.{vec_cmp}
 use Rattle.depot_world.specs.Run.{Made, made_in}
 use Rattle.depot_stage.specs.Labels.{AreLabels, bytes_in, given_by, named_in}
 use Rattle.depot_stage.specs.declared.label_table.Given.{Given}
 
--- the order of the labels
-abbrev label_cmp : Vec ℕ Global → Vec ℕ Global → Ordering
-label_cmp a b = slice_cmp nat_cmp a.items b.items
-
-same_bytes : (a b : List ℕ) → is_eq (slice_cmp nat_cmp a b) ≡ true → a ≡ b
-same_bytes a b e = (bytes_eq-Decides a b).0 (sym (is_eq-slice_cmp a b) ∙ e)
-
 -- ---- a label that is put in
 
 -- it names what it was put in with, and others name what they named
-pub named_once_put : (old new : BTreeMap (Vec ℕ Global) Given) (name : Vec ℕ Global) (g : Given) → Updates label_cmp old new name (Some g) → (label : List ℕ) → named_in label new.entries ≡ cond (bytes_eq name.items label) (Some g) (named_in label old.entries)
+pub named_once_put : (old new : BTreeMap (Vec ℕ Global) Given) (name : Vec ℕ Global) (g : Given) → Updates vec_cmp old new name (Some g) → (label : List ℕ) → named_in label new.entries ≡ cond (bytes_eq name.items label) (Some g) (named_in label old.entries)
 unfolding KeepsOthers
 named_once_put old new name g u label = choice (bytes_eq name.items label) refl where
   choice : (b : Bool) → bytes_eq name.items label ≡ b → named_in label new.entries ≡ cond b (Some g) (named_in label old.entries)
@@ -34,7 +28,7 @@ named_once_put old new name g u label = choice (bytes_eq name.items label) refl 
   choice false other =
       u.3 (λ (k : Vec ℕ Global). is_eq (slice_cmp nat_cmp label k.items)) (λ x y. (eq_by_cmp_equiv nat_list_cmp_total).congr label x.items y.items)
       (λ k at. false_from_ne_true (is_eq (slice_cmp nat_cmp label k.items)) (λ also.
-      let same : bytes_eq name.items label ≡ true = (bytes_eq-Decides name.items label).1 (same_bytes name.items k.items at ∙ sym (same_bytes label k.items also)) in
+      let same : bytes_eq name.items label ≡ true = (bytes_eq-Decides name.items label).1 (tells_apart exact_bytes name.items k.items at ∙ sym (tells_apart exact_bytes label k.items also)) in
       absurd cc))
 
 -- ---- a label more of a run
@@ -83,7 +77,7 @@ labels_stay entries ms m are there label = by_made (made_in ms label) refl where
 
 -- a label that named nothing is put in
 pub labels_more : (old new : BTreeMap (Vec ℕ Global) Given) (ms : List Made) (m : Made) (name : Vec ℕ Global) → AreLabels old.entries ms → name.items ≡ m.label → is_some (named_in m.label old.entries) ≡ false
-    → Updates label_cmp old new name (Some (given_by m)) → AreLabels new.entries (ms ++ m ∷ [])
+    → Updates vec_cmp old new name (Some (given_by m)) → AreLabels new.entries (ms ++ m ∷ [])
 labels_more old new ms m name are is absent u label =
     named_once_put old new name (given_by m) u label ∙ (ap (λ (l : List ℕ). cond (bytes_eq l label) (Some (given_by m)) (named_in label old.entries)) is ∙ by_label (bytes_eq m.label label) refl) where
       by_label : (b : Bool) → bytes_eq m.label label ≡ b → cond b (Some (given_by m)) (named_in label old.entries) ≡ option_map given_by (made_in (ms ++ m ∷ []) label)

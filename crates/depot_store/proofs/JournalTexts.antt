@@ -1,9 +1,9 @@
 -- The records of a journal, and their texts as they stand on its disk.
-use Rattle.std.proofs.Common.{◌≡◌, ◌<◌, ◌≤◌, ◌^◌, ℕ, ◌+◌, zero, suc, Bool, List, [], ◌∷◌, ◌++◌, length, map, take, drop, refl, sym, ap, subst, ◌∙◌, arith, length-append, length-drop, append-nil, Some, slice_get, add-one}
-use Rattle.std.proofs.Math.Seq.{drop-append-add, drop-cons, drop-length, take-append-add, take-append_seam, take-length}
+use Rattle.std.proofs.Common.{◌≡◌, ◌<◌, ◌≤◌, ◌^◌, ℕ, ◌+◌, zero, suc, Bool, List, [], ◌∷◌, ◌++◌, length, map, take, drop, refl, sym, ap, subst, ◌∙◌, arith, length-append, length-drop, append-nil, Some, slice_get}
+use Rattle.std.proofs.Math.Seq.{drop-append-add, drop-length, take-append-add, take-append_seam, take-length}
 use Rattle.std.specs.List.{AllByRecursion}
 use Rattle.std.proofs.lemmas.List.{map-append, get_or-take, length-map, length-take-le, take-map, take-append-drop}
-use Rattle.std.proofs.lemmas.Option.{get_or_from_slice_get, slice_get-get_or, slice_get_within}
+use Rattle.std.proofs.lemmas.Option.{get_or_from_slice_get, slice_get-get_or}
 use Rattle.std.proofs.lemmas.List.Sums.{sum_by-cons}
 use Rattle.depot_base.specs.File as files
 use Rattle.depot_base.specs.File.{IsFileOf, PassesLimit, blocks, framed}
@@ -123,12 +123,6 @@ text_at n texts place text t within before is =
     ap (λ (x : List (List ℕ)). slice_get x place) (sym t.are)
     ∙ slice_get-get_or (take n texts) place text (omega (arith, before, length-take-le n texts within))
     ∙ ap Some (get_or-take n texts place text before ∙ get_or_from_slice_get texts place text text is)
-
--- the first that wasn't read
-pub unread_first : (n : ℕ) (texts : List (List ℕ)) (text : List ℕ) → slice_get texts n ≡ Some text → drop n texts ≡ text ∷ drop (n + 1) texts
-unread_first n texts text is =
-    let within : n < length texts = slice_get_within texts n text is in
-    rw add-one (drop-cons texts n text within) ∙ ap (λ (x : List ℕ). x ∷ drop (n + 1) texts) (get_or_from_slice_get texts n text text is)
 
 -- ---- more is read
 

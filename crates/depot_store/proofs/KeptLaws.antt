@@ -1,6 +1,6 @@
 -- What is kept, with one record more.
 use Rattle.std.proofs.Common.{◌≡◌, ℕ, ◌+◌, List, [], ◌∷◌, ◌++◌, length, max, refl, sym, ap, subst, ◌∙◌, append_assoc}
-use Rattle.std.specs.Prelude.{Result, Ok, Err, IsOk, OnOk, OnErr}
+use Rattle.std.specs.Prelude.{Result, IsOk}
 use Rattle.sha2.specs.Sha256.{sha256}
 use Rattle.depot_base.specs.declared.proof.Proof.{Proof}
 use Rattle.depot_base.specs.declared.record.Record.{Record}
@@ -16,6 +16,7 @@ use Rattle.depot_model.specs.Lawful.{IsLawful}
 use Rattle.depot_model.specs.Room.{foreign_leaves}
 use Rattle.depot_model.specs.Roster.{Verifies}
 use Rattle.depot_model.specs.Texts.{id_of_update}
+use Rattle.depot_model.specs.Contents.{value_named}
 use Rattle.depot_values.specs.Values as values
 use Rattle.depot_values.specs.declared.values.Values.{Values}
 use Rattle.depot_accept.specs.StateView.{View, IsAsBefore, IsStateOf, setting}
@@ -64,16 +65,6 @@ keeps_still verifies v w z kept kept_then t u new same keeps = λ J k l. keeps J
 
 -- ---- answers
 
--- what holds whatever is answered holds at an error
-pub on_err : {T E : Type 0} (r : Result T E) {P : Type 0} → P → OnErr r P
-on_err (Ok x) p = tt
-on_err (Err e) p = p
-
--- and at a good answer
-pub on_ok : {T E : Type 0} (r : Result T E) {P : Type 0} → P → OnOk r P
-on_ok (Ok x) p = p
-on_ok (Err e) p = tt
-
 -- a birth
 pub birth_kept : {S : Type 0} (J : List Record) (node : ℕ) (roster : List ℕ) (v : View S) (kept : Values) (t : Totals) → IsKept J v kept t → IsKept (J ++ Birth node roster ∷ []) v kept t
 birth_kept J node roster v kept t k = record {
@@ -110,11 +101,11 @@ voucher_kept verifies J x v w kept t stays state k = record {
 
 -- an own update
 pub put_kept : {S E : Type 0} (verifies : Verifies) (J : List Record) (u : Update) (value id : List ℕ) (clock : ℕ) (v w : View S) (old mid new : Values) (result : Result Taken E) (t : Totals) → IsLawful (setting verifies v) (J ++ OwnPut u value ∷ []) → id ≡ id_of_update u
-    → clock ≡ max u.clock t.clock → setting verifies w ≡ setting verifies v → IsStateOf (J ++ OwnPut u value ∷ []) w → ((h : List ℕ) → values.held mid h ≡ values.held old h) → IsOk result → Adds mid new u.value_hash value result → IsKept J v old t
+    → clock ≡ max u.clock t.clock → setting verifies w ≡ setting verifies v → IsStateOf (J ++ OwnPut u value ∷ []) w → ((h : List ℕ) → values.held mid h ≡ values.held old h) → IsOk result → Adds mid new (value_named u).hash value result → IsKept J v old t
     → IsKept (J ++ OwnPut u value ∷ []) w new (record { own = t.own + 1; leaves = t.leaves; clock = clock; last = id })
 put_kept verifies J u value id clock v w old mid new result t l named greatest stays state same ok adds k = record {
   state = state;
-  values = held_grows J (OwnPut u value) u.value_hash value mid new result (put_hash (setting verifies v) J u value l) refl ok adds (λ h. same h ∙ k.values h);
+  values = held_grows J (OwnPut u value) (value_named u).hash value mid new result (put_hash (setting verifies v) J u value l) refl ok adds (λ h. same h ∙ k.values h);
   totals = here_still verifies (J ++ OwnPut u value ∷ []) v w _ stays (put_totals (setting verifies v) J u value t id clock l named greatest k.totals);
 }
 

@@ -16,7 +16,7 @@ use Rattle.depot_base.specs.declared.record.Record.TheVariants.{Birth, OwnPut, O
 use Rattle.depot_base.specs.declared.statement.Statement.{Statement}
 use Rattle.depot_base.specs.declared.statement.Statement.TheVariants as statements
 use Rattle.depot_base.specs.declared.update.Update.{Update}
-use Rattle.depot_model.specs.Contents.{NamedValue, value_named}
+use Rattle.depot_model.specs.Contents.{NamedValue, value_named, names_value}
 use Rattle.depot_model.specs.Journal.{accepted, accepted_by, is_wanted, update_in}
 use Rattle.depot_laws.proofs.Splits.{accepted_push, silent}
 use Rattle.depot_model.specs.Vouching.{records_of}
@@ -90,7 +90,7 @@ same_marks old new same n = rw same refl
 wanted_more : (us : List Update) (u : Update) (hash : List ℕ) (size : ℕ) → is_wanted (us ++ u ∷ []) hash size ≡ (is_wanted us hash size || is_named (value_named u) hash size)
 unfolding is_wanted
 wanted_more us u hash size =
-    list_any-append (λ (t : Update). bytes_eq t.value_hash hash && eqb t.value_len size) us (u ∷ []) ∙ ap (λ (b : Bool). list_any (λ (t : Update). bytes_eq t.value_hash hash && eqb t.value_len size) us || b) (sym (or_none (bytes_eq u.value_hash hash && eqb u.value_len size)))
+    list_any-append (λ (t : Update). names_value t hash size) us (u ∷ []) ∙ ap (λ (b : Bool). list_any (λ (t : Update). names_value t hash size) us || b) (sym (or_none (names_value u hash size)))
 
 silent_names : (J : List Record) (r : Record) (hash : List ℕ) (size : ℕ) → accepted_by r ≡ [] → is_wanted (accepted (J ++ r ∷ [])) hash size ≡ (is_wanted (accepted J) hash size || false)
 silent_names J r hash size none = ap (λ (us : List Update). is_wanted us hash size) (silent accepted_by J r none) ∙ or_none (is_wanted (accepted J) hash size)

@@ -16,6 +16,7 @@ use Rattle.depot_model.specs.Journal.{accepted, accepted_by, own, own_by, last_o
 use Rattle.depot_model.specs.Lawful.{IsLawful}
 use Rattle.depot_model.specs.Room.{foreign_leaves}
 use Rattle.depot_model.specs.Texts.{id_of_update}
+use Rattle.depot_model.specs.Contents.{key_written}
 use Rattle.depot_laws.proofs.Counts.{put_count, silent_leaves, taken_count}
 use Rattle.depot_laws.proofs.Splits.{accepted_push, lawful_front, lawful_last, silent}
 use Rattle.depot_base.proofs.GeneralLaws.{flat_push}
@@ -84,7 +85,7 @@ put_totals here J u value t id clock l named greatest a =
     let may = (lawful_last here J (OwnPut u value) l).may in
     record {
       own = own_more J (OwnPut u value) (statements.Update u) t.own refl a.own;
-      leaves = a.leaves ∙ sym (put_count here J u u.key value (lawful_front here J (OwnPut u value ∷ []) l) may.next may.fresh);
+      leaves = a.leaves ∙ sym (put_count here J u (key_written u) value (lawful_front here J (OwnPut u value ∷ []) l) may.next may.fresh);
       clock = greatest ∙ ap (max u.clock) a.clock ∙ sym (ap greatest_clock (accepted_push J (OwnPut u value)) ∙ clock_push (accepted J) u);
       last = named ∙ sym (ap (last_own_behind zeros) (own_push J (OwnPut u value) (statements.Update u) refl) ∙ last_push zeros (own J) (statements.Update u));
     }

@@ -1,7 +1,6 @@
 -- Own vouchers that are kept one after the other.
 use Rattle.std.proofs.Common.{◌≡◌, ℕ, ◌+◌, ◌<◌, ◌≤◌, List, [], ◌∷◌, ◌++◌, length, take, get_or, refl, sym, ap, subst, ◌∙◌, append_assoc, arith, inl}
 use Rattle.std.specs.List.{AllByRecursion}
-use Rattle.std.proofs.lemmas.Grind.{take_at_read}
 use Rattle.std.proofs.lemmas.List.{append-nil, map-append}
 use Rattle.depot_base.specs.declared.record.Record.{Record}
 use Rattle.depot_base.specs.declared.record.Record.TheVariants.{OwnVoucher}
@@ -23,6 +22,7 @@ use Rattle.depot_store.specs.declared.growth.NewVoucher.{NewVoucher}
 use Rattle.depot_store.specs.declared.totals.Totals.{Totals}
 use Rattle.depot_store.proofs.OwnIdLaws.{adds_more}
 use Rattle.depot_store.proofs.VoucherRecords.{none_left, records_push}
+use Rattle.depot_base.proofs.GeneralLaws.{take_next}
 
 -- ---- room for ids
 
@@ -32,7 +32,7 @@ room_stays xs old new within all = all_from (λ (x : NewVoucher). AreWithin x.vo
 -- with one more
 pub room_more : (xs : List NewVoucher) (i : ℕ) (x : NewVoucher) (old new : List (List ℕ)) → i < length xs → x ≡ get_or xs i x → HaveRoom (take i xs) old → AreWithin old new → AreWithin x.voucher.ids new → HaveRoom (take (i + 1) xs) new
 room_more xs i x old new low is front within more =
-    let next : take (i + 1) xs ≡ take i xs ++ x ∷ [] = (take_at_read xs i x low).1 ∙ ap (λ (y : NewVoucher). take i xs ++ y ∷ []) (sym is) in
+    let next = take_next xs i x low is in
     subst (λ (ys : List NewVoucher). HaveRoom ys new) (sym next) (all_push (λ (y : NewVoucher). AreWithin y.voucher.ids new) (take i xs) x (room_stays (take i xs) old new within front) more)
 
 -- ---- what is kept

@@ -11,14 +11,11 @@ ghost use Rattle.depot_store.specs.declared.append.WriteError.TheVariants as wri
 ghost use Rattle.depot_store.specs.RoomByCounts.{leaves_with};
 ghost use Rattle.depot_store.specs.Holdings.{standing, with_records, IsWhole};
 
-use crate::growth::Growth;
+use crate::growth::{FRAME, Growth};
 use crate::store::Store;
 use depot_base::Memory;
 use depot_model::Scheme;
 use depot_outside::Disk;
-
-/// The bytes that a record takes besides its text: its length, and the gate after it.
-const FRAME: u32 = 5;
 
 /// Why records were not appended.
 #[derive(Clone, Copy, Debug, PartialEq, Eq)]

@@ -171,7 +171,7 @@ impl Growth {
 }
 
 /// The bytes that a record takes besides its text: its length, and the gate after it.
-const FRAME: u64 = 5;
+pub(crate) const FRAME: u32 = 5;
 
 /// The bytes that the record of a text takes.
 fn size_of(text: &Bytes) -> u64
@@ -179,7 +179,7 @@ fn size_of(text: &Bytes) -> u64
     ensures size { result ≡ 5 + length text.now }
     ensures small { result ≤ 5 + MOST_RECORD }
 {
-    FRAME + text.as_slice().len() as u64
+    FRAME as u64 + text.as_slice().len() as u64
 }
 
 /// An own voucher as it is kept, and the text of its record.

@@ -1,5 +1,5 @@
 -- Which updates are covered by the items that some ids name.
-use Rattle.std.proofs.Common.{◌≡◌, ℕ, add-one, ◌+◌, ◌<◌, true, false, ◌&&◌, ◌||◌, List, [], ◌∷◌, ◌++◌, length, take, get_or, Some, None, Option, sym, ap, subst, ◌∙◌, inl, inr}
+use Rattle.std.proofs.Common.{◌≡◌, ℕ, add-one, ◌+◌, ◌<◌, true, false, ◌&&◌, ◌||◌, List, [], ◌∷◌, ◌++◌, length, take, get_or, Some, Option, sym, ap, subst, ◌∙◌, inl, inr}
 use Rattle.std.specs.Prelude.{slice_get}
 use Rattle.std.specs.Option.{option_to_list}
 use Rattle.std.specs.Str.{bytes_eq}
@@ -14,7 +14,7 @@ use Rattle.depot_model.specs.Journal.{has_id}
 use Rattle.depot_model.specs.Lists.{IsIn, is_among}
 use Rattle.depot_model.specs.Order.{IsCausal, past}
 use Rattle.depot_model.specs.Texts.{id_of_update}
-use Rattle.depot_model.proofs.Elements.{in_at}
+use Rattle.depot_model.proofs.Elements.{in_at, from_option, in_option}
 use Rattle.depot_model.proofs.Members.{any_from, any_to, among_from, among_to}
 use Rattle.depot_model.proofs.Pasts.{past_of_listed}
 use Rattle.depot_graph.specs.UpdateRows.{IsUpToAt}
@@ -28,15 +28,6 @@ use Rattle.depot_graph.proofs.ClockedItems.{place_of}
 
 -- ---- the items of ids
 
-place_in_list : (o : Option ℕ) (n : ℕ) → IsIn n (option_to_list o) → o ≡ Some n
-place_in_list None n never = absurd never
-place_in_list (Some m) n (inl same) = ap (λ (k : ℕ). Some k) same
-place_in_list (Some m) n (inr never) = absurd never
-
-in_place_list : (o : Option ℕ) (n : ℕ) → o ≡ Some n → IsIn n (option_to_list o)
-in_place_list None n e = absurd cc
-in_place_list (Some m) n e = inl cc
-
 -- what is named stands among the updates, and one of the ids is its id
 record IsNamed (us : List Update) (ids : List (List ℕ)) (n : ℕ) : Type 0 where
   pub update : Update
@@ -47,7 +38,7 @@ named_is : (us : List Update) (ids : List (List ℕ)) (n : ℕ) → IsIn n (plac
 named_is us ids n on =
     let f : List ℕ → List ℕ = λ h. option_to_list (place_of_id h us) in
     let g = given_by f n ids on in
-    let p = has_place g.by us n (place_in_list (place_of_id g.by us) n g.given) in
+    let p = has_place g.by us n (from_option (place_of_id g.by us) n g.given) in
     record { update = p.0; at = p.1.0; on = subst (λ (h : List ℕ). IsIn h ids) (sym p.1.1) (giver_in f n ids g) }
 
 -- ---- one id more
@@ -93,7 +84,7 @@ uncovered us ids item u c at apart = false_from_ne_true _ (λ yes.
     let parts = and_parts (is_among (id_of_update l.0) ids) (bytes_eq (id_of_update u) (id_of_update l.0) || has_id (past l.0 us) (id_of_update u)) l.1.1 in
     let p = place_of us l.0 l.1.0 in
     let f : List ℕ → List ℕ = λ h. option_to_list (place_of_id h us) in
-    let on : IsIn p.0 (places_of us ids) = flat_gives f p.0 (id_of_update l.0) ids (among_to (id_of_update l.0) ids parts.0) (in_place_list (place_of_id (id_of_update l.0) us) p.0 (own_place us p.0 l.0 c p.1)) in
+    let on : IsIn p.0 (places_of us ids) = flat_gives f p.0 (id_of_update l.0) ids (among_to (id_of_update l.0) ids parts.0) (in_option (place_of_id (id_of_update l.0) us) p.0 (own_place us p.0 l.0 c p.1)) in
     elim (or_cases (bytes_eq (id_of_update u) (id_of_update l.0)) (has_id (past l.0 us) (id_of_update u)) parts.1) [
       | inl same ↦ apart p.0 on (inl (one_place [] us item p.0 u l.0 c at p.1 ((bytes_eq-Decides (id_of_update u) (id_of_update l.0)).0 same)))
       | inr behind ↦ apart p.0 on (inr (u, (at, (l.0, (p.1, (past_of_listed us l.0 u c l.1.0).0 (has_past us u l.0 c (in_at us item u at) behind))))))

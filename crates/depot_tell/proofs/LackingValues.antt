@@ -13,7 +13,7 @@ use Rattle.sha2.specs.Sha256.{sha256}
 use Rattle.depot_base.specs.declared.update.Update.{Update}
 use Rattle.depot_base.specs.declared.record.Record.{Record}
 use Rattle.depot_model.specs.Lists.{is_among}
-use Rattle.depot_model.specs.Contents.{NamedValue, values_named}
+use Rattle.depot_model.specs.Contents.{NamedValue, values_named, value_named}
 use Rattle.depot_model.specs.Hello.{lacking}
 use Rattle.depot_model.specs.Journal.{accepted, first_values, held, value_with, holds}
 use Rattle.depot_model.specs.Vouching.{put_rising, rising}
@@ -81,11 +81,11 @@ lacks J n = not (holds J n.hash n.size)
 abbrev pub lacking_by : List Record → List Update → List (List ℕ)
 lacking_by J us = rising (map (λ n. n.hash) (filter (lacks J) (flat_map values_named us)))
 
-lacking_at : (J : List Record) (us : List Update) (n : ℕ) (t : Update) (b : Bool) → slice_get us n ≡ Some t → holds J t.value_hash t.value_len ≡ b
-    → lacking_by J (drop n us) ≡ cond b (lacking_by J (drop (n + 1) us)) (put_rising t.value_hash (lacking_by J (drop (n + 1) us)))
+lacking_at : (J : List Record) (us : List Update) (n : ℕ) (t : Update) (b : Bool) → slice_get us n ≡ Some t → holds J (value_named t).hash (value_named t).size ≡ b
+    → lacking_by J (drop n us) ≡ cond b (lacking_by J (drop (n + 1) us)) (put_rising (value_named t).hash (lacking_by J (drop (n + 1) us)))
 unfolding rising
 lacking_at J us n t b at is = ap (lacking_by J) (from_place us n t at) ∙ by_test b is where
-  by_test : (b : Bool) → holds J t.value_hash t.value_len ≡ b → lacking_by J (t ∷ drop (n + 1) us) ≡ cond b (lacking_by J (drop (n + 1) us)) (put_rising t.value_hash (lacking_by J (drop (n + 1) us)))
+  by_test : (b : Bool) → holds J (value_named t).hash (value_named t).size ≡ b → lacking_by J (t ∷ drop (n + 1) us) ≡ cond b (lacking_by J (drop (n + 1) us)) (put_rising (value_named t).hash (lacking_by J (drop (n + 1) us)))
   by_test true e = rw e refl
   by_test false e = rw e refl
 
@@ -93,14 +93,14 @@ pub lacking_begins : (J : List Record) (us : List Update) (n : ℕ) (keys : List
 unfolding rising
 lacking_begins J us n keys none is = rw (drop_all n us (omega (arith, is))) none
 
-pub lacking_more : (J : List Record) (us : List Update) (i : ℕ) (t : Update) (keys new : List (List ℕ)) → 0 < i → slice_get us (i - 1) ≡ Some t → holds J t.value_hash t.value_len ≡ false
-    → keys ≡ lacking_by J (drop i us) → new ≡ insert_key (slice_cmp nat_cmp) keys t.value_hash → new ≡ lacking_by J (drop (i - 1) us)
+pub lacking_more : (J : List Record) (us : List Update) (i : ℕ) (t : Update) (keys new : List (List ℕ)) → 0 < i → slice_get us (i - 1) ≡ Some t → holds J (value_named t).hash (value_named t).size ≡ false
+    → keys ≡ lacking_by J (drop i us) → new ≡ insert_key (slice_cmp nat_cmp) keys (value_named t).hash → new ≡ lacking_by J (drop (i - 1) us)
 lacking_more J us i t keys new pos at is are now =
     let next : i ≡ i - 1 + 1 = omega arith in
     let these : keys ≡ lacking_by J (drop (i - 1 + 1) us) = subst (λ (k : ℕ). keys ≡ lacking_by J (drop k us)) next are in
-    now ∙ insert_put t.value_hash keys ∙ ap (put_rising t.value_hash) these ∙ sym (lacking_at J us (i - 1) t false at is)
+    now ∙ insert_put (value_named t).hash keys ∙ ap (put_rising (value_named t).hash) these ∙ sym (lacking_at J us (i - 1) t false at is)
 
-pub lacking_same : (J : List Record) (us : List Update) (i : ℕ) (t : Update) (keys : List (List ℕ)) → 0 < i → slice_get us (i - 1) ≡ Some t → holds J t.value_hash t.value_len ≡ true
+pub lacking_same : (J : List Record) (us : List Update) (i : ℕ) (t : Update) (keys : List (List ℕ)) → 0 < i → slice_get us (i - 1) ≡ Some t → holds J (value_named t).hash (value_named t).size ≡ true
     → keys ≡ lacking_by J (drop i us) → keys ≡ lacking_by J (drop (i - 1) us)
 lacking_same J us i t keys pos at is are =
     let next : i ≡ i - 1 + 1 = omega arith in

@@ -9,6 +9,7 @@ use Rattle.std.specs.declared.cmp.Ordering.{Ordering}
 use Rattle.std.proofs.lemmas.Bool.{lt-ltb, false_from_ne_true}
 use Rattle.std.proofs.lemmas.Cmp.{nat_cmp_total}
 use Rattle.std.proofs.lemmas.List.{take-append-drop, drop_all}
+use Rattle.std.proofs.lemmas.Map.Lookups.{exact_bytes}
 use Rattle.depot_base.specs.declared.record.Record.{Record}
 use Rattle.depot_base.specs.declared.update.Update.{Update}
 use Rattle.depot_model.specs.Bundle.{records_where}
@@ -32,7 +33,7 @@ use Rattle.depot_model.proofs.NamedIds.{has_id_from, has_id_to}
 use Rattle.depot_store.proofs.LeafLaws.{leaf_by_children}
 use Rattle.depot_store.specs.Places.{accepts, accept_places}
 use Rattle.depot_base.proofs.GeneralLaws.{same_test}
-use Rattle.depot_history.proofs.Sorting.{decided, equal_ids}
+use Rattle.depot_history.proofs.Sorting.{decided}
 use Rattle.depot_graph.proofs.ClockedItems.{place_of}
 use Rattle.depot_tell.specs.Telling.{leaf_in}
 use Rattle.depot_tell.specs.declared.leaf_order.Leaf.{Leaf}
@@ -125,7 +126,7 @@ insert_leaf J t (u ∷ ts) apart =
     let ids_turned : slice_cmp nat_cmp (id_of_update t) (id_of_update u) ≡ ordering_reverse (slice_cmp nat_cmp (id_of_update u) (id_of_update t)) = nat_list_cmp_total.antisymm (id_of_update t) (id_of_update u) in
     ap (λ (o : Ordering). match_ordering (ordering_then o (ordering_then (slice_cmp nat_cmp (id_of_update t) (id_of_update u)) rest)) before same behind) writers_turned
     ∙ ap (λ (o : Ordering). match_ordering (ordering_then (ordering_reverse (nat_cmp u.writer t.writer)) (ordering_then o rest)) before same behind) ids_turned
-    ∙ decided (nat_cmp u.writer t.writer) (slice_cmp nat_cmp (id_of_update u) (id_of_update t)) rest before same behind (λ e. apart u (inl refl) (equal_ids (id_of_update u) (id_of_update t) e))
+    ∙ decided (nat_cmp u.writer t.writer) (slice_cmp nat_cmp (id_of_update u) (id_of_update t)) rest before same behind (λ e. apart u (inl refl) (exact_bytes (id_of_update u) (id_of_update t) e))
     ∙ through (is_lower u t) (insert_leaf J t ts (λ w on. apart w (inr on))) where
       through : (b : Bool) → insert_key leaf_cmp (map (leaf_in J) ts) (leaf_in J t) ≡ map (leaf_in J) (put_by_id t ts)
           → cond b (leaf_in J u ∷ insert_key leaf_cmp (map (leaf_in J) ts) (leaf_in J t)) (leaf_in J t ∷ leaf_in J u ∷ map (leaf_in J) ts) ≡ map (leaf_in J) (cond b (u ∷ put_by_id t ts) (t ∷ u ∷ ts))

@@ -25,12 +25,12 @@ use Rattle.depot_model.specs.Roster.{key_of}
 use Rattle.depot_model.specs.Texts.{IsStatement, IsSigned, text_of_statement, text_of_signed}
 use Rattle.depot_model.proofs.BodyLaws.{IsStatement-from_update}
 use Rattle.depot_model.proofs.Elements.{in_at}
-use Rattle.depot_graph.proofs.Front.{parts_at}
 use Rattle.depot_laws.proofs.Candidates.{signed_fits}
 use Rattle.depot_laws.proofs.LawfulRecords.{IsStatement-from_own_voucher}
 use Rattle.depot_laws.proofs.Splits.{lawful_texts}
 use Rattle.depot_store.specs.RecordTexts.{IsTextOf}
 use Rattle.depot_model.proofs.RecordLaws.{update_of_own_put}
+use Rattle.depot_base.proofs.GeneralLaws.{parts_at}
 
 -- ---- the text of a place
 

@@ -7,7 +7,7 @@ use Rattle.std.proofs.lemmas.List.Sums.{count_by-le-length}
 use Rattle.std.proofs.lemmas.List.Folds.{list_any-append}
 use Rattle.std.proofs.lemmas.Option.{slice_get_within}
 use Rattle.std.specs.List.{slice_get}
-use Rattle.depot_base.proofs.GeneralLaws.{from_pushed, to_pushed}
+use Rattle.depot_base.proofs.GeneralLaws.{from_pushed, to_pushed, same_at}
 use Rattle.depot_virtual.specs.declared.Spot.{Spot}
 use Rattle.depot_virtual.specs.Spots.{IsForest, is_item, has_child, chains_of, next_chain, place_behind, next_spot, spots, spots_behind, number_of_chains, IsTip}
 use Rattle.depot_virtual.specs.Numbered.{IsNumbered}
@@ -119,9 +119,6 @@ is_or_not a b = grind arith
 written : (tips : List ℕ) (chain place item i : ℕ) → chain < length tips → place ≡ chain → slice_get (set tips chain item) place ≡ Some i → item ≡ i
 written tips chain place item i low same e = let there : slice_get (set tips chain item) place ≡ Some item = at_set tips item chain place low same in cc
 
-same_tip : (tips : List ℕ) (c d i j : ℕ) → c ≡ d → slice_get tips c ≡ Some i → slice_get tips d ≡ Some j → i ≡ j
-same_tip tips c d i j same at_c at_d = let there : slice_get tips c ≡ Some j = subst (λ (k : ℕ). slice_get tips k ≡ Some j) (sym same) at_d in cc
-
 same_spot : (placed : List Spot) (i : ℕ) (s t : Spot) → slice_get placed i ≡ Some s → slice_get placed i ≡ Some t → s.chain ≡ t.chain
 same_spot placed i s t at also = let same : s ≡ t = cc in ap (λ (y : Spot). y.chain) same
 
@@ -192,7 +189,7 @@ numbered_continue prevs placed tips from spot n low few next at free =
             let parts = childless_less prevs prev i no_child in
             let t : slice_get tips s.chain ≡ Some i = n.tip i s h parts.0 in
             let other : s.chain ≢ spot.chain = λ same.
-            let i_is : i ≡ from = same_tip tips s.chain spot.chain i from same t was_tip in
+            let i_is : i ≡ from = same_at tips s.chain spot.chain i from same t was_tip in
             let hit : is_item i prev ≡ true = ap (λ (k : ℕ). is_item i (Some k)) (sym i_is) ∙ is_item_self i in
             let miss : is_item i prev ≡ false = parts.1 in
             cc in

@@ -1,5 +1,5 @@
 -- Sets of ids, with more of them.
-use Rattle.std.proofs.Common.{◌≡◌, ℕ, ◌+◌, ◌<◌, Result, Ok, Err, IsOk, IfOk, OnOk, rules, OnErr, IsSome, is_some, List, [], ◌∷◌, ◌++◌, take, get_or, length, Bool, true, false, cond, Option, Some, None, ◌||◌, refl, sym, ap, subst, ◌∙◌, inl, inr}
+use Rattle.std.proofs.Common.{◌≡◌, ℕ, ◌+◌, ◌<◌, Result, Ok, Err, IsOk, IfOk, OnOk, rules, OnErr, IsSome, is_some, List, [], ◌∷◌, take, get_or, length, Bool, true, false, cond, Option, Some, None, ◌||◌, refl, sym, ap, subst, ◌∙◌, inl, inr}
 use Rattle.std.specs.List.{AllByRecursion}
 use Rattle.std.specs.List.Sorted.{IsStrictlySortedBy}
 use Rattle.std.specs.Map.{keys_of, lookup}
@@ -14,12 +14,13 @@ use Rattle.std.proofs.lemmas.Map.Text.{is_eq-slice_cmp}
 use Rattle.std.proofs.lemmas.Slice.Eq.{bytes_eq-Decides}
 use Rattle.std.proofs.lemmas.List.Folds.{list_any-append}
 use Rattle.std.proofs.lemmas.Option.{slice_get-get_or}
-use Rattle.std.proofs.lemmas.Grind.{take_at_read}
-use Rattle.depot_model.specs.Lists.{is_among}
+use Rattle.std.proofs.Math.Bool.{or_assoc}
+use Rattle.std.proofs.lemmas.Map.Lookups.{exact_bytes}
+use Rattle.depot_model.specs.Lists.{is_among, AreTogether}
 use Rattle.depot_model.proofs.Elements.{in_at}
 use Rattle.depot_model.proofs.Members.{all_at, among_from, among_to}
-use Rattle.depot_base.proofs.GeneralLaws.{or_none}
-use Rattle.depot_vouch.specs.VouchedView.{AreTogether, AreWithin}
+use Rattle.depot_base.proofs.GeneralLaws.{or_none, take_next, or_again}
+use Rattle.depot_vouch.specs.VouchedView.{AreWithin}
 use Rattle.depot_vouch.specs.IdSlots.{vouched_in, DoAscend}
 
 abbrev Entries : Type 0
@@ -35,23 +36,11 @@ found_in id es = lookup (λ (k : List ℕ). is_eq (slice_cmp nat_cmp id k)) es
 
 -- ---- tests
 
-or_again : (a b : Bool) → (b ≡ true → a ≡ true) → a ≡ (a || (b || false))
-or_again true b h = refl
-or_again false true h = h refl
-or_again false false h = refl
-
 or_turn : (a b : Bool) → (a || b) ≡ (b || (a || false))
 or_turn true true = refl
 or_turn true false = refl
 or_turn false true = refl
 or_turn false false = refl
-
-or_assoc : (a b c : Bool) → ((a || b) || (c || false)) ≡ (a || (b || (c || false)))
-or_assoc true b c = refl
-or_assoc false b c = refl
-
-same_id : (id k : List ℕ) → id_cmp id k ≡ Equal → id ≡ k
-same_id id k e = (bytes_eq-Decides id k).0 (sym (is_eq-slice_cmp id k) ∙ ap is_eq e)
 
 -- ---- look-ups
 
@@ -128,8 +117,8 @@ places_then (e ∷ es) id b h = go (id_cmp id e.0) refl (places_then es id b h) 
   go : (o : Ordering) → id_cmp id e.0 ≡ o → is_among h (keys_of (insert_entry (slice_cmp nat_cmp) es id b)) ≡ (is_among h (keys_of es) || (bytes_eq h id || false))
       → is_among h (keys_of (match_ordering o ((id, b) ∷ e ∷ es) ((e.0, b) ∷ es) (e ∷ insert_entry (slice_cmp nat_cmp) es id b))) ≡ ((bytes_eq h e.0 || is_among h (keys_of es)) || (bytes_eq h id || false))
   go Less is later = or_turn (bytes_eq h id) (bytes_eq h e.0 || is_among h (keys_of es))
-  go Equal is later = or_again (bytes_eq h e.0 || is_among h (keys_of es)) (bytes_eq h id) (λ same. or_left (bytes_eq h e.0) (is_among h (keys_of es)) (subst (λ (k : List ℕ). bytes_eq h k ≡ true) (same_id id e.0 is) same))
-  go Greater is later = ap (λ (c : Bool). bytes_eq h e.0 || c) later ∙ sym (or_assoc (bytes_eq h e.0) (is_among h (keys_of es)) (bytes_eq h id))
+  go Equal is later = or_again (bytes_eq h e.0 || is_among h (keys_of es)) (bytes_eq h id) (λ same. or_left (bytes_eq h e.0) (is_among h (keys_of es)) (subst (λ (k : List ℕ). bytes_eq h k ≡ true) (exact_bytes id e.0 is) same))
+  go Greater is later = ap (λ (c : Bool). bytes_eq h e.0 || c) later ∙ sym (or_assoc (bytes_eq h e.0) (is_among h (keys_of es)) (bytes_eq h id || false))
 
 pub placed : (es new : Entries) (id : List ℕ) (b : Bool) → new ≡ insert_entry (slice_cmp nat_cmp) es id b → AreTogether (keys_of es) (id ∷ []) (keys_of new)
 placed es new id b e h = ap (λ (l : Entries). is_among h (keys_of l)) e ∙ places_then es id b h
@@ -154,13 +143,13 @@ vouched_then (e ∷ es) id h = go (id_cmp id e.0) refl (vouched_then es id h) wh
 
   behind : (b : Bool) → is_among h (vouched_in (insert_entry (slice_cmp nat_cmp) es id true)) ≡ (is_among h (vouched_in es) || (bytes_eq h id || false))
       → is_among h (cond b (e.0 ∷ vouched_in (insert_entry (slice_cmp nat_cmp) es id true)) (vouched_in (insert_entry (slice_cmp nat_cmp) es id true))) ≡ (is_among h (cond b (e.0 ∷ vouched_in es) (vouched_in es)) || (bytes_eq h id || false))
-  behind true later = ap (λ (c : Bool). bytes_eq h e.0 || c) later ∙ sym (or_assoc (bytes_eq h e.0) (is_among h (vouched_in es)) (bytes_eq h id))
+  behind true later = ap (λ (c : Bool). bytes_eq h e.0 || c) later ∙ sym (or_assoc (bytes_eq h e.0) (is_among h (vouched_in es)) (bytes_eq h id || false))
   behind false later = later
 
   go : (o : Ordering) → id_cmp id e.0 ≡ o → is_among h (vouched_in (insert_entry (slice_cmp nat_cmp) es id true)) ≡ (is_among h (vouched_in es) || (bytes_eq h id || false))
       → is_among h (vouched_in (match_ordering o ((id, true) ∷ e ∷ es) ((e.0, true) ∷ es) (e ∷ insert_entry (slice_cmp nat_cmp) es id true))) ≡ (is_among h (vouched_in (e ∷ es)) || (bytes_eq h id || false))
   go Less is later = or_turn (bytes_eq h id) (is_among h (vouched_in (e ∷ es)))
-  go Equal is later = replaced e.1 (ap (bytes_eq h) (sym (same_id id e.0 is)))
+  go Equal is later = replaced e.1 (ap (bytes_eq h) (sym (exact_bytes id e.0 is)))
   go Greater is later = behind e.1 later
 
 pub marked : (es new : Entries) (id : List ℕ) → new ≡ insert_entry (slice_cmp nat_cmp) es id true → AreTogether (vouched_in es) (id ∷ []) (vouched_in new)
@@ -187,9 +176,9 @@ added_together old more new together h on = together h ∙ or_right (is_among h 
 -- one id more than the first of them
 pub more_by_one : (old xs mid new : List (List ℕ)) (i : ℕ) (x : List ℕ) → i < length xs → x ≡ get_or xs i x → AreTogether old (take i xs) mid → AreTogether mid (x ∷ []) new → AreTogether old (take (i + 1) xs) new
 more_by_one old xs mid new i x low is before one h =
-    let front : take (i + 1) xs ≡ take i xs ++ x ∷ [] = (take_at_read xs i x low).1 ∙ ap (λ (y : List ℕ). take i xs ++ y ∷ []) (sym is) in
+    let front = take_next xs i x low is in
     let parts : is_among h (take (i + 1) xs) ≡ (is_among h (take i xs) || (bytes_eq h x || false)) = ap (λ (l : List (List ℕ)). is_among h l) front ∙ list_any-append (bytes_eq h) (take i xs) (x ∷ []) in
-    one h ∙ ap (λ (b : Bool). b || (bytes_eq h x || false)) (before h) ∙ or_assoc (is_among h old) (is_among h (take i xs)) (bytes_eq h x) ∙ ap (λ (b : Bool). is_among h old || b) (sym parts)
+    one h ∙ ap (λ (b : Bool). b || (bytes_eq h x || false)) (before h) ∙ or_assoc (is_among h old) (is_among h (take i xs)) (bytes_eq h x || false) ∙ ap (λ (b : Bool). is_among h old || b) (sym parts)
 
 -- an id that was read is one of them
 pub read_is_within : (xs all : List (List ℕ)) (i : ℕ) (x : List ℕ) → AreWithin xs all → i < length xs → x ≡ get_or xs i x → is_among x all ≡ true

@@ -1,5 +1,5 @@
 -- Two sets that grow: the ids that others vouched for, and the convicted nodes.
-use Rattle.std.specs.Prelude.{◌≡◌, ℕ, ◌≤◌, ◌+◌, List, [], ◌∷◌, ◌++◌, true, ◌||◌, if◌then◌else◌}
+use Rattle.std.specs.Prelude.{◌≡◌, ℕ, ◌≤◌, ◌+◌, List, [], ◌∷◌, ◌++◌, true, if◌then◌else◌}
 use Rattle.depot_model.specs.Lists.{is_among, is_one_of}
 
 -- What is seen: the ids, the nodes in the order of their conviction, each once, and how many nodes may be convicted.
@@ -12,10 +12,6 @@ pub record Vouching : Type 0 where
 pub record IdsWithRoom : Type 0 where
   pub ids : List (List ℕ)
   pub room : List (List ℕ)
-
--- just the ids of the first list and of the second are among those of the third
-abbrev pub AreTogether : List (List ℕ) → List (List ℕ) → List (List ℕ) → Type 0
-AreTogether old more new = (h : List ℕ) → is_among h new ≡ (is_among h old || is_among h more)
 
 -- each id of the first list is one of the second
 abbrev pub AreWithin : List (List ℕ) → List (List ℕ) → Type 0

@@ -1,8 +1,8 @@
 //! Ids that vouchers name.
 ghost use Rattle.std.specs.Prelude.{◌≡◌, [], ◌∷◌, true, IsOk, OnOk, OnErr};
 ghost use Rattle.std.specs.Map.{keys_of};
-ghost use Rattle.depot_model.specs.Lists.{is_among};
-ghost use Rattle.depot_vouch.specs.VouchedView.{AreTogether, AreWithin};
+ghost use Rattle.depot_model.specs.Lists.{is_among, AreTogether};
+ghost use Rattle.depot_vouch.specs.VouchedView.{AreWithin};
 ghost use Rattle.depot_vouch.specs.IdSlots.{vouched_in, DoAscend};
 
 use depot_base::{Hash32, Ids, Memory};

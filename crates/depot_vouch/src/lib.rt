@@ -12,8 +12,8 @@ mod ids;
 
 ghost use Rattle.std.specs.Prelude.{◌≡◌, ◌<◌, ◌≤◌, ◌+◌, ◌⊎◌, [], ◌∷◌, ◌++◌, length, true, false, OnOk, OnErr, IfOk};
 ghost use Rattle.indexmap.specs.IndexSet.{spare};
-ghost use Rattle.depot_model.specs.Lists.{is_among, is_one_of};
-ghost use Rattle.depot_vouch.specs.VouchedView.{AreTogether, with_node};
+ghost use Rattle.depot_model.specs.Lists.{is_among, is_one_of, AreTogether};
+ghost use Rattle.depot_vouch.specs.VouchedView.{with_node};
 
 pub use crate::ids::VouchedIds;
 use depot_base::{Hash32, Ids, Memory, NodeId};

@@ -14,7 +14,7 @@ use Rattle.depot_base.specs.declared.record.Record.TheVariants.{Birth, OwnPut, O
 use Rattle.depot_base.specs.declared.statement.Statement.TheVariants as statement
 use Rattle.depot_base.specs.declared.statement.Signed.{Signed}
 use Rattle.depot_model.specs.declared.hello.Hello.{Hello}
-use Rattle.depot_model.specs.Bundle.{Signs, signed_with, signed_by, candidates, has_candidate, Parcel, candidate_parcel, candidate_parcels, wanted_parcel, hashes_of, parcels, statement_frame, value_frame, frames_of, sent_for, sent_foreign, unvouched, bytes_of_bundle, proofs_for, vouchers_for, proof_frame, end_frame, bundle_frames, with_vouchers, bundle_of}
+use Rattle.depot_model.specs.Bundle.{Signs, signed_with, signed_by, candidates, has_candidate, Parcel, candidate_parcel, candidate_parcels, wanted_parcel, hashes_of, parcels, statement_frame, value_frame, frames_of, sent_for, sent_foreign, unvouched, bytes_of_bundle, proofs_for, vouchers_for, proof_frame, end_frame, bundle_frames, with_vouchers, bundle_of, voucher_frame}
 use Rattle.depot_model.specs.Contents.{values_named}
 use Rattle.depot_model.specs.Frames.{Frame, text_of_frame}
 use Rattle.depot_model.specs.Journal.{accepted, accepted_by, proofs, proof_by, value_by, value_with, held, is_foreign}
@@ -24,7 +24,8 @@ use Rattle.depot_model.specs.Vouching.{own_vouchers, own_voucher_by, is_mine_vou
 use Rattle.depot_model.proofs.Members.{all_at, in_left, in_parts, from_map, from_filter, any_from}
 use Rattle.depot_laws.specs.Rejoin.{updates_of}
 use Rattle.depot_laws.proofs.Candidates.{behind_is}
-use Rattle.depot_laws.proofs.HeldValues.{held_is_brought, held_as_is, value_with_is}
+use Rattle.depot_laws.proofs.HeldValues.{held_is_brought, held_as_is}
+use Rattle.depot_laws.proofs.Exact.{value_with_is}
 use Rattle.depot_laws.proofs.Parcels.{candidates_for, sent_in_front, told_of_parcels}
 use Rattle.depot_laws.proofs.Splits.{given_by, flat_left, flat_gives}
 use Rattle.depot_laws.proofs.Worlds.{giver_in}
@@ -143,12 +144,11 @@ end_holds false = only_frame (end_frame false) (omega arith) (omega arith, tt)
 frames_hold : (me : ℕ) (sign : Signs) (K : List Record) (h : Hello) (xs : List Parcel) (more : Bool) → SignsBytes sign → AllHold K → ((x : Parcel) → IsIn x xs → SendsBytes x) → AllByRecursion IsByteFrame (bundle_frames me sign K h xs more)
 unfolding bundle_frames
 frames_hold me sign K h xs more signs hold each =
-    let by_voucher = λ (v : Voucher). statement_frame (signed_with sign (statement.Voucher v)) in
     let vs = vouchers_for K (sent_foreign me xs) in
-    all_both IsByteFrame (map proof_frame (proofs_for K h)) (map by_voucher vs ++ (flat_map frames_of xs ++ end_frame more ∷ []))
+    all_both IsByteFrame (map proof_frame (proofs_for K h)) (map (voucher_frame sign) vs ++ (flat_map frames_of xs ++ end_frame more ∷ []))
     (all_mapped proof_frame (proofs_for K h) (λ p on. only_frame (proof_frame p) (omega arith) (proof_holds K p hold (from_filter (λ (q : Proof). _) p (proofs K) on).0)))
-    (all_both IsByteFrame (map by_voucher vs) (flat_map frames_of xs ++ end_frame more ∷ [])
-    (all_mapped by_voucher vs (λ v on. only_frame (by_voucher v) (omega arith) (only_signed_with sign (statement.Voucher v) signs (voucher_holds K v hold (from_filter (λ (w : Voucher). _) v (own_vouchers K) on).0))))
+    (all_both IsByteFrame (map (voucher_frame sign) vs) (flat_map frames_of xs ++ end_frame more ∷ [])
+    (all_mapped (voucher_frame sign) vs (λ v on. only_frame (voucher_frame sign v) (omega arith) (only_signed_with sign (statement.Voucher v) signs (voucher_holds K v hold (from_filter (λ (w : Voucher). _) v (own_vouchers K) on).0))))
     (all_both IsByteFrame (flat_map frames_of xs) (end_frame more ∷ []) (all_parcel_frames xs each) (end_holds more, tt)))
 
 -- ---- vouchers

@@ -1,5 +1,5 @@
 -- What a node writes itself is made of bytes: its updates, its vouchers and its hellos.
-use Rattle.std.proofs.Common.{ℕ, zero, suc, not, List, [], ◌∷◌, length, map, take, refl, subst, inl, inr}
+use Rattle.std.proofs.Common.{ℕ, suc, not, List, [], ◌∷◌, length, map, refl, subst, inl, inr}
 use Rattle.std.specs.List.{flat_map}
 use Rattle.std.specs.Prelude.{filter}
 use Rattle.depot_base.specs.Zeros.{zeros}
@@ -10,7 +10,7 @@ use Rattle.depot_base.specs.declared.statement.Statement.{Statement}
 use Rattle.depot_base.specs.declared.statement.Statement.TheVariants as statement
 use Rattle.depot_model.specs.declared.hello.HelloLeaf.{HelloLeaf}
 use Rattle.depot_model.specs.Checks.{Setting}
-use Rattle.depot_model.specs.Contents.{NamedValue, values_named}
+use Rattle.depot_model.specs.Contents.{NamedValue, values_named, value_named}
 use Rattle.depot_model.specs.Hello.{hello_of, text_of_hello, lacking, named_leaf}
 use Rattle.depot_model.specs.History.{history_hash, history_text, leaves_of, by_id}
 use Rattle.depot_model.specs.Journal.{accepted, own, last_own, last_own_behind, holds}
@@ -18,7 +18,7 @@ use Rattle.depot_model.specs.Lists.{IsIn}
 use Rattle.depot_model.specs.Own.{next_own, next_entries, entry_of}
 use Rattle.depot_model.specs.Texts.{text_of_update, text_of_roster, hash_of_roster, id_of_update}
 use Rattle.depot_model.specs.Vouching.{rising, groups_of, numbered, new_vouchers, records_of}
-use Rattle.depot_model.proofs.Members.{from_map, from_filter}
+use Rattle.depot_model.proofs.Members.{from_map, from_filter, from_take}
 use Rattle.depot_laws.proofs.Groups.{from_groups, from_rising}
 use Rattle.depot_laws.proofs.Splits.{given_by}
 use Rattle.depot_laws.proofs.Worlds.{giver_in}
@@ -64,15 +64,9 @@ only_new_vouchers me J ids each = only_numbered me (length (own J)) (groups_of 2
 
 -- ---- hellos
 
-taken_from : {X : Type 0} (x : X) (n : ℕ) (xs : List X) → IsIn x (take n xs) → IsIn x xs
-taken_from x zero xs never = absurd never
-taken_from x (suc n) [] never = never
-taken_from x (suc n) (y ∷ xs) (inl here) = inl here
-taken_from x (suc n) (y ∷ xs) (inr there) = inr (taken_from x n xs there)
-
 named_hash : (J : List Record) (n : NamedValue) → AllHold J → IsIn n (flat_map values_named (accepted J)) → OnlyBytes n.hash
 named_hash J n hold on = let g = given_by values_named n (accepted J) on in told g.by (hash_in_update g.by (accepted_holds J g.by hold (giver_in values_named n (accepted J) g))) g.given where
-  told : (u : Update) → OnlyBytes u.value_hash → IsIn n (values_named u) → OnlyBytes n.hash
+  told : (u : Update) → OnlyBytes (value_named u).hash → IsIn n (values_named u) → OnlyBytes n.hash
   told u only (inl same) = subst (λ (x : NamedValue). OnlyBytes x.hash) same only
   told u only (inr never) = absurd never
 
@@ -93,4 +87,4 @@ only_roster_hash here = only_sha256 (text_of_roster here.listed)
 
 pub only_own_hello : (here : Setting) (J : List Record) → AllHold J → OnlyBytes (text_of_hello (hello_of here J))
 unfolding hello_of
-only_own_hello here J hold = only_hello (hello_of here J) (only_roster_hash here) (only_named_leaves (by_id (leaves_of (accepted J)))) (λ w on. only_lacking J w hold (taken_from w 1024 (lacking J) on))
+only_own_hello here J hold = only_hello (hello_of here J) (only_roster_hash here) (only_named_leaves (by_id (leaves_of (accepted J)))) (λ w on. only_lacking J w hold (from_take 1024 w (lacking J) on))

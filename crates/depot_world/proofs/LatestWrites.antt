@@ -1,26 +1,21 @@
 -- The latest writes as a list are the latest writes.
 use Rattle.std.proofs.Common.{◌≡◌, ℕ, Bool, true, false, not, ◌&&◌, List, [], ◌∷◌, refl, sym, ap, subst, ◌∙◌}
 use Rattle.std.specs.List.{list_any, filter}
-use Rattle.std.specs.Ordering.{is_lt}
-use Rattle.std.specs.Str.{bytes_eq}
 use Rattle.std.proofs.lemmas.Bool.{and_parts, and_from, false_from_ne_true, not-true}
-use Rattle.std.proofs.lemmas.Cmp.{nat_list_cmp_total}
-use Rattle.std.proofs.lemmas.Slice.Eq.{bytes_eq-Decides}
 use Rattle.depot_base.specs.declared.update.Update.{Update}
 use Rattle.depot_model.specs.Contents.{writes}
 use Rattle.depot_model.specs.Journal.{has_id}
 use Rattle.depot_model.specs.Lists.{IsIn}
 use Rattle.depot_model.specs.Order.{Precedes, past, IsCausal, RisesStrictly, IsLatest, AreLatestIn}
 use Rattle.depot_model.specs.Texts.{id_of_update}
-use Rattle.depot_model.proofs.ContradictionLaws.{below_or_above}
-use Rattle.depot_model.proofs.LatestLaws.{rank}
+use Rattle.depot_model.proofs.LatestLaws.{listed_trans, listed_back}
 use Rattle.depot_model.proofs.Members.{any_from, any_to, from_filter, in_filter}
 use Rattle.depot_model.proofs.Orders.{one_of_id}
 use Rattle.depot_model.proofs.Pasts.{past_in, past_of_listed}
 use Rattle.depot_model.proofs.RisingLists.{RisesBy}
-use Rattle.depot_model.proofs.RisingUpdates.{AreApart, apart_from_causal, apart_filter}
+use Rattle.depot_model.proofs.RisingUpdates.{HaveOwnIds, own_ids_from_causal, own_ids_filter}
 use Rattle.depot_model.proofs.NamedIds.{has_id_from, has_id_to}
-use Rattle.depot_base.proofs.GeneralLaws.{less_is}
+use Rattle.depot_model.proofs.ContentLaws.{writes-Decides}
 use Rattle.depot_world.specs.Insertion.{order_by}
 use Rattle.depot_world.specs.ShownLatest.{is_listed_before, is_last, latest_in}
 use Rattle.depot_world.proofs.InsertionLaws.{IsOrderOf, AllDiffer, from_order, in_order, order_rises}
@@ -31,18 +26,13 @@ use Rattle.depot_world.proofs.InsertionLaws.{IsOrderOf, AllDiffer, from_order, i
 abbrev HasOtherId : Update → Update → Type 0
 HasOtherId t u = id_of_update t ≡ id_of_update u → ⊥
 
-listed_or_above : (t u : Update) → is_listed_before t u ≡ false → HasOtherId u t → is_listed_before u t ≡ true
-listed_or_above t u not_before other =
-    let differs : bytes_eq (rank t) (rank u) ≡ false = false_from_ne_true _ (λ e. let same = (bytes_eq-Decides (rank t) (rank u)).0 e in other cc) in
-    below_or_above (rank t) (rank u) not_before differs
-
 listed_is_order : IsOrderOf is_listed_before HasOtherId
 listed_is_order = record {
-  trans = λ t u v one two. ap is_lt (nat_list_cmp_total.trans (rank t) (rank u) (rank v) (less_is _ one) (less_is _ two));
-  other = listed_or_above;
+  trans = listed_trans;
+  other = listed_back;
 }
 
-differ_by_id : (us : List Update) → AreApart us → AllDiffer HasOtherId us
+differ_by_id : (us : List Update) → HaveOwnIds us → AllDiffer HasOtherId us
 differ_by_id [] apart = tt
 differ_by_id (u ∷ us) apart = (apart.0, differ_by_id us apart.1)
 
@@ -68,18 +58,18 @@ is_last_from key us u causal latest =
     let none : list_any (follows key us u) us ≡ false = false_from_ne_true _ (λ e.
     let v = any_to (follows key us u) us e in
     let p = and_parts (writes key v.0) _ v.1.1 in
-    latest.last v.0 v.1.0 ((bytes_eq-Decides v.0.key key).0 p.0) (precedes_by_id us u v.0 causal latest.known v.1.0 p.1)) in
-    and_from (writes key u) (not (list_any (follows key us u) us)) ((bytes_eq-Decides u.key key).1 latest.writes) (ap not none)
+    latest.last v.0 v.1.0 ((writes-Decides key v.0).0 p.0) (precedes_by_id us u v.0 causal latest.known v.1.0 p.1)) in
+    and_from (writes key u) (not (list_any (follows key us u) us)) ((writes-Decides key u).1 latest.writes) (ap not none)
 
 is_latest_from : (key : List ℕ) (us : List Update) (u : Update) → IsCausal [] us → IsIn u us → is_last key us u ≡ true → IsLatest key (λ u. IsIn u us) (Precedes us) u
 is_latest_from key us u causal u_in last =
     let p = and_parts (writes key u) _ last in
     record {
       known = u_in;
-      writes = (bytes_eq-Decides u.key key).0 p.0;
+      writes = (writes-Decides key u).0 p.0;
       last = λ v v_in v_writes before.
           let has = has_id_from (past v us) (id_of_update u) u ((past_of_listed us v u causal v_in).1 before) refl in
-          let found : list_any (follows key us u) us ≡ true = any_from (follows key us u) v us v_in (and_from (writes key v) _ ((bytes_eq-Decides v.key key).1 v_writes) has) in
+          let found : list_any (follows key us u) us ≡ true = any_from (follows key us u) v us v_in (and_from (writes key v) _ ((writes-Decides key v).1 v_writes) has) in
           absurd (let no : list_any (follows key us u) us ≡ false = not-true _ p.1 in let yes_no : true ≡ false = sym found ∙ no in cc);
     }
 
@@ -92,5 +82,5 @@ latest_are_listed key us causal =
       all = λ u latest. in_order is_listed_before u last (in_filter (is_last key us) u us latest.known (is_last_from key us u causal latest));
       only = λ u on. let f = from_filter (is_last key us) u us (from_order is_listed_before u last on) in is_latest_from key us u causal f.0 f.1;
       rising = rises_strictly (order_by is_listed_before last)
-          (order_rises is_listed_before HasOtherId listed_is_order last (differ_by_id last (apart_filter (is_last key us) us (apart_from_causal [] us causal))));
+          (order_rises is_listed_before HasOtherId listed_is_order last (differ_by_id last (own_ids_filter (is_last key us) us (own_ids_from_causal [] us causal))));
     }

@@ -1,9 +1,9 @@
 use Rattle.std.proofs.Common.{◌≡◌, map, Ok, None, sym, ap, subst, ◌∙◌}
 use Rattle.std.specs.Prelude.{Option, Result, IfOk}
+use Rattle.std.proofs.lemmas.Result.{IfOk-weaker}
 use Rattle.depot_base.specs.declared.check.Check.{Check}
 use Rattle.depot_base.specs.declared.memory.Memory.{Memory}
 use Rattle.depot_model.specs.Checks.{sight, missing}
-use Rattle.depot_history.proofs.Leaving.{if_ok}
 use Rattle.depot_accept.proofs.ParentItems.{first_lost, missing_prev, missing_entry, parents_found}
 use Rattle.depot_accept.proofs.content.find_parents.Goals as goal
 
@@ -13,8 +13,7 @@ returns-in-Some-clause-first g c = missing_prev (g.P.Past.updates c.args.past.no
 pub returns-clause-first : goal.returns-clause-first
 returns-clause-first g c =
     let us = g.P.Past.updates c.args.past.now in
-    if_ok c.find_entries.result (λ (failed : Option Check). failed ≡ first_lost us (map (λ d. d.id) c.as_slice.result.now)) (λ (failed : Option Check). failed ≡ missing c.args.update.now (sight us c.args.update.now)) c.find_entries.ensures.first
-    (λ failed is. missing_entry us c.args.update.now c.as_slice.result.now failed c.as_slice.ensures (sym c.in_default.is ∙ c.in_ok-check.ensures.first) is)
+    IfOk-weaker c.find_entries.result (λ (failed : Option Check). failed ≡ first_lost us (map (λ d. d.id) c.as_slice.result.now)) (λ (failed : Option Check). failed ≡ missing c.args.update.now (sight us c.args.update.now)) (λ failed is. missing_entry us c.args.update.now c.as_slice.result.now failed c.as_slice.ensures (sym c.in_default.is ∙ c.in_ok-check.ensures.first) is) c.find_entries.ensures.first
 
 pub returns-clause-places : goal.returns-clause-places
 returns-clause-places g c = λ e.

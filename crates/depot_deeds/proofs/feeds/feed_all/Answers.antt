@@ -1,13 +1,14 @@
 use Rattle.std.proofs.Common.{◌≡◌, [], length, refl, sym, ap, ◌∙◌, arith}
 use Rattle.std.proofs.lemmas.List.{nil_from_length}
 use Rattle.std.proofs.lemmas.Bool.Decides.{nat_tests}
+use Rattle.std.proofs.lemmas.Result.{IfOk-weaker}
 use Rattle.depot_feeds.specs.Pieces.{Stream}
 use Rattle.depot_feeds.proofs.PieceLaws.{under_way_fails, under_way_first}
 use Rattle.depot_feeds.proofs.StreamCalls.{nothing_called_for}
 use Rattle.depot_model.specs.Feeding.{feeding_from}
 use Rattle.depot_model.proofs.FeedGrowth.{grown_none, grown_on}
 use Rattle.depot_model.proofs.CallsOnDisk.{nothing_called}
-use Rattle.depot_deeds.proofs.FedStreams.{fed_alike, goes_on, if_ok, not_stopped, piece_called, pieces_called, runs_on, same_failure, told_all, under_way_on}
+use Rattle.depot_deeds.proofs.FedStreams.{fed_alike, goes_on, not_stopped, piece_called, pieces_called, runs_on, same_failure, told_all, under_way_on}
 use Rattle.depot_deeds.proofs.feeds.feed_all.Goals as goal
 
 pub returns-in_default-clause-calls : goal.returns-in_default-clause-calls
@@ -41,14 +42,14 @@ loop-rest-preserved g c =
 pub returns-in-Err-clause-told : goal.returns-in-Err-clause-told
 returns-in-Err-clause-told g c =
     let i = c.loop-rest.invariant in
-    if_ok _ _ c.closed.result (λ told all. (all (g.R.Replica.stands c.args.node.now) (feeding_from (g.R.Replica.records c.args.node.now)) c.args.stream.now (g.R.Replica.records c.piece.new.node)
+    IfOk-weaker c.closed.result _ _ (λ told all. (all (g.R.Replica.stands c.args.node.now) (feeding_from (g.R.Replica.records c.args.node.now)) c.args.stream.now (g.R.Replica.records c.piece.new.node)
     (under_way_fails (g.R.Replica.stands c.args.node.now) (g.R.Replica.stands c.loop-rest.node) _ c.args.stream.now c.loop-rest.rest.now c.split_at.result.0.now c.split_at.result.1.now _ c.in-Err.error c.piece.new.self (g.R.Replica.records c.piece.new.node) i.stays.stands i.under_way c.split_at.ensures.by_index.0
     (not_stopped c.in-Err.error (λ was. let never = sym i.runs ∙ c.in-Err.ensures.stops.answered.0 was in cc)) c.in-Err.ensures.feeds)).0) c.closed.ensures.told
 
 pub returns-in-Err-clause-grown : goal.returns-in-Err-clause-grown
 returns-in-Err-clause-grown g c =
     let i = c.loop-rest.invariant in
-    if_ok _ _ c.closed.result (λ told all. (all (g.R.Replica.stands c.args.node.now) (feeding_from (g.R.Replica.records c.args.node.now)) c.args.stream.now (g.R.Replica.records c.piece.new.node)
+    IfOk-weaker c.closed.result _ _ (λ told all. (all (g.R.Replica.stands c.args.node.now) (feeding_from (g.R.Replica.records c.args.node.now)) c.args.stream.now (g.R.Replica.records c.piece.new.node)
     (under_way_fails (g.R.Replica.stands c.args.node.now) (g.R.Replica.stands c.loop-rest.node) _ c.args.stream.now c.loop-rest.rest.now c.split_at.result.0.now c.split_at.result.1.now _ c.in-Err.error c.piece.new.self (g.R.Replica.records c.piece.new.node) i.stays.stands i.under_way c.split_at.ensures.by_index.0
     (not_stopped c.in-Err.error (λ was. let never = sym i.runs ∙ c.in-Err.ensures.stops.answered.0 was in cc)) c.in-Err.ensures.feeds)).1) c.closed.ensures.told
 

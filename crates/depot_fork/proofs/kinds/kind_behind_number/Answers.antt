@@ -1,12 +1,13 @@
 use Rattle.std.proofs.Common.{◌∙◌}
-use Rattle.depot_fork.proofs.KindLaws.{kept_is_voucher, came_is_voucher, both_are_updates, id_of_that}
+use Rattle.depot_fork.proofs.KindLaws.{kept_is_voucher, came_is_voucher, both_are_updates}
 use Rattle.depot_fork.proofs.kinds.kind_behind_number.Goals as goal
+use Rattle.depot_model.proofs.BodyLaws.{id_of_its_update}
 
 pub kind_of_updates-requires-clause-first : goal.kind_of_updates-requires-clause-first
-kind_of_updates-requires-clause-first c = id_of_that _ _ _ c.in-Update.is c.requires.kept_id
+kind_of_updates-requires-clause-first c = id_of_its_update _ _ _ c.requires.kept_id c.in-Update.is
 
 pub kind_of_updates-requires-clause-second : goal.kind_of_updates-requires-clause-second
-kind_of_updates-requires-clause-second c = id_of_that _ _ _ c.in-Update-came.is c.requires.came_id
+kind_of_updates-requires-clause-second c = id_of_its_update _ _ _ c.requires.came_id c.in-Update-came.is
 
 pub returns-in-Voucher : goal.returns-in-Voucher
 returns-in-Voucher c = kept_is_voucher _ _ _ c.in-Voucher.is c.requires.writer c.requires.bodies c.requires.number

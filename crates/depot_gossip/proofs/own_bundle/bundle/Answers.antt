@@ -6,10 +6,11 @@ use Rattle.depot_model.specs.Journal.{accepted, is_foreign}
 use Rattle.depot_model.specs.Lists.{AreApart}
 use Rattle.depot_model.specs.Vouching.{is_mine_vouched}
 use Rattle.depot_model.proofs.CallsOnDisk.{nothing_called, called_well}
+use Rattle.depot_model.proofs.StopLaws.{idle_lasts}
 use Rattle.depot_offers.specs.BundleStreams.{IsStream}
 use Rattle.depot_gossip.proofs.ApartLaws.{unvouched_apart, unvouched_foreign, unvouched_fresh}
 use Rattle.depot_gossip.proofs.StreamLaws.{not_bundled, not_prepared_stops, not_prepared_keeps, no_disk, not_vouched, only_vouched, all_bundled, stops_alike, keeps_alike, same_fault, memory_stops, memory_keeps, good_stops, good_keeps}
-use Rattle.depot_feeds.proofs.LastingStreams.{nothing_lasts, nothing_in, lasts_longer}
+use Rattle.depot_feeds.proofs.LastingStreams.{nothing_in}
 use Rattle.depot_gossip.proofs.VoucherGrowth.{vouched_in, not_vouched_in, vouched_lasts, not_vouched_lasts, not_vouched_calls}
 use Rattle.depot_gossip.proofs.own_bundle.bundle.Goals as goal
 
@@ -130,7 +131,7 @@ returns-clause-lasts g c =
     c.in_ok-own_vouchers.ensures.vouches c.own_vouchers.ensures.lasts
 
 pub returns-in_err-chosen-clause-brings : goal.returns-in_err-chosen-clause-brings
-returns-in_err-chosen-clause-brings g c = lasts_longer c.args.node.now c.args.node.now [] _ (nothing_lasts (g.met.R.Replica.only_now) c.args.node.now c.prepare.ensures.stable)
+returns-in_err-chosen-clause-brings g c = idle_lasts (g.met.R.Replica.only_now) c.args.node.now _ c.prepare.ensures.stable
 
 pub returns-in_err-own_vouchers-clause-brings : goal.returns-in_err-own_vouchers-clause-brings
 returns-in_err-own_vouchers-clause-brings g c =

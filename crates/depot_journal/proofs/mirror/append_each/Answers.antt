@@ -3,9 +3,9 @@ use Rattle.std.proofs.lemmas.List.{take_all}
 use Rattle.depot_base.specs.Calls.{calls_to_append_all, made}
 use Rattle.depot_base.specs.File.{StandsFor, blocks}
 use Rattle.depot_base.proofs.CallLaws.{fails_next, made_next}
+use Rattle.depot_base.proofs.Writing.{on_err_from}
 use Rattle.depot_journal.specs.Mirrored.{bodies_at}
 use Rattle.depot_journal.specs.WriteSteps.{IsBeforeOrAfter, StandsBetween}
-use Rattle.depot_journal.proofs.RecordBlocks.{on_err}
 use Rattle.depot_journal.proofs.Moments.{started, weaker, joined}
 use Rattle.depot_journal.proofs.Walk.{blocks_front, gate_behind, next_text, next_long, between_first, between, next_stands}
 use Rattle.depot_journal.proofs.mirror.append_each.Goals as goal
@@ -89,7 +89,7 @@ returns-in_err-append_one-clause-fails g c =
     let before = bodies_at c.args.mirror.now.bytes.items c.args.mirror.now.spans.items in
     let at = bodies_at c.loop-text.mirror.bytes.items c.loop-text.mirror.spans.items in
     let kept : bodies_at c.append_one.new.mirror.bytes.items c.append_one.new.mirror.spans.items ≡ at = c.in_err-append_one.ensures.kept in
-    on_err c.from_residual.result _ (record {
+    on_err_from c.from_residual.result (record {
       count = i;
       fewer = c.loop-text-test.true;
       front = kept ∙ was.bodies;
@@ -129,7 +129,7 @@ returns-in_err-append_one-clause-failing g c =
     let at = bodies_at c.loop-text.mirror.bytes.items c.loop-text.mirror.spans.items in
     let gate : vec_len c.loop-text.mirror.bytes ≡ vec_len c.args.mirror.now.bytes + length (blocks (take i c.args.texts.now)) =
     omega (arith, gate_behind c.args.mirror.now.bytes.items c.loop-text.mirror.bytes.items before at (take i c.args.texts.now) c.requires.mirror.parts was.mirror.parts was.bodies, c.args.mirror.now.bytes.ok.0, c.loop-text.mirror.bytes.ok.0) in
-    on_err c.from_residual.result _ (fails_next g.D.Disk.after g.met.D.Disk.after_more c.args.mirror.now.disk c.loop-text.mirror.disk c.append_one.new.mirror.disk (vec_len c.args.mirror.now.bytes) (vec_len c.loop-text.mirror.bytes) c.args.texts.now i c.as_slice.result.now next gate was.calls c.in_err-append_one.ensures.failing)
+    on_err_from c.from_residual.result (fails_next g.D.Disk.after g.met.D.Disk.after_more c.args.mirror.now.disk c.loop-text.mirror.disk c.append_one.new.mirror.disk (vec_len c.args.mirror.now.bytes) (vec_len c.loop-text.mirror.bytes) c.args.texts.now i c.as_slice.result.now next gate was.calls c.in_err-append_one.ensures.failing)
 
 pub returns-clause-made : goal.returns-clause-made
 returns-clause-made g c =

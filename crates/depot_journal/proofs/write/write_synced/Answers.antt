@@ -2,7 +2,7 @@ use Rattle.std.proofs.Common.{◌≡◌, ◌⊎◌, inl, inr, List, [], ◌∷�
 use Rattle.depot_base.specs.Disk.{IsTorn}
 use Rattle.depot_base.specs.Calls.{syncs, writes_at}
 use Rattle.depot_base.proofs.CallLaws.{fails_first, last_fails, last_made}
-use Rattle.depot_journal.proofs.RecordBlocks.{on_err}
+use Rattle.depot_base.proofs.Writing.{on_err_from}
 use Rattle.depot_journal.proofs.Moments.{started, goes_on}
 use Rattle.depot_journal.proofs.write.write_synced.Goals as goal
 
@@ -22,7 +22,7 @@ returns-clause-any_moment g c = λ base only.
     goes_on g.D.Disk.moment g.D.Disk.left_since c.args.disk.now c.write_at.new.self c.sync.new.self P _ written c.sync.ensures.time (λ f now. torn f (c.sync.ensures.images f now))
 
 pub returns-in_err-write_at-clause-failing : goal.returns-in_err-write_at-clause-failing
-returns-in_err-write_at-clause-failing g c = on_err c.from_residual.result _ (fails_first g.D.Disk.after c.args.disk.now c.write_at.new.self (writes_at c.args.at c.args.bytes.now) (syncs ∷ []) c.in_err-write_at.ensures.made)
+returns-in_err-write_at-clause-failing g c = on_err_from c.from_residual.result (fails_first g.D.Disk.after c.args.disk.now c.write_at.new.self (writes_at c.args.at c.args.bytes.now) (syncs ∷ []) c.in_err-write_at.ensures.made)
 
 pub returns-clause-made : goal.returns-clause-made
 returns-clause-made g c =

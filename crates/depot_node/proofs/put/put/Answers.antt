@@ -7,7 +7,7 @@ use Rattle.depot_store.specs.declared.room.CommitError.{CommitError}
 use Rattle.depot_decide.specs.Putting.{IsRefused}
 use Rattle.depot_decide.specs.declared.put_answers.PutError.TheVariants as put_error
 use Rattle.depot_node.proofs.DiskCalls.{is_other}
-use Rattle.depot_node.proofs.LastingCalls.{idle_lasts}
+use Rattle.depot_model.proofs.StopLaws.{idle_lasts}
 use Rattle.depot_decide.proofs.PutLaws.{plan_may_grow, plan_is_cut, plan_is_put, plan_has_no_room, refused_puts}
 use Rattle.depot_node.proofs.put.put.Goals as goal
 

@@ -6,7 +6,7 @@ use Rattle.depot_base.specs.declared.record.Record.TheVariants.{Birth}
 use Rattle.depot_model.specs.Lawful.{IsLawful}
 use Rattle.depot_store.specs.Holdings.{standing}
 use Rattle.depot_node.proofs.Beginnings.{birth_begins, last_has_text}
-use Rattle.depot_node.proofs.LastingCalls.{idle_lasts}
+use Rattle.depot_model.proofs.StopLaws.{idle_lasts}
 use Rattle.depot_node.proofs.start_reading.add_birth.Given.{Over}
 use Rattle.depot_node.proofs.start_reading.add_birth.Goals as goal
 use Rattle.depot_node.proofs.start_reading.add_birth.Goals.{After-hash-roster}

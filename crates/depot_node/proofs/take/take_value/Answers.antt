@@ -7,7 +7,7 @@ use Rattle.depot_model.proofs.CallsOnDisk.{nothing_called}
 use Rattle.depot_store.specs.Holdings.{standing}
 use Rattle.depot_decide.proofs.Decided.{may_grow, takes_decided}
 use Rattle.depot_node.proofs.DiskCalls.{calls_taken}
-use Rattle.depot_node.proofs.LastingCalls.{idle_lasts}
+use Rattle.depot_model.proofs.StopLaws.{idle_lasts}
 use Rattle.depot_node.proofs.TakenGrowth.{lasts_taken}
 use Rattle.depot_node.proofs.take.take_value.Goals as goal
 

@@ -7,7 +7,7 @@ use Rattle.depot_store.specs.RoomByCounts.{Commits}
 use Rattle.depot_store.specs.declared.room.CommitError.{CommitError}
 use Rattle.depot_decide.specs.PlannedVouchers.{ArePlanned, AreRefused}
 use Rattle.depot_node.proofs.DiskCalls.{is_other}
-use Rattle.depot_node.proofs.LastingCalls.{idle_lasts}
+use Rattle.depot_model.proofs.StopLaws.{idle_lasts}
 use Rattle.depot_decide.proofs.VoucherPlans.{cut_vouchers, may_vouch, no_room, refused_vouches, vouched}
 use Rattle.depot_node.proofs.vouch.own_vouchers.Given.{Over}
 use Rattle.depot_node.proofs.vouch.own_vouchers.Goals as goal

@@ -6,7 +6,7 @@ use Rattle.depot_outside.specs.declared.mem_disk.MemDisk.{MemDisk}
 use Rattle.depot_replay.specs.Disks.{armed_of}
 use Rattle.depot_replay.specs.Seats.{IsBegunOn}
 use Rattle.depot_replay.proofs.SeatEvents.{begun_cut, called_kept, called_well, cut_ends, cut_of, left_by_cut}
-use Rattle.depot_deeds.proofs.FedStreams.{if_ok}
+use Rattle.std.proofs.lemmas.Result.{IfOk-weaker}
 use Rattle.depot_replay.proofs.seat.seated.Goals as goal
 
 pub invariant_of-result : goal.invariant_of-result
@@ -37,7 +37,7 @@ pub returns-in-None : goal.returns-in-None
 returns-in-None g c =
     let there : Setting = record { verifies = g.S.Scheme.verifies; me = c.args.means.me; listed = c.args.means.roster } in
     let none = c.in-None.is in
-    if_ok _ _ c.stopped.result (λ t again v s longer here sign called.
+    IfOk-weaker c.stopped.result _ _ (λ t again v s longer here sign called.
     let J = left_by_cut called none in
     let begun = subst (λ (d : MemDisk). IsBegunOn there (state_of d) J) (sym c.into_disk.ensures) (subst (λ (h : Setting). IsBegunOn h (state_of c.args.node.store.disk) J) here (begun_cut called none)) in
     let over = ap (λ (d : MemDisk). armed_of (state_of d).next) c.into_disk.ensures ∙ (cut_of called none).stopped.none_waits in

@@ -1,5 +1,5 @@
 use Rattle.std.proofs.Common.{◌≡◌, ◌≤◌, ◌++◌, length, Ok}
-use Rattle.depot_schedule.specs.Language.{◌>>=◌}
+use Rattle.depot_base.specs.Format.{◌>>=◌}
 use Rattle.depot_schedule.specs.Schedules.{lines_of, lines_of_parts}
 use Rattle.depot_script.specs.Scripts.{read_lines}
 use Rattle.depot_script.proofs.script_parse.all.Given as goal

@@ -3,12 +3,13 @@ use Rattle.depot_outside.specs.Told.{shelves, sinks}
 use Rattle.depot_model.specs.Bundle.{bundle_answer}
 use Rattle.depot_deeds.proofs.FedStreams.{runs_on}
 use Rattle.depot_session.specs.declared.ending.Ending.TheVariants as ending
-use Rattle.depot_session.proofs.BundleTurns.{bundle_ends_calmly, bundle_told, bundled_whole, bundles_absent, finds_none, is_nothing, isnt_nothing, made_to_disk, made_without_memory, refused_told}
+use Rattle.depot_session.proofs.BundleTurns.{bundle_ends_calmly, bundle_told, bundled_whole, bundles_absent, finds_none, isnt_nothing, made_to_disk, made_without_memory, refused_told}
 use Rattle.depot_session.proofs.Called.{keeps_running, keeps_to_disk, keeps_without_memory, not_where_some}
 use Rattle.depot_session.proofs.StoredFiles.{stored_from}
 use Rattle.depot_session.proofs.ToldFaults.{EndsCalmly, names_fault, names_memory, names_stored, names_told}
 use Rattle.depot_session.proofs.Uncalled.{keeps_uncalled, uncalled_without_file, uncalled_without_memory}
 use Rattle.depot_session.proofs.commands.make_bundle.Goals as goal
+use Rattle.depot_base.proofs.GeneralLaws.{is_none}
 
 pub returns-in_err-text-clause-keeps : goal.returns-in_err-text-clause-keeps
 returns-in_err-text-clause-keeps g c = keeps_uncalled g.R.Replica c.args.node.now c.requires.running (g.met.R.Replica.only_now) (g.met.R.Replica.lawful c.args.node.now) _ _ (names_memory _ _ (omega arith) _ c.from_residual.ensures.1)
@@ -75,7 +76,7 @@ returns-in-Some-2-clause-turns g c = λ s tells at.
     let print = rw c.in-Some-2.is at (c.in_ok-bundle_printed.ensures.printed here sign s.correct text (g.R.Replica.records m) (rw (sym at.journal) at bundles)) in
     let ends = c.ending_of_bundle-ends.ensures.ends here sign (g.R.Replica.records n) text (g.R.Replica.records m) settled not bundles in
     rw c.requires.command (bundle_told g.R.Replica (g.met.R.Replica.counts_now) n m s c.args.hello.now c.args.file.now text (shelves g.F.Shelf shelf last) at (◌∙◌ {a = g.F.Shelf.file c.args.shelf.now c.args.hello.now} (loaded tells) (ap (λ bytes. Some bytes) (sym c.as_slice.ensures))) c.requires.running.runs c.bundle-made.ensures.brings
-    sink _ _ c.store_and_tell.result (runs_on _ _ _ _ c.bundle-made.ensures.stops c.requires.running.runs not) (bundled_whole here sign (g.R.Replica.records n) text c.bundle-made.result (g.R.Replica.records m) settled not bundles) (sym ends ∙ is_nothing _ c.if-is_none.ensures) print.0 print.1 tells
+    sink _ _ c.store_and_tell.result (runs_on _ _ _ _ c.bundle-made.ensures.stops c.requires.running.runs not) (bundled_whole here sign (g.R.Replica.records n) text c.bundle-made.result (g.R.Replica.records m) settled not bundles) (sym ends ∙ is_none _ c.if-is_none.ensures) print.0 print.1 tells
     (stored_from (g.F.Shelf.tells mid) (g.F.Shelf.tells shelf) (g.F.Shelf.file mid) (g.F.Shelf.file shelf) (g.F.Shelf.file last) (g.F.Shelf.faults mid) (g.F.Shelf.faults shelf) (g.F.Shelf.faults last) sink _ c.args.file.now _ c.store_and_tell.result c.load.ensures.tells c.load.ensures.files quiet
     (rw c.requires.command at c.store_and_tell.ensures.stores)))
 

@@ -4,12 +4,13 @@ use Rattle.depot_base.specs.declared.record.Record.{Record}
 use Rattle.depot_model.specs.declared.bundle.Refusal.{Refusal}
 use Rattle.depot_model.specs.Feeding.{passed, counted}
 use Rattle.depot_model.proofs.CallsOnDisk.{nothing_called, called_well, calls_alike}
+use Rattle.depot_model.proofs.StopLaws.{idle_lasts}
 use Rattle.depot_feeds.specs.Pieces.{at_work}
 use Rattle.depot_feeds.specs.NodeCalls.{stream_by}
 use Rattle.depot_feeds.proofs.StreamCalls.{same_error}
 use Rattle.depot_feeds.proofs.GivenLaws.{end_is_passed, counted_is_fed, error_leaves}
 use Rattle.depot_feeds.proofs.FeedRecords.{given_brings}
-use Rattle.depot_feeds.proofs.LastingStreams.{nothing_lasts, nothing_in, lasts_longer, lasts_alike}
+use Rattle.depot_feeds.proofs.LastingStreams.{nothing_in, lasts_alike}
 use Rattle.depot_feeds.proofs.tally.Tally.take.Goals as goal
 
 pub returns-then-tag-eq4-clause-takes : goal.returns-then-tag-eq4-clause-takes
@@ -45,10 +46,10 @@ pub returns-in_err-reserve-clause-lasts : goal.returns-in_err-reserve-clause-las
 returns-in_err-reserve-clause-lasts g c = nothing_in (g.met.R.Replica.only_now) _ _ _ (g.met.R.Replica.lawful c.args.node.now) c.requires.stable
 
 pub returns-then-tag-eq4-clause-brings : goal.returns-then-tag-eq4-clause-brings
-returns-then-tag-eq4-clause-brings g c = lasts_longer c.args.node.now c.args.node.now [] _ (nothing_lasts (g.met.R.Replica.only_now) c.args.node.now c.requires.stable)
+returns-then-tag-eq4-clause-brings g c = idle_lasts (g.met.R.Replica.only_now) c.args.node.now _ c.requires.stable
 
 pub returns-in_err-reserve-clause-brings : goal.returns-in_err-reserve-clause-brings
-returns-in_err-reserve-clause-brings g c = lasts_longer c.args.node.now c.args.node.now [] _ (nothing_lasts (g.met.R.Replica.only_now) c.args.node.now c.requires.stable)
+returns-in_err-reserve-clause-brings g c = idle_lasts (g.met.R.Replica.only_now) c.args.node.now _ c.requires.stable
 
 pub returns-in_err-answer-clause-brings : goal.returns-in_err-answer-clause-brings
 returns-in_err-answer-clause-brings g c = lasts_alike c.args.node.now c.give.new.node _ _ (given_brings (g.R.Replica.stands c.args.node.now) (g.R.Replica.records c.args.node.now) (record { tag = c.args.tag; payload = c.args.payload.now }) (omega arith)) c.give.ensures.brings

@@ -1,6 +1,6 @@
 use Rattle.std.proofs.Common.{◌≡◌, ◌∙◌, ℕ, List, [], ◌<◌, length, sym, ap, map, subst, arith}
 use Rattle.std.proofs.lemmas.List.{length_push}
-use Rattle.depot_base.specs.declared.update.Update.{Update}
+use Rattle.depot_model.specs.Contents.{key_written}
 use Rattle.depot_index.specs.KeyLists.{latest_of, room_of}
 use Rattle.depot_graph.specs.Causal.{causal_from_test}
 use Rattle.depot_graph.specs.Clocked.{clock_items}
@@ -68,8 +68,8 @@ add-requires-2-clause-items g c =
     let new = c.insert.new.self.entries in
     let us = updates_in es in
     let last = entries_then es new c.args.id c.args.update c.args.self.now.ids c.requires.id c.requires.fits (said_of_ok c.insert.result _ (c.insert.ensures.succeeds c.requires.items) c.insert.ensures.entries) in
-    latest_in_use c.item_at.result.1.now.key us (updates_in new) c.args.update (latest_of c.item_at.result.1.now.key c.args.self.now.latest)
-    (causal_from_test [] us c.args.self.now.causal) (updates_kept es new c.args.id c.args.update last) (c.args.self.now.reads c.item_at.result.1.now.key)
+    latest_in_use c.key_written-key.result.now us (updates_in new) c.args.update (latest_of c.key_written-key.result.now c.args.self.now.latest)
+    (causal_from_test [] us c.args.self.now.causal) (updates_kept es new c.args.id c.args.update last) (c.args.self.now.reads c.key_written-key.result.now)
 
 pub invariant_of-self-2 : goal.invariant_of-self-2
 invariant_of-self-2 g c =
@@ -79,8 +79,8 @@ invariant_of-self-2 g c =
     let u = c.args.update in
     let id = c.args.id in
     let last = entries_then es new id u c.args.self.now.ids c.requires.id c.requires.fits (said_of_ok c.insert.result _ (c.insert.ensures.succeeds c.requires.items) c.insert.ensures.entries) in
-    let key = c.item_at.result.1.now.key in
-    let is : key ≡ u.key = ap (λ (v : Update). v.key) (last_is es new id u last c.count-number.result c.item_at.result.0.now c.item_at.result.1.now c.count-number.ensures c.item_at.ensures) in
+    let key = c.key_written-key.result.now in
+    let is : key ≡ key_written u = c.key_written-key.ensures ∙ ap key_written (last_is es new id u last c.count-number.result c.item_at.result.0.now c.item_at.result.1.now c.count-number.ensures c.item_at.ensures) in
     let room : 0 < room_of key c.args.self.now.latest = subst (λ (k : List ℕ). 0 < room_of k c.args.self.now.latest) (sym is) c.requires.latest in
     record {
       counted = count_kept es new id u last c.requires.count;
@@ -110,4 +110,4 @@ returns-clause-cost g c =
     let u = c.args.update in
     let last = entries_then es new c.args.id u c.args.self.now.ids c.requires.id c.requires.fits (said_of_ok c.insert.result _ (c.insert.ensures.succeeds c.requires.items) c.insert.ensures.entries) in
     let is = last_is es new c.args.id u last c.count-number.result c.item_at.result.0.now c.item_at.result.1.now c.count-number.ensures c.item_at.ensures in
-    omega (arith, c.add-2.ensures.cost, ap (λ (v : Update). length (latest_of v.key c.args.self.now.latest)) is)
+    omega (arith, c.add-2.ensures.cost, ap (λ (k : List ℕ). length (latest_of k c.args.self.now.latest)) (c.key_written-key.ensures ∙ ap key_written is))

@@ -1,11 +1,11 @@
 use Rattle.std.proofs.Common.{List, ap, subst, rules, ◌∙◌}
-use Rattle.std.proofs.lemmas.Result.{IfOk-weaker}
+use Rattle.std.proofs.lemmas.Result.{IfOk-weaker, IfErr-weaker}
 use Rattle.depot_base.specs.Calls.{FailsAmong, made}
 use Rattle.depot_base.specs.declared.key.RosterEntry.{RosterEntry}
 use Rattle.depot_model.specs.Checks.{Setting}
 use Rattle.depot_node.specs.Starting.{IsStartedFrom, calls_to_start_node}
 use Rattle.depot_outside.specs.Stopping.{Leads, state_of}
-use Rattle.depot_replay.proofs.SeatReads.{fails_there, if_err}
+use Rattle.depot_replay.proofs.SeatReads.{fails_there}
 use Rattle.depot_replay.proofs.seat.Means.start.Goals as goal
 
 pub returns-clause-me : goal.returns-clause-me
@@ -24,6 +24,6 @@ returns-clause-calls g c = IfOk-weaker c.start.result _ _ (λ n calls J has.
     (calls (search rules) J has)) c.start.ensures.calls
 
 pub returns-clause-failing : goal.returns-clause-failing
-returns-clause-failing g c = if_err _ _ c.start.result (λ b fails disk J has.
+returns-clause-failing g c = IfErr-weaker c.start.result _ _ (λ b fails disk J has.
     subst (λ (r : List RosterEntry). FailsAmong Leads (state_of c.args.disk) (state_of b.disk) (calls_to_start_node (record { verifies = g.S.Scheme.verifies; me = c.args.self.now.me; listed = r }) c.args.disk.file.bytes.items J)) c.in-Ok.ensures
     (fails_there c.args.disk b.disk (state_of c.args.disk) (state_of b.disk) _ (λ made led. led) (fails disk (search rules) J has))) c.start.ensures.failing

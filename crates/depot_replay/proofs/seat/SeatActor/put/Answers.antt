@@ -2,7 +2,7 @@ use Rattle.std.proofs.Common.{refl, ◌∙◌}
 use Rattle.depot_outside.specs.Stopping.{state_of}
 use Rattle.depot_replay.proofs.SeatCalls.{done_on}
 use Rattle.depot_replay.proofs.SeatEvents.{begun_there, same_signs}
-use Rattle.depot_deeds.proofs.FedStreams.{if_ok}
+use Rattle.std.proofs.lemmas.Result.{IfOk-weaker}
 use Rattle.depot_replay.proofs.SeatTurns.{put_seated, put_turn, same_setting}
 use Rattle.depot_replay.proofs.seat.SeatActor.put.Goals as goal
 
@@ -31,5 +31,5 @@ returns g c =
     let done = done_on n m (state_of n.store.disk) (state_of m.store.disk) _ (λ calls led. led) c.put-done.ensures.calls in
     let called = put_seated _ _ there _ _ (same_signs _ _ a.signs) (state_of n.store.disk) (state_of m.store.disk) n.store.records m.store.records begun c.args.key c.args.value c.put-done.result c.in_ok-printed.printed c.have_sizes.ensures.key c.have_sizes.ensures.value c.put-done.ensures.puts
     c.in_ok-printed.ensures.settled done c.in_ok-printed.ensures.stopped in
-    if_ok _ _ c.seated.result (λ told ends. put_turn _ _ there _ _ (same_signs _ _ a.signs) (state_of n.store.disk) (state_of m.store.disk) n.store.records m.store.records begun c.args.key c.args.value c.put-done.result c.in_ok-printed.printed _ _ _ c.put-done.ensures.puts c.in_ok-printed.ensures.printed
+    IfOk-weaker c.seated.result _ _ (λ told ends. put_turn _ _ there _ _ (same_signs _ _ a.signs) (state_of n.store.disk) (state_of m.store.disk) n.store.records m.store.records begun c.args.key c.args.value c.put-done.result c.in_ok-printed.printed _ _ _ c.put-done.ensures.puts c.in_ok-printed.ensures.printed
     (ends _ _ _ refl refl called)) c.seated.ensures

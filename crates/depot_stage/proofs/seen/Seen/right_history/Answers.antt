@@ -1,7 +1,7 @@
 use Rattle.std.proofs.Common.{◌≡◌, List, ℕ, ap, subst, sym, ◌∙◌, ◌<◌, length}
 use Rattle.std.specs.List.{AllByRecursion}
+use Rattle.std.proofs.lemmas.Result.{IfOk-weaker}
 use Rattle.depot_graph.specs.Kept.{updates_in}
-use Rattle.depot_history.proofs.Leaving.{if_ok}
 use Rattle.depot_history.specs.Closure.{closure_of}
 use Rattle.depot_model.specs.History.{history_hash}
 use Rattle.depot_model.specs.Order.{parents, past}
@@ -18,5 +18,4 @@ pub returns : goal.returns
 returns c =
     let us = updates_in c.args.self.now.graph.items.entries in
     let u = c.args.update.now in
-    if_ok c.history_hash.result (λ hash. hash ≡ history_hash (closure_of c.as_slice.result.now us)) (λ hash. hash ≡ history_hash (past u us)) c.history_hash.ensures
-    (λ hash is. hash_of_items us u c.in_ok-items.items.items hash c.in_ok-items.ensures (is ∙ ap (λ (ns : List ℕ). history_hash (closure_of ns us)) c.as_slice.ensures.value))
+    IfOk-weaker c.history_hash.result (λ hash. hash ≡ history_hash (closure_of c.as_slice.result.now us)) (λ hash. hash ≡ history_hash (past u us)) (λ hash is. hash_of_items us u c.in_ok-items.items.items hash c.in_ok-items.ensures (is ∙ ap (λ (ns : List ℕ). history_hash (closure_of ns us)) c.as_slice.ensures.value)) c.history_hash.ensures

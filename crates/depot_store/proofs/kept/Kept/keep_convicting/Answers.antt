@@ -1,11 +1,12 @@
 use Rattle.std.proofs.Common.{◌++◌, ◌∷◌, [], refl, sym, ap, ◌∙◌}
 use Rattle.depot_base.specs.declared.record.Record.TheVariants.{Foreign}
+use Rattle.depot_base.proofs.Writing.{on_err_from}
 use Rattle.depot_model.specs.Checks.{Setting}
 use Rattle.depot_model.specs.Roster.{has_node}
 use Rattle.depot_laws.proofs.LawfulRecords.{IsSigned-from_record}
 use Rattle.depot_laws.proofs.Splits.{lawful_front, lawful_last}
 use Rattle.depot_store.proofs.BoundLaws.{few_statements, few_updates}
-use Rattle.depot_store.proofs.KeptLaws.{both_kept, on_err, still_keeps, same_state}
+use Rattle.depot_store.proofs.KeptLaws.{both_kept, still_keeps, same_state}
 use Rattle.depot_store.proofs.StateGrowth.{accepted_still, accused_is_listed, fits_behind, foreign_still, lawful_both}
 use Rattle.depot_store.proofs.kept.Kept.keep_convicting.Goals as goal
 
@@ -36,7 +37,7 @@ convict-requires g c =
     ∙ accused_is_listed _ c.requires.may.0 c.args.proof.now (lawful_front _ _ (Foreign c.args.signed ∷ []) l)
 
 pub returns-in_err-add_foreign-clause-err : goal.returns-in_err-add_foreign-clause-err
-returns-in_err-add_foreign-clause-err g c = on_err _ (still_keeps g.S.Scheme.verifies _ _ _ _ _ c.in_err-add_foreign.ensures.stays (same_state _ _ c.in_err-add_foreign.ensures.err) (λ h. refl))
+returns-in_err-add_foreign-clause-err g c = on_err_from _ (still_keeps g.S.Scheme.verifies _ _ _ _ _ c.in_err-add_foreign.ensures.stays (same_state _ _ c.in_err-add_foreign.ensures.err) (λ h. refl))
 
 pub returns-clause-ok : goal.returns-clause-ok
 returns-clause-ok g c = λ J k l.

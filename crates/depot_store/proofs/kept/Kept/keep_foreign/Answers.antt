@@ -1,9 +1,10 @@
 use Rattle.std.proofs.Common.{refl}
 use Rattle.depot_base.specs.declared.record.Record.TheVariants.{Foreign}
+use Rattle.depot_base.proofs.Writing.{on_err_from}
 use Rattle.depot_laws.proofs.LawfulRecords.{IsSigned-from_record}
 use Rattle.depot_laws.proofs.Splits.{lawful_last}
 use Rattle.depot_store.proofs.BoundLaws.{few_statements, few_updates}
-use Rattle.depot_store.proofs.KeptLaws.{taken_kept, on_err, still_keeps, same_state}
+use Rattle.depot_store.proofs.KeptLaws.{taken_kept, still_keeps, same_state}
 use Rattle.depot_store.proofs.StateGrowth.{fits_behind}
 use Rattle.depot_store.proofs.kept.Kept.keep_foreign.Goals as goal
 
@@ -20,7 +21,7 @@ pub add_foreign-requires-clause-few_foreign : goal.add_foreign-requires-clause-f
 add_foreign-requires-clause-few_foreign g c = few_statements _ c.requires.may.0 (Foreign c.args.signed) _ c.requires.may.1.1 c.requires.may.1.0.state.foreign
 
 pub returns-in_err-add_foreign-clause-err : goal.returns-in_err-add_foreign-clause-err
-returns-in_err-add_foreign-clause-err g c = on_err _ (still_keeps g.S.Scheme.verifies _ _ _ _ _ c.in_err-add_foreign.ensures.stays (same_state _ _ c.in_err-add_foreign.ensures.err) (λ h. refl))
+returns-in_err-add_foreign-clause-err g c = on_err_from _ (still_keeps g.S.Scheme.verifies _ _ _ _ _ c.in_err-add_foreign.ensures.stays (same_state _ _ c.in_err-add_foreign.ensures.err) (λ h. refl))
 
 pub returns-clause-ok : goal.returns-clause-ok
 returns-clause-ok g c = λ J k l.

@@ -1,8 +1,9 @@
 use Rattle.std.proofs.Common.{◌∷◌, [], refl, arith}
 use Rattle.depot_base.specs.declared.record.Record.TheVariants.{OwnPut}
+use Rattle.depot_base.proofs.Writing.{on_err_from}
 use Rattle.depot_laws.proofs.Splits.{lawful_last}
 use Rattle.depot_store.proofs.BoundLaws.{few_of_own, few_updates}
-use Rattle.depot_store.proofs.KeptLaws.{on_err, put_kept, still_keeps, same_state}
+use Rattle.depot_store.proofs.KeptLaws.{put_kept, still_keeps, same_state}
 use Rattle.depot_store.proofs.StateGrowth.{fits_behind, id_of_put, put_hash, put_is_mine, put_is_statement}
 use Rattle.depot_store.proofs.kept.Kept.keep_put.Goals as goal
 
@@ -25,10 +26,10 @@ pub add_hashed-requires : goal.add_hashed-requires
 add_hashed-requires g c = rw c.value_named-hash.ensures (put_hash _ c.requires.may.0 c.args.update c.args.value c.requires.may.1.1)
 
 pub returns-in_err-reserve-clause-err : goal.returns-in_err-reserve-clause-err
-returns-in_err-reserve-clause-err g c = on_err _ (still_keeps g.S.Scheme.verifies _ _ _ _ _ refl (λ J s. s) c.reserve.ensures.values_stay)
+returns-in_err-reserve-clause-err g c = on_err_from _ (still_keeps g.S.Scheme.verifies _ _ _ _ _ refl (λ J s. s) c.reserve.ensures.values_stay)
 
 pub returns-in_err-add_own-clause-err : goal.returns-in_err-add_own-clause-err
-returns-in_err-add_own-clause-err g c = on_err _ (still_keeps g.S.Scheme.verifies _ _ _ _ _ c.in_err-add_own.ensures.stays (same_state _ _ c.in_err-add_own.ensures.err) c.reserve.ensures.values_stay)
+returns-in_err-add_own-clause-err g c = on_err_from _ (still_keeps g.S.Scheme.verifies _ _ _ _ _ c.in_err-add_own.ensures.stays (same_state _ _ c.in_err-add_own.ensures.err) c.reserve.ensures.values_stay)
 
 pub overflow_add-self : goal.overflow_add-self
 overflow_add-self g c =

@@ -1,16 +1,17 @@
 use Rattle.std.proofs.Common.{[], ◌∷◌, refl, ◌∙◌}
 use Rattle.depot_base.specs.declared.record.Record.TheVariants.{OwnVoucher}
+use Rattle.depot_base.proofs.Writing.{on_err_from}
 use Rattle.depot_vouch.proofs.IdSlotLaws.{added_together}
 use Rattle.depot_store.specs.StoreParts.{StillKeeps}
-use Rattle.depot_store.proofs.KeptLaws.{keeps_still, may_still, on_err, same_setting, same_state, still_keeps}
+use Rattle.depot_store.proofs.KeptLaws.{keeps_still, may_still, same_setting, same_state, still_keeps}
 use Rattle.depot_store.proofs.OwnIdLaws.{adds_behind}
 use Rattle.depot_store.proofs.kept.Kept.keep_voucher.Goals as goal
 
 pub returns-in_err-reserve-clause-err : goal.returns-in_err-reserve-clause-err
-returns-in_err-reserve-clause-err g c = let same : StillKeeps c.args.self.now.state c.args.self.now.values c.args.self.now.totals c.args.self.now.state c.args.self.now.values c.args.self.now.totals = λ J k. k in on_err _ same
+returns-in_err-reserve-clause-err g c = let same : StillKeeps c.args.self.now.state c.args.self.now.values c.args.self.now.totals c.args.self.now.state c.args.self.now.values c.args.self.now.totals = λ J k. k in on_err_from _ same
 
 pub returns-in_err-reserve_vouchers-clause-err : goal.returns-in_err-reserve_vouchers-clause-err
-returns-in_err-reserve_vouchers-clause-err g c = on_err _ (still_keeps g.S.Scheme.verifies _ _ _ _ _ (same_setting g.S.Scheme.verifies c.args.self.now.state c.reserve_vouchers.new.self c.reserve_vouchers.ensures.same) (same_state _ _ c.in_err-reserve_vouchers.ensures.err) (λ h. refl))
+returns-in_err-reserve_vouchers-clause-err g c = on_err_from _ (still_keeps g.S.Scheme.verifies _ _ _ _ _ (same_setting g.S.Scheme.verifies c.args.self.now.state c.reserve_vouchers.new.self c.reserve_vouchers.ensures.same) (same_state _ _ c.in_err-reserve_vouchers.ensures.err) (λ h. refl))
 
 pub returns-in_err-reserve_vouchers-clause-stays : goal.returns-in_err-reserve_vouchers-clause-stays
 returns-in_err-reserve_vouchers-clause-stays g c = same_setting g.S.Scheme.verifies c.args.self.now.state c.reserve_vouchers.new.self c.reserve_vouchers.ensures.same

@@ -1,17 +1,18 @@
 use Rattle.std.proofs.Common.{List, length, refl, sym, ap, subst, ◌∙◌, arith}
 use Rattle.std.specs.List.{AllByRecursion}
+use Rattle.depot_base.proofs.Writing.{on_err_from}
 use Rattle.depot_model.specs.Vouching.{records_of}
 use Rattle.depot_store.specs.NewRecords.{HasOwnId, vouchers_of}
 use Rattle.depot_store.specs.OwnIds.{AddsMine, HaveRoom}
 use Rattle.depot_store.specs.StoreParts.{Keeps, MayKeep, StillKeeps}
 use Rattle.depot_store.specs.declared.growth.NewVoucher.{NewVoucher}
 use Rattle.depot_store.proofs.BoundLaws.{few_vouchers}
-use Rattle.depot_store.proofs.KeptLaws.{keeps_still, may_still, on_err, same_setting, same_state, still_keeps}
+use Rattle.depot_store.proofs.KeptLaws.{keeps_still, may_still, same_setting, same_state, still_keeps}
 use Rattle.depot_store.proofs.OwnIdLaws.{adds_behind}
 use Rattle.depot_store.proofs.kept.Kept.keep_vouchers.Goals as goal
 
 pub returns-in_err-reserve_ids-clause-err : goal.returns-in_err-reserve_ids-clause-err
-returns-in_err-reserve_ids-clause-err g c = let same : StillKeeps c.args.self.now.state c.args.self.now.values c.args.self.now.totals c.args.self.now.state c.args.self.now.values c.args.self.now.totals = λ J k. k in on_err _ same
+returns-in_err-reserve_ids-clause-err g c = let same : StillKeeps c.args.self.now.state c.args.self.now.values c.args.self.now.totals c.args.self.now.state c.args.self.now.values c.args.self.now.totals = λ J k. k in on_err_from _ same
 
 pub overflow_cast-len : goal.overflow_cast-len
 overflow_cast-len g c =
@@ -19,7 +20,7 @@ overflow_cast-len g c =
     omega (arith, few, c.len.ensures, c.into_vec-vouchers.result.ok.0, ap length c.into_vec-vouchers.ensures)
 
 pub returns-in_err-reserve_vouchers-clause-err : goal.returns-in_err-reserve_vouchers-clause-err
-returns-in_err-reserve_vouchers-clause-err g c = on_err _ (still_keeps g.S.Scheme.verifies _ _ _ _ _ (same_setting g.S.Scheme.verifies c.args.self.now.state c.reserve_vouchers.new.self c.reserve_vouchers.ensures.same) (same_state _ _ c.in_err-reserve_vouchers.ensures.err) (λ h. refl))
+returns-in_err-reserve_vouchers-clause-err g c = on_err_from _ (still_keeps g.S.Scheme.verifies _ _ _ _ _ (same_setting g.S.Scheme.verifies c.args.self.now.state c.reserve_vouchers.new.self c.reserve_vouchers.ensures.same) (same_state _ _ c.in_err-reserve_vouchers.ensures.err) (λ h. refl))
 
 pub returns-in_err-reserve_vouchers-clause-stays : goal.returns-in_err-reserve_vouchers-clause-stays
 returns-in_err-reserve_vouchers-clause-stays g c = same_setting g.S.Scheme.verifies c.args.self.now.state c.reserve_vouchers.new.self c.reserve_vouchers.ensures.same
