@@ -10,20 +10,20 @@ use Rattle.depot_model.specs.Checks.{Setting}
 use Rattle.depot_model.specs.Frames.{Frame}
 use Rattle.depot_model.specs.Taking.{Outcome, TakesProof, TakesStatement, TakesValue}
 use Rattle.depot_model.specs.Feeding.{Feeding, take_frame, fed_frame, after_outcome, passed, counted, says_more}
-use Rattle.depot_model.proofs.TakeLaws.{Tells, proof_frame_tells, statement_frame_tells, value_frame_tells}
+use Rattle.depot_model.proofs.TakeLaws.{IsTold, Tells, proof_frame_tells, statement_frame_tells, value_frame_tells}
 use Rattle.depot_feeds.specs.declared.feed_error.FeedError.{FeedError}
 use Rattle.depot_feeds.specs.declared.feed_error.FeedError.TheVariants as error
 use Rattle.depot_feeds.specs.declared.tally.Tally.{Tally}
 use Rattle.depot_feeds.specs.Pieces.{at_work}
-use Rattle.depot_feeds.specs.NodeCalls.{stream_by, told, IsTold, Answers, TakesFrame}
+use Rattle.depot_feeds.specs.NodeCalls.{stream_by, told, Answers, TakesFrame}
 
 told_answers : (o : Outcome) (J : List Record) (r : Result Taken TakeError) (then : List Record) → Tells o J r then → Answers o J (told r) then
-told_answers o J (Ok taken) then t = record { new = t.new; is = t.is; grown = t.grown }
+told_answers o J (Ok taken) then t = t
 told_answers o J (Err refused.Memory) then t = t
-told_answers o J (Err refused.Disk) then t = record { answer = t.answer; new = t.new; is = t.is; cut = t.cut }
+told_answers o J (Err refused.Disk) then t = t
 told_answers o J (Err refused.Stopped) then t = t
 told_answers o J (Err (refused.Full what)) then t = t
-told_answers o J (Err (refused.Refused c)) then t = record { new = t.new; is = t.is; grown = t.grown }
+told_answers o J (Err (refused.Refused c)) then t = t
 
 -- ---- the three sorts of frames that are given
 

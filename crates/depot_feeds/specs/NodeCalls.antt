@@ -1,5 +1,5 @@
 -- What the calls on a node within a piece answer, and how they leave the node.
-use Rattle.std.specs.Prelude.{◌≡◌, ℕ, ◌+◌, ◌*◌, ◌≤◌, List, [], ◌++◌, Bool, true, false, Result, Ok, Err}
+use Rattle.std.specs.Prelude.{◌≡◌, ℕ, ◌+◌, ◌*◌, ◌≤◌, List, [], Bool, true, false, Result, Ok, Err}
 use Rattle.depot_base.specs.declared.limits.TheConstants.{MOST_FRAMES}
 use Rattle.depot_base.specs.declared.key.PublicKey.{PublicKey}
 use Rattle.depot_base.specs.declared.record.Record.{Record}
@@ -9,9 +9,9 @@ use Rattle.depot_model.specs.declared.taken.TakeError.{TakeError}
 use Rattle.depot_model.specs.declared.taken.TakeError.TheVariants as refused
 use Rattle.depot_model.specs.Checks.{Setting}
 use Rattle.depot_model.specs.Bundle.{Signs}
-use Rattle.depot_model.specs.Limits.{IsCutShort}
-use Rattle.depot_model.specs.Taking.{Outcome, no_room, answered}
+use Rattle.depot_model.specs.Taking.{Outcome, no_room}
 use Rattle.depot_model.specs.Replicas.{IsSameNode, KeepsDisk}
+use Rattle.depot_model.proofs.TakeLaws.{IsTold, IsBrokenOff}
 use Rattle.depot_feeds.specs.declared.feed_error.FeedError.{FeedError}
 use Rattle.depot_feeds.specs.declared.feed_error.FeedError.TheVariants as error
 use Rattle.depot_feeds.specs.declared.tally.Tally.{Tally}
@@ -66,24 +66,11 @@ told (Err refused.Disk) = Err error.Disk
 told (Err refused.Stopped) = Err error.Stopped
 told (Err (refused.Full what)) = Err (error.Full what)
 
--- the node answered so, and its journal has grown by this
-pub record IsTold (o : Outcome) (J : List Record) (answer : Result Taken Check) (then : List Record) : Type 0 where
-  pub new : List Record
-  pub is : o ≡ answered answer new
-  pub grown : then ≡ J ++ new
-
--- it would have answered, and the disk cut its records short
-pub record IsCut (o : Outcome) (J then : List Record) : Type 0 where
-  pub answer : Result Taken Check
-  pub new : List Record
-  pub is : o ≡ answered answer new
-  pub cut : IsCutShort J new then
-
 -- what a call answers where this is the outcome
 abbrev pub Answers : Outcome → List Record → Result (Result Taken Check) FeedError → List Record → Type 0
 Answers o J (Ok answer) then = IsTold o J answer then
 Answers o J (Err error.Memory) then = then ≡ J
-Answers o J (Err error.Disk) then = IsCut o J then
+Answers o J (Err error.Disk) then = IsBrokenOff o J then
 Answers o J (Err error.Stopped) then = then ≡ J
 Answers o J (Err (error.Full what)) then = (o ≡ no_room what) × (then ≡ J)
 Answers o J (Err (error.IllFormed at)) then = ⊥
@@ -94,7 +81,7 @@ Answers o J (Err (error.IllFormed at)) then = ⊥
 abbrev pub TakesFrame : Setting → ℕ → Frame → Tally → List Record → Result (Unit {0}) FeedError → Tally → List Record → Type 0
 TakesFrame here n f t J (Ok done) after then = at_work (stream_by after [] false) then ≡ fed_frame here n f (at_work (stream_by t [] false) J)
 TakesFrame here n f t J (Err error.Memory) after then = (stream_by after [] true ≡ stream_by t [] true) × (then ≡ J)
-TakesFrame here n f t J (Err error.Disk) after then = (stream_by after [] true ≡ stream_by t [] true) × IsCut (take_frame here J f) J then
+TakesFrame here n f t J (Err error.Disk) after then = (stream_by after [] true ≡ stream_by t [] true) × IsBrokenOff (take_frame here J f) J then
 TakesFrame here n f t J (Err error.Stopped) after then = (stream_by after [] true ≡ stream_by t [] true) × (then ≡ J)
 TakesFrame here n f t J (Err (error.Full what)) after then = (stream_by after [] true ≡ stream_by t [] true) × ((then ≡ J) × (fed_frame here n f (at_work (stream_by t [] false) J) ≡ closed_by (out_of_room what) (at_work (stream_by t [] false) J)))
 TakesFrame here n f t J (Err (error.IllFormed at)) after then = ⊥
