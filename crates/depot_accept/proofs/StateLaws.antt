@@ -1,14 +1,16 @@
 -- The state of a journal with one record more.
 use Rattle.std.proofs.Common.{◌≡◌, ℕ, List, [], ◌∷◌, ◌++◌, map, Bool, true, false, cond, eqb, ◌||◌, refl, sym, ap, ◌∙◌, append_assoc, arith}
 use Rattle.std.specs.List.{flat_map, list_any}
+use Rattle.std.specs.Prelude.{Result, Ok, Err, OnOk}
+use Rattle.std.specs.Result.{is_err}
 use Rattle.std.proofs.lemmas.Grind.{flat_map-append}
 use Rattle.std.proofs.lemmas.List.{append-nil, map-append}
 use Rattle.std.proofs.lemmas.List.Folds.{list_any-append}
+use Rattle.depot_base.specs.declared.memory.Memory.{Memory}
 use Rattle.depot_base.specs.declared.record.Record.{Record}
 use Rattle.depot_base.specs.declared.record.Record.TheVariants.{Birth, Conviction, Foreign, Held, OwnPut, OwnVoucher}
 use Rattle.depot_base.specs.declared.update.Update.{Update}
 use Rattle.depot_base.specs.declared.voucher.Voucher.{Voucher}
-use Rattle.depot_base.specs.declared.statement.Statement.{Statement}
 use Rattle.depot_base.specs.declared.statement.Statement.TheVariants as statements
 use Rattle.depot_base.specs.declared.statement.Signed.{Signed}
 use Rattle.depot_base.specs.declared.proof.Proof.{Proof}
@@ -59,6 +61,11 @@ one_of_with ns node n = by_test (is_one_of node ns) refl where
     by_same false other = or_none (is_one_of n ns)
     by_same true same = let one : node ≡ n = grind (arith, nat_tests) in rw (sym (ap (λ (k : ℕ). is_one_of k ns) one) ∙ is) refl
 
+-- what a call that was tested has done
+pub done_where_ok : {P : Type 0} (r : Result (Unit {0}) Memory) → is_err r ≡ false → OnOk r P → P
+done_where_ok (Ok x) passed done = done
+done_where_ok (Err e) passed done = absurd cc
+
 -- all parts but some are as before
 pub record Keeps {S : Type 0} (v w : View S) : Type 0 where
   pub own_vouchers : w.own_vouchers ≡ v.own_vouchers
@@ -75,29 +82,13 @@ convict_grows v w p node named accepted foreign own vouched convicted = record {
   convicted = λ n. ap (is_one_of n) convicted ∙ one_of_with v.convicted node n ∙ ap (λ (k : ℕ). is_one_of n v.convicted || (eqb k n || false)) (sym named);
 }
 
-pub update_grows : {S : Type 0} (v w : View S) (s : Signed) (u : Update) → s.statement ≡ statements.Update u → w.accepted ≡ v.accepted ++ u ∷ [] → w.foreign ≡ v.foreign ++ s ∷ [] → Keeps v w → Grows v (Foreign s) w
+pub foreign_grows : {S : Type 0} (v w : View S) (s : Signed) → w.accepted ≡ v.accepted ++ update_in s.statement → w.foreign ≡ v.foreign ++ s ∷ [] → w.own_vouchers ≡ v.own_vouchers → w.convicted ≡ v.convicted → AreTogether v.vouched (flat_map (λ x. x.ids) (voucher_in s.statement)) w.vouched → Grows v (Foreign s) w
 unfolding is_convicted
-update_grows v w s u same accepted foreign keeps = record {
-  accepted = accepted ∙ ap (λ (t : Statement). v.accepted ++ update_in t) (sym same);
-  foreign = foreign;
-  own_vouchers = keeps.own_vouchers ∙ nothing_more v.own_vouchers;
-  vouched = λ h.
-      ap (is_among h) keeps.vouched
-      ∙ or_none (is_among h v.vouched)
-      ∙ ap (λ (t : Statement). is_among h v.vouched || is_among h (flat_map (λ x. x.ids) (voucher_in t) ++ [])) (sym same);
-  convicted = λ n. ap (is_one_of n) keeps.convicted ∙ or_none (is_one_of n v.convicted);
-}
-
-pub voucher_grows : {S : Type 0} (v w : View S) (s : Signed) (x : Voucher) → s.statement ≡ statements.Voucher x → w.accepted ≡ v.accepted → w.foreign ≡ v.foreign ++ s ∷ [] → w.own_vouchers ≡ v.own_vouchers → w.convicted ≡ v.convicted → AreTogether v.vouched x.ids w.vouched → Grows v (Foreign s) w
-unfolding is_convicted
-voucher_grows v w s x same accepted foreign own convicted together = record {
-  accepted = accepted ∙ nothing_more v.accepted ∙ ap (λ (t : Statement). v.accepted ++ update_in t) (sym same);
+foreign_grows v w s accepted foreign own convicted together = record {
+  accepted = accepted;
   foreign = foreign;
   own_vouchers = own ∙ nothing_more v.own_vouchers;
-  vouched = λ h.
-      together h
-      ∙ ap (λ (ids : List (List ℕ)). is_among h v.vouched || is_among h ids) (nothing_more x.ids ∙ nothing_more (x.ids ++ []))
-      ∙ ap (λ (t : Statement). is_among h v.vouched || is_among h (flat_map (λ y. y.ids) (voucher_in t) ++ [])) (sym same);
+  vouched = λ h. together h ∙ ap (λ (ids : List (List ℕ)). is_among h v.vouched || is_among h ids) (nothing_more (flat_map (λ x. x.ids) (voucher_in s.statement)));
   convicted = λ n. ap (is_one_of n) convicted ∙ or_none (is_one_of n v.convicted);
 }
 

@@ -1,15 +1,16 @@
 //! What a node keeps of its journal for the checks.
 ghost use Rattle.std.specs.Prelude.{◌≡◌, ◌<◌, ◌≤◌, ◌+◌, ℕ, List, [], ◌∷◌, ◌++◌, length, true, IsOk, IfOk, OnOk, OnErr, Some, slice_get};
+ghost use Rattle.std.specs.List.{flat_map};
 ghost use Rattle.depot_base.specs.declared.record.Record.{Record};
 ghost use Rattle.depot_base.specs.declared.record.Record.TheVariants.{Foreign, Conviction};
 ghost use Rattle.depot_base.specs.declared.proof.Proof.{Proof};
 ghost use Rattle.depot_base.specs.declared.statement.Statement.TheVariants as statements;
-ghost use Rattle.depot_model.specs.Lists.{is_one_of};
-ghost use Rattle.depot_model.specs.Texts.{IsSigned, IsStatement, id_of_statement, id_of_update};
+ghost use Rattle.depot_model.specs.Lists.{is_one_of, AreTogether};
+ghost use Rattle.depot_model.specs.Texts.{IsSigned, IsStatement, id_of_statement};
 ghost use Rattle.depot_base.specs.Statement.{writer_of};
 ghost use Rattle.depot_model.specs.Order.{IsCausal};
 ghost use Rattle.depot_model.specs.Roster.{has_node};
-ghost use Rattle.depot_model.specs.Journal.{update_in, own_by, accused};
+ghost use Rattle.depot_model.specs.Journal.{update_in, voucher_in, own_by, accused};
 ghost use Rattle.depot_accept.specs.StateView.{IsStateOf, IsAsBefore, IsRoomAfter, setting};
 ghost use Rattle.depot_accept.specs.OwnVouchers.{spare};
 
@@ -54,7 +55,7 @@ impl<S: Scheme> State<S> {
     pub fn new(alloc: Global, me: NodeId, roster: Roster, scheme: S) -> Result<State<S>, Memory>
         ensures { IfOk result (λ s. s ≡ record { me = me; listed = roster; scheme = scheme; accepted = []; foreign = []; own_vouchers = []; vouched = []; convicted = []; voucher_room = 0 }) }
     {
-        let nodes = roster.count();
+        let vouched = Vouched::new(alloc, roster.count())?;
         Ok(State {
             alloc,
             me,
@@ -62,7 +63,7 @@ impl<S: Scheme> State<S> {
             scheme,
             graph: Graph::new(alloc),
             seen: Seen::new(alloc),
-            vouched: Vouched::new(alloc, nodes)?,
+            vouched,
             own_vouchers: Vec::new(alloc),
         })
     }
@@ -127,18 +128,20 @@ impl<S: Scheme> State<S> {
         ensures scheme { self.new.scheme ≡ self.old.scheme }
         ensures room { self.new.voucher_room ≡ self.old.voucher_room }
     {
-        self.seen.reserve(&signed)?;
-        match &signed.statement {
-            Statement::Update(update) => {
-                let update = update.copy()?;
-                self.graph.add_uncounted(update, parents, id)?;
-                self.seen.add(signed, id)
-            }
-            Statement::Voucher(voucher) => {
-                self.vouched.add(&voucher.ids)?;
-                self.seen.add(signed, id)
-            }
+        if self.seen.reserve(&signed).is_err()
+            || add_contents(
+                &mut self.graph,
+                &mut self.vouched,
+                &signed.statement,
+                parents,
+                id,
+            )
+            .is_err()
+        {
+            drop(signed);
+            return Err(Memory);
         }
+        self.seen.add(signed, id)
     }
 
     /// Finds the memory for `count` own vouchers: the next `count` calls of `add_own` with vouchers can't answer Memory. All
@@ -192,6 +195,34 @@ impl<S: Scheme> State<S> {
         ensures room { self.new.voucher_room ≡ self.old.voucher_room }
     {
         self.vouched.convict(node);
+    }
+}
+
+/// Adds what a statement of another brings: its update to the graph, or the ids of its voucher to those that others vouched for.
+/// After Memory all is as before.
+fn add_contents(
+    graph: &mut Graph,
+    vouched: &mut Vouched,
+    statement: &Statement,
+    parents: &[u32],
+    id: Hash32,
+) -> Result<(), Memory>
+    requires id { id ≡ id_of_statement statement.now }
+    requires fits { IsCausal [] (⟦<Graph as Past>⟧.updates graph.old ++ update_in statement.now) }
+    requires few { length (⟦<Graph as Past>⟧.updates graph.old) < 4294967295 }
+    ensures updates { OnOk result (⟦<Graph as Past>⟧.updates graph.new ≡ ⟦<Graph as Past>⟧.updates graph.old ++ update_in statement.now) }
+    ensures ids { OnOk result (AreTogether vouched.old.ids (flat_map (λ v. v.ids) (voucher_in statement.now)) vouched.new.ids) }
+    ensures err { OnErr result (⟦<Graph as Past>⟧.updates graph.new ≡ ⟦<Graph as Past>⟧.updates graph.old) }
+    ensures err_ids { OnErr result (vouched.new.ids ≡ vouched.old.ids) }
+    ensures convicted { vouched.new.convicted ≡ vouched.old.convicted }
+    ensures nodes { vouched.new.nodes ≡ vouched.old.nodes }
+{
+    match statement {
+        Statement::Update(update) => {
+            graph.add_uncounted(update.copy()?, parents, id)?;
+            Ok(())
+        }
+        Statement::Voucher(voucher) => vouched.add(&voucher.ids),
     }
 }
 

@@ -12,3 +12,4 @@ pub mod Disk
 pub mod File
 pub mod Calls
 pub mod Membership
+pub mod Pairs

@@ -1,13 +1,16 @@
 //! A SHA-256 digest.
-ghost use Rattle.std.specs.Prelude.{◌≡◌, ℕ, List, length};
+ghost use Rattle.std.specs.Prelude.{◌≡◌, ℕ, List, [], ◌∷◌, length};
 ghost use Rattle.std.specs.Option.{SomeIff};
 ghost use Rattle.std.specs.Str.{bytes_eq};
+ghost use Rattle.std.proofs.Common.{rules};
+ghost use Rattle.std.specs.Cmp.Rules.{hashing};
 ghost use Rattle.depot_base.specs.Zeros.{zeros};
 
+use std::hash::{Hash, Hasher};
 use std::marker::Model;
 
 /// 32 bytes: a digest, or an id, which is the digest of a body. They are compared from the left.
-#[derive(Clone, Copy, Debug, PartialEq, Eq, PartialOrd, Ord, Hash)]
+#[derive(Clone, Copy, Debug, PartialEq, Eq, PartialOrd, Ord)]
 pub struct Hash32([u8; 32]);
 
 impl Model for Hash32 {
@@ -58,5 +61,16 @@ impl Hash32 {
         ensures length { length self.now ≡ 32 }
     {
         &self.0
+    }
+}
+
+/// A table hashes the 32 bytes at once: the derived body would hash them one by one.
+impl Hash for Hash32 {
+    ghost hash_input = { λ digest. digest ∷ [] };
+
+    ghost respects_eq = { Prim.search (hashing, rules) };
+
+    fn hash<H: Hasher>(&self, state: &mut H) {
+        state.write(&self.0);
     }
 }

@@ -1,5 +1,7 @@
 //! What is decided of a proof.
-ghost use Rattle.std.specs.Prelude.{◌≡◌, false, IfOk};
+ghost use Rattle.std.specs.Prelude.{◌≡◌, ◌∷◌, [], false, None, Ok, IfOk, IfSome};
+ghost use Rattle.depot_base.specs.declared.record.Record.TheVariants.{Conviction};
+ghost use Rattle.depot_model.specs.declared.taken.Taken.TheVariants.{New};
 ghost use Rattle.depot_model.specs.Checks.{check_of_point, given_proof, proof_checks};
 ghost use Rattle.depot_model.specs.Lists.{first};
 ghost use Rattle.depot_model.specs.Texts.{IsProof, text_of_proof};
@@ -45,18 +47,35 @@ pub fn decide_decoded<D: Disk, S: Scheme>(
     requires text { text.now ≡ text_of_proof proof }
     ensures { IfOk result (λ d. IsDecided (standing S.verifies store.now) store.now.records (given_proof proof) d.answer d.growth) }
 {
-    if let Some(check) = failed_check(store.state(), &proof) {
-        return Ok(Decision::of(alloc, Err(check)));
+    if let Some(answer) = settled(store, &proof) {
+        drop(proof);
+        return Ok(Decision::of(alloc, answer));
     }
-    if store.state().is_convicted(proof.accused()) {
-        return Ok(Decision::of(alloc, Ok(Taken::Known)));
-    }
-    let text = conviction_of_text(alloc, text)?;
+    let Ok(text) = conviction_of_text(alloc, text) else {
+        drop(proof);
+        return Err(Memory);
+    };
     let growth = Growth::of_text(alloc, Record::Conviction { proof }, Hash32::zeros(), text)?;
     Ok(Decision {
         answer: Ok(Taken::New),
         growth,
     })
+}
+
+/// What is answered to a proof that isn't to be kept: the check that fails first, or that its node is convicted already. None where it is to be kept.
+fn settled<D: Disk, S: Scheme>(store: &Store<D, S>, proof: &Proof) -> Option<Result<Taken, Check>>
+    requires runs { store.now.stopped ≡ false }
+    requires proof { IsProof proof.now }
+    ensures old { IfSome result (λ answer. IsDecided (standing S.verifies store.now) store.now.records (given_proof proof.now) answer []) }
+    ensures new { result ≡ None → IsDecided (standing S.verifies store.now) store.now.records (given_proof proof.now) (Ok New) (Conviction proof.now ∷ []) }
+{
+    if let Some(check) = failed_check(store.state(), proof) {
+        return Some(Err(check));
+    }
+    if store.state().is_convicted(proof.accused()) {
+        return Some(Ok(Taken::Known));
+    }
+    None
 }
 
 /// The first check of a proof that fails: what a judge asks of it, and then that it isn't against the node itself.

@@ -109,6 +109,9 @@ pub fn next_own<D: Disk, S: Scheme>(
     if items.len() > MOST_ENTRIES as usize {
         return Err(PutError::Tips(items.len() as u32));
     }
+    let parents = with_prev(alloc, last, items)?;
+    let history = summary(alloc, graph)?;
+    let deps = entries_of(alloc, graph, items)?;
     Ok(Next {
         update: Update {
             writer: state.me(),
@@ -118,10 +121,10 @@ pub fn next_own<D: Disk, S: Scheme>(
             key,
             value_hash: hash_of(value.bytes()),
             value_len: value.bytes().len() as u32,
-            deps: entries_of(alloc, graph, items)?,
-            history: summary(alloc, graph)?,
+            deps,
+            history,
         },
-        parents: with_prev(alloc, last, items)?,
+        parents,
     })
 }
 

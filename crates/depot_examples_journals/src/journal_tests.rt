@@ -4,6 +4,7 @@ use depot_base::{Bytes, Full, FullOf, Items, Memory};
 use depot_journal::*;
 use depot_outside::MemDisk;
 use std::alloc::Global;
+use std::process::Abort;
 use std::test::Fail;
 
 /// Three records, and the file that has them: each behind an open gate and its length, and a closed gate behind all.
@@ -61,11 +62,16 @@ fn start(alloc: Global, disk: MemDisk) -> Result<Journal<MemDisk>, JournalError>
     }
 }
 
+/// How many records a start finds on this disk, or why it gives no journal.
+fn found_on(alloc: Global, disk: MemDisk) -> Result<u32, JournalError> {
+    let journal = start(alloc, disk)?;
+    Ok(journal.count())
+}
+
 /// How many records a start finds in this file, or why it gives no journal.
 fn found(alloc: Global, file: &[u8], failing: u32) -> Result<u32, JournalError> {
     let disk = disk_of(alloc, file, failing)?;
-    let journal = start(alloc, disk)?;
-    Ok(journal.count())
+    found_on(alloc, disk)
 }
 
 #[test]
@@ -137,13 +143,23 @@ fn has_room(journal: &Journal<MemDisk>) -> bool {
     journal.room(131_072, 0) == Ok(()) && journal.room(131_073, 0) == Err(full)
 }
 
+/// Appends the three records to a journal that has room for them, and then none.
+fn fill_and_add_none(
+    rt: &impl Abort,
+    alloc: Global,
+    journal: &mut Journal<MemDisk>,
+) -> Result<(), Fail> {
+    assert!(rt; has_room(journal));
+    fill(alloc, journal)?;
+    assert!(rt; takes_nothing(journal));
+    Ok(())
+}
+
 #[test]
 fn records_are_written_and_read_again(rt: HostRuntime) -> Result<(), Fail> {
     let disk = disk_of(rt.alloc(), b"", 0)?;
     let mut journal = start(rt.alloc(), disk)?;
-    assert!(rt; has_room(&journal));
-    fill(rt.alloc(), &mut journal)?;
-    assert!(rt; takes_nothing(&mut journal));
+    fill_and_add_none(&rt, rt.alloc(), &mut journal)?;
     assert!(rt; is_read_again(rt.alloc(), journal.into_disk()));
     Ok(())
 }
@@ -158,24 +174,34 @@ fn is_stopped(journal: &mut Journal<MemDisk>, texts: &[Bytes]) -> bool {
     journal.append_all(texts) == Err(AppendError::Stopped) && journal.is_stopped()
 }
 
+/// Whether an append stops the journal, and the next one is answered so.
+fn stays_stopped(journal: &mut Journal<MemDisk>, texts: &[Bytes]) -> bool {
+    stops(journal, texts) && is_stopped(journal, texts)
+}
+
 /// Of how many records a journal knows whose disk fails in this call, and how many are found again. None where it isn't stopped.
 fn stopped(alloc: Global, texts: &[Bytes], failing: u32) -> Result<Option<(u32, u32)>, Fail> {
     let disk = disk_of(alloc, b"", failing)?;
     let mut journal = start(alloc, disk)?;
-    if !stops(&mut journal, texts) || !is_stopped(&mut journal, texts) {
+    if !stays_stopped(&mut journal, texts) {
         return Ok(None);
     }
     let kept = journal.count();
-    let again = start(alloc, journal.into_disk())?;
-    Ok(Some((kept, again.count())))
+    let found = found_on(alloc, journal.into_disk())?;
+    Ok(Some((kept, found)))
+}
+
+/// Stops a journal by each call that fails.
+fn each_failing(rt: &impl Abort, alloc: Global, texts: &[Bytes]) -> Result<(), Fail> {
+    for (failing, kept, found) in FAILING.iter() {
+        let told = stopped(alloc, texts, *failing)?;
+        assert!(rt; told == Some((*kept, *found)), "{failing}");
+    }
+    Ok(())
 }
 
 #[test]
 fn a_failed_call_stops_the_journal(rt: HostRuntime) -> Result<(), Fail> {
     let texts = texts_of(rt.alloc(), &[b"a", b"bc"])?;
-    for (failing, kept, found) in FAILING.iter() {
-        let told = stopped(rt.alloc(), &texts, *failing)?;
-        assert_eq!(rt; told, Some((*kept, *found)), "{failing}");
-    }
-    Ok(())
+    each_failing(&rt, rt.alloc(), &texts)
 }

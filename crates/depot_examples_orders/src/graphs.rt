@@ -209,23 +209,38 @@ fn join(alloc: Global, graph: &mut Graph) -> Result<(), Fail>
     Ok(())
 }
 
+/// Items, and whether the first precedes the second.
+static ORDER: [(u32, u32, bool); 8] = [
+    (0, 4, true),
+    (1, 4, true),
+    (2, 4, true),
+    (1, 3, true),
+    (2, 3, false),
+    (1, 2, false),
+    (4, 0, false),
+    (3, 3, false),
+];
+
+/// Whether an item precedes another one, or no answer past the last item.
+fn precedes<L: Ledger>(graph: &Graph, a: u32, b: u32, steps: &mut Steps<L>) -> Option<bool>
+    requires { length (⟦<Graph as Past>⟧.updates graph.now) ≡ 5 }
+{
+    if a < 5 && b < 5 {
+        Some(graph.before(a, b, steps))
+    } else {
+        None
+    }
+}
+
 /// Whether items precede others as they should.
 fn follows_its_past<L: Ledger>(rt: &impl Abort, graph: &Graph, steps: &mut Steps<L>)
     requires { length (⟦<Graph as Past>⟧.updates graph.now) ≡ 5 }
 {
-    for (a, b, is_before) in [
-        (0, 4, true),
-        (1, 4, true),
-        (2, 4, true),
-        (1, 3, true),
-        (2, 3, false),
-        (1, 2, false),
-        (4, 0, false),
-        (3, 3, false),
-    ] {
-        assert!(rt; a < 5);
-        assert!(rt; b < 5);
-        assert!(rt; graph.before(a, b, steps) == is_before, "{a} {b}");
+    for (a, b, is_before) in ORDER.iter() {
+        assert!(rt;
+            precedes(graph, *a, *b, steps) == Some(*is_before),
+            "{a} {b}"
+        );
     }
 }
 
@@ -244,20 +259,29 @@ fn has_row(graph: &Graph, item: u32, right: &[u32; 3]) -> bool {
     row == *right
 }
 
+/// Items, the chain and the place of each, and its row.
+static ROWS: [(u32, u32, u32, [u32; 3]); 5] = [
+    (0, 0, 0, [1, 0, 0]),
+    (1, 0, 1, [2, 0, 0]),
+    (2, 1, 0, [1, 1, 0]),
+    (3, 2, 0, [2, 0, 1]),
+    (4, 2, 1, [2, 1, 2]),
+];
+
+/// Whether an item stands at this place of this chain.
+fn is_at(graph: &Graph, item: u32, chain: u32, place: u32) -> bool
+    requires { length (⟦<Graph as Past>⟧.updates graph.now) ≡ 5 }
+{
+    item < 5 && graph.spot(item) == Spot { chain, place }
+}
+
 fn has_rows(rt: &impl Abort, graph: &Graph)
     requires { length (⟦<Graph as Past>⟧.updates graph.now) ≡ 5 }
 {
-    for (item, chain, place, row) in [
-        (0, 0, 0, [1, 0, 0]),
-        (1, 0, 1, [2, 0, 0]),
-        (2, 1, 0, [1, 1, 0]),
-        (3, 2, 0, [2, 0, 1]),
-        (4, 2, 1, [2, 1, 2]),
-    ] {
-        assert!(rt; item < 5);
-        assert!(rt; graph.spot(item) == Spot { chain, place }, "{item}");
-        assert!(rt; has_row(graph, item, &row), "{item}");
-        assert!(rt; is_within(graph, item, &row), "{item}");
+    for (item, chain, place, row) in ROWS.iter() {
+        assert!(rt; is_at(graph, *item, *chain, *place), "{item}");
+        assert!(rt; has_row(graph, *item, row), "{item}");
+        assert!(rt; is_within(graph, *item, row), "{item}");
     }
     assert!(rt; is_within(graph, 3, &[2, 1, 1]));
     assert!(rt; !is_within(graph, 4, &[2, 0, 2]));
@@ -283,6 +307,18 @@ pub fn reads(alloc: Global, graph: &Graph, items: &[u32]) -> Result<bool, Length
     Ok(graph.latest(&key) == items && graph.latest(&other).is_empty())
 }
 
+/// Forks, and joins the branches.
+fn fork_and_join(rt: &impl Abort, alloc: Global, graph: &mut Graph) -> Result<(), Fail>
+    requires { length (⟦<Graph as Past>⟧.updates graph.old) ≡ 0 }
+    ensures { OnOk result (length (⟦<Graph as Past>⟧.updates graph.new) ≡ 5) }
+{
+    fork(alloc, graph)?;
+    assert!(rt; reads(alloc, graph, [2, 1].as_slice())?);
+    join(alloc, graph)?;
+    assert!(rt; reads(alloc, graph, [4].as_slice())?);
+    Ok(())
+}
+
 fn forked_and_joined<L: Ledger>(
     rt: &impl Abort,
     alloc: Global,
@@ -294,13 +330,10 @@ fn forked_and_joined<L: Ledger>(
     requires parts { blank.parts ≡ L.parts }
     requires some { 0 < blank.parts }
 {
-    let mut steps = Steps::<L>::new(blank);
-    fork(alloc, graph)?;
-    assert!(rt; reads(alloc, graph, [2, 1].as_slice())?);
-    join(alloc, graph)?;
-    assert!(rt; reads(alloc, graph, [4].as_slice())?);
+    fork_and_join(rt, alloc, graph)?;
     assert!(rt; is_joined(graph));
     has_rows(rt, graph);
+    let mut steps = Steps::<L>::new(blank);
     follows_its_past(rt, graph, &mut steps);
     Ok(())
 }

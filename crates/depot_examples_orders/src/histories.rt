@@ -5,6 +5,7 @@ use depot_base::{Deps, Hash32};
 use depot_graph::Graph;
 use depot_history::summary;
 use std::alloc::Global;
+use std::process::Abort;
 use std::test::Fail;
 
 /// SHA-256 of the rows of the three writes below, by Python's hashlib: that of node 1, and of node 2 that with clock 258, whose id
@@ -31,10 +32,15 @@ fn write_three(alloc: Global, graph: &mut Graph) -> Result<(), Fail> {
     Ok(())
 }
 
+/// Adds them to a graph that has no others, whose history hash is that of their rows then.
+fn write_and_hash(rt: &impl Abort, alloc: Global, graph: &mut Graph) -> Result<(), Fail> {
+    write_three(alloc, graph)?;
+    assert!(rt; *summary(alloc, graph)?.bytes() == OF_ROWS);
+    Ok(())
+}
+
 #[test]
 fn rows_stand_by_writer_and_then_by_id(rt: HostRuntime) -> Result<(), Fail> {
     let mut graph = Graph::new(rt.alloc());
-    write_three(rt.alloc(), &mut graph)?;
-    assert!(rt; *summary(rt.alloc(), &graph)?.bytes() == OF_ROWS);
-    Ok(())
+    write_and_hash(&rt, rt.alloc(), &mut graph)
 }

@@ -72,31 +72,48 @@ fn write_all<L: Ledger>(
 }
 
 /// Writes to two keys in turn.
-fn two_keys<L: Ledger>(rt: &impl Abort, alloc: Global, blank: Blank) -> Result<(), Fail>
+fn write_in_turn<L: Ledger>(
+    rt: &impl Abort,
+    index: &mut KeyIndex,
+    key: &Key,
+    other: &Key,
+    steps: &mut Steps<L>,
+) -> Result<(), Fail> {
+    index.reserve(other)?;
+    assert!(rt; index.latest(other).is_empty());
+    write_all(rt, index, key, &[(9, &[9]), (4, &[4, 9])], steps)?;
+    write_all(rt, index, other, &[(3, &[3]), (5, &[5])], steps)?;
+    write_all(
+        rt,
+        index,
+        key,
+        &[(6, &[6, 9]), (11, &[6, 11]), (12, &[11, 12])],
+        steps,
+    )?;
+    assert!(rt; index.latest(other) == [5].as_slice());
+    Ok(())
+}
+
+/// Writes to two keys of an index that has no items yet.
+fn two_keys<L: Ledger>(
+    rt: &impl Abort,
+    alloc: Global,
+    key: &Key,
+    other: &Key,
+    blank: Blank,
+) -> Result<(), Fail>
     requires name { blank.name ≡ L.name }
     requires parts { blank.parts ≡ L.parts }
     requires some { 0 < blank.parts }
 {
-    let mut steps = Steps::<L>::new(blank);
     let mut index = KeyIndex::new(alloc);
-    let key = Key::new(alloc, b"k")?;
-    let other = Key::new(alloc, b"other")?;
-    index.reserve(&other)?;
-    assert!(rt; index.latest(&other).is_empty());
-    write_all(rt, &mut index, &key, &[(9, &[9]), (4, &[4, 9])], &mut steps)?;
-    write_all(rt, &mut index, &other, &[(3, &[3]), (5, &[5])], &mut steps)?;
-    write_all(
-        rt,
-        &mut index,
-        &key,
-        &[(6, &[6, 9]), (11, &[6, 11]), (12, &[11, 12])],
-        &mut steps,
-    )?;
-    assert_eq!(rt; index.latest(&other), [5].as_slice());
-    Ok(())
+    let mut steps = Steps::<L>::new(blank);
+    write_in_turn(rt, &mut index, key, other, &mut steps)
 }
 
 #[test]
 fn latest_items_are_mended(rt: HostRuntime) -> Result<(), Fail> {
-    two_keys::<Brand>(&rt, rt.alloc(), Blank::new(1))
+    let key = Key::new(rt.alloc(), b"k")?;
+    let other = Key::new(rt.alloc(), b"other")?;
+    two_keys::<Brand>(&rt, rt.alloc(), &key, &other, Blank::new(1))
 }

@@ -64,23 +64,35 @@ fn ask<L: Ledger>(rt: &impl Abort, graph: &Graph, count: u32, steps: &mut Steps<
     }
 }
 
-fn asked_often<L: Ledger>(rt: &impl Abort, graph: &Graph, blank: Blank)
+/// Adds both chains to a graph, whose latest writes are the last of each then.
+fn grow_and_read(rt: &impl Abort, alloc: Global, graph: &mut Graph) -> Result<(), Fail> {
+    grow_both(alloc, graph)?;
+    assert!(rt; reads(alloc, graph, [LONG - 1, LONG + LONG - 1].as_slice())?);
+    Ok(())
+}
+
+/// Adds them, and asks.
+fn asked_often<L: Ledger>(
+    rt: &impl Abort,
+    alloc: Global,
+    graph: &mut Graph,
+    blank: Blank,
+) -> Result<(), Fail>
     requires name { blank.name ≡ L.name }
     requires parts { blank.parts ≡ L.parts }
     requires some { 0 < blank.parts }
 {
     let mut steps = Steps::<L>::new(blank);
+    grow_and_read(rt, alloc, graph)?;
     assert!(rt; graph.count() == LONG + LONG);
     assert!(rt; graph.chain_count() == 2);
     assert!(rt; graph.before(0, LONG + LONG - 1, &mut steps));
     ask(rt, graph, QUESTIONS, &mut steps);
+    Ok(())
 }
 
 #[test]
 fn long_chains_are_not_walked(rt: HostRuntime) -> Result<(), Fail> {
     let mut graph = Graph::new(rt.alloc());
-    grow_both(rt.alloc(), &mut graph)?;
-    assert!(rt; reads(rt.alloc(), &graph, [LONG - 1, LONG + LONG - 1].as_slice())?);
-    asked_often::<Brand>(&rt, &graph, Blank::new(1));
-    Ok(())
+    asked_often::<Brand>(&rt, rt.alloc(), &mut graph, Blank::new(1))
 }

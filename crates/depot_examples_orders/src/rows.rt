@@ -49,72 +49,113 @@ fn joined(alloc: Global) -> Result<Clocks, Fail>
     Ok(clocks)
 }
 
-/// The rows of some places of the second chain: so many items of each chain.
+/// Places of the second chain, and the row of each: so many items of each chain.
+static ROWS: [(u32, [u32; 2]); 7] = [
+    (0, [0, 1]),
+    (31, [10, 32]),
+    (32, [11, 33]),
+    (33, [11, 34]),
+    (63, [21, 64]),
+    (64, [21, 65]),
+    (69, [23, 70]),
+];
+
+/// Whether this is the row of a place of the second chain.
+fn has_row(clocks: &Clocks, place: u32, counts: &[u32; 2]) -> bool
+    requires items { length clocks.now ≡ 94 }
+    requires chains { number_of_chains clocks.now ≡ 2 }
+{
+    if place >= 70 {
+        return false;
+    }
+    let mut row = [7u32; 2];
+    clocks.row_into(JOINED + place, row.as_mut_slice());
+    row == *counts
+}
+
+/// Places of the second chain have their rows.
 fn rows(rt: &impl Abort, clocks: &Clocks)
     requires items { length clocks.now ≡ 94 }
     requires chains { number_of_chains clocks.now ≡ 2 }
 {
-    for (place, counts) in [
-        (0, [0, 1]),
-        (31, [10, 32]),
-        (32, [11, 33]),
-        (33, [11, 34]),
-        (63, [21, 64]),
-        (64, [21, 65]),
-        (69, [23, 70]),
-    ] {
-        assert!(rt; place < 70);
-        let mut row = [7u32; 2];
-        clocks.row_into(JOINED + place, row.as_mut_slice());
-        assert_eq!(rt; row, counts, "the row of place {place}");
+    for (place, counts) in ROWS.iter() {
+        assert!(rt; has_row(clocks, *place, counts), "the row of place {place}");
     }
 }
 
 /// Which items of the two chains precede which.
+static ORDER: [(u32, u32, bool); 13] = [
+    (0, 25, false),
+    (0, 26, true),
+    (9, 55, true),
+    (10, 55, false),
+    (10, 56, true),
+    (22, 93, true),
+    (23, 93, false),
+    (24, 93, true),
+    (93, 93, false),
+    (93, 24, false),
+    (0, 23, true),
+    (23, 0, false),
+    (26, 23, false),
+];
+
+/// Whether an item precedes another one, or no answer past the last item.
+fn precedes<L: Ledger>(clocks: &Clocks, a: u32, b: u32, steps: &mut Steps<L>) -> Option<bool>
+    requires { length clocks.now ≡ 94 }
+{
+    if a < 94 && b < 94 {
+        Some(clocks.before(a, b, steps))
+    } else {
+        None
+    }
+}
+
+/// Items precede others as they should.
 fn order<L: Ledger>(rt: &impl Abort, clocks: &Clocks, steps: &mut Steps<L>)
     requires { length clocks.now ≡ 94 }
 {
-    for (a, b, is_before) in [
-        (0, 25, false),
-        (0, 26, true),
-        (9, 55, true),
-        (10, 55, false),
-        (10, 56, true),
-        (22, 93, true),
-        (23, 93, false),
-        (24, 93, true),
-        (93, 93, false),
-        (93, 24, false),
-        (0, 23, true),
-        (23, 0, false),
-        (26, 23, false),
-    ] {
-        assert!(rt; a < 94);
-        assert!(rt; b < 94);
-        assert_eq!(rt; clocks.before(a, b, steps), is_before, "{a} and {b}");
+    for (a, b, is_before) in ORDER.iter() {
+        assert!(rt;
+            precedes(clocks, *a, *b, steps) == Some(*is_before),
+            "{a} and {b}"
+        );
     }
 }
 
 /// Which rows count which items.
+static WITHIN: [(u32, [u32; 2], bool); 9] = [
+    (55, [10, 32], true),
+    (55, [10, 31], false),
+    (55, [9, 70], false),
+    (56, [11, 33], true),
+    (56, [10, 70], false),
+    (88, [21, 65], true),
+    (88, [20, 65], false),
+    (22, [23, 0], true),
+    (23, [23, 70], false),
+];
+
+/// Whether a row counts an item, or no answer past the last item.
+fn counts_item(clocks: &Clocks, item: u32, row: &[u32; 2]) -> Option<bool>
+    requires items { length clocks.now ≡ 94 }
+    requires chains { number_of_chains clocks.now ≡ 2 }
+{
+    if item < 94 {
+        Some(clocks.within(item, row.as_slice()))
+    } else {
+        None
+    }
+}
+
+/// Rows count the items that they should.
 fn within(rt: &impl Abort, clocks: &Clocks)
     requires items { length clocks.now ≡ 94 }
     requires chains { number_of_chains clocks.now ≡ 2 }
 {
-    for (item, row, is_within) in [
-        (55, [10, 32], true),
-        (55, [10, 31], false),
-        (55, [9, 70], false),
-        (56, [11, 33], true),
-        (56, [10, 70], false),
-        (88, [21, 65], true),
-        (88, [20, 65], false),
-        (22, [23, 0], true),
-        (23, [23, 70], false),
-    ] {
-        assert!(rt; item < 94);
-        assert_eq!(rt;
-            clocks.within(item, row.as_slice()),
-            is_within,
+    for (item, row, is_within) in WITHIN.iter() {
+        assert!(rt;
+            counts_item(clocks, *item, row) == Some(*is_within),
             "{item} in {row:?}"
         );
     }
@@ -125,8 +166,8 @@ fn joins<L: Ledger>(rt: &impl Abort, alloc: Global, blank: Blank) -> Result<(), 
     requires parts { blank.parts ≡ L.parts }
     requires some { 0 < blank.parts }
 {
-    let mut steps = Steps::<L>::new(blank);
     let clocks = joined(alloc)?;
+    let mut steps = Steps::<L>::new(blank);
     rows(rt, &clocks);
     order(rt, &clocks, &mut steps);
     within(rt, &clocks);

@@ -71,7 +71,7 @@ fn signed(alloc: Global, writer: NodeId) -> Result<Signed, LengthError> {
 }
 
 /// Whether a copy of a statement with seq 4 and a signature of 9 bytes is the same.
-fn is_same(signed: &Signed) -> Result<bool, Memory> {
+fn is_same(signed: &Signed) -> Result<bool, LengthError> {
     let copy = signed.copy()?;
     Ok(
         copy.statement.writer() == signed.statement.writer()
@@ -83,7 +83,7 @@ fn is_same(signed: &Signed) -> Result<bool, Memory> {
 /// Whether a copy of that statement is the same.
 fn is_copied(alloc: Global, writer: NodeId) -> Result<bool, LengthError> {
     let signed = signed(alloc, writer)?;
-    Ok(is_same(&signed)?)
+    is_same(&signed)
 }
 
 /// How many ids a copy of a voucher for one has, and the voucher itself.

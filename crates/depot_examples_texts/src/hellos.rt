@@ -96,13 +96,17 @@ fn a_faulty_field_of_a_hello_is_told(rt: HostRuntime) -> Result<(), Fail> {
     Ok(())
 }
 
+/// Whether a feed is open, and holds no bytes.
+fn is_fresh(feed: &Feed) -> bool {
+    !feed.is_closed() && feed.open_bytes() == 0
+}
+
 #[test]
 fn a_feed_that_nothing_came_to_ends_bare(rt: HostRuntime) -> Result<(), Fail> {
     let feed = Feed::new(rt.alloc())?;
-    assert!(rt; !feed.is_closed());
-    assert_eq!(rt; feed.open_bytes(), 0);
+    assert!(rt; is_fresh(&feed));
     let report = feed.end();
-    assert_eq!(rt; report.ending, Ending::Bare);
-    assert_eq!(rt; report.accepted, 0);
+    assert!(rt; report.ending == Ending::Bare);
+    assert!(rt; report.accepted == 0);
     Ok(())
 }

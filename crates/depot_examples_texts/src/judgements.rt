@@ -3,11 +3,13 @@ ghost use Rattle.std.specs.Prelude.{IfOk};
 ghost use Rattle.depot_model.specs.Texts.{IsProof, IsSigned};
 
 use crate::hex::bytes;
-use depot_base::{Bytes, Kind, Memory, Proof, Signed};
+use crate::text_tests::is_text;
+use depot_base::{Kind, Memory, Proof, Signed};
 use depot_judge::*;
 use depot_sign::{PlainScheme, Roster};
 use depot_update::{DecodeError, decode_signed, encode_proof};
 use std::alloc::Global;
+use std::process::Abort;
 use std::test::Fail;
 
 /// The roster of nodes 1 and 9, whose seeds are 31 zero bytes and the node's number.
@@ -187,29 +189,42 @@ fn said(alloc: Global, kind: u8, first: &str, second: &str) -> Result<String, Fa
     Ok(format!(in alloc; "{told:?}")?)
 }
 
+/// Whether it says that.
+fn is_said(alloc: Global, kind: u8, first: &str, second: &str, right: &str) -> Result<bool, Fail> {
+    let said = said(alloc, kind, first, second)?;
+    Ok(said.as_str() == right)
+}
+
 #[test]
 fn the_first_point_that_fails_is_told(rt: HostRuntime) -> Result<(), Fail> {
     for (kind, first, second, right) in CASES.iter() {
-        let said = said(rt.alloc(), *kind, first, second)?;
-        assert_eq!(rt; said.as_str(), *right);
+        assert!(rt;
+            is_said(rt.alloc(), *kind, first, second, right)?,
+            "{right}"
+        );
     }
     Ok(())
 }
 
-/// Whether the judge says of a text that it is no proof's.
-fn is_ill_formed(alloc: Global, text: &[u8]) -> Result<bool, Fail> {
-    Ok(matches!(judged(alloc, text)?, Err(JudgeError::IllFormed(_))))
+/// Whether the judge says of a text that is cut to so many bytes that it is no proof's.
+fn is_ill_formed(alloc: Global, text: &[u8], length: usize) -> Result<bool, Fail> {
+    let cut = text.get(..length).ok_or("a shorter text")?;
+    Ok(matches!(judged(alloc, cut)?, Err(JudgeError::IllFormed(_))))
+}
+
+/// Cuts a text of 322 bytes to each length.
+fn each_cut_is_ill_formed(rt: &impl Abort, alloc: Global, text: &[u8]) -> Result<(), Fail> {
+    assert!(rt; text.len() == 322);
+    for n in 0..322 {
+        assert!(rt; is_ill_formed(alloc, text, n)?, "{n} bytes");
+    }
+    Ok(())
 }
 
 #[test]
 fn a_cut_proof_is_ill_formed(rt: HostRuntime) -> Result<(), Fail> {
     let text = proof(rt.alloc(), 2, X, Y)?;
-    assert_eq!(rt; text.len(), 322);
-    for n in 0..322 {
-        let cut = text.get(..n).ok_or("a shorter text")?;
-        assert!(rt; is_ill_formed(rt.alloc(), cut)?, "{n} bytes");
-    }
-    Ok(())
+    each_cut_is_ill_formed(&rt, rt.alloc(), &text)
 }
 
 /// The signed statement of a text.
@@ -242,35 +257,63 @@ fn made(a: &Signed, b: &Signed) -> Result<Proof, Fail>
     Ok(make_proof(Kind::SamePrev, a, b)?)
 }
 
-/// The text of it.
-fn text_of_made(alloc: Global, first: &str, second: &str) -> Result<Bytes, Fail> {
-    let first = signed(alloc, first)?;
+/// Whether that proof has this text.
+fn is_made(alloc: Global, a: &Signed, b: &Signed, text: &[u8]) -> Result<bool, Fail>
+    requires first { IsSigned a.now }
+    requires second { IsSigned b.now }
+{
+    let proof = made(a, b)?;
+    let is_same = is_text(encode_proof(alloc, &proof), text);
+    drop(proof);
+    Ok(is_same)
+}
+
+/// The same of a statement and the text of another one.
+fn is_made_with(alloc: Global, first: &Signed, second: &str, text: &[u8]) -> Result<bool, Fail>
+    requires { IsSigned first.now }
+{
     let second = signed(alloc, second)?;
-    let proof = made(&first, &second)?;
-    Ok(encode_proof(alloc, &proof)?)
+    is_made(alloc, first, &second, text)
+}
+
+/// The same of the texts of two statements.
+fn is_made_of(alloc: Global, first: &str, second: &str, text: &[u8]) -> Result<bool, Fail> {
+    let first = signed(alloc, first)?;
+    is_made_with(alloc, &first, second, text)
+}
+
+/// Whether the proof of two statements is that of X and Y in this order.
+fn is_made_in_order(alloc: Global, first: &str, second: &str) -> Result<bool, Fail> {
+    let right = proof(alloc, 2, X, Y)?;
+    is_made_of(alloc, first, second, &right)
 }
 
 #[test]
 fn a_proof_is_made_in_order(rt: HostRuntime) -> Result<(), Fail> {
-    let right = proof(rt.alloc(), 2, X, Y)?;
     for (first, second) in [(X, Y), (Y, X)] {
-        let made = text_of_made(rt.alloc(), first, second)?;
-        assert_eq!(rt; made.as_slice(), right.as_slice());
+        assert!(rt; is_made_in_order(rt.alloc(), first, second)?);
     }
     Ok(())
 }
 
-/// The first kind in which a statement contradicts the write with seq 5, and that write it.
+/// The first kind in which a statement contradicts another one, and that one it.
+fn kinds_with(alloc: Global, five: &Signed, hex: &str) -> Result<[Option<Kind>; 2], Fail>
+    requires { IsSigned five.now }
+{
+    let other = signed(alloc, hex)?;
+    Ok([kind_of(five, &other), kind_of(&other, five)])
+}
+
+/// The same of the write with seq 5.
 fn kinds(alloc: Global, hex: &str) -> Result<[Option<Kind>; 2], Fail> {
     let five = signed(alloc, FIVE)?;
-    let other = signed(alloc, hex)?;
-    Ok([kind_of(&five, &other), kind_of(&other, &five)])
+    kinds_with(alloc, &five, hex)
 }
 
 #[test]
 fn the_first_kind_is_told(rt: HostRuntime) -> Result<(), Fail> {
     for (hex, kind) in KINDS.iter() {
-        assert_eq!(rt; kinds(rt.alloc(), hex)?, [*kind; 2]);
+        assert!(rt; kinds(rt.alloc(), hex)? == [*kind; 2], "{hex}");
     }
     Ok(())
 }

@@ -103,12 +103,9 @@ fn entries_are_read_back(rt: HostRuntime) -> Result<(), Fail> {
         height: 2,
     };
     let rising = [id, Hash32::new([5; 32])];
-    assert_eq!(rt; read_back(rt.alloc(), &rising, 2), Ok(2));
-    assert_eq!(rt; read_back(rt.alloc(), &[id, id], 2), Err(Fault::At(32)));
-    assert_eq!(rt; read_back(rt.alloc(), &[entry], 1), Ok(1));
-    assert_eq!(rt;
-        read_back(rt.alloc(), &[RosterEntry { node, key }], 1),
-        Ok(1)
-    );
+    assert!(rt; read_back(rt.alloc(), &rising, 2) == Ok(2));
+    assert!(rt; read_back(rt.alloc(), &[id, id], 2) == Err(Fault::At(32)));
+    assert!(rt; read_back(rt.alloc(), &[entry], 1) == Ok(1));
+    assert!(rt; read_back(rt.alloc(), &[RosterEntry { node, key }], 1) == Ok(1));
     Ok(())
 }

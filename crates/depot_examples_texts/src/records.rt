@@ -58,10 +58,13 @@ fn record(alloc: Global, kind: usize) -> Result<Vec<u8>, Memory> {
     bytes(alloc, text.as_str())
 }
 
-/// Whether a record is written so by the encoder of its kind, where there is one.
-fn is_written_by_kind(alloc: Global, item: &Record, text: &[u8]) -> bool
+/// Whether a record is written so, also by the encoder of its kind, where there is one.
+fn is_written(alloc: Global, item: &Record, text: &[u8]) -> bool
     requires { IsRecord item.now }
 {
+    if !is_text(encode_record(alloc, item), text) {
+        return false;
+    }
     match item {
         Record::OwnPut { update, value } => match encode_own_put(alloc, update, value) {
             Ok(own) => own.text.as_slice() == text,
@@ -78,7 +81,9 @@ fn is_written_by_kind(alloc: Global, item: &Record, text: &[u8]) -> bool
 fn is_kept(alloc: Global, text: &[u8]) -> bool {
     match decode_record(alloc, text) {
         Ok(item) => {
-            is_text(encode_record(alloc, &item), text) && is_written_by_kind(alloc, &item, text)
+            let is_same = is_written(alloc, &item, text);
+            drop(item);
+            is_same
         }
         Err(_) => false,
     }

@@ -230,7 +230,11 @@ fn is_kept(alloc: Global, kind: Kind, text: &[u8]) -> bool {
             Err(_) => false,
         },
         Kind::Proof => match decode_proof(alloc, text) {
-            Ok(proof) => is_text(encode_proof(alloc, &proof), text),
+            Ok(proof) => {
+                let is_same = is_text(encode_proof(alloc, &proof), text);
+                drop(proof);
+                is_same
+            }
             Err(_) => false,
         },
     }

@@ -9,7 +9,8 @@ use Rattle.depot_model.specs.Contents.{Writes}
 use Rattle.depot_model.specs.Order.{RisesStrictly, listed, AreLatestIn, IsCausal}
 use Rattle.depot_model.specs.Items.{PrecedesAt, updates_at}
 use Rattle.depot_model.proofs.Elements.{in_at, of_place, at_its_place}
-use Rattle.depot_index.specs.LatestItems.{RisesBy, AreLatestOf}
+use Rattle.depot_base.specs.Pairs.{AllPairsByRecursion}
+use Rattle.depot_index.specs.LatestItems.{AreLatestOf}
 use Rattle.depot_base.proofs.MembershipLaws.{from_contains, to_contains}
 use Rattle.depot_graph.specs.Listing.{ListedAt}
 use Rattle.depot_graph.specs.OrderLaws.{at_both, listed_both, one_place}
@@ -37,7 +38,7 @@ listed_all us n t (m ∷ ns) e there all =
     let both = subst (λ (o : Option Update). AllByRecursion (λ u. is_lt (listed t u) ≡ true) (option_to_list o ++ updates_at us ns)) u.1 all in
     ((t, (e, (u.0, (u.1, both.0)))), listed_all us n t ns e (λ k on. there k (inr on)) both.1)
 
-listed_rises : (us : List Update) (ns : List ℕ) → ((m : ℕ) → IsIn m ns → (u : Update) × (slice_get us m ≡ Some u)) → RisesStrictly (updates_at us ns) → RisesBy (ListedAt us) ns
+listed_rises : (us : List Update) (ns : List ℕ) → ((m : ℕ) → IsIn m ns → (u : Update) × (slice_get us m ≡ Some u)) → RisesStrictly (updates_at us ns) → AllPairsByRecursion (ListedAt us) ns
 listed_rises us [] there rises = tt
 listed_rises us (n ∷ ns) there rises =
     let t = there n (inl refl) in

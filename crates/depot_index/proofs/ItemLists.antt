@@ -4,8 +4,9 @@ use Rattle.std.specs.List.{AllByRecursion}
 use Rattle.std.proofs.Math.ListN.{set}
 use Rattle.std.proofs.lemmas.List.{get_or_default, take_more, take_more_set}
 use Rattle.depot_base.specs.Membership.{IsIn}
+use Rattle.depot_base.specs.Pairs.{AllPairsByRecursion}
 use Rattle.depot_base.proofs.MembershipLaws.{in_read, to_contains}
-use Rattle.depot_index.specs.LatestItems.{RisesBy, AreKept}
+use Rattle.depot_index.specs.LatestItems.{AreKept}
 
 -- ---- which items are in a list
 
@@ -44,9 +45,9 @@ all_kept P Q [] kept none all = subst (AllByRecursion Q) (sym none) tt
 all_kept P Q (b ∷ items) kept (inl (rest, (on, (is, k)))) all = subst (AllByRecursion Q) (sym is) (all.0, all_kept P Q items rest k all.1)
 all_kept P Q (b ∷ items) kept (inr k) all = all_kept P Q items kept k.1 all.1
 
-pub kept_rises : (P : ℕ → Type 0) (listed : ℕ → ℕ → Type 0) (items kept : List ℕ) → AreKept P items kept → RisesBy listed items → RisesBy listed kept
-kept_rises P listed [] kept none rises = subst (RisesBy listed) (sym none) tt
-kept_rises P listed (b ∷ items) kept (inl (rest, (on, (is, k)))) rises = subst (RisesBy listed) (sym is) (all_kept P (listed b) items rest k rises.0, kept_rises P listed items rest k rises.1)
+pub kept_rises : (P : ℕ → Type 0) (listed : ℕ → ℕ → Type 0) (items kept : List ℕ) → AreKept P items kept → AllPairsByRecursion listed items → AllPairsByRecursion listed kept
+kept_rises P listed [] kept none rises = subst (AllPairsByRecursion listed) (sym none) tt
+kept_rises P listed (b ∷ items) kept (inl (rest, (on, (is, k)))) rises = subst (AllPairsByRecursion listed) (sym is) (all_kept P (listed b) items rest k rises.0, kept_rises P listed items rest k rises.1)
 kept_rises P listed (b ∷ items) kept (inr k) rises = kept_rises P listed items kept k.1 rises.1
 
 -- ---- one more that is put in
@@ -76,7 +77,7 @@ all_put Q [] (suc n) item all holds = (holds, tt)
 all_put Q (y ∷ ys) (suc n) item all holds = (all.0, all_put Q ys n item all.1 holds)
 
 -- an item put behind those that are listed before it
-pub put_rises : (listed : ℕ → ℕ → Type 0) (xs : List ℕ) (n item : ℕ) → RisesBy listed xs → n ≤ length xs → ((k : ℕ) → k < n → listed (get_or xs k 0) item) → AllByRecursion (listed item) (drop n xs) → RisesBy listed (take n xs ++ item ∷ drop n xs)
+pub put_rises : (listed : ℕ → ℕ → Type 0) (xs : List ℕ) (n item : ℕ) → AllPairsByRecursion listed xs → n ≤ length xs → ((k : ℕ) → k < n → listed (get_or xs k 0) item) → AllByRecursion (listed item) (drop n xs) → AllPairsByRecursion listed (take n xs ++ item ∷ drop n xs)
 put_rises listed xs zero item rises low before behind = (behind, rises)
 put_rises listed [] (suc n) item rises low before behind = absurd (omega (arith, low))
 put_rises listed (y ∷ ys) (suc n) item rises low before behind = (
@@ -89,7 +90,7 @@ all_from listed item y [] on all = tt
 all_from listed item y (z ∷ zs) on all = (on z (inl refl) all.0, all_from listed item y zs (λ w there. on w (inr there)) all.1)
 
 -- an item that is listed before one of a rising list is listed before all behind it
-pub behind_rises : (listed : ℕ → ℕ → Type 0) (xs : List ℕ) (n item : ℕ) → RisesBy listed xs → (n < length xs → listed item (get_or xs n 0)) → ((y z : ℕ) → IsIn y xs → IsIn z xs → listed item y → listed y z → listed item z) → AllByRecursion (listed item) (drop n xs)
+pub behind_rises : (listed : ℕ → ℕ → Type 0) (xs : List ℕ) (n item : ℕ) → AllPairsByRecursion listed xs → (n < length xs → listed item (get_or xs n 0)) → ((y z : ℕ) → IsIn y xs → IsIn z xs → listed item y → listed y z → listed item z) → AllByRecursion (listed item) (drop n xs)
 behind_rises listed [] zero item rises first on = tt
 behind_rises listed (y ∷ ys) zero item rises first on =
     let here : listed item y = first (omega arith) in

@@ -1,8 +1,9 @@
 -- The latest of some items, with one item more.
 use Rattle.std.proofs.Common.{◌≡◌, ℕ, zero, suc, ◌<◌, ◌⊎◌, List, [], ◌∷◌, ◌++◌, length, take, drop, get_or, refl, sym, ◌∙◌, subst, arith, inl, inr, Contains}
 use Rattle.std.specs.List.{AllByRecursion}
-use Rattle.depot_index.specs.LatestItems.{RisesBy, IsLatestOf, AreLatestOf, IsNewest, AreKept, IsPlaceFor, IsMended}
+use Rattle.depot_index.specs.LatestItems.{IsLatestOf, AreLatestOf, IsNewest, AreKept, IsPlaceFor, IsMended}
 use Rattle.depot_base.specs.Membership.{IsIn}
+use Rattle.depot_base.specs.Pairs.{AllPairsByRecursion}
 use Rattle.depot_base.proofs.MembershipLaws.{from_contains, to_contains, in_pushed, in_left, in_last, all_at}
 use Rattle.depot_index.proofs.ItemLists.{kept_in, in_kept, kept_rises, in_put, item_put, put_in, put_rises, behind_rises}
 
@@ -29,7 +30,7 @@ get_in (x ∷ xs) zero low = inl refl
 get_in (x ∷ xs) (suc k) low = inr (get_in xs k (omega (arith, low)))
 
 -- the mended list rises
-mended_rises : (precedes listed : ℕ → ℕ → Type 0) (item : ℕ) (old kept : List ℕ) (place : ℕ) → Orders precedes listed item old → ((a : ℕ) → IsIn a old → a ≡ item → ⊥) → AreKept (IsApart precedes item) old kept → IsPlaceFor listed item kept place → RisesBy listed old → RisesBy listed (take place kept ++ item ∷ drop place kept)
+mended_rises : (precedes listed : ℕ → ℕ → Type 0) (item : ℕ) (old kept : List ℕ) (place : ℕ) → Orders precedes listed item old → ((a : ℕ) → IsIn a old → a ≡ item → ⊥) → AreKept (IsApart precedes item) old kept → IsPlaceFor listed item kept place → AllPairsByRecursion listed old → AllPairsByRecursion listed (take place kept ++ item ∷ drop place kept)
 mended_rises precedes listed item old kept place o other k p rises =
     let from : (a : ℕ) → IsIn a kept → IsIn a old = λ a on. (in_kept (IsApart precedes item) old kept a k on).0 in
     let up = kept_rises (IsApart precedes item) listed old kept k rises in
@@ -91,7 +92,7 @@ latest_agree precedes listed precedes' listed' among latest same as_listed l = r
     all_in P Q [] from all = tt
     all_in P Q (x ∷ xs) from all = (from x (inl refl) all.0, all_in P Q xs (λ y on. from y (inr on)) all.1)
 
-    rises_in : (listed listed' : ℕ → ℕ → Type 0) (xs : List ℕ) → ((a b : ℕ) → IsIn a xs → IsIn b xs → listed a b → listed' a b) → RisesBy listed xs → RisesBy listed' xs
+    rises_in : (listed listed' : ℕ → ℕ → Type 0) (xs : List ℕ) → ((a b : ℕ) → IsIn a xs → IsIn b xs → listed a b → listed' a b) → AllPairsByRecursion listed xs → AllPairsByRecursion listed' xs
     rises_in listed listed' [] from rises = tt
     rises_in listed listed' (x ∷ xs) from rises = (all_in (listed x) (listed' x) xs (λ y on. from x y (inl refl) (inr on)) rises.0, rises_in listed listed' xs (λ a b a_in b_in. from a b (inr a_in) (inr b_in)) rises.1)
 
@@ -110,7 +111,7 @@ same_behind listed x y xs ys same no_self all from a on = elim (from a (inr on))
 ]
 
 -- two rising lists of the same items are one
-pub rising_one : (listed : ℕ → ℕ → Type 0) (xs ys : List ℕ) → ((a : ℕ) → IsIn a xs → listed a a → ⊥) → ((a b : ℕ) → IsIn a xs → IsIn b xs → listed a b → listed b a → listed a a) → RisesBy listed xs → RisesBy listed ys
+pub rising_one : (listed : ℕ → ℕ → Type 0) (xs ys : List ℕ) → ((a : ℕ) → IsIn a xs → listed a a → ⊥) → ((a b : ℕ) → IsIn a xs → IsIn b xs → listed a b → listed b a → listed a a) → AllPairsByRecursion listed xs → AllPairsByRecursion listed ys
     → ((a : ℕ) → IsIn a xs → IsIn a ys) → ((a : ℕ) → IsIn a ys → IsIn a xs) → xs ≡ ys
 rising_one listed [] [] no_self on up_x up_y to from = refl
 rising_one listed [] (y ∷ ys) no_self on up_x up_y to from = absurd (from y (inl refl))

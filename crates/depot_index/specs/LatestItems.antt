@@ -1,11 +1,6 @@
 -- The latest of some items, in an order and as they are listed.
 use Rattle.std.specs.Prelude.{◌≡◌, ◌<◌, ◌≤◌, ◌⊎◌, ℕ, List, [], ◌∷◌, ◌++◌, length, take, drop, slice_index, Contains}
-use Rattle.std.specs.List.{AllByRecursion}
-
--- each is listed before all that come after it
-abbrev pub RisesBy : (ℕ → ℕ → Type 0) → List ℕ → Type 0
-RisesBy listed [] = Unit {0}
-RisesBy listed (a ∷ items) = AllByRecursion (listed a) items × RisesBy listed items
+use Rattle.depot_base.specs.Pairs.{AllPairsByRecursion}
 
 -- a is one of these items and precedes none of them
 abbrev pub IsLatestOf : (ℕ → ℕ → Type 0) → List ℕ → ℕ → Type 0
@@ -15,7 +10,7 @@ IsLatestOf precedes among a = Contains among a × ((b : ℕ) → Contains among 
 pub record AreLatestOf (precedes listed : ℕ → ℕ → Type 0) (among latest : List ℕ) : Type 0 where
   pub all : (a : ℕ) → IsLatestOf precedes among a → Contains latest a
   pub only : (a : ℕ) → Contains latest a → IsLatestOf precedes among a
-  pub rising : RisesBy listed latest
+  pub rising : AllPairsByRecursion listed latest
 
 -- the item is none of these and precedes none of them
 abbrev pub IsNewest : (ℕ → ℕ → Type 0) → List ℕ → ℕ → Type 0

@@ -21,7 +21,7 @@ use Rattle.depot_model.specs.Lawful.{IsLawful, is_empty}
 use Rattle.depot_model.specs.Hello.{hello_leaf, hello_leaf_rises, hello, IsHello, named_leaf, convicted_nodes, lacking, hello_of}
 use Rattle.depot_model.proofs.FieldFacts.{update_facts, roster_facts}
 use Rattle.depot_model.proofs.Members.{all_at, all_from, from_map, from_filter, from_take}
-use Rattle.depot_model.proofs.RisingLists.{RisesBy}
+use Rattle.depot_model.proofs.RisingLists.{RisesByTest}
 use Rattle.depot_base.proofs.GeneralLaws.{filter_short}
 use Rattle.depot_base.proofs.EntryLists.{last_pushed}
 use Rattle.depot_laws.proofs.Splits.{given_by}
@@ -39,15 +39,15 @@ use Rattle.depot_laws.proofs.Worlds.{giver_in}
 -- ---- rising lists
 
 -- what is left of a rising list rises
-rises_filter : {X : Type 0} (before : X → X → Bool) (test : X → Bool) (xs : List X) → RisesBy before xs → RisesBy before (filter test xs)
+rises_filter : {X : Type 0} (before : X → X → Bool) (test : X → Bool) (xs : List X) → RisesByTest before xs → RisesByTest before (filter test xs)
 rises_filter before test [] rise = tt
 rises_filter before test (x ∷ xs) rise = by_test (test x) (rises_filter before test xs rise.1) where
-  by_test : (b : Bool) → RisesBy before (filter test xs) → RisesBy before (cond b (x ∷ filter test xs) (filter test xs))
+  by_test : (b : Bool) → RisesByTest before (filter test xs) → RisesByTest before (cond b (x ∷ filter test xs) (filter test xs))
   by_test true rest = (all_from (λ y. before x y ≡ true) (filter test xs) (λ y on. all_at (λ z. before x z ≡ true) xs y rise.0 (from_filter test y xs on).0), rest)
   by_test false rest = rest
 
 -- a beginning of a rising list rises
-rises_take : {X : Type 0} (before : X → X → Bool) (n : ℕ) (xs : List X) → RisesBy before xs → RisesBy before (take n xs)
+rises_take : {X : Type 0} (before : X → X → Bool) (n : ℕ) (xs : List X) → RisesByTest before xs → RisesByTest before (take n xs)
 rises_take before zero xs rise = tt
 rises_take before (suc n) [] rise = tt
 rises_take before (suc n) (x ∷ xs) rise = (all_from (λ y. before x y ≡ true) (take n xs) (λ y on. all_at (λ z. before x z ≡ true) xs y rise.0 (from_take n y xs on)), rises_take before n xs rise.1)
@@ -55,18 +55,18 @@ rises_take before (suc n) (x ∷ xs) rise = (all_from (λ y. before x y ≡ true
 -- ---- convicted nodes
 
 -- entries of a roster rise by node
-entries_rise : (front es : List RosterEntry) → Follows roster_entry roster_entry_rises front es → RisesBy (λ e f. ltb e.node f.node) es
+entries_rise : (front es : List RosterEntry) → Follows roster_entry roster_entry_rises front es → RisesByTest (λ e f. ltb e.node f.node) es
 entries_rise front [] follows = tt
 entries_rise front (e ∷ es) follows =
     let rest = entries_rise (front ++ e ∷ []) es follows.2 in
     (above front e es follows.2 rest, rest) where
-      above : (front : List RosterEntry) (e : RosterEntry) (es : List RosterEntry) → Follows roster_entry roster_entry_rises (front ++ e ∷ []) es → RisesBy (λ e f. ltb e.node f.node) es → AllByRecursion (λ f. ltb e.node f.node ≡ true) es
+      above : (front : List RosterEntry) (e : RosterEntry) (es : List RosterEntry) → Follows roster_entry roster_entry_rises (front ++ e ∷ []) es → RisesByTest (λ e f. ltb e.node f.node) es → AllByRecursion (λ f. ltb e.node f.node ≡ true) es
       above front e [] follows rise = tt
       above front e (f ∷ fs) follows rise =
           let next : ltb e.node f.node ≡ true = subst (λ (o : Option RosterEntry). roster_entry_rises o f ≡ true) (last_pushed front e) follows.1 in
           (next, all_from (λ (g : RosterEntry). ltb e.node g.node ≡ true) fs (λ g on. lt-ltb _ _ (omega (arith, ltb-true _ _ next, ltb-true _ _ (all_at (λ (h : RosterEntry). ltb f.node h.node ≡ true) fs g rise.0 on)))))
 
-nodes_rise : (es : List RosterEntry) → RisesBy (λ e f. ltb e.node f.node) es → RisesBy ltb (map (λ e. e.node) es)
+nodes_rise : (es : List RosterEntry) → RisesByTest (λ e f. ltb e.node f.node) es → RisesByTest ltb (map (λ e. e.node) es)
 nodes_rise [] rise = tt
 nodes_rise (e ∷ es) rise = (
   all_from (λ (n : ℕ). ltb e.node n ≡ true) (map (λ (f : RosterEntry). f.node) es) (λ n on. let f = from_map (λ (f : RosterEntry). f.node) n es on in subst (λ (k : ℕ). ltb e.node k ≡ true) f.1.1 (all_at (λ (g : RosterEntry). ltb e.node g.node ≡ true) es f.0 rise.0 f.1.0)),
@@ -106,7 +106,7 @@ leaf_above t u e = then_lower _ _ _ e
 leaf_before : HelloLeaf → HelloLeaf → Bool
 leaf_before l k = hello_leaf_rises (Some l) k
 
-named_rise : (us : List Update) → RisesBy is_lower us → RisesBy leaf_before (map named_leaf us)
+named_rise : (us : List Update) → RisesByTest is_lower us → RisesByTest leaf_before (map named_leaf us)
 unfolding leaf_before
 named_rise [] rise = tt
 named_rise (t ∷ us) rise = (
@@ -145,7 +145,7 @@ lacking_fit here J h l on =
     let g = given_by values_named n.0 (accepted J) (from_filter test n.0 names n.1.0).0 in
     subst (λ (k : List ℕ). digest.fits k) n.1.1 (named_fits g.by n.0 (accepted_fit here J g.by l (giver_in values_named n.0 (accepted J) g)) g.given)
 
-lacking_rises : (J : List Record) → RisesBy is_below (lacking J)
+lacking_rises : (J : List Record) → RisesByTest is_below (lacking J)
 unfolding lacking
 lacking_rises J = rising_rises _
 

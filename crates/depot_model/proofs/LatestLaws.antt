@@ -8,9 +8,9 @@ use Rattle.std.proofs.lemmas.Slice.Eq.{bytes_eq-Decides}
 use Rattle.depot_base.proofs.GeneralLaws.{less_is}
 use Rattle.depot_base.specs.declared.update.Update.{Update}
 use Rattle.depot_model.specs.Texts.{id_of_update}
-use Rattle.depot_model.specs.Order.{listed, RisesStrictly, AreLatest}
+use Rattle.depot_model.specs.Order.{listed, AreLatest}
 use Rattle.depot_model.proofs.ContradictionLaws.{below_or_above}
-use Rattle.depot_model.proofs.RisingLists.{RisesBy, less_one_way, one_rising}
+use Rattle.depot_model.proofs.RisingLists.{less_one_way, one_rising}
 
 -- what updates are listed by
 abbrev pub rank : Update → List ℕ
@@ -36,11 +36,7 @@ one_rank t u same = cc
 pub listed_back : (t u : Update) → is_lt (listed t u) ≡ false → (id_of_update u ≡ id_of_update t → ⊥) → is_lt (listed u t) ≡ true
 listed_back t u not_before apart = below_or_above (rank t) (rank u) not_before (false_from_ne_true _ (λ e. apart (sym (one_rank t u ((bytes_eq-Decides (rank t) (rank u)).0 e)))))
 
-rises : (us : List Update) → RisesStrictly us → RisesBy (λ t u. is_lt (listed t u)) us
-rises [] rise = tt
-rises (u ∷ us) rise = (rise.0, rises us rise.1)
-
 -- the latest writes of a key in a set are one list
 pub one_latest_list : (wanted : List ℕ) (among : Update → Type 0) (order : Update → Update → Type 0) (us vs : List Update) → AreLatest wanted among order us → AreLatest wanted among order vs → us ≡ vs
-one_latest_list wanted among order us vs a b = one_rising (λ t u. is_lt (listed t u)) us vs listed_one_way (rises us a.rising) (rises vs b.rising)
+one_latest_list wanted among order us vs a b = one_rising (λ t u. is_lt (listed t u)) us vs listed_one_way a.rising b.rising
     (record { to = λ u on. b.all u (a.only u on); back = λ u on. a.all u (b.only u on) })

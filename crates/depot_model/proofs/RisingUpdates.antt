@@ -7,6 +7,7 @@ use Rattle.std.specs.Cmp.Lexicographic.{slice_cmp}
 use Rattle.std.proofs.lemmas.Cmp.{nat_list_cmp_total}
 use Rattle.std.proofs.lemmas.Bool.{false_from_ne_true}
 use Rattle.std.proofs.lemmas.Slice.Eq.{bytes_eq-Decides}
+use Rattle.depot_base.specs.Pairs.{AllPairsByRecursion}
 use Rattle.depot_base.specs.declared.update.Update.{Update}
 use Rattle.depot_base.proofs.GeneralLaws.{less_is}
 use Rattle.depot_model.specs.Lists.{IsIn}
@@ -16,7 +17,7 @@ use Rattle.depot_model.specs.History.{is_lower, put_by_id, by_id}
 use Rattle.depot_model.proofs.Members.{all_at, all_from, from_filter}
 use Rattle.depot_model.proofs.Orders.{fresh, causal_behind}
 use Rattle.depot_model.proofs.ContradictionLaws.{below_or_above}
-use Rattle.depot_model.proofs.RisingLists.{RisesBy, HaveSame, less_one_way, one_rising}
+use Rattle.depot_model.proofs.RisingLists.{RisesByTest, HaveSame, less_one_way, one_rising}
 
 -- ---- lists in the order of (writer, id)
 
@@ -69,8 +70,7 @@ lower_or_above t u not_lower other =
 
 -- no id stands twice
 abbrev pub HaveOwnIds : List Update → Type 0
-HaveOwnIds [] = Unit {0}
-HaveOwnIds (t ∷ ts) = AllByRecursion (λ u. id_of_update u ≡ id_of_update t → ⊥) ts × HaveOwnIds ts
+HaveOwnIds = AllPairsByRecursion (λ t u. id_of_update u ≡ id_of_update t → ⊥)
 
 -- where each parent stands before its children, no id stands twice
 pub own_ids_from_causal : (ids : List (List ℕ)) (us : List Update) → IsCausal ids us → HaveOwnIds us
@@ -91,7 +91,7 @@ own_ids_filter test (x ∷ xs) apart = choice (test x) (own_ids_filter test xs a
 
 -- each is lower than all that come after it
 abbrev pub Rises : List Update → Type 0
-Rises us = RisesBy is_lower us
+Rises us = RisesByTest is_lower us
 
 -- one with an id of its own leaves them rising
 pub rises_put : (t : Update) (us : List Update) → Rises us → AllByRecursion (λ (u : Update). id_of_update u ≡ id_of_update t → ⊥) us → Rises (put_by_id t us)

@@ -1,8 +1,9 @@
 -- Updates by their places in a list, from 0.
 use Rattle.std.specs.Prelude.{◌≡◌, ℕ, ◌+◌, List, [], ◌∷◌, map, Bool, not, Option, Some, None, slice_get, position, if◌then◌else◌}
-use Rattle.std.specs.List.{AllByRecursion, flat_map}
+use Rattle.std.specs.List.{flat_map}
 use Rattle.std.specs.Option.{option_to_list}
 use Rattle.std.specs.Str.{bytes_eq}
+use Rattle.depot_base.specs.Pairs.{AllPairsByRecursion}
 use Rattle.depot_base.specs.Zeros.{zeros}
 use Rattle.depot_base.specs.declared.update.Update.{Update}
 use Rattle.depot_model.specs.Lists.{IsIn, is_among}
@@ -45,8 +46,7 @@ places_where test n (u ∷ us) = if test u then n ∷ places_where test (n + 1) 
 
 -- no number stands twice
 abbrev pub AreDistinct : List ℕ → Type 0
-AreDistinct [] = Unit {0}
-AreDistinct (n ∷ ns) = AllByRecursion (λ m. m ≡ n → ⊥) ns × AreDistinct ns
+AreDistinct = AllPairsByRecursion (λ n m. m ≡ n → ⊥)
 
 -- These are the places of the leaves, each once.
 pub record AreLeaves (us : List Update) (places : List ℕ) : Type 0 where

@@ -5,6 +5,7 @@ use Rattle.std.specs.Str.{bytes_eq}
 use Rattle.std.specs.declared.cmp.Ordering.{Ordering}
 use Rattle.std.specs.Ordering.{nat_cmp, is_lt, ordering_then}
 use Rattle.std.specs.Cmp.Lexicographic.{slice_cmp}
+use Rattle.depot_base.specs.Pairs.{AllPairsByRecursion}
 use Rattle.depot_base.specs.Zeros.{zeros}
 use Rattle.depot_base.specs.declared.update.Update.{Update}
 use Rattle.depot_model.specs.Lists.{IsIn, is_among}
@@ -65,8 +66,7 @@ listed t u = ordering_then (nat_cmp t.clock u.clock) (ordering_then (nat_cmp t.w
 
 -- each stands in the listed order before all that come after it
 abbrev pub RisesStrictly : List Update → Type 0
-RisesStrictly [] = Unit {0}
-RisesStrictly (t ∷ ts) = AllByRecursion (λ u. is_lt (listed t u) ≡ true) ts × RisesStrictly ts
+RisesStrictly = AllPairsByRecursion (λ t u. is_lt (listed t u) ≡ true)
 
 -- u is one of the set, writes the key, and precedes no write of the key in the set; where nothing precedes itself, that is: no other
 pub record IsLatest (wanted : List ℕ) (among : Update → Type 0) (order : Update → Update → Type 0) (u : Update) : Type 0 where

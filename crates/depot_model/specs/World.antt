@@ -1,7 +1,8 @@
 -- Runs of correct nodes under one roster, and what is assumed of signatures and hashes in them.
 use Rattle.std.specs.Prelude.{◌≡◌, ℕ, ◌<◌, ◌≤◌, List, [], ◌∷◌, ◌++◌, length, take, map, true, false, Option, None, option_and_then}
-use Rattle.std.specs.List.{AllByRecursion, flat_map}
+use Rattle.std.specs.List.{flat_map}
 use Rattle.sha2.specs.Sha256.{sha256}
+use Rattle.depot_base.specs.Pairs.{AllPairsByRecursion}
 use Rattle.depot_base.specs.Zeros.{zeros}
 use Rattle.depot_base.specs.Statement.{writer_of}
 use Rattle.depot_base.specs.declared.update.Update.{Update}
@@ -63,8 +64,7 @@ pub record IsRead (J : List Record) (r : Read) : Type 0 where
 
 -- no read was made at a shorter journal than one before it
 abbrev pub NeverFall : List Read → Type 0
-NeverFall [] = Unit {0}
-NeverFall (r ∷ rs) = AllByRecursion (λ s. r.at ≤ s.at) rs × NeverFall rs
+NeverFall = AllPairsByRecursion (λ r s. r.at ≤ s.at)
 
 -- the roster has the node, its journal is lawful and has begun, and its reads are those of the journal
 pub record IsCorrect (W : World) (c : Correct) : Type 0 where

@@ -121,6 +121,7 @@ fn open<D: Disk, S: Scheme>(
     let journal = match Journal::start(alloc, disk) {
         Ok(journal) => journal,
         Err(Back { error, disk }) => {
+            drop(state);
             return Err(Back {
                 error: error_of(error),
                 disk,

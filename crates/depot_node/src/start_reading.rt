@@ -92,10 +92,12 @@ fn check_origin<D: Disk, S: Scheme>(
         Err(DecodeError::Memory) => return Err(StartError::Memory),
         Err(DecodeError::IllFormed(_)) => return Ok(()),
     };
-    match &item {
+    let checked = match &item {
         Record::Birth { node, roster } => check_birth(store, *node, *roster),
         _ => Ok(()),
-    }
+    };
+    drop(item);
+    checked
 }
 
 /// Refuses a birth of another node, or of the node under another roster.

@@ -16,7 +16,7 @@ use Rattle.depot_model.specs.declared.taken.Taken.{Taken}
 use Rattle.depot_model.specs.declared.taken.Taken.TheVariants.{New, Known}
 use Rattle.depot_model.specs.Checks.{Setting, Given, given_statement, given_proof, given_value, opponent, due, added, growth_by, growth}
 use Rattle.depot_model.specs.Journal.{accepted, foreign, is_foreign, is_vouched, own}
-use Rattle.depot_model.specs.Lawful.{MayVouch}
+use Rattle.depot_model.specs.Lawful.{MayFollow, MayVouch}
 use Rattle.depot_model.proofs.Members.{all_at, all_from}
 use Rattle.depot_model.specs.Own.{next_own, IsFresh, leaf_count}
 use Rattle.depot_model.specs.RecordFaults.{given_by, IsAtPlace}
@@ -96,16 +96,13 @@ good_statement here J s answer decided new d taken short =
 -- ---- own updates
 
 -- it may be put
-pub good_put : (here : Setting) (J : List Record) (u next : Update) (value id : List ℕ) (new : List Record) → u ≡ next → next ≡ next_own here.me J (key_written u) value
-    → length (own J) < leaf_count here.listed here.me → length (next_own here.me J (key_written u) value).deps ≤ MOST_ENTRIES → id ≡ id_of_update u → IsFresh J id → new ≡ OwnPut u value ∷ [] → IsGood here J (OwnPut u value) new
-good_put here J u next value id new same is leaf narrow named fresh one = record {
-  alone = one;
-  may = record {
-    next = same ∙ is;
-    fresh = subst (λ (h : List ℕ). IsFresh J h) named fresh;
-    tips = subst (λ (x : Update). length x.deps ≤ MOST_ENTRIES) (sym (same ∙ is)) narrow;
-    leaf = leaf;
-  };
+pub may_put : (here : Setting) (J : List Record) (u next : Update) (value id : List ℕ) → u ≡ next → next ≡ next_own here.me J (key_written u) value
+    → length (own J) < leaf_count here.listed here.me → length (next_own here.me J (key_written u) value).deps ≤ MOST_ENTRIES → id ≡ id_of_update u → IsFresh J id → MayFollow here J (OwnPut u value)
+may_put here J u next value id same is leaf narrow named fresh = record {
+  next = same ∙ is;
+  fresh = subst (λ (h : List ℕ). IsFresh J h) named fresh;
+  tips = subst (λ (x : Update). length x.deps ≤ MOST_ENTRIES) (sym (same ∙ is)) narrow;
+  leaf = leaf;
 }
 
 -- ---- own vouchers

@@ -1,13 +1,13 @@
 //! A record of a journal is checked as if it came now.
-ghost use Rattle.std.specs.Prelude.{◌≡◌, ◌↔◌, ◌<◌, ◌≤◌, ◌∷◌, ℕ, List, true, false, length, IfOk, IfErr, IsTrue};
+ghost use Rattle.std.specs.Prelude.{◌≡◌, ◌↔◌, ◌<◌, ◌≤◌, ◌∷◌, ℕ, List, Err, true, false, length, IfOk, IfErr, IsTrue};
 ghost use Rattle.std.specs.List.{AllByRecursion};
 ghost use Rattle.depot_base.specs.declared.limits.TheConstants.{MOST_ENTRIES};
 ghost use Rattle.depot_base.specs.declared.record.Record.TheVariants.{Birth, OwnPut, OwnVoucher, Foreign, Conviction, Held};
 ghost use Rattle.depot_model.specs.Journal.{accepted, own, is_foreign};
-ghost use Rattle.depot_model.specs.Lawful.{IsLawful, MayVouch};
+ghost use Rattle.depot_model.specs.Lawful.{IsLawful, MayFollow, MayVouch};
 ghost use Rattle.depot_model.specs.Own.{next_own};
 ghost use Rattle.depot_model.specs.RecordFaults.{IsAtPlace};
-ghost use Rattle.depot_model.specs.Texts.{hash_of_roster};
+ghost use Rattle.depot_model.specs.Texts.{hash_of_roster, id_of_update};
 ghost use Rattle.depot_store.specs.Holdings.{standing};
 ghost use Rattle.depot_store.specs.RecordTexts.{IsTextOf};
 ghost use Rattle.depot_records.specs.declared.record_check.ReadError.TheVariants as refused;
@@ -61,10 +61,12 @@ pub fn check_record<D: Disk, S: Scheme>(
         Err(DecodeError::IllFormed(at)) => return Err(ReadError::Fault(RecordFault::Ill(at))),
     };
     if !is_at_place(store, &item) {
+        drop(item);
         return Err(ReadError::Fault(RecordFault::Birth));
     }
     let growth = check_item(alloc, store, item, text)?;
     if !store.has_room(&growth) {
+        drop(growth);
         return Err(ReadError::Fault(RecordFault::NoRoom));
     }
     Ok(growth)
@@ -128,8 +130,7 @@ fn is_own_birth<D: Disk, S: Scheme>(store: &Store<D, S>, node: NodeId, roster: &
     node == store.me() && roster == store.roster().hash()
 }
 
-/// An own update and its value, where a put would append just these. Nothing is encoded: the update is compared with the one that a
-/// put would make, and its id is read off the text.
+/// An own update and its value, where a put would append just these.
 fn check_put<D: Disk, S: Scheme>(
     alloc: Global,
     store: &Store<D, S>,
@@ -143,21 +144,38 @@ fn check_put<D: Disk, S: Scheme>(
     requires text { IsTextOf (OwnPut update value) text.now }
     ensures { IsChecked (standing S.verifies store.now) store.now.records (OwnPut update value) result }
 {
+    let id = id_in_own_put(text);
+    let parents = parents_of_put(alloc, store, &update, &value, &id)?;
+    let text = Bytes::from_slice(alloc, text)?;
+    let item = Record::OwnPut { update, value };
+    let growth = Growth::of_statement(alloc, item, id, text, parents)?;
+    Ok(growth)
+}
+
+/// The items of the parents of an own update with this id, where a put would append just this update and value. Nothing is encoded:
+/// the update is compared with the one that a put would make.
+fn parents_of_put<D: Disk, S: Scheme>(
+    alloc: Global,
+    store: &Store<D, S>,
+    update: &Update,
+    value: &Value,
+    id: &Hash32,
+) -> Result<Vec<u32>, ReadError>
+    requires runs { store.now.stopped ≡ false }
+    requires lawful { IsLawful (standing S.verifies store.now) store.now.records }
+    requires place { IsAtPlace store.now.records (OwnPut update.now value.now) }
+    requires id { id.now ≡ id_of_update update.now }
+    ensures may { IfOk result (λ _. MayFollow (standing S.verifies store.now) store.now.records (OwnPut update.now value.now)) }
+    ensures refused { IfErr result (λ e. IsChecked (standing S.verifies store.now) store.now.records (OwnPut update.now value.now) (Err e)) }
+{
     if !has_leaf(store, store.totals().own) {
         return Err(ReadError::Fault(RecordFault::NotNext));
     }
-    let next = next_put(alloc, store, update.key_written().copy()?, &value)?;
-    if !update.is_same(&next.update) {
+    let next = next_put(alloc, store, update.key_written().copy()?, value)?;
+    if !update.is_same(&next.update) || !is_fresh(store.state().graph(), id) {
         return Err(ReadError::Fault(RecordFault::NotNext));
     }
-    let id = id_in_own_put(text);
-    if !is_fresh(store.state().graph(), &id) {
-        return Err(ReadError::Fault(RecordFault::NotNext));
-    }
-    let text = Bytes::from_slice(alloc, text)?;
-    let item = Record::OwnPut { update, value };
-    let growth = Growth::of_statement(alloc, item, id, text, next.parents)?;
-    Ok(growth)
+    Ok(next.parents)
 }
 
 /// The next own update, which puts a value under a key. It is refused where it would have too many entries.
@@ -242,6 +260,7 @@ fn check_foreign<D: Disk, S: Scheme>(
     let decision = decide_signed(alloc, store, signed, behind_tag(text))?;
     let growth = growth_of_new(decision)?;
     if growth.count() > 1 {
+        drop(growth);
         return Err(ReadError::Fault(RecordFault::ProofDue));
     }
     Ok(growth)
@@ -281,9 +300,13 @@ fn check_held<D: Disk, S: Scheme>(
 fn growth_of_new(decision: Decision) -> Result<Growth, ReadError>
     ensures { TakesNew decision.answer decision.growth result }
 {
-    match fault_of(&decision.answer) {
-        None => Ok(decision.growth),
-        Some(fault) => Err(ReadError::Fault(fault)),
+    let Decision { answer, growth } = decision;
+    match fault_of(&answer) {
+        None => Ok(growth),
+        Some(fault) => {
+            drop(growth);
+            Err(ReadError::Fault(fault))
+        }
     }
 }
 

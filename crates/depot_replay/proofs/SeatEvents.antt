@@ -1,5 +1,5 @@
 -- What an event of a seated node came to: it went as it goes, or a stop fell into it.
-use Rattle.std.proofs.Common.{◌≡◌, ℕ, ◌+◌, ◌-◌, ◌*◌, List, [], ◌++◌, append_assoc, length, length-append, take, drop, false, Option, None, Some, refl, sym, ap, subst, ◌∙◌, arith}
+use Rattle.std.proofs.Common.{◌≡◌, ℕ, ◌+◌, ◌-◌, ◌*◌, List, [], ◌++◌, append_assoc, length, length-append, take, drop, false, true≢false, Option, None, Some, Result, Ok, Err, IfOk, IsOk, refl, sym, ap, subst, ◌∙◌, arith}
 use Rattle.std.proofs.Math.Seq.{drop-append_seam}
 use Rattle.std.proofs.lemmas.List.{append-nil, take-append-drop}
 use Rattle.depot_base.specs.Calls.{Call, made}
@@ -23,6 +23,19 @@ use Rattle.depot_deeds.specs.declared.printed.Printed.{Printed}
 use Rattle.depot_deeds.specs.Printing.{lines_of_deed}
 use Rattle.depot_replay.specs.Seats.{Appends, IsBegunOn, IsCalled, IsKeptOn, stopped_line}
 use Rattle.depot_replay.proofs.SeatLaws.{IsCut, IsToCome, calls_counted, cut_short, kept_after, went_cut, went_well}
+
+-- ---- what is printed of it
+
+-- where an event came to something, something was printed
+pub if_printed : {T X E F : Type 0} (r : Result T E) (printed : Result X F) (P : X → T → Type 0) (Q : T → Type 0) → ((x : X) (t : T) → printed ≡ Ok x → P x t → Q t) → IfOk r (λ _. IsOk printed) → IfOk r (λ t. IfOk printed (λ x. P x t)) → IfOk r Q
+if_printed (Ok t) (Ok x) P Q so ok p = so x t refl p
+if_printed (Ok t) (Err e) P Q so ok p = absurd (true≢false (sym ok))
+if_printed (Err e) printed P Q so ok p = tt
+
+-- what is so of what was printed
+pub of_printed : {X E : Type 0} (printed : Result X E) (P : X → Type 0) → ((x : X) → printed ≡ Ok x → P x) → IfOk printed P
+of_printed (Ok x) P so = so x refl
+of_printed (Err e) P so = tt
 
 -- ---- the node after it
 

@@ -1,15 +1,21 @@
 //! A correct node over a disk in memory.
-ghost use Rattle.std.specs.Prelude.{◌≡◌, ◌≢◌, ◌≤◌, [], ◌∷◌, ℕ, List, false, Some, None, IfOk, IfErr, refl};
+ghost use Rattle.std.specs.Prelude.{◌≡◌, ◌≢◌, ◌≤◌, [], ◌∷◌, ℕ, List, false, Some, None, Ok, IfOk, IfErr, IsOk, refl};
 ghost use Rattle.depot_base.specs.Calls.{FailsAmong, made};
 ghost use Rattle.depot_base.specs.declared.record.Record.{Record};
 ghost use Rattle.depot_base.specs.declared.record.Record.TheVariants.{Birth};
+ghost use Rattle.depot_answers.specs.Answers.{numbered, spaced, text_of_named};
+ghost use Rattle.depot_deeds.specs.Printing.{shown_text};
+ghost use Rattle.depot_model.specs.Hello.{hello_of, text_of_hello};
 ghost use Rattle.depot_model.specs.Roster.{key_of};
 ghost use Rattle.depot_model.specs.Stops.{HasRecords};
 ghost use Rattle.depot_model.specs.Texts.{hash_of_roster};
 ghost use Rattle.depot_node.specs.Starting.{IsStartedFrom, calls_to_start_node};
 ghost use Rattle.depot_node.specs.declared.start_error.StartError.TheVariants as start_error;
 ghost use Rattle.depot_outside.specs.Stopping.{State, Leads, state_of};
+ghost use Rattle.depot_store.specs.Holdings.{standing};
+ghost use Rattle.depot_world.specs.Deeds.{shown_of};
 ghost use Rattle.depot_world.specs.Run.{own_update};
+ghost use Rattle.depot_world.specs.Transcript.{ended};
 ghost use Rattle.depot_plays.specs.Acting.{View};
 ghost use Rattle.depot_replay.specs.Disks.{armed_of};
 ghost use Rattle.depot_replay.specs.PrintedRuns.{EndsAs};
@@ -84,12 +90,8 @@ impl<S: Scheme + Copy, G: Signer<Of = S> + Copy> Means<S, G> {
         let Ok(node) = self.start(disk) else {
             return Err(Memory);
         };
-        let lines = counted_line(self.alloc, "stopped records", node.record_count())?;
-        Ok(Told {
-            bytes: Bytes::new(self.alloc),
-            actor: Seat { node, means: self },
-            lines,
-        })
+        let printed = counted_printed(self.alloc, "stopped records", node.record_count());
+        told(Seat { node, means: self }, printed)
     }
 }
 
@@ -117,27 +119,87 @@ fn piece_of(stream: &[u8], size: Option<u32>) -> usize
     }
 }
 
+/// What an event came to for a node, with what is printed of it. Where memory is wanting for that, the node is gone.
+fn told<A: Drop>(actor: A, printed: Result<Printed, Memory>) -> Result<Told<A>, Memory>
+    ensures actor { IfOk result (λ t. t.actor ≡ actor) }
+    ensures printed { IfOk result (λ t. printed ≡ Ok (record { lines = t.lines; bytes = t.bytes })) }
+{
+    let Printed { lines, bytes } = printed?;
+    Ok(Told {
+        actor,
+        lines,
+        bytes,
+    })
+}
+
+/// What is printed of a start: a number of records behind a name. It gives a label nothing.
+fn counted_printed(alloc: Global, name: &str, count: u32) -> Result<Printed, Memory>
+    ensures lines { IfOk result (λ p. p.lines ≡ ended (spaced (numbered name.now count))) }
+    ensures bytes { IfOk result (λ p. p.bytes ≡ []) }
+{
+    Ok(Printed {
+        lines: counted_line(alloc, name, count)?,
+        bytes: Bytes::new(alloc),
+    })
+}
+
+/// What is printed of a read. It gives a label nothing.
+fn shown_printed<S: Scheme, G: Signer<Of = S>>(
+    alloc: Global,
+    node: &Node<MemDisk, S, G>,
+    key: &Key,
+) -> Result<Printed, Memory>
+    requires { node.now.store.stopped ≡ false }
+    ensures lines { IfOk result (λ p. p.lines ≡ ended (shown_text (shown_of node.now.store.records key.now))) }
+    ensures bytes { IfOk result (λ p. p.bytes ≡ []) }
+{
+    Ok(Printed {
+        lines: shown_line(alloc, node, key)?,
+        bytes: Bytes::new(alloc),
+    })
+}
+
+/// What is printed of a hello. It gives a label its text.
+fn hello_printed<S: Scheme, G: Signer<Of = S>>(
+    alloc: Global,
+    node: &Node<MemDisk, S, G>,
+) -> Result<Printed, Memory>
+    requires { node.now.store.stopped ≡ false }
+    ensures lines { IfOk result (λ p. p.lines ≡ ended (spaced (text_of_named (hello_of (standing S.verifies node.now.store) node.now.store.records)))) }
+    ensures bytes { IfOk result (λ p. p.bytes ≡ text_of_hello (hello_of (standing S.verifies node.now.store) node.now.store.records)) }
+{
+    let bytes = hello(alloc, node)?;
+    let lines = hello_line(alloc, bytes.as_slice())?;
+    Ok(Printed { lines, bytes })
+}
+
 /// Seats a node behind a call, with what is printed of it. Where a stop fell into the call, nothing is printed of that, and the node is
-/// started again.
+/// started again. Where memory is wanting for what is printed, the node is gone.
 fn seated<S: Scheme + Copy, G: Signer<Of = S> + Copy>(
     node: Node<MemDisk, S, G>,
     means: Means<S, G>,
-    printed: Option<Printed>,
+    printed: Result<Option<Printed>, Memory>,
 ) -> Result<Told<Seat<S, G>>, Memory>
     requires me { node.store.me ≡ means.me }
     requires listed { node.store.listed ≡ means.roster }
     requires signs { G.signature_of node.signer ≡ G.signature_of means.signer }
-    requires runs { printed ≢ None → node.store.stopped ≡ false }
-    requires called { WasCalled (record { verifies = S.verifies; me = means.me; listed = means.roster }) (state_of node.store.disk) node.store.records (printed ≡ None) }
-    ensures { IfOk result (λ t. (v : View) (s : State) (longer : List Record) → v.here ≡ record { verifies = S.verifies; me = means.me; listed = means.roster } → v.sign ≡ G.signature_of means.signer → IsCalled v s (state_of node.store.disk) node.store.records longer (printed ≡ None) → EndsAs v longer printed (⟦<Seat<S, G> as Actor>⟧.view t.actor) t.lines t.bytes) }
+    requires runs { IfOk printed (λ p. p ≢ None → node.store.stopped ≡ false) }
+    requires called { IfOk printed (λ p. WasCalled (record { verifies = S.verifies; me = means.me; listed = means.roster }) (state_of node.store.disk) node.store.records (p ≡ None)) }
+    ensures printed { IfOk result (λ _. IsOk printed) }
+    ensures ends { IfOk result (λ t. IfOk printed (λ p. (v : View) (s : State) (longer : List Record) → v.here ≡ record { verifies = S.verifies; me = means.me; listed = means.roster } → v.sign ≡ G.signature_of means.signer → IsCalled v s (state_of node.store.disk) node.store.records longer (p ≡ None) → EndsAs v longer p (⟦<Seat<S, G> as Actor>⟧.view t.actor) t.lines t.bytes)) }
 {
     match printed {
-        Some(printed) => Ok(Told {
+        Ok(Some(printed)) => Ok(Told {
             actor: Seat { node, means },
             lines: printed.lines,
             bytes: printed.bytes,
         }),
-        None => means.stopped(node.into_disk()),
+        Ok(None) => means.stopped(node.into_disk()),
+        Err(Memory) => {
+            drop(node);
+            drop(means);
+            Err(Memory)
+        }
     }
 }
 
@@ -201,55 +263,43 @@ impl<S: Scheme + Copy, G: Signer<Of = S> + Copy> Actor for Seat<S, G> {
         let Seat { mut node, means } = self;
         have_sizes(&key, &value);
         let done = node.put(key, value);
-        let printed = put_printed(means.alloc, done)?;
+        let printed = put_printed(means.alloc, done);
         seated(node, means, printed)
     }
 
     fn get(self, key: &Key) -> Result<Told<Self>, Memory> {
-        let lines = shown_line(self.means.alloc, &self.node, key)?;
-        Ok(Told {
-            bytes: Bytes::new(self.means.alloc),
-            actor: self,
-            lines,
-        })
+        let printed = shown_printed(self.means.alloc, &self.node, key);
+        told(self, printed)
     }
 
     fn hello(self) -> Result<Told<Self>, Memory> {
-        let bytes = hello(self.means.alloc, &self.node)?;
-        let lines = hello_line(self.means.alloc, bytes.as_slice())?;
-        Ok(Told {
-            actor: self,
-            lines,
-            bytes,
-        })
+        let printed = hello_printed(self.means.alloc, &self.node);
+        told(self, printed)
     }
 
     fn bundle(self, hello: &[u8]) -> Result<Told<Self>, Memory> {
         let Seat { mut node, means } = self;
         let made = bundle(means.alloc, &mut node, hello);
-        let printed = bundle_printed(means.alloc, made)?;
+        let printed = bundle_printed(means.alloc, made);
         seated(node, means, printed)
     }
 
     fn give(self, stream: &[u8], size: Option<u32>) -> Result<Told<Self>, Memory> {
         let Seat { mut node, means } = self;
         let fed = feed_all(means.alloc, &mut node, stream, piece_of(stream, size));
-        let printed = fed_printed(means.alloc, fed)?;
+        let printed = fed_printed(means.alloc, fed);
         seated(node, means, printed)
     }
 
     fn restart(self) -> Result<Told<Self>, Memory> {
         let Seat { node, means } = self;
-        let node = match means.start(node.into_disk()) {
-            Ok(node) => node,
-            Err(back) => return means.refused(back),
-        };
-        let lines = counted_line(means.alloc, "records", node.record_count())?;
-        Ok(Told {
-            bytes: Bytes::new(means.alloc),
-            actor: Seat { node, means },
-            lines,
-        })
+        match means.start(node.into_disk()) {
+            Ok(node) => {
+                let printed = counted_printed(means.alloc, "records", node.record_count());
+                told(Seat { node, means }, printed)
+            }
+            Err(back) => means.refused(back),
+        }
     }
 
     fn stop_at(self, call: u32, image: u8) -> Result<Self, Memory> {

@@ -96,16 +96,20 @@ impl<D: Disk, S: Scheme> Store<D, S> {
         ensures calls { CallsDisk (λ v calls w. D.after v.disk calls w.disk) (λ v. D.seen v.disk) (λ v. v.stopped) (λ v. v.records) self.old self.new new (IsErrOf result WriteError.Disk) }
         ensures idle { IsErrOf result WriteError.Memory → Lasts (λ v. D.tells v.disk) (λ v. v.stopped) (λ v. v.records) (λ v. D.moment v.disk) (λ v t file. D.left_since v.disk t file) (λ v file. D.may_leave v.disk file) self.old self.new [] }
     {
+        // Called for its clause alone: what a stop may leave has the records.
+        let _runs = self.journal.is_stopped();
+        let count = new.texts.len() as u32;
+        let size = new.bytes as u32 - FRAME * count;
+        let Ok(()) = self.journal.reserve(count, size) else {
+            drop(new);
+            return Err(WriteError::Memory);
+        };
         let Growth {
             news,
             parents,
             texts,
-            bytes,
+            ..
         } = new;
-        let count = texts.len() as u32;
-        // Called for its clause alone: what a stop may leave has the records.
-        let _runs = self.journal.is_stopped();
-        self.journal.reserve(count, bytes as u32 - FRAME * count)?;
         self.readings
             .read(news, parents.as_slice(), self.read, leaves)?;
         let written = self.journal.append_all(&texts);

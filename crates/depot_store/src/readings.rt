@@ -68,8 +68,10 @@ impl<S: Scheme> Readings<S> {
     {
         let name = name_in(&news);
         let place = accept_place(&news, count);
-        self.named.reserve(&name)?;
-        self.places.reserve(place)?;
+        if self.named.reserve(&name).is_err() || self.places.reserve(place).is_err() {
+            drop(news);
+            return Err(Memory);
+        }
         self.kept.keep(news, parents, leaves, &mut self.mine)?;
         self.named.add(name);
         self.places.add(place);

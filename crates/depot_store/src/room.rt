@@ -57,6 +57,7 @@ impl<D: Disk, S: Scheme> Store<D, S> {
         if let Some(full) = self.room_for(&new, leaves) {
             // Called for its clause alone: what a stop may leave has the records.
             let _runs = self.is_stopped();
+            drop(new);
             return Err(CommitError::Full(full));
         }
         match self.append_counted(new, leaves) {

@@ -78,7 +78,13 @@ impl<D: Disk, S: Scheme> Store<D, S> {
     pub fn into_disk(self) -> D
         ensures { result ≡ self.disk }
     {
-        self.journal.into_disk()
+        let Store {
+            journal,
+            readings,
+            ..
+        } = self;
+        drop(readings);
+        journal.into_disk()
     }
 
     /// Whether the disk has failed. The records stand in each file that a stop may leave. It takes no memory.

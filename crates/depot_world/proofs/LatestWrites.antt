@@ -6,19 +6,18 @@ use Rattle.depot_base.specs.declared.update.Update.{Update}
 use Rattle.depot_model.specs.Contents.{writes}
 use Rattle.depot_model.specs.Journal.{has_id}
 use Rattle.depot_model.specs.Lists.{IsIn}
-use Rattle.depot_model.specs.Order.{Precedes, past, IsCausal, RisesStrictly, IsLatest, AreLatestIn}
+use Rattle.depot_model.specs.Order.{Precedes, past, IsCausal, IsLatest, AreLatestIn}
 use Rattle.depot_model.specs.Texts.{id_of_update}
 use Rattle.depot_model.proofs.LatestLaws.{listed_trans, listed_back}
 use Rattle.depot_model.proofs.Members.{any_from, any_to, from_filter, in_filter}
 use Rattle.depot_model.proofs.Orders.{one_of_id}
 use Rattle.depot_model.proofs.Pasts.{past_in, past_of_listed}
-use Rattle.depot_model.proofs.RisingLists.{RisesBy}
-use Rattle.depot_model.proofs.RisingUpdates.{HaveOwnIds, own_ids_from_causal, own_ids_filter}
+use Rattle.depot_model.proofs.RisingUpdates.{own_ids_from_causal, own_ids_filter}
 use Rattle.depot_model.proofs.NamedIds.{has_id_from, has_id_to}
 use Rattle.depot_model.proofs.ContentLaws.{writes-Decides}
 use Rattle.depot_world.specs.Insertion.{order_by}
 use Rattle.depot_world.specs.ShownLatest.{is_listed_before, is_last, latest_in}
-use Rattle.depot_world.proofs.InsertionLaws.{IsOrderOf, AllDiffer, from_order, in_order, order_rises}
+use Rattle.depot_world.proofs.InsertionLaws.{IsOrderOf, from_order, in_order, order_rises}
 
 -- ---- the listed order
 
@@ -31,14 +30,6 @@ listed_is_order = record {
   trans = listed_trans;
   other = listed_back;
 }
-
-differ_by_id : (us : List Update) → HaveOwnIds us → AllDiffer HasOtherId us
-differ_by_id [] apart = tt
-differ_by_id (u ∷ us) apart = (apart.0, differ_by_id us apart.1)
-
-rises_strictly : (us : List Update) → RisesBy is_listed_before us → RisesStrictly us
-rises_strictly [] rise = tt
-rises_strictly (u ∷ us) rise = (rise.0, rises_strictly us rise.1)
 
 -- ---- which writes are last
 
@@ -81,6 +72,5 @@ latest_are_listed key us causal =
     record {
       all = λ u latest. in_order is_listed_before u last (in_filter (is_last key us) u us latest.known (is_last_from key us u causal latest));
       only = λ u on. let f = from_filter (is_last key us) u us (from_order is_listed_before u last on) in is_latest_from key us u causal f.0 f.1;
-      rising = rises_strictly (order_by is_listed_before last)
-          (order_rises is_listed_before HasOtherId listed_is_order last (differ_by_id last (own_ids_filter (is_last key us) us (own_ids_from_causal [] us causal))));
+      rising = order_rises is_listed_before HasOtherId listed_is_order last (own_ids_filter (is_last key us) us (own_ids_from_causal [] us causal));
     }

@@ -13,7 +13,7 @@ use Rattle.depot_model.specs.Roster.{key_of, has_node}
 use Rattle.depot_model.specs.Texts.{roster, IsRoster}
 use Rattle.depot_model.specs.Winternitz.{node}
 use Rattle.depot_model.proofs.Members.{from_map, all_at, all_from, in_map}
-use Rattle.depot_model.proofs.RisingLists.{RisesBy}
+use Rattle.depot_model.proofs.RisingLists.{RisesByTest}
 use Rattle.depot_laws.proofs.RisingBytes.{rising_follow}
 use Rattle.depot_schedule.specs.declared.member.Member.{Member}
 use Rattle.depot_schedule.specs.declared.schedule.Schedule.{Schedule}
@@ -69,7 +69,7 @@ entry_fits winter height node root_node low high node_low node_high = ((node_low
 rises_follow : (x y : RosterEntry) → is_entry_before x y ≡ true → roster_entry_rises (Some x) y ≡ true
 rises_follow x y e = e
 
-roster_fits : (listed : List RosterEntry) → RisesBy is_entry_before listed → ((e : RosterEntry) → IsIn e listed → roster_entry.fits e) → 1 ≤ length listed → length listed ≤ 256 → IsRoster listed
+roster_fits : (listed : List RosterEntry) → RisesByTest is_entry_before listed → ((e : RosterEntry) → IsIn e listed → roster_entry.fits e) → 1 ≤ length listed → length listed ≤ 256 → IsRoster listed
 unfolding roster list_of number
 roster_fits listed rise fit some few =
     ((omega arith, omega arith), ((omega arith, omega arith), ((some, few), ((rising_follow roster_entry roster_entry_rises is_entry_before rises_follow [] listed rise (λ x on. refl) fit, refl), refl))))

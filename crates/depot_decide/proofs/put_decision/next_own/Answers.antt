@@ -1,4 +1,4 @@
-use Rattle.std.proofs.Common.{length, ap, arith, ◌∙◌}
+use Rattle.std.proofs.Common.{length, refl, ap, arith, ◌∙◌}
 use Rattle.sha2.specs.Sha256.{sha256}
 use Rattle.depot_model.specs.Checks.{Setting}
 use Rattle.depot_graph.specs.Kept.{updates_in}
@@ -27,17 +27,17 @@ returns-then-items-clause-wide g c = (
   c.if-items.true,
 )
 
-pub overflow_add-totals : goal.overflow_add-totals
-overflow_add-totals g c =
+pub overflow_add-result : goal.overflow_add-result
+overflow_add-result g c =
     let here = standing g.S.Scheme.verifies c.args.store.now in
     omega (arith, c.totals-totals.ensures.clock, clocks_within here c.args.store.now.records c.requires.lawful, lawful_is_short here c.args.store.now.records c.requires.lawful)
 
 pub returns-clause-next : goal.returns-clause-next
 returns-clause-next g c =
     next_own_is c.args.store.now.me c.args.store.now.records c.args.key c.args.value.now _ c.as_slice-items.result.now c.totals-totals.result.now _ _ _ _ _ _ c.totals-totals.ensures (items_are g (goal.at.returns-clause-next g c).After-as_slice-items)
-    (c.me-2.ensures ∙ ap (λ (s : Setting). s.me) c.state-state.ensures.stands) c.key.view_is (c.hash_of.ensures ∙ ap sha256 c.bytes.ensures.same) (ap length c.bytes-2.ensures.same) c.in_ok-entries_of.ensures c.in_ok-summary.ensures
+    (c.me-2.ensures ∙ ap (λ (s : Setting). s.me) c.state-state.ensures.stands) refl (c.hash_of.ensures ∙ ap sha256 c.bytes.ensures.same) (ap length c.bytes-2.ensures.same) c.in_ok-deps.ensures c.in_ok-history.ensures
 
 pub returns-clause-narrow : goal.returns-clause-narrow
 returns-clause-narrow g c =
-    let few = as_many_deps _ c.in_ok-items.items c.as_slice-items.result.now c.in_ok-entries_of.field-0 c.in_ok-items.ensures.items c.as_slice-items.ensures c.in_ok-entries_of.ensures in
+    let few = as_many_deps _ c.in_ok-items.items c.as_slice-items.result.now c.in_ok-deps.deps c.in_ok-items.ensures.items c.as_slice-items.ensures c.in_ok-deps.ensures in
     omega (arith, few, c.if-items.false)

@@ -1,17 +1,19 @@
 use Rattle.std.proofs.Common.{ℕ, refl, sym, ap, subst, ◌∙◌}
 use Rattle.std.specs.Prelude.{codes}
+use Rattle.std.proofs.lemmas.Result.{IfOk-at_ok}
 use Rattle.depot_answers.specs.Answers.{numbered, spaced}
 use Rattle.depot_world.specs.Transcript.{ended}
 use Rattle.depot_base.specs.Calls.{calls_to_start}
 use Rattle.depot_model.specs.Bundle.{Signs}
 use Rattle.depot_outside.specs.Stopping.{state_of}
+use Rattle.depot_deeds.proofs.FedStreams.{if_both}
 use Rattle.depot_replay.specs.Seats.{IsKeptOn}
 use Rattle.depot_replay.proofs.DiskStops.{none_waits_after}
 use Rattle.depot_replay.proofs.SeatStarts.{started_on}
 use Rattle.depot_replay.proofs.seat.Means.stopped.Goals as goal
 
-pub invariant_of-result : goal.invariant_of-result
-invariant_of-result g c =
+pub invariant_of-told : goal.invariant_of-told
+invariant_of-told g c =
     let x = started_on _ (state_of c.args.disk) (state_of c.in-Ok.node.store.disk) c.requires.0 c.in-Ok.node.store.records c.requires.1 c.in-Ok.ensures.records c.in-Ok.ensures.calls in
     record {
       runs = c.in-Ok.ensures.runs;
@@ -26,11 +28,11 @@ returns g c =
     let s = state_of c.args.disk in
     let u = state_of c.in-Ok.node.store.disk in
     let x = started_on _ s u c.requires.0 c.in-Ok.node.store.records c.requires.1 c.in-Ok.ensures.records c.in-Ok.ensures.calls in
-    record {
+    if_both _ _ _ c.told.result (λ t same is. rw same (record {
       here_is = refl;
       sign_is = refl;
       journal = λ J begun. (started_on _ s u J c.in-Ok.node.store.records begun c.in-Ok.ensures.records c.in-Ok.ensures.calls).same;
       none_waits = λ none. none_waits_after s u (calls_to_start c.args.disk.file.bytes.items) x.led none;
-      line = c.in_ok-lines.ensures ∙ ap (λ (n : ℕ). ended (spaced (numbered (codes "stopped records") n))) c.record_count.ensures;
-      none = c.new.ensures;
-    }
+      line = IfOk-at_ok _ is c.counted_printed-printed.ensures.lines ∙ ap (λ (n : ℕ). ended (spaced (numbered (codes "stopped records") n))) c.record_count.ensures;
+      none = IfOk-at_ok _ is c.counted_printed-printed.ensures.bytes;
+    })) c.told.ensures.actor c.told.ensures.printed

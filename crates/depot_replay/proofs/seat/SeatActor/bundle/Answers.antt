@@ -1,8 +1,8 @@
 use Rattle.std.proofs.Common.{refl, ◌∙◌}
 use Rattle.depot_outside.specs.Stopping.{state_of}
 use Rattle.depot_replay.proofs.SeatCalls.{done_on}
-use Rattle.depot_replay.proofs.SeatEvents.{begun_there, same_signs}
-use Rattle.std.proofs.lemmas.Result.{IfOk-weaker}
+use Rattle.depot_replay.proofs.SeatEvents.{begun_there, if_printed, of_printed, same_signs}
+use Rattle.std.proofs.lemmas.Result.{IfOk-at_ok}
 use Rattle.depot_replay.proofs.SeatTurns.{bundle_seated, bundle_turn, same_setting}
 use Rattle.depot_replay.proofs.seat.SeatActor.bundle.Goals as goal
 
@@ -17,9 +17,10 @@ seated-requires-clause-called g c =
     let there = same_setting g.S.Scheme.verifies n.store.me a.means.me n.store.listed a.means.roster a.is_me a.is_listed in
     let begun = begun_there g.S.Scheme.verifies n.store.me a.means.me n.store.listed a.means.roster (state_of n.store.disk) n.store.records a.is_me a.is_listed n.lawful n.some a.kept in
     let done = done_on n m (state_of n.store.disk) (state_of m.store.disk) _ (λ calls led. led) c.bundle-made.ensures.calls in
-    let called = bundle_seated _ _ there _ _ (same_signs _ _ a.signs) (state_of n.store.disk) (state_of m.store.disk) n.store.records m.store.records begun c.args.hello.now c.bundle-made.result c.in_ok-printed.printed (rw a.runs at c.bundle-made.ensures.bundles)
-    c.in_ok-printed.ensures.settled done c.in_ok-printed.ensures.stopped in
-    record { view = _; before = _; longer = _; here_is = refl; called = called }
+    of_printed c.bundle_printed-printed.result _ (λ printed is.
+    let called = bundle_seated _ _ there _ _ (same_signs _ _ a.signs) (state_of n.store.disk) (state_of m.store.disk) n.store.records m.store.records begun c.args.hello.now c.bundle-made.result printed (rw a.runs at c.bundle-made.ensures.bundles)
+    (IfOk-at_ok _ is c.bundle_printed-printed.ensures.settled) done (IfOk-at_ok _ is c.bundle_printed-printed.ensures.stopped) in
+    record { view = _; before = _; longer = _; here_is = refl; called = called })
 
 pub returns : goal.returns
 returns g c =
@@ -29,7 +30,8 @@ returns g c =
     let there = same_setting g.S.Scheme.verifies n.store.me a.means.me n.store.listed a.means.roster a.is_me a.is_listed in
     let begun = begun_there g.S.Scheme.verifies n.store.me a.means.me n.store.listed a.means.roster (state_of n.store.disk) n.store.records a.is_me a.is_listed n.lawful n.some a.kept in
     let done = done_on n m (state_of n.store.disk) (state_of m.store.disk) _ (λ calls led. led) c.bundle-made.ensures.calls in
-    let called = bundle_seated _ _ there _ _ (same_signs _ _ a.signs) (state_of n.store.disk) (state_of m.store.disk) n.store.records m.store.records begun c.args.hello.now c.bundle-made.result c.in_ok-printed.printed (rw a.runs at c.bundle-made.ensures.bundles)
-    c.in_ok-printed.ensures.settled done c.in_ok-printed.ensures.stopped in
-    IfOk-weaker c.seated.result _ _ (λ told ends. bundle_turn _ _ there _ _ (same_signs _ _ a.signs) (state_of n.store.disk) (state_of m.store.disk) n.store.records m.store.records begun c.args.hello.now c.bundle-made.result c.in_ok-printed.printed _ _ _ (rw a.runs at c.bundle-made.ensures.bundles) c.in_ok-printed.ensures.printed
-    (ends _ _ _ refl refl called)) c.seated.ensures
+    if_printed c.seated.result c.bundle_printed-printed.result _ _ (λ printed told is ends.
+    let called = bundle_seated _ _ there _ _ (same_signs _ _ a.signs) (state_of n.store.disk) (state_of m.store.disk) n.store.records m.store.records begun c.args.hello.now c.bundle-made.result printed (rw a.runs at c.bundle-made.ensures.bundles)
+    (IfOk-at_ok _ is c.bundle_printed-printed.ensures.settled) done (IfOk-at_ok _ is c.bundle_printed-printed.ensures.stopped) in
+    bundle_turn _ _ there _ _ (same_signs _ _ a.signs) (state_of n.store.disk) (state_of m.store.disk) n.store.records m.store.records begun c.args.hello.now c.bundle-made.result printed _ _ _ (rw a.runs at c.bundle-made.ensures.bundles) (IfOk-at_ok _ is c.bundle_printed-printed.ensures.printed)
+    (ends _ _ _ refl refl called)) c.seated.ensures.printed c.seated.ensures.ends

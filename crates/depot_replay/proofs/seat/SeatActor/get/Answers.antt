@@ -1,10 +1,17 @@
+use Rattle.std.proofs.Common.{◌≡◌, [], refl}
+use Rattle.std.proofs.lemmas.Result.{IfOk-at_ok}
 use Rattle.depot_outside.specs.Stopping.{state_of}
-use Rattle.std.proofs.Common.{refl}
+use Rattle.depot_deeds.proofs.FedStreams.{if_both}
 use Rattle.depot_replay.proofs.SeatReads.{as_it_was, get_came}
 use Rattle.depot_replay.proofs.seat.SeatActor.get.Goals as goal
 
 pub returns : goal.returns
-returns g c = λ stage x seat. rw c.new.ensures (get_came stage x _ _ (state_of c.args.self.node.store.disk) c.args.key.now c.in_ok-lines.lines seat refl c.args.self.kept.to_come (as_it_was _) c.in_ok-lines.ensures)
+returns g c =
+    let a = c.args.self in
+    if_both _ _ _ c.told.result (λ t same is stage x seat.
+    let none : t.bytes ≡ [] = IfOk-at_ok _ is c.shown_printed-printed.ensures.bytes in
+    rw same (rw none (get_came stage x _ _ (state_of a.node.store.disk) c.args.key.now t.lines seat refl a.kept.to_come (as_it_was _) (IfOk-at_ok _ is c.shown_printed-printed.ensures.lines))))
+    c.told.ensures.actor c.told.ensures.printed
 
-pub shown_line-requires : goal.shown_line-requires
-shown_line-requires g c = c.args.self.runs
+pub shown_printed-printed-requires : goal.shown_printed-printed-requires
+shown_printed-printed-requires g c = c.args.self.runs

@@ -1,5 +1,6 @@
-use Rattle.std.proofs.Common.{ℕ, List, length, refl, sym, ap, subst, ◌∙◌}
+use Rattle.std.proofs.Common.{◌≡◌, ℕ, List, [], length, refl, sym, ap, subst, ◌∙◌}
 use Rattle.std.specs.Prelude.{codes}
+use Rattle.std.proofs.lemmas.Result.{IfOk-at_ok}
 use Rattle.depot_answers.specs.Answers.{numbered, spaced}
 use Rattle.depot_base.specs.Calls.{calls_to_start}
 use Rattle.depot_base.specs.declared.record.Record.{Record}
@@ -39,8 +40,8 @@ returns-in-Err g c =
     let cut = start_stopped here s u n.store.records begun (λ L has. c.in-Err.ensures.failing disk L has) in
     rw again.none (restart_stopped stage x _ _ s u cut t.lines seat waits (record { here = again.here_is; sign = again.sign_is; journal = again.journal n.store.records (stopped_begun here s u n.store.records begun cut); armed_is = again.none_waits cut.stopped.none_waits }) again.line)) c.refused.ensures.stopped c.refused.ensures.again
 
-pub invariant_of-result : goal.invariant_of-result
-invariant_of-result g c =
+pub invariant_of-told : goal.invariant_of-told
+invariant_of-told g c =
     let a = c.args.self in
     let n = a.node in
     let m = c.in-Ok.node in
@@ -55,8 +56,8 @@ invariant_of-result g c =
       kept = subst (IsKeptOn (state_of m.store.disk)) (sym x.same) x.begun.kept;
     }
 
-pub returns : goal.returns
-returns g c = λ stage y seat.
+pub returns-in-Ok : goal.returns-in-Ok
+returns-in-Ok g c =
     let a = c.args.self in
     let n = a.node in
     let m = c.in-Ok.node in
@@ -65,6 +66,8 @@ returns g c = λ stage y seat.
     let begun = subst (λ (d : MemDisk). IsBegunOn here (state_of d) n.store.records) (sym c.into_disk.ensures) (begun_there g.S.Scheme.verifies n.store.me a.means.me n.store.listed a.means.roster (state_of n.store.disk) n.store.records a.is_me a.is_listed n.lawful n.some a.kept) in
     let x = started_on here s (state_of m.store.disk) n.store.records m.store.records begun c.in-Ok.ensures.records c.in-Ok.ensures.calls in
     let waits = sym (ap (λ (d : MemDisk). armed_of (state_of d).next) c.into_disk.ensures) in
-    let counted = c.in_ok-lines.ensures ∙ ap (λ (k : ℕ). ended (spaced (numbered (codes "records") k))) (c.record_count.ensures ∙ ap (λ (J : List Record). length J) x.same) in
-    rw c.new.ensures (restart_came stage y _ _ s (state_of m.store.disk) (calls_to_start c.into_disk.result.file.bytes.items) c.in_ok-lines.lines seat waits begun.kept.to_come x.led (three_calls c.into_disk.result.file.bytes.items x.long)
-    (record { here = refl; sign = refl; journal = x.same; armed_is = refl }) counted)
+    if_both _ _ _ c.told.result (λ t same is stage y seat.
+    let counted = IfOk-at_ok _ is c.counted_printed-printed.ensures.lines ∙ ap (λ (k : ℕ). ended (spaced (numbered (codes "records") k))) (c.record_count.ensures ∙ ap (λ (J : List Record). length J) x.same) in
+    let none : t.bytes ≡ [] = IfOk-at_ok _ is c.counted_printed-printed.ensures.bytes in
+    rw same (rw none (restart_came stage y _ _ s (state_of m.store.disk) (calls_to_start c.into_disk.result.file.bytes.items) t.lines seat waits begun.kept.to_come x.led (three_calls c.into_disk.result.file.bytes.items x.long)
+    (record { here = refl; sign = refl; journal = x.same; armed_is = refl }) counted))) c.told.ensures.actor c.told.ensures.printed

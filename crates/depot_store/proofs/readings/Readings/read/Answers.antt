@@ -25,7 +25,7 @@ returns-clause-ok g c = λ J r is l.
       read = c.in_ok-keep.ensures.ok J r.read l;
       names = named_grows J c.args.news _ c.reserve.new.self c.add.new.self c.reserve.ensures.same
           (λ hash size. c.add.ensures hash size ∙ ap (λ (n : Option NamedValue). names c.reserve.new.self hash size || is_name n hash size) c.name_in-name.ensures) r.names;
-      accepting = c.add-2.ensures ∙ ap (λ (ns : List ℕ). ns ++ option_to_list c.accept_place-place.result) (c.reserve-2.ensures.same ∙ r.accepting)
+      accepting = c.add-2.ensures ∙ ap (λ (ns : List ℕ). ns ++ option_to_list c.accept_place-place.result) (c.reserve-else-is_err.ensures.same ∙ r.accepting)
           ∙ ap (λ (ns : List ℕ). accept_places J ++ ns) (c.accept_place-place.ensures ∙ ap (λ (n : ℕ). records_where accepts n new) is) ∙ sym (accept_places-append J new);
       mine = mine_grows J new _ _ c.in_ok-keep.ensures.mine r.mine;
     }
