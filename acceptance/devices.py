@@ -1,17 +1,19 @@
 #!/usr/bin/env python3
 """Runs the program over real files, folders and outputs that do what a fake doesn't, and says of each whether it ends with its status and
-its text: an output that is full, folders where files should be, and files over 1 GiB (without content, so that they take no room).
+its text: an output and a file that are full, folders where files should be, a limit on the length of files, under which a journal or a stored
+file is cut short, and files of 1 GiB and more (without content, so that they take no room).
 
     python3 acceptance/devices.py
 """
 
 import os
+import resource
 import subprocess
 import sys
 import tempfile
 
 from make_cases import HERE
-from make_node_cases import LISTED, script, words
+from make_node_cases import JOURNAL, LISTED, script, words
 
 DEPOT = os.path.join(HERE, "..", "depot")
 PUT = script("put 6b 61")
@@ -29,14 +31,16 @@ def place(room, long=(), folders=(), **files):
             file.truncate(length)
 
 
-def ends(room, args, status, text, out=None):
-    """Whether a run ends with this status and this text. With `out` it writes there."""
-    with open(out, "wb") if out else tempfile.TemporaryFile() as file:
-        ran = subprocess.run([DEPOT, *args], cwd=room, stdout=file)
-        if out:
-            return ran.returncode == status
-        file.seek(0)
-        return (ran.returncode, file.read().decode()) == (status, text)
+def ends(room, args, status, text, out=None, most=None):
+    """Whether a run ends with this status and this text. With `out` it writes there; with `most` no file takes more bytes."""
+    def limit():
+        if most is not None:
+            resource.setrlimit(resource.RLIMIT_FSIZE, (most, most))
+
+    with open(out, "wb") if out else open(os.devnull, "wb") as file:
+        # A write past the limit fails, since its signal is ignored, as Python does and hands on.
+        ran = subprocess.run([DEPOT, *args], cwd=room, stdout=file if out else subprocess.PIPE, preexec_fn=limit, restore_signals=False)
+    return ran.returncode == status and (out or ran.stdout.decode() == text)
 
 
 def a_full_output(room):
@@ -54,6 +58,36 @@ def a_folder_as_file(room):
     return ends(room, words(1), 3, "put 6b -> 0/1\nshelf H\n")
 
 
+def a_full_file(room):
+    place(room, ROSTER=LISTED, SCRIPT=script("put 6b 61", "hello a"))
+    os.symlink("/dev/full", os.path.join(room, "a"))
+    return ends(room, words(1), 3, "put 6b -> 0/1\nshelf a\n")
+
+
+def a_journal_that_is_cut_short(room):
+    """A record that isn't whole is not told, and the next run goes on behind the last one that is."""
+    place(room, ROSTER=LISTED, SCRIPT=PUT)
+    journal = os.path.join(room, JOURNAL)
+    if not ends(room, words(1), 0, "put 6b -> 0/1\n"):
+        return False
+    length = os.path.getsize(journal)
+    cut = all(ends(room, words(1), 4, "disk\n", most=length + more) and os.path.getsize(journal) <= length + more for more in (1, 100))
+    return cut and ends(room, words(1), 0, "put 6b -> 1/2\n") and os.path.getsize(journal) > length + 100
+
+
+def a_file_that_is_cut_short(room):
+    place(room, ROSTER=LISTED, SCRIPT=PUT)
+    first = ends(room, words(1), 0, "put 6b -> 0/1\n")
+    place(room, SCRIPT=script("hello H"))
+    return first and ends(room, words(1), 3, "shelf H\n", most=10) and os.path.getsize(os.path.join(room, "H")) <= 10
+
+
+def a_log_of_the_greatest_length(room):
+    """A file of exactly 1 GiB is loaded. Zeros are no log."""
+    place(room, long=[("LOG", 2**30)])
+    return ends(room, ["scan", "LOG", "6b"], 2, "input LOG at 4\n")
+
+
 def a_long_log(room):
     place(room, long=[("LOG", 2**30 + 1)])
     return ends(room, ["scan", "LOG", "6b"], 3, "shelf LOG\n")
@@ -64,9 +98,22 @@ def a_long_script(room):
     return ends(room, words(1), 3, "shelf SCRIPT\n")
 
 
+CASES = (
+    a_full_output,
+    a_folder_as_journal,
+    a_folder_as_file,
+    a_full_file,
+    a_journal_that_is_cut_short,
+    a_file_that_is_cut_short,
+    a_log_of_the_greatest_length,
+    a_long_log,
+    a_long_script,
+)
+
+
 def main():
     rights = []
-    for case in (a_full_output, a_folder_as_journal, a_folder_as_file, a_long_log, a_long_script):
+    for case in CASES:
         with tempfile.TemporaryDirectory() as room:
             rights.append(case(room))
         print(f"{case.__name__}: " + ("as told" if rights[-1] else "not as told"))

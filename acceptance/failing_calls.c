@@ -1,8 +1,11 @@
-/* Loaded before the C library. Three kinds of calls are counted, each from 1 on: DISK, those that open the file depot.journal and the current
-   folder, sync that folder, and ask for the length of the file, read, write or sync it; OUTPUT, the writes to standard output; SHELF, those that
-   open any other file. The call of a kind that is named by KIND_REFUSED (DISK_REFUSED and so on) fails. At the call DISK_STOPPED the machine stops, with the status
-   99: of what was written since the last sync the journal then has nothing where DISK_IMAGE is 0, all (the write of that call too) where it is
-   1, and as many bytes FF where it is 2. At the end the three numbers of calls are written to the file that CALL_COUNTS names. */
+/* Loaded before the C library. Three kinds of calls are counted, each from 1 on: DISK, those that open and lock the file depot.journal, open and
+   sync the current folder, and ask for the length of the file, read, write or sync it; OUTPUT, the writes to standard output; SHELF, those that
+   open any other file, measure, lock, cut, read or write it, and the one that looks whether it is the journal. The call of a kind that is named
+   by KIND_REFUSED (DISK_REFUSED and so on) fails. At the call DISK_STOPPED the machine stops, with the status 99: of what was written since the
+   last sync the journal then has nothing where DISK_IMAGE is 0, all (the write of that call too) where it is 1, and as many bytes FF where it is
+   2. Where it is 0 there is no journal either, if it was made in this run and the folder wasn't synced since; and until then the program isn't to
+   write to it. At the end the three numbers of calls are written to the file that CALL_COUNTS names, and in a second line the name of the other
+   file that was opened last, up to the call that failed. */
 #define _GNU_SOURCE
 #include <dlfcn.h>
 #include <errno.h>
@@ -11,6 +14,7 @@
 #include <stdio.h>
 #include <stdlib.h>
 #include <string.h>
+#include <sys/file.h>
 #include <sys/stat.h>
 #include <unistd.h>
 
@@ -25,6 +29,8 @@ static char *stable;
 static off_t stable_length = -1;
 static struct { off_t at; size_t count; } writes[MOST_WRITES];
 static int write_count;
+static int is_new, is_refused_now;
+static char shelf[4096];
 
 static unsigned long number(const char *name) {
     const char *text = getenv(name);
@@ -39,7 +45,7 @@ static void tell(void) {
     REAL(int, "open", const char *, int, ...);
     const char *name = getenv("CALL_COUNTS");
     int file = name ? real(name, O_WRONLY | O_CREAT | O_TRUNC, 0600) : -1;
-    if (file >= 0) dprintf(file, "%lu %lu %lu\n", calls[DISK], calls[OUTPUT], calls[SHELF]);
+    if (file >= 0) dprintf(file, "%lu %lu %lu\n%s\n", calls[DISK], calls[OUTPUT], calls[SHELF], shelf);
 }
 
 __attribute__((destructor)) static void at_end(void) { tell(); }
@@ -48,7 +54,7 @@ __attribute__((destructor)) static void at_end(void) { tell(); }
 static int is_refused(int kind, int why) {
     if (++calls[kind] != number(REFUSED[kind])) return 0;
     errno = why;
-    return 1;
+    return is_refused_now = 1;
 }
 
 static int is_journal(int file) {
@@ -77,12 +83,21 @@ static int is_disk_refused(int file) {
     return is_refused(DISK, EIO);
 }
 
+/* Whether a call on another file fails. Those of the program's own streams don't. */
+static int is_shelf_refused(int file, int why) { return file > STDERR_FILENO && is_refused(SHELF, why); }
+
 static int is_stop(void) { return calls[DISK] == number("DISK_STOPPED"); }
 
-/* Whether a call before the journal is open fails. Where the machine stops in it, nothing was written. */
-static int is_opening_refused(void) {
-    if (is_refused(DISK, EIO)) return 1;
+/* A folder that wasn't synced may lose the name of a file that was made in it. */
+static void lose_name(void) {
+    if (is_new && number("DISK_IMAGE") == 0 && unlink(JOURNAL)) abort();
+}
+
+/* Whether a call fails by which the journal is opened. Where the machine stops in it, nothing was written. */
+static int is_opening_refused(int why) {
+    if (is_refused(DISK, why)) return 1;
     if (is_stop()) {
+        lose_name();
         tell();
         _exit(STOPPED);
     }
@@ -100,6 +115,7 @@ static void stop(int file) {
             for (size_t k = 0; k < writes[i].count; k++)
                 if (pwrite(file, "\xff", 1, writes[i].at + k) != 1) abort();
     }
+    lose_name();
     tell();
     _exit(STOPPED);
 }
@@ -107,8 +123,9 @@ static void stop(int file) {
 ssize_t write(int file, const void *bytes, size_t count) {
     REAL(ssize_t, "write", int, const void *, size_t);
     if (file == STDOUT_FILENO) return is_refused(OUTPUT, ENOSPC) ? -1 : real(file, bytes, count);
-    if (!is_journal(file)) return real(file, bytes, count);
+    if (!is_journal(file)) return is_shelf_refused(file, ENOSPC) ? -1 : real(file, bytes, count);
     if (is_disk_refused(file)) return -1;
+    if (is_new) abort();
     off_t at = lseek(file, 0, SEEK_CUR);
     ssize_t done = real(file, bytes, count);
     if (done < 0 || write_count == MOST_WRITES) abort();
@@ -120,7 +137,7 @@ ssize_t write(int file, const void *bytes, size_t count) {
 
 ssize_t read(int file, void *into, size_t count) {
     REAL(ssize_t, "read", int, void *, size_t);
-    if (!is_journal(file)) return real(file, into, count);
+    if (!is_journal(file)) return is_shelf_refused(file, EIO) ? -1 : real(file, into, count);
     if (is_disk_refused(file)) return -1;
     stop(file);
     return real(file, into, count);
@@ -138,7 +155,7 @@ int fdatasync(int file) {
 
 int statx(int file, const char *path, int flags, unsigned mask, struct statx *into) {
     REAL(int, "statx", int, const char *, int, unsigned, struct statx *);
-    if (!is_journal(file)) return real(file, path, flags, mask, into);
+    if (!is_journal(file)) return is_refused(SHELF, EIO) ? -1 : real(file, path, flags, mask, into);
     if (is_disk_refused(file)) return -1;
     stop(file);
     return real(file, path, flags, mask, into);
@@ -150,12 +167,34 @@ int open(const char *path, int flags, ...) {
     va_start(rest, flags);
     mode_t mode = va_arg(rest, mode_t);
     va_end(rest);
-    int is_shelf = strcmp(path, JOURNAL) && strcmp(path, ".");
-    return (is_shelf ? is_refused(SHELF, EACCES) : is_opening_refused()) ? -1 : real(path, flags, mode);
+    if (strcmp(path, JOURNAL) && strcmp(path, ".")) {
+        if (!is_refused_now) snprintf(shelf, sizeof shelf, "%s", path);
+        return is_refused(SHELF, EACCES) ? -1 : real(path, flags, mode);
+    }
+    int is_made = flags & O_CREAT && access(path, F_OK);
+    if (is_opening_refused(EIO)) return -1;
+    int file = real(path, flags, mode);
+    if (is_made && file >= 0) is_new = 1;
+    return file;
+}
+
+int flock(int file, int how) {
+    REAL(int, "flock", int, int);
+    if (!is_journal(file)) return is_refused(SHELF, EWOULDBLOCK) ? -1 : real(file, how);
+    return is_opening_refused(EWOULDBLOCK) ? -1 : real(file, how);
+}
+
+int ftruncate(int file, off_t length) {
+    REAL(int, "ftruncate", int, off_t);
+    if (!is_journal(file) && is_refused(SHELF, EIO)) return -1;
+    return real(file, length);
 }
 
 /* The program calls this of the folder alone. */
 int fsync(int file) {
     REAL(int, "fsync", int);
-    return is_opening_refused() ? -1 : real(file);
+    if (is_opening_refused(EIO)) return -1;
+    int done = real(file);
+    if (!done) is_new = 0;
+    return done;
 }

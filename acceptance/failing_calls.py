@@ -1,6 +1,6 @@
 #!/usr/bin/env python3
-"""Has each call that the built program makes fail in turn, one a run: those on the journal's file, the writes to its output, and those that
-open files; and stops the machine in each call on the journal's file, with each image of it that a stop may leave. The runs are the cases
+"""Has each call that the built program makes fail in turn, one a run: those on the journal's file, the writes to its output, and those on
+other files; and stops the machine in each call on the journal's file, with each image of it that a stop may leave. The runs are the cases
 here that end well: those of nodes, and some of the other commands. It says of each case whether every run ended as it must, and takes a C
 compiler.
 
@@ -15,7 +15,6 @@ are used up, and keeps them. The same holds of a machine that stops, but for the
 """
 
 import os
-import re
 import shutil
 import subprocess
 import sys
@@ -27,8 +26,11 @@ JOURNAL = "depot.journal"
 SHELF, DISK, OUTPUT, LIMIT, STOPPED = 3, 4, 5, 8, 99
 IMAGES = 3
 
-# What a run that fails writes behind a front of the whole text.
-LAST_LINES = {DISK: rb"disk\n", SHELF: rb"shelf [^\n]*\n", OUTPUT: rb"", STOPPED: rb""}
+
+def last_line(status, name):
+    """What a run that fails writes behind a front of the whole text."""
+    return {DISK: b"disk\n", SHELF: b"shelf " + name + b"\n", OUTPUT: b"", STOPPED: b""}[status]
+
 
 # The cases of commands other than `node`.
 OTHERS = ["judge_same_prev", "replay_a_join_supersedes_both", "scan_concurrent_writes"]
@@ -75,13 +77,14 @@ class Run:
         return place
 
     def run(self, place, number=None, **failing):
-        """The status and the text of this run or another one there, and how many calls of each kind it made."""
+        """The status and the text of this run or another one there, how many calls of each kind it made, and the file on which one failed."""
         words, at = self.words(number or self.number)
         counts = os.path.join(self.room, "counts")
         env = {"LD_PRELOAD": self.shim, "CALL_COUNTS": counts, **{name: str(value) for name, value in failing.items()}}
         ran = subprocess.run([DEPOT, *words], cwd=os.path.join(place, at), env=env, capture_output=True, timeout=60)
-        with open(counts, encoding="utf-8") as file:
-            return ran.returncode, ran.stdout, [int(word) for word in file.read().split()]
+        with open(counts, "rb") as file:
+            numbers, name = file.read().split(b"\n")[:2]
+        return ran.returncode, ran.stdout, [int(word) for word in numbers.split()], name
 
     def journal(self, place):
         """The records of the journal that this run is over, none where it is no node's."""
@@ -107,13 +110,12 @@ class Run:
         return self.journal(place)
 
 
-def front_of(whole, status, text):
+def front_of(whole, status, name, text):
     """What a run with this status wrote of the whole text, if it wrote a front of it and then the line of what failed."""
-    for at in range(len(text), -1, -1):
-        is_cut = text[:at].endswith(b"\n") or at == 0 or status == OUTPUT
-        if is_cut and whole.startswith(text[:at]) and re.fullmatch(LAST_LINES[status], text[at:]):
-            return text[:at]
-    return None
+    line = last_line(status, name)
+    front = text[:len(text) - len(line)]
+    is_cut = front.endswith(b"\n") or not front or status == OUTPUT
+    return front if is_cut and text == front + line and whole.startswith(front) else None
 
 
 def begins(records_, front):
@@ -123,12 +125,12 @@ def begins(records_, front):
 def ends_well(run, whole, after, status, failing):
     """Whether a run in which a call fails ends with this status, leaves what it must, and goes on."""
     place = run.place()
-    ended, text, calls = run.run(place, **failing)
-    front = front_of(whole, status, text)
+    ended, text, calls, name = run.run(place, **failing)
+    front = front_of(whole, status, name, text)
     if ended != status or front is None or status in (DISK, STOPPED) and calls[0] not in failing.values():
         return False
     left = run.journal(place)
-    again, _, _ = run.run(place)
+    again, *_ = run.run(place)
     goes_on = again in (0, LIMIT) and begins(run.journal(place), left)
     return goes_on and begins(after, left) and begins(left, run.told(front))
 
@@ -149,7 +151,7 @@ def failures(calls):
 def tried(run):
     """How often a run has a failing call here, and in which of them it ended otherwise than it must."""
     place = run.place()
-    status, whole, calls = run.run(place)
+    status, whole, calls, _ = run.run(place)
     assert status == 0 and (calls[0] > 0) == (run.words(run.number)[0][0] == "node"), (run.folder, status, calls)
     after, failing = run.journal(place), list(failures(calls))
     return len(failing), [which for status, which in failing if not ends_well(run, whole, after, status, which)]

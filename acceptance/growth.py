@@ -2,7 +2,8 @@
 """Refuses each growth of memory in turn, one a run, on the built program, and says what came of it: whether each run ended for want of
 memory with a front of its text, and whether what it left on its disk goes on. It takes a C compiler.
 
-    python3 acceptance/growth.py           # each growth of a replay with a join, and of a node that puts
+    python3 acceptance/growth.py           # each growth of a replay with a join, of a node that puts, and of a judge and a node that
+                                           # are shown a voucher for what is no update
     python3 acceptance/growth.py STRIDE    # only each STRIDE-th
 """
 
@@ -12,7 +13,7 @@ import subprocess
 import sys
 import tempfile
 
-from make_cases import roster
+from make_cases import Signer, frame, hollow, roster, sha, signed, voucher
 
 HERE = os.path.dirname(os.path.abspath(__file__))
 DEPOT = os.path.join(os.path.dirname(HERE), "crates/depot_tool/out/depot_tool")
@@ -67,7 +68,7 @@ def tried(name, runs, stride, goes_on):
 
 
 def leaves_nothing(runs, place, whole):
-    """A replay leaves no files behind."""
+    """A replay and a judge leave no files behind."""
     return sorted(os.listdir(place)) == sorted(runs.files)
 
 
@@ -75,6 +76,24 @@ def starts_again(runs, place, whole):
     """The same run over what stands on the disk ends well: the put is the node's next one."""
     status, written, _ = runs.run(place)
     return status == 0 and written in (whole, b"put 6b -> 1/2\n")
+
+
+def takes_it_then(runs, place, whole):
+    """The same run over what stands on the disk ends well: the proof is taken, or was."""
+    status, written, _ = runs.run(place)
+    return status == 0 and written in (whole, whole.replace(b"accepted 1 known 0", b"accepted 0 known 1"))
+
+
+def shown_a_hollow_voucher(room):
+    """A judge and a node that are shown a voucher of node 9 for a long text, which is no update's."""
+    one, nine = (Signer(node, bytes([node]) * 32, 2) for node in (1, 9))
+    text = b"text" * 10_000
+    body = voucher(9, 0, sha(text))
+    proof = hollow(signed(body, nine.sign(0, body)), text)
+    files = {"ROSTER": roster(one.entry(), nine.entry()), "PROOF": proof, "STREAM": frame(1, proof), "SCRIPT": b"take STREAM\n"}
+    judge = Refusing(room, ["judge", "ROSTER", "PROOF"], files)
+    node = Refusing(room, ["node", "ROSTER", one.seed.hex(), "2", "1", "SCRIPT"], files)
+    return judge, node
 
 
 def main():
@@ -87,6 +106,9 @@ def main():
         node = Refusing(room, ["node", "ROSTER", seed, "2", "1", "SCRIPT"], files)
         good = tried("replay of a join", replay, stride, leaves_nothing)
         good = tried("node that puts", node, stride, starts_again) and good
+        judge, taker = shown_a_hollow_voucher(room)
+        good = tried("judge of a hollow proof", judge, stride, leaves_nothing) and good
+        good = tried("node that takes a hollow proof", taker, stride, takes_it_then) and good
     sys.exit(0 if good else 1)
 
 

@@ -80,6 +80,28 @@ def long_bundle():
     ]
 
 
+def longest_put():
+    """A put of 16 keys of 255 bytes and values of 65,536, with 1,024 entries, has the longest body and the longest record. It is sent, taken and opened again."""
+    keys = ["ff" * 254 + f"{at:02x}" for at in range(16)]
+    values = [f"{at:02x}" + "00" * 65_535 for at in range(16)]
+    # Behind its proof of 324 bytes stand the update, the 16 values and End.
+    length = 5 + 324 + 5 + 4 + 47_779 + 4 + 32 + 16 * (5 + 65_536) + 6
+    return WIDE + ["node 1", "node 2", "faulty 8", "faulty 9"], branches(1024, "", [])[:-1] + [
+        ("puts 1 " + ",".join(f"{key}={value}" for key, value in zip(keys, values)), "0/2"),
+        raw("h", hello_of(9, 12, 1, 2, 8, 9)),
+        ("bundle 1 h b", "proofs 1 vouchers 0 updates 1 values 16 whole"),
+        ("cut c b 0 10000000", f"{length} bytes"),
+        ("restart 1", f"records {1 + 4 + 1 + 1024 + 1024 + 1}"),
+        (f"get 1 {keys[15]}", f"1/0/2={values[15]}"),
+        ("hello 2 i", "convicted 0 leaves 0 wanted 0"),
+        ("bundle 1 i d", "proofs 1 vouchers 4 updates 1025 values 1040 whole"),
+        ("give 2 d 65536", f"accepted {1 + 4 + 1025 + 1040} known 0 refused 0 whole"),
+        ("restart 2", f"records {1 + 1 + 4 + 1025 + 1040}"),
+        (f"get 2 {keys[0]}", f"1/0/2={values[0]}"),
+        ("puts 2 " + ",".join(f"{key}!" for key in keys), "Tips 1025"),
+    ]
+
+
 def many_frames():
     """A stream has 524,288 frames at most: values without bytes, which nobody wants."""
     refusals = [f"refused {frame} 14 Unwanted" for frame in range(524_288)]
@@ -131,7 +153,7 @@ def is_damaged(name, write):
 
 
 def main():
-    results = [plays(case.__name__, *case()) for case in (long_values, many_branches, many_records, long_bundle, many_frames)]
+    results = [plays(case.__name__, *case()) for case in (long_values, many_branches, many_records, long_bundle, longest_put, many_frames)]
     results += [is_damaged(write.__name__, write) for write in (too_many_records, too_many_bytes)]
     sys.exit(0 if all(results) else 1)
 

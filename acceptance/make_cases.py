@@ -26,14 +26,41 @@ def u(size, number):
 # ---- texts
 
 
-def update(writer, seq, clock, prev, key, value, deps=(), history=None):
-    """The body of an update; deps are (writer, clock, id), rising by (writer, id)."""
+def named(value):
+    """What a write says of a key: the hash and the length of its value."""
+    return sha(value) + u(4, len(value))
+
+
+def body_of(version, writer, seq, clock, prev, written, deps=(), history=None):
+    """The body of an update, with these bytes for what it writes; deps are (writer, clock, id), rising by (writer, id)."""
     history = sha() if history is None else history
     entries = b"".join(u(2, w) + u(8, c) + i for w, c, i in deps)
-    return b"".join([
-        b"\x01\x01", u(2, writer), u(4, seq), u(8, clock), prev, u(1, len(key)), key,
-        sha(value), u(4, len(value)), u(2, len(deps)), entries, history,
-    ])
+    front = u(1, version) + b"\x01" + u(2, writer) + u(4, seq) + u(8, clock) + prev
+    return front + written + u(2, len(deps)) + entries + history
+
+
+def several(*marked):
+    """What an update of version 2 writes: its count, and each key with what is said of it, or with None where it is deleted."""
+    return u(1, len(marked)) + b"".join(u(1, len(k)) + k + (b"\0" if n is None else b"\1" + n) for k, n in marked)
+
+
+def update(writer, seq, clock, prev, key, value, deps=(), history=None):
+    """The body of an update of one key, which gets a value: its version is 1."""
+    return body_of(1, writer, seq, clock, prev, u(1, len(key)) + key + named(value), deps, history)
+
+
+def update_of(writer, seq, clock, prev, changes, deps=(), history=None):
+    """The body of an update with these changes, (key, value) each, rising by key; a key without a value is deleted."""
+    changes = list(changes)
+    if len(changes) == 1 and changes[0][1] is not None:
+        return update(writer, seq, clock, prev, *changes[0], deps, history)
+    marked = [(key, None if value is None else named(value)) for key, value in changes]
+    return body_of(2, writer, seq, clock, prev, several(*marked), deps, history)
+
+
+def voucher(node, seq, *ids):
+    """The body of a voucher for these ids, which are put in order."""
+    return b"\x01\x02" + u(2, node) + u(4, seq) + u(2, len(ids)) + b"".join(sorted(ids))
 
 
 def history_of(leaves):
@@ -57,35 +84,47 @@ def proof(kind, first, second):
     return b"\x01" + u(1, kind) + first + second
 
 
+def hollow(signed_voucher, text):
+    """The proof that a voucher names a text of no update."""
+    return b"\x01\x04" + signed_voucher + u(4, len(text)) + text
+
+
 def roster(*entries):
     """Entries are (node, height, root)."""
     return b"\x01\x04" + u(2, len(entries)) + b"".join(u(2, n) + u(1, h) + r for n, h, r in entries)
 
 
-# ---- Winternitz signatures
+# ---- Winternitz signatures, of one layer of trees up to height 12 and of two layers above
 
 
-def step(i, j, p, value):
-    return sha(b"\x02", u(4, i), u(2, j), u(1, p), value)
+class Layer:
+    """The tags of a layer: those of its secrets, steps, leaves and digests."""
+
+    def __init__(self, *tags):
+        self.secret, self.step, self.leaf, self.digest = (u(1, tag) for tag in tags)
 
 
-def walk(i, j, p, count, value):
+BOTTOM, TOP = Layer(1, 2, 3, 5), Layer(7, 8, 9, 10)
+MOST_ONE_LAYER, BOTTOM_HEIGHT = 12, 8
+
+
+def walk(layer, i, j, p, count, value):
     for at in range(p, p + count):
-        value = step(i, j, at, value)
+        value = sha(layer.step, u(4, i), u(2, j), u(1, at), value)
     return value
 
 
-def secret(seed, i, j):
-    return sha(b"\x01", seed, u(4, i), u(2, j))
+def secret(layer, seed, i, j):
+    return sha(layer.secret, seed, u(4, i), u(2, j))
 
 
-def leaf(seed, i):
-    return sha(b"\x03", u(4, i), *[walk(i, j, 0, 15, secret(seed, i, j)) for j in range(67)])
+def leaf(layer, seed, i):
+    return sha(layer.leaf, u(4, i), *[walk(layer, i, j, 0, 15, secret(layer, seed, i, j)) for j in range(67)])
 
 
-def tree(seed, height):
-    """The levels of the tree, from the leaves to the root."""
-    levels = [[leaf(seed, i) for i in range(2**height)]]
+def tree(layer, seed, first, height):
+    """The levels of the tree over the leaves from the first on, up to its root."""
+    levels = [[leaf(layer, seed, first + i) for i in range(2**height)]]
     while len(levels[-1]) > 1:
         row = levels[-1]
         levels.append([sha(b"\x04", row[k], row[k + 1]) for k in range(0, len(row), 2)])
@@ -98,20 +137,38 @@ def digits(digest):
     return own + [total // 256, total // 16 % 16, total % 16]
 
 
+def layer_part(layer, seed, i, digest, levels):
+    """The values and siblings of the leaf i in the tree of these levels."""
+    values = [walk(layer, i, j, 0, d, secret(layer, seed, i, j)) for j, d in enumerate(digits(digest))]
+    siblings = [row[(i >> n) % len(row) ^ 1] for n, row in enumerate(levels[:-1])]
+    return b"".join(values + siblings)
+
+
 class Signer:
     def __init__(self, node, seed, height):
         self.node, self.seed, self.height = node, seed, height
-        self.levels = tree(seed, height)
+        self.has_two = height > MOST_ONE_LAYER
+        self.levels = tree(TOP, seed, 0, height - BOTTOM_HEIGHT) if self.has_two else tree(BOTTOM, seed, 0, height)
         self.root = self.levels[-1][0]
+        self.bottoms = {}
 
     def entry(self):
         return (self.node, self.height, self.root)
 
+    def bottom(self, q):
+        """The levels of the bottom tree q of a key of two layers."""
+        if q not in self.bottoms:
+            self.bottoms[q] = tree(BOTTOM, self.seed, 2**BOTTOM_HEIGHT * q, BOTTOM_HEIGHT)
+        return self.bottoms[q]
+
     def sign(self, i, body):
-        marks = digits(sha(b"\x05", self.root, u(4, i), body))
-        values = [walk(i, j, 0, d, secret(self.seed, i, j)) for j, d in enumerate(marks)]
-        siblings = [self.levels[n][(i >> n) ^ 1] for n in range(self.height)]
-        return u(4, i) + b"".join(values) + b"".join(siblings)
+        digest = sha(BOTTOM.digest, self.root, u(4, i), body)
+        if not self.has_two:
+            return u(4, i) + layer_part(BOTTOM, self.seed, i, digest, self.levels)
+        q = i // 2**BOTTOM_HEIGHT
+        levels = self.bottom(q)
+        above = sha(TOP.digest, self.root, u(4, q), levels[-1][0])
+        return u(4, i) + layer_part(BOTTOM, self.seed, i, digest, levels) + layer_part(TOP, self.seed, q, above, self.levels)
 
 
 # ---- cases
@@ -147,7 +204,8 @@ def scans():
     case("scan_an_empty_log", ["scan", "LOG", "6b"], "", LOG=b"")
     case("scan_a_cut_log", ["scan", "LOG", "6b"], "input LOG at 0\n", 2, LOG=log(one)[:100])
     case("scan_a_cut_length", ["scan", "LOG", "6b"], "input LOG at 124\n", 2, LOG=log(one) + b"\0\0\0")
-    case("scan_a_wrong_version", ["scan", "LOG", "6b"], "input LOG at 4\n", 2, LOG=log(b"\x02" + one[1:]))
+    case("scan_a_wrong_version", ["scan", "LOG", "6b"], "input LOG at 4\n", 2, LOG=log(b"\x03" + one[1:]))
+    case("scan_a_text_of_another_version", ["scan", "LOG", "6b"], "input LOG at 54\n", 2, LOG=log(b"\x02" + one[1:]))
     case("scan_a_voucher", ["scan", "LOG", "6b"], "input LOG at 5\n", 2,
          LOG=log(b"\x01\x02" + u(2, 1) + u(4, 0) + u(2, 1) + ZEROS))
     case("scan_a_zero_writer", ["scan", "LOG", "6b"], "input LOG at 6\n", 2, LOG=log(one[:2] + b"\0\0" + one[4:]))
@@ -179,6 +237,42 @@ def scans():
     case("scan_into_a_full_sink", ["scan", "LOG", "6b"], "", 5, out="/dev/full", LOG=log(one))
 
 
+def scans_of_several_keys():
+    def scan(name, key, stdout, *bodies, status=0):
+        case("scan_" + name, ["scan", "LOG", key], stdout, status, LOG=log(*bodies))
+
+    one = update(1, 0, 1, ZEROS, b"k", b"abc")
+    abc, deleted = sha(b"abc").hex(), [(b"k", None)]
+    gone = update_of(1, 1, 2, sha(one), deleted, history=history_of([(1, 1, sha(one))]))
+    back = update_of(1, 2, 3, sha(gone), [(b"k", b"abc")], history=history_of([(1, 2, sha(gone))]))
+    scan("a_deletion", "6b", "1/1/2!\n", one, gone)
+    scan("a_deletion_of_nothing", "6b", "1/0/1!\n", update_of(1, 0, 1, ZEROS, deleted))
+    scan("a_write_behind_a_deletion", "6b", f"1/2/3={abc}\n", one, gone, back)
+    several = update_of(2, 0, 1, ZEROS, [(b"a", b"abc"), (b"k", None), (b"l", b"abc"), (b"m", b"")])
+    scan("a_deletion_beside_a_write", "6b", f"1/0/1={abc}\n2/0/1!\n", several, one)
+    scan("one_of_several_keys", "6c", f"2/0/1={abc}\n", several, one)
+    scan("the_last_of_several_keys", "6d", f"2/0/1={sha().hex()}\n", several)
+    scan("none_of_several_keys", "6e", "", several)
+    join = update_of(1, 1, 2, sha(one), [(b"a", None), (b"k", b"joined")], [(2, 1, sha(several))],
+                     history_of([(1, 1, sha(one)), (2, 1, sha(several))]))
+    scan("several_keys_supersede_both", "6b", f"1/1/2={sha(b'joined').hex()}\n", several, one, join)
+    scan("a_deletion_among_several_keys", "61", "1/1/2!\n", several, one, join)
+    scan("a_key_that_several_leave", "6c", f"2/0/1={abc}\n", several, one, join)
+
+    def refused(name, at, body):
+        scan(name, "6b", f"input LOG at {at}\n", body, status=2)
+
+    lone, count = update_of(1, 0, 1, ZEROS, deleted), 4 + 48
+    refused("no_write", count, lone[:48] + b"\0" + lone[49:])
+    refused("seventeen_writes", count, update_of(1, 0, 1, ZEROS, [(u(1, at), None) for at in range(17)]))
+    refused("a_value_alone_in_the_other_text", count + 3, lone[:51] + b"\1" + named(b"abc") + lone[52:])
+    refused("an_unknown_mark", count + 3, lone[:51] + b"\2" + lone[52:])
+    refused("keys_that_fall", count + 4, update_of(1, 0, 1, ZEROS, [(b"l", None), (b"k", None)]))
+    refused("a_key_twice", count + 4, update_of(1, 0, 1, ZEROS, [(b"k", None), (b"k", b"abc")]))
+    refused("a_deletion_of_no_key", count + 1, update_of(1, 0, 1, ZEROS, [(b"", None)]))
+    refused("a_voucher_of_another_version", 5, b"\x02\x02" + lone[2:])
+
+
 def words():
     for name, args in {
         "words_none": [],
@@ -191,7 +285,7 @@ def words():
         "words_key_too_long": ["scan", "LOG", "61" * 256],
         "words_name_with_a_space": ["scan", "A LOG", "6b"],
         "words_height_below": ["key", "00" * 32, "1"],
-        "words_height_above": ["key", "00" * 32, "13"],
+        "words_height_above": ["key", "00" * 32, "18"],
         "words_height_with_a_zero": ["key", "00" * 32, "02"],
         "words_height_with_a_sign": ["key", "00" * 32, "-2"],
         "words_seed_too_short": ["key", "0" * 63, "2"],
@@ -210,8 +304,9 @@ def words():
 
 
 def keys():
-    for name, seed, height in [("key_of_zeros", ZEROS, 2), ("key_of_height_five", bytes(range(32)), 5), ("key_of_the_greatest_height", ZEROS, 12)]:
-        root = tree(seed, height)[-1][0]
+    for name, seed, height in [("key_of_zeros", ZEROS, 2), ("key_of_height_five", bytes(range(32)), 5), ("key_of_twelve", ZEROS, 12),
+                               ("key_of_thirteen", ZEROS, 13), ("key_of_the_greatest_height", ZEROS, 17)]:
+        root = Signer(0, seed, height).root
         case(name, ["key", seed.hex(), str(height)], root.hex() + "\n")
 
 
@@ -247,7 +342,8 @@ def judgements():
     judged("judge_an_empty_text", b"", "IllFormed 0\n", 7)
     judged("judge_a_cut_text", good[:-1], "IllFormed %d\n" % (len(good) - len(nine.sign(0, x))), 7)
     judged("judge_a_trailing_byte", good + b"\0", "IllFormed %d\n" % len(good), 7)
-    judged("judge_an_unknown_kind", b"\x01\x04" + good[2:], "IllFormed 1\n", 7)
+    judged("judge_an_unknown_kind", b"\x01\x05" + good[2:], "IllFormed 1\n", 7)
+    judged("judge_a_pair_as_a_hollow_proof", b"\x01\x04" + good[2:], "IllFormed %d\n" % (2 + len(sx) + 4 + 120), 7)
     judged("judge_halves_swapped", proof(2, sy, sx), "WrongOrder\n", 7)
     judged("judge_one_half_twice", proof(2, sx, sx), "Same\n", 7)
     judged("judge_no_contradiction", proof(3, sx, sz), "NotContradictory Backward\n", 7)
@@ -263,8 +359,42 @@ def judgements():
     case("judge_an_absent_proof", ["judge", "ROSTER", "PROOF"], "shelf PROOF\n", 3, ROSTER=known)
 
 
+def hollow_judgements():
+    """Proofs that a voucher names what is no update."""
+    nine, eight = Signer(9, b"\x09" * 32, 2), Signer(8, b"\x08" * 32, 2)
+    known = roster(eight.entry(), nine.entry())
+    x = update(9, 0, 1, ZEROS, b"k", b"a")
+    y = update_of(9, 0, 1, ZEROS, [(b"k", None), (b"l", b"a")])
+    named_texts = [b"no update", b"", x, y]
+    body = voucher(9, 1, *map(sha, named_texts))
+    vouched = signed(body, nine.sign(1, body))
+    good = hollow(vouched, b"no update")
+
+    def judged(name, text, stdout, status=7, listed=known):
+        case("judge_" + name, ["judge", "ROSTER", "PROOF"], stdout + "\n", status, ROSTER=listed, PROOF=text)
+
+    start = 2 + len(vouched)
+    judged("a_voucher_for_no_update", good, "9 NotUpdate", 0)
+    judged("a_voucher_for_an_empty_text", hollow(vouched, b""), "9 NotUpdate", 0)
+    judged("a_voucher_for_an_update", hollow(vouched, x), "NotContradictory NotUpdate")
+    judged("a_voucher_for_an_update_of_several_keys", hollow(vouched, y), "NotContradictory NotUpdate")
+    judged("a_voucher_for_another_text", hollow(vouched, b"no updates"), "NotContradictory NotUpdate")
+    judged("an_update_for_a_voucher", hollow(signed(x, nine.sign(0, x)), b"no update"), "NotContradictory NotUpdate")
+    judged("a_voucher_of_an_unknown_node", good, "UnknownWriter 9", listed=roster(eight.entry()))
+    judged("a_voucher_that_is_forged", hollow(signed(body, eight.sign(1, body)), b"no update"), "BadSignature first")
+    judged("a_voucher_that_another_leaf_signed", hollow(signed(body, nine.sign(2, body)), b"no update"), "BadSignature first")
+    judged("a_hollow_proof_that_is_cut", good[:-1], f"IllFormed {start + 4}")
+    judged("a_hollow_proof_without_a_text", good[:start], f"IllFormed {start}")
+    judged("a_hollow_proof_that_goes_on", good + b"\0", f"IllFormed {len(good)}")
+    judged("a_hollow_proof_of_a_long_text", b"\x01\x04" + vouched + u(4, 65_537) + bytes(65_537), f"IllFormed {start}")
+    judged("a_voucher_for_a_longest_text", hollow(vouched, bytes(65_536)), "NotContradictory NotUpdate")
+    judged("a_voucher_of_another_version", hollow(vouched[:4] + b"\2" + vouched[5:], b""), "IllFormed 7")
+
+
 if __name__ == "__main__":
     scans()
+    scans_of_several_keys()
     words()
     keys()
     judgements()
+    hollow_judgements()

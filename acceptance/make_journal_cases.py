@@ -6,7 +6,7 @@
 They are told as those of make_node_cases.py are.
 """
 
-from make_cases import ZEROS, signed, u, update
+from make_cases import ZEROS, signed, u, update, voucher
 from make_node_cases import LISTED, TWO, X, Y, Case, birth, fork_proof, fresh, journal, script, words
 
 BIRTH = birth(1, LISTED)
@@ -14,15 +14,11 @@ BIRTH = birth(1, LISTED)
 
 def own_put(made, value=None):
     """The record of an own update, with this value in place of its own."""
-    return b"\x02" + u(4, len(made.body)) + made.body + (made.value if value is None else value)
-
-
-def voucher_body(node, seq, *ids):
-    return b"\x01\x02" + u(2, node) + u(4, seq) + u(2, len(ids)) + b"".join(sorted(ids))
+    return b"\x02" + u(4, len(made.body)) + made.body + (b"".join(made.values) if value is None else value)
 
 
 def own_voucher(node, seq, *ids):
-    return b"\x03" + voucher_body(node, seq, *ids)
+    return b"\x03" + voucher(node, seq, *ids)
 
 
 def foreign(text):
@@ -38,7 +34,7 @@ def held(value):
 
 
 PUT = fresh().put(b"k", b"a")
-VOUCHER_TEXT = signed(voucher_body(2, 0, Y.id), TWO.sign(0, voucher_body(2, 0, Y.id)))
+VOUCHER_TEXT = signed(voucher(2, 0, Y.id), TWO.sign(0, voucher(2, 0, Y.id)))
 VOUCHER = foreign(VOUCHER_TEXT)
 PROOF = convict(fork_proof("SamePrev", X, Y))
 NO_CLOCK = update(1, 0, 0, ZEROS, b"k", b"a")
@@ -58,7 +54,7 @@ UNLAWFUL = {
     "a_vouched_branch_without_a_conviction": ([foreign(X.text), VOUCHER, foreign(Y.text)], "3 ProofDue"),
     "a_voucher_twice": ([VOUCHER, VOUCHER], "2 Idle"),
     "a_conviction_twice": ([PROOF, PROOF], "2 Idle"),
-    "a_value_twice": ([foreign(X.text), held(X.value), held(X.value)], "3 Idle"),
+    "a_value_twice": ([foreign(X.text), held(b"x"), held(b"x")], "3 Idle"),
 }
 
 

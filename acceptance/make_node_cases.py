@@ -10,7 +10,8 @@ the documents define it, without any of the checks that these cases don't need; 
 import os
 import shutil
 
-from make_cases import HERE, ZEROS, Signer, frame, history_of, proof, roster, sha, signed, u, update
+from make_cases import HERE, ZEROS, Signer, frame, history_of, proof, roster, sha, signed, u, update, update_of, voucher
+from texts import body_in, parents, whole
 
 JOURNAL = "depot.journal"
 HEIGHT = 2
@@ -38,20 +39,21 @@ def half(statement, other):
 
 
 class Update:
-    def __init__(self, body, value, signature=None):
-        self.body, self.value, self.id = body, value, sha(body)
-        self.writer, self.seq = int.from_bytes(body[2:4], "big"), int.from_bytes(body[4:8], "big")
-        self.clock, self.prev = int.from_bytes(body[8:16], "big"), body[16:48]
-        at = 87 + body[48]
-        self.entries = [body[k + 10:k + 42] for k in range(at, len(body) - 32, 42)]
-        self.parents = ([] if self.prev == ZEROS else [self.prev]) + self.entries
+    """An update and its values, in the order of the writes that have one."""
+
+    def __init__(self, body, *values, signature=None):
+        read = whole(body_in, body)
+        self.body, self.values, self.id = body, list(values), read.id
+        self.writer, self.clock, self.prev = read.writer, read.clock, read.prev
+        self.names = [said[0] for _, said in read.writes if said is not None]
+        self.parents = parents(read)
         self.text = None if signature is None else signed(body, signature)
 
     def leaf(self):
         return (self.writer, self.clock, self.id)
 
     def frames(self):
-        return frame(2, self.text) + frame(3, self.value)
+        return frame(2, self.text) + b"".join(frame(3, value) for value in dict.fromkeys(self.values))
 
 
 class Node:
@@ -75,31 +77,35 @@ class Node:
         return [t for t in self.accepted if t.id not in prevs]
 
     def put(self, key, value):
+        return self.puts((key, value))
+
+    def puts(self, *changes):
+        """Puts these changes, (key, value) each; a key without a value is deleted."""
         mine = [t for t in self.accepted if t.writer == self.me]
         prev = mine[-1].id if mine else ZEROS
         known = self.past([prev] if mine else [])
         deps = sorted([t.leaf() for t in self.leaves() if t.writer != self.me and t.id not in known], key=lambda x: (x[0], x[2]))
         clock = 1 + max([t.clock for t in self.accepted], default=0)
-        body = update(self.me, self.own, clock, prev, key, value, deps, history_of([t.leaf() for t in self.leaves()]))
-        made = Update(body, value, self.signer.sign(self.own, body))
-        self.records.append(b"\x02" + u(4, len(body)) + body + value)
+        body = update_of(self.me, self.own, clock, prev, changes, deps, history_of([t.leaf() for t in self.leaves()]))
+        values = [value for _, value in changes if value is not None]
+        made = Update(body, *values, signature=self.signer.sign(self.own, body))
+        self.records.append(b"\x02" + u(4, len(body)) + body + b"".join(values))
         self.accepted.append(made)
         self.own += 1
-        self.hold(value)
+        self.hold(*values)
         return made
 
-    def hold(self, value):
-        if value not in self.held:
-            self.held.append(value)
+    def hold(self, *values):
+        self.held += [value for value in dict.fromkeys(values) if value not in self.held]
 
     def take(self, *updates):
-        """Takes each update, which must be new, and its value."""
+        """Takes each update, which must be new, and its values."""
         for came in updates:
             self.records.append(b"\x04" + came.text)
             self.accepted.append(came)
-            if came.value not in self.held:
-                self.records.append(b"\x06" + came.value)
-                self.hold(came.value)
+            new = [value for value in dict.fromkeys(came.values) if value not in self.held]
+            self.records += [b"\x06" + value for value in new]
+            self.hold(*new)
 
     def convict(self, kind, one, other):
         text = fork_proof(kind, one, other)
@@ -109,7 +115,7 @@ class Node:
     def hello(self):
         leaves = sorted(u(2, t.writer) + t.id for t in self.leaves())
         values = {sha(value) for value in self.held}
-        wanted = sorted({sha(t.value) for t in self.accepted} - values)
+        wanted = sorted({name for t in self.accepted for name in t.names} - values)
         return b"".join([
             b"\x01\x03", u(2, self.me), sha(self.listed),
             u(2, len(self.proofs)), *[u(2, n) for n in sorted(self.proofs)],
@@ -123,7 +129,7 @@ class Node:
         vouched = {x for ids, _ in self.vouchers for x in ids}
         new = [t.id for t in sent if t.writer != self.me and t.id not in vouched]
         if new:
-            body = b"\x01\x02" + u(2, self.me) + u(4, self.own) + u(2, len(new)) + b"".join(sorted(new))
+            body = voucher(self.me, self.own, *new)
             self.records.append(b"\x03" + body)
             self.vouchers.append((new, signed(body, self.signer.sign(self.own, body))))
             self.own += 1
@@ -131,10 +137,9 @@ class Node:
         frames += [frame(2, text) for ids, text in self.vouchers if {t.id for t in sent} & set(ids)]
         values = []
         for t in sent:
-            frames.append(frame(2, t.text))
-            if t.value in self.held and t.value not in values:
-                frames.append(frame(3, t.value))
-                values.append(t.value)
+            behind = [value for value in dict.fromkeys(t.values) if value in self.held and value not in values]
+            frames += [frame(2, t.text), *(frame(3, value) for value in behind)]
+            values += behind
         return b"".join(frames) + END
 
     def file(self):
@@ -203,7 +208,7 @@ LISTED = roster(*(s.entry() for s in (ONE, TWO, THREE, NINE)))
 
 def branch(seq, clock, value, prev=ZEROS, history=None, key=b"k"):
     body = update(9, seq, clock, prev, key, value, history=history)
-    return Update(body, value, NINE.sign(seq, body))
+    return Update(body, value, signature=NINE.sign(seq, body))
 
 
 X, Y = branch(0, 1, b"x"), branch(1, 2, b"y")
@@ -416,7 +421,7 @@ def inputs():
     for name, args in {
         "words_node_zero": words(1)[:4] + ["0", "SCRIPT"],
         "words_node_too_great": words(1)[:4] + ["65536", "SCRIPT"],
-        "words_node_height_above": words(1, height=13),
+        "words_node_height_above": words(1, height=18),
         "words_node_height_below": words(1, height=1),
         "words_node_without_a_script": words(1)[:5],
         "words_node_seed_too_short": ["node", "ROSTER", "01" * 31, "2", "1", "SCRIPT"],

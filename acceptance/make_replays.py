@@ -76,7 +76,7 @@ def hello_of(node, height, *members):
 
 
 def raw(label, made):
-    return (f"raw {label} {made.hex()}", f"{len(made)} bytes")
+    return (f"raw {label} {made.hex() or '-'}", f"{len(made)} bytes")
 
 
 def refusals(label, frames):
@@ -484,7 +484,7 @@ VOUCHERS = FORK + [
 X, Y, W = signed_update(9, 0, 1, b"a"), signed_update(9, 1, 2, b"b"), signed_update(8, 0, 1, b"a")
 
 NO_PROOFS = [
-    (proof(4, X, Y), "1 IllFormed 1"),
+    (proof(5, X, Y), "1 IllFormed 1"),
     (proof(2, STRANGE, Y), "2 UnknownWriter 7"),
     (proof(2, X, STRANGE), "2 UnknownWriter 7"),
     (proof(2, damaged(X), Y), "4 BadSignature 9"),

@@ -3,8 +3,8 @@
 #
 #     examples/two-nodes.sh
 #
-# Each node is a folder: its journal (depot.journal) is all that it keeps, and it runs from there. All lies in a room that is removed
-# at the end.
+# Each node is a folder: its journal (depot.journal) is all that it keeps, and it runs from there. All lies in a room
+# that is removed at the end.
 set -euo pipefail
 here=$(cd "$(dirname "$0")" && pwd)
 depot=$here/../depot
@@ -17,12 +17,9 @@ mkdir one two
 seed() { printf "0$1%.0s" {1..32}; }
 root() { "$depot" key "$(seed "$1")" 4; }
 
-# The roster says who is a member: for each node its number (2 bytes), the height of its key (1 byte) and its root (32 bytes). Both
-# nodes are given the same one. Node 9 is a member too.
-{
-  printf 01040003
-  for number in 1 2 9; do printf '%04x04%s' "$number" "$(root "$number")"; done
-} | python3 -c 'import sys; sys.stdout.buffer.write(bytes.fromhex(sys.stdin.read()))' >roster
+# The roster says who is a member: for each node its number, the height of its key and its root. Both nodes are given the
+# same one. Node 9 is a member too.
+python3 "$here/../tools/roster.py" roster "1:4:$(root 1)" "2:4:$(root 2)" "9:4:$(root 9)" >/dev/null
 
 # Runs node NUMBER in the folder NAME through the commands that come in, and shows what it prints.
 node() {
@@ -41,7 +38,7 @@ put 6b 62
 hello ../hello-of-two
 END
 
-echo "-- Each makes a bundle of what the other's hello lacks, and takes the bundle that was made for it. Both read both writes."
+echo "-- Each makes a bundle of what the other's hello lacks, and takes the one that was made for it. Both read both writes."
 node one 1 <<'END'
 bundle ../hello-of-two ../for-two
 END
@@ -60,8 +57,9 @@ bundle ../hello-of-two ../for-two
 END
 node two 2 <<<$'take ../for-two\nget 6b'
 
-# Node 9 isn't run by depot. It signs two first updates, x and y: one for some readers, the other for others. A frame is a tag, a length and
-# what it holds; 2 is a signed statement, 3 a value. The proof is the two statements, the smaller body first.
+# Node 9 isn't run by depot. It signs two first updates, x and y: one for some readers, the other for others. A frame is a
+# tag, a length and what it holds; 2 is a signed statement, 3 a value. The proof is the two statements, the smaller body
+# first.
 python3 - "$here/../acceptance" <<'END'
 import sys
 sys.dont_write_bytecode = True
@@ -77,8 +75,8 @@ for seq, value in enumerate([b"x", b"y"]):
 open("proof", "wb").write(proof(2, *halves))
 END
 
-echo "-- Node 9 shows x to node 1 and y to node 2. Node 1 vouches for x when it passes it on, so node 2 takes x beside y, convicts node 9,"
-echo "   and reads both branches. Its hello says that one node is convicted."
+echo "-- Node 9 shows x to node 1 and y to node 2. Node 1 vouches for x when it passes it on, so node 2 takes x beside y,"
+echo "   convicts node 9, and reads both branches. Its hello says that one node is convicted."
 node one 1 <<<'take ../branch-0'
 node two 2 <<'END'
 take ../branch-1

@@ -1,5 +1,5 @@
 -- What is printed of answers.
-use Rattle.std.specs.Prelude.{ℕ, List, [], ◌∷◌, ◌++◌, length, Bool, true, false, Option, Some, None, codes}
+use Rattle.std.specs.Prelude.{ℕ, List, [], ◌∷◌, ◌++◌, length, Bool, true, false, Some, None, codes}
 use Rattle.std.specs.Fmt.{decimal}
 use Rattle.hex.specs.Hex.{encode_lower}
 use Rattle.depot_base.specs.declared.check.Check.{Check}
@@ -14,6 +14,7 @@ use Rattle.depot_model.specs.declared.record_fault.RecordFault.TheVariants as re
 use Rattle.depot_model.specs.declared.bundle.Counts.{Counts}
 use Rattle.depot_model.specs.declared.bundle.Refusal.{Refusal}
 use Rattle.depot_model.specs.declared.hello.Hello.{Hello}
+use Rattle.depot_model.specs.Contents.{Sighting, held_value, not_held, gone}
 use Rattle.depot_model.specs.Feeding.{Feeding, Closing, ill_formed, out_of_room, report_of}
 use Rattle.depot_model.specs.declared.bundle.Ending.{Ending}
 use Rattle.depot_model.specs.declared.bundle.Ending.TheVariants as ending
@@ -88,13 +89,15 @@ text_of_limit (full f) = text_of_full f
 abbrev pub text_of_put : Update → List ℕ
 text_of_put u = decimal u.seq ++ codes "/" ++ decimal u.clock
 
-abbrev pub text_of_value : Option (List ℕ) → List ℕ
-text_of_value None = codes "?"
-text_of_value (Some value) = encode_lower value
+-- what a write shows of its key: the value, `?` where that isn't held, or that the key was deleted
+abbrev pub text_of_sighting : Sighting → List ℕ
+text_of_sighting (held_value value) = codes "=" ++ encode_lower value
+text_of_sighting not_held = codes "=?"
+text_of_sighting gone = codes "!"
 
--- a write that a read shows: `WRITER/SEQ/CLOCK=VALUE`
+-- a write that a read shows: `WRITER/SEQ/CLOCK=VALUE`, or of a deletion `WRITER/SEQ/CLOCK!`
 abbrev pub text_of_write : Shown → List ℕ
-text_of_write s = decimal s.update.writer ++ codes "/" ++ decimal s.update.seq ++ codes "/" ++ decimal s.update.clock ++ codes "=" ++ text_of_value s.value
+text_of_write s = decimal s.update.writer ++ codes "/" ++ decimal s.update.seq ++ codes "/" ++ decimal s.update.clock ++ text_of_sighting s.seen
 
 -- ---- journals
 

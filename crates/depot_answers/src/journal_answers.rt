@@ -1,8 +1,9 @@
 //! What a put made, a write that a read shows, and how many records a journal has.
-ghost use Rattle.std.specs.Prelude.{◌≡◌, ◌++◌, List, length, OnOk, option_copied};
+ghost use Rattle.std.specs.Prelude.{◌≡◌, ◌++◌, List, length, OnOk};
 ghost use Rattle.depot_base.specs.declared.record.Record.{Record};
 ghost use Rattle.depot_base.specs.declared.update.Update.{Update};
-ghost use Rattle.depot_answers.specs.Answers.{text_of_put, text_of_records, text_of_value, text_of_write};
+ghost use Rattle.depot_answers.specs.Answers.{text_of_put, text_of_records, text_of_sighting, text_of_write};
+ghost use Rattle.depot_answers.specs.Sightings.{sighting_of};
 
 use crate::words::{numbered, text};
 use depot_base::{Bytes, Memory, Update};
@@ -16,36 +17,45 @@ pub fn put(alloc: Global, out: &mut Bytes, seq: u32, clock: u64) -> Result<(), M
     text(out, words.as_str())
 }
 
-/// A value in lower-case hexadecimal, or `?` where it isn't held.
-fn value(alloc: Global, out: &mut Bytes, value: Option<&[u8]>) -> Result<(), Memory>
-    ensures { OnOk result (out.new ≡ out.old ++ text_of_value (option_copied value.entry)) }
+/// What a read shows of a write of its key.
+#[derive(Clone, Copy, Debug)]
+pub enum Seen<'a> {
+    /// The value that the write names.
+    Held(&'a [u8]),
+    /// That the value that it names isn't held.
+    NotHeld,
+    /// That the key was deleted.
+    Gone,
+}
+
+/// What stands behind a write: `=` and the value in lower-case hexadecimal, `=?` where it isn't held, or `!` of a deletion.
+#[tactic(auto, using(depot_base::proofs::Writing::texts))]
+fn sighting(alloc: Global, out: &mut Bytes, seen: Seen<'_>) -> Result<(), Memory>
+    ensures { OnOk result (out.new ≡ out.old ++ text_of_sighting (sighting_of seen.entry)) }
 {
-    match value {
-        None => text(out, "?"),
-        Some(bytes) => {
-            let digits = hex::encode(alloc, bytes)?;
+    match seen {
+        Seen::Held(value) => {
+            let digits = hex::encode(alloc, value)?;
+            text(out, "=")?;
             text(out, digits.as_str())
         }
+        Seen::NotHeld => text(out, "=?"),
+        Seen::Gone => text(out, "!"),
     }
 }
 
-/// A write that a read shows, and its value where that is held: `WRITER/SEQ/CLOCK=VALUE`. After Memory a front of that may have been
-/// added.
+/// A write that a read shows, and what it shows of it: `WRITER/SEQ/CLOCK=VALUE`, or `WRITER/SEQ/CLOCK!` of a deletion. After Memory a
+/// front of that may have been added.
 #[tactic(auto, using(depot_base::proofs::Writing::texts))]
-pub fn write(
-    alloc: Global,
-    out: &mut Bytes,
-    update: &Update,
-    held: Option<&[u8]>,
-) -> Result<(), Memory>
-    ensures { OnOk result (out.new ≡ out.old ++ text_of_write (record { update = update.now; value = option_copied held.entry })) }
+pub fn write(alloc: Global, out: &mut Bytes, update: &Update, seen: Seen<'_>) -> Result<(), Memory>
+    ensures { OnOk result (out.new ≡ out.old ++ text_of_write (record { update = update.now; seen = sighting_of seen.entry })) }
 {
     let writer = update.writer.number();
     let seq = update.seq;
     let clock = update.clock;
-    let front = format!(in alloc; "{writer}/{seq}/{clock}=")?;
+    let front = format!(in alloc; "{writer}/{seq}/{clock}")?;
     text(out, front.as_str())?;
-    value(alloc, out, held)
+    sighting(alloc, out, seen)
 }
 
 /// How many records a journal has. After Memory a front of that may have been added.

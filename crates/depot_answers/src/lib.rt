@@ -21,7 +21,7 @@ mod words;
 pub use checks::{check, refusal};
 pub use exchange_answers::{Closing, counts, named, report};
 pub use fault_answers::faulty_line;
-pub use journal_answers::{put, records, write};
+pub use journal_answers::{Seen, put, records, write};
 pub use judgement_answers::{point, roster_error, verdict};
 pub use limit_answers::{collides, full, spent, tips};
 pub use record_faults::record_fault;

@@ -13,7 +13,7 @@ use Rattle.depot_commands.specs.declared.outcome.Outcome.{Outcome}
 use Rattle.depot_commands.specs.declared.status.Status.{Status}
 use Rattle.depot_commands.specs.declared.status.Status.TheVariants.{Done, Input}
 use Rattle.depot_outside.specs.Told.{Shelves, Loads, Sinks, WhereTold, HasLoaded}
-use Rattle.depot_commands.specs.Runs.{IsReplayed, ReplayOf, Replays, IsFrontOf, Answers, Begins, Ends, Finishes, Plays}
+use Rattle.depot_commands.specs.Runs.{IsReplayed, PairsSpareCorrectNodes, ReplayOf, Replays, IsFrontOf, Answers, Begins, Ends, Finishes, Plays}
 
 -- a run that ends by some answers ends by those that they are, too
 pub ends_so : (answers answers2 : Status → List ℕ → Type 0) (begins begins2 : List ℕ → Type 0) (sink : Sinks) (status : Status)
@@ -41,15 +41,16 @@ finished_by answers begins sink found one status is answered none ends =
 
 -- a schedule that was played from its text was replayed
 pub replayed : (name bytes : List ℕ) (s : Schedule) (sink : Sinks) (status : Status) → IsTextOf bytes s
-    → (IsAuthentic (world_of s) → IsCollisionFree (world_of s) → IsForkJoinCausal (world_of s)) → (IsAuthentic (world_of s) → ConvictsNoCorrectNode (world_of s))
+    → (IsAuthentic (world_of s) → IsCollisionFree (world_of s) → IsForkJoinCausal (world_of s)) → (IsAuthentic (world_of s) → IsCollisionFree (world_of s) → ConvictsNoCorrectNode (world_of s))
+    → (IsAuthentic (world_of s) → PairsSpareCorrectNodes (world_of s))
     → Plays s sink status → Ends (ReplayOf name bytes) (IsFrontOf (λ text. IsReplayed text bytes)) sink status
-replayed name bytes s sink status read causal convicts ends =
+replayed name bytes s sink status read causal convicts pairs ends =
     ends_so _ (ReplayOf name bytes) _ (IsFrontOf (λ text. IsReplayed text bytes)) sink status
     (λ answer text is. subst (λ (a : Status). ReplayOf name bytes a text) (sym is.0) (subst (λ (t : List ℕ). IsReplayed t bytes) (sym is.1) whole))
     (λ text front. inr (transcript_of s, (front.0, (front.1, whole)))) ends
   where
     whole : IsReplayed (transcript_of s) bytes
-    whole = record { schedule = s; read = read; is = refl; causal = causal; convicts = convicts }
+    whole = record { schedule = s; read = read; is = refl; causal = causal; convicts = convicts; pairs = pairs }
 
 -- what the bytes of a file answer, the command of its name answers
 replays : (shelf : Shelves) (name bytes : List ℕ) (status : Status) (text : List ℕ) → WhereTold shelf (shelf.file name ≡ Some bytes) → ReplayOf name bytes status text → Replays shelf name status text

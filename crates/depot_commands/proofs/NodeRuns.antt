@@ -38,8 +38,16 @@ use Rattle.depot_commands.proofs.Endings.{ends_so}
 -- ---- the shelf
 
 -- a file was loaded, and no fault came
-pub same_shelves : {F : Type 0} (g : Ghosts F) (old mid new : F) → g.tells mid ≡ g.tells old → g.file mid ≡ g.file old → g.faults mid ≡ g.faults old → shelves g mid new ≡ shelves g old new
-same_shelves g old mid new told same calm = λ i. record { tells = told i; file = same i; file_after = g.file new; faults_before = calm i; faults_after = g.faults new }
+pub same_shelves : {F : Type 0} (g : Ghosts F) (old mid new : F) → g.tells mid ≡ g.tells old → g.file mid ≡ g.file old → g.failed mid ≡ g.failed old → g.faults mid ≡ g.faults old → shelves g mid new ≡ shelves g old new
+same_shelves g old mid new told same calm quiet = λ i. record {
+  tells = told i;
+  file = same i;
+  file_after = g.file new;
+  failed_before = calm i;
+  failed_after = g.failed new;
+  faults_before = quiet i;
+  faults_after = g.faults new;
+}
 
 -- where the shelf failed nothing else is answered than a fault
 pub ends_at_fault : (shelf : Shelves) (e : Ending) (status : Status) → status ≡ status_of e → (GoesByShelf (Err e) → shelf.faults_after ≡ shelf.faults_before) → (status ≡ Sink) ⊎ ((status ≡ Memory) ⊎ EndsAtFault shelf status)

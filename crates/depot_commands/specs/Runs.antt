@@ -2,7 +2,11 @@
 use Rattle.std.specs.Prelude.{◌≡◌, ◌<◌, ◌⊎◌, ℕ, List, [], ◌∷◌, ◌++◌, codes, take, IsTrue, Option, Some, None, Result, Ok, Err}
 use Rattle.std.specs.Fmt.{decimal}
 use Rattle.hex.specs.Hex.{encode_lower}
+use Rattle.depot_base.specs.Statement.{writer_of}
 use Rattle.depot_base.specs.declared.memory.Memory as absent
+use Rattle.depot_base.specs.declared.proof.Kind.{Kind}
+use Rattle.depot_base.specs.declared.proof.Proof.TheVariants.{Pair}
+use Rattle.depot_base.specs.declared.statement.Signed.{Signed}
 use Rattle.depot_base.specs.declared.update.Update.{Update}
 use Rattle.depot_base.specs.declared.key.RosterEntry.{RosterEntry}
 use Rattle.depot_model.specs.declared.judgement.Verdict.{Verdict}
@@ -16,7 +20,8 @@ use Rattle.depot_model.specs.Judgement.{IsJudgementOf}
 use Rattle.depot_model.specs.Winternitz.{root_of, winternitz_verifies}
 use Rattle.depot_model.specs.Lines.{text_of_verdict, text_of_point, text_of_roster_error}
 use Rattle.depot_model.specs.Causality.{IsForkJoinCausal, ConvictsNoCorrectNode}
-use Rattle.depot_model.specs.World.{IsAuthentic, IsCollisionFree}
+use Rattle.depot_model.specs.Lists.{IsIn}
+use Rattle.depot_model.specs.World.{Correct, World, IsAuthentic, IsCollisionFree, proofs_of}
 use Rattle.depot_answers.specs.Answers.{text_of_faulty_line}
 use Rattle.depot_script.specs.Scripts.{script_of}
 use Rattle.depot_schedule.specs.Readers.{IsTextOf}
@@ -126,14 +131,20 @@ Judges shelf loads roster proof status text =
 
 -- ---- replay
 
--- The bytes are the text of a schedule, and the text is its transcript. So it tells of a world that is fork-join causal, while no correct
--- node's signature is forged and no two hashed texts collide in it, and that convicts no correct node, while none is forged.
+-- no proof of two statements in a world names a correct node
+abbrev pub PairsSpareCorrectNodes : World → Type 0
+PairsSpareCorrectNodes W = (c : Correct) (kind : Kind) (a b : Signed) → IsIn c W.nodes → IsIn (Pair kind a b) (proofs_of W) → writer_of a.statement ≡ c.node → ⊥
+
+-- The bytes are the text of a schedule, and the text is its transcript. So it tells of a world that is fork-join causal and convicts no
+-- correct node, while no correct node's signature is forged and no two hashed texts collide in it. No proof of two statements names a
+-- correct node while none is forged, whether texts collide or not.
 pub record IsReplayed (text bytes : List ℕ) : Type 0 where
   pub schedule : Schedule
   pub read : IsTextOf bytes schedule
   pub is : text ≡ transcript_of schedule
   pub causal : IsAuthentic (world_of schedule) → IsCollisionFree (world_of schedule) → IsForkJoinCausal (world_of schedule)
-  pub convicts : IsAuthentic (world_of schedule) → ConvictsNoCorrectNode (world_of schedule)
+  pub convicts : IsAuthentic (world_of schedule) → IsCollisionFree (world_of schedule) → ConvictsNoCorrectNode (world_of schedule)
+  pub pairs : IsAuthentic (world_of schedule) → PairsSpareCorrectNodes (world_of schedule)
 
 -- the bytes are no schedule's, and the text tells the first faulty line and its first fault
 pub record IsNoSchedule (name text bytes : List ℕ) : Type 0 where

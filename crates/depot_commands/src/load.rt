@@ -1,5 +1,5 @@
 //! Loads the files that words name.
-ghost use Rattle.std.specs.Prelude.{◌≡◌, ◌++◌, ◌∷◌, [], IfOk};
+ghost use Rattle.std.specs.Prelude.{◌≡◌, ◌++◌, ◌∷◌, [], IfOk, IfSome};
 ghost use Rattle.depot_outside.specs.Told.{shelves};
 ghost use Rattle.depot_commands.specs.Runs.{IsLoaded};
 
@@ -12,6 +12,7 @@ pub fn load<F: Shelf>(shelf: &mut F, name: &str) -> Result<Option<Bytes>, Memory
     ensures loads { F.loads shelf.new ≡ F.loads shelf.old ++ name.now ∷ [] }
     ensures files { F.file shelf.new ≡ F.file shelf.old }
     ensures tells { F.tells shelf.new ≡ F.tells shelf.old }
+    ensures calm { IfOk result (λ found. IfSome found (λ _. F.failed shelf.new ≡ F.failed shelf.old)) }
 {
     match shelf.load(name) {
         Ok(found) => Ok(found),

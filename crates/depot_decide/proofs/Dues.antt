@@ -7,6 +7,7 @@ use Rattle.depot_base.specs.Statement.{writer_of}
 use Rattle.depot_base.specs.declared.check.Check.{Check}
 use Rattle.depot_base.specs.declared.check.Check.TheVariants as check
 use Rattle.depot_base.specs.declared.proof.Kind.{Kind}
+use Rattle.depot_base.specs.declared.proof.Proof.TheVariants.{Pair}
 use Rattle.depot_base.specs.declared.record.Record.{Record}
 use Rattle.depot_base.specs.declared.record.Record.TheVariants.{Foreign, Conviction}
 use Rattle.depot_base.specs.declared.statement.Signed.{Signed}
@@ -35,7 +36,7 @@ contrary_made k a b e = of_proof_of IsContrary k a b e (contradicts_comm k b.sta
 contrary_halves : (k : Kind) (a b : Signed) → IsContrary (proof_of k a b) → contradicts k a.statement b.statement ≡ true
 unfolding proof_of
 contrary_halves k a b = choice (is_below a.body b.body) where
-  choice : (t : Bool) → IsContrary (cond t (record { kind = k; first = a; second = b }) (record { kind = k; first = b; second = a })) → contradicts k a.statement b.statement ≡ true
+  choice : (t : Bool) → IsContrary (cond t (Pair k a b) (Pair k b a)) → contradicts k a.statement b.statement ≡ true
   choice true e = e
   choice false e = contradicts_comm k a.statement b.statement ∙ e
 

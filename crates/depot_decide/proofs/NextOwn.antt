@@ -4,16 +4,16 @@ use Rattle.std.specs.List.{AllByRecursion, filter, slice_get}
 use Rattle.std.specs.Option.{option_to_list}
 use Rattle.std.proofs.lemmas.List.{length-map}
 use Rattle.std.proofs.lemmas.List.Sums.{length-filter, count_by-le-length}
-use Rattle.sha2.specs.Sha256.{sha256}
 use Rattle.depot_base.specs.declared.record.Record.{Record}
 use Rattle.depot_base.specs.declared.update.Dep.{Dep}
 use Rattle.depot_base.specs.declared.update.Update.{Update}
+use Rattle.depot_base.specs.declared.write.Write.{Write}
 use Rattle.depot_model.specs.Checks.{Setting}
 use Rattle.depot_model.specs.History.{by_id, leaves_of, history_hash}
 use Rattle.depot_model.specs.Items.{place_of_prev, updates_at}
 use Rattle.depot_model.specs.Journal.{accepted, last_own}
 use Rattle.depot_model.specs.Lawful.{IsLawful}
-use Rattle.depot_model.specs.Own.{entry_of, next_entries, next_own}
+use Rattle.depot_model.specs.Own.{entry_of, next_entries, next_with}
 use Rattle.depot_model.specs.Roster.{Verifies}
 use Rattle.depot_laws.proofs.OwnTexts.{lawful_is_short}
 use Rattle.depot_accept.specs.StateView.{View, IsStateOf, setting}
@@ -72,24 +72,22 @@ few_entry_items here J us items l are =
 -- ---- the update
 
 -- its entries name what stands at the items
-next_deps : (me : ℕ) (J : List Record) (key value : List ℕ) (us : List Update) (items : List ℕ) → AreEntryItems me J us items → (next_own me J key value).deps ≡ map entry_of (updates_at us items)
-unfolding next_own
-next_deps me J key value us items are = ap (λ (ts : List Update). map entry_of (next_entries me ts (last_own J))) are.accepted ∙ ap (map entry_of) (sym are.entries)
+next_deps : (me : ℕ) (J : List Record) (ws : List Write) (us : List Update) (items : List ℕ) → AreEntryItems me J us items → (next_with me J ws).deps ≡ map entry_of (updates_at us items)
+next_deps me J ws us items are = ap (λ (ts : List Update). map entry_of (next_entries me ts (last_own J))) are.accepted ∙ ap (map entry_of) (sym are.entries)
 
 -- as many as the items
 pub as_many_deps : (us : List Update) (found items : List ℕ) (deps : List Dep) → AllByRecursion (λ item. item < length us) found → items ≡ found → deps ≡ map entry_of (updates_at us items) → length deps ≡ length items
 as_many_deps us found items deps inside same entries =
     ap length entries ∙ length-map (updates_at us items) entry_of ∙ ap (λ (ns : List ℕ). length (updates_at us ns)) same ∙ as_many_at us found inside ∙ sym (ap length same)
 
-pub as_many_entries : (me : ℕ) (J : List Record) (key value : List ℕ) (us : List Update) (items : List ℕ) → AreEntryItems me J us items → length items ≡ length (next_own me J key value).deps
-as_many_entries me J key value us items are = sym (as_many_deps us items items (next_own me J key value).deps are.inside refl (next_deps me J key value us items are))
+pub as_many_entries : (me : ℕ) (J : List Record) (ws : List Write) (us : List Update) (items : List ℕ) → AreEntryItems me J us items → length items ≡ length (next_with me J ws).deps
+as_many_entries me J ws us items are = sym (as_many_deps us items items (next_with me J ws).deps are.inside refl (next_deps me J ws us items are))
 
--- an update of these parts is the next own one
-pub next_own_is : (me : ℕ) (J : List Record) (key value : List ℕ) (us : List Update) (items : List ℕ) (t : Totals) (writer : ℕ) (given value_hash : List ℕ) (value_len : ℕ) (deps : List Dep) (history : List ℕ) → AreTotals me J t → AreEntryItems me J us items → writer ≡ me → given ≡ key
-    → value_hash ≡ sha256 value → value_len ≡ length value → deps ≡ map entry_of (updates_at us items) → history ≡ history_hash us
-    → record { writer = writer; seq = t.own; clock = t.clock + 1; prev = t.last; key = given; value_hash = value_hash; value_len = value_len; deps = deps; history = history } ≡ next_own me J key value
-unfolding next_own
-next_own_is me J key value us items t writer given value_hash value_len deps history totals are mine same hash long entries past =
-    let named = entries ∙ sym (next_deps me J key value us items are) in
+-- an update of these parts is the next own one with its writes
+pub next_own_is : (me : ℕ) (J : List Record) (ws : List Write) (us : List Update) (items : List ℕ) (t : Totals) (writer : ℕ) (deps : List Dep) (history : List ℕ) → AreTotals me J t → AreEntryItems me J us items → writer ≡ me
+    → deps ≡ map entry_of (updates_at us items) → history ≡ history_hash us
+    → record { writer = writer; seq = t.own; clock = t.clock + 1; prev = t.last; writes = ws; deps = deps; history = history } ≡ next_with me J ws
+next_own_is me J ws us items t writer deps history totals are mine entries past =
+    let named = entries ∙ sym (next_deps me J ws us items are) in
     let whole = past ∙ ap history_hash (sym are.accepted) in
-    λ i. record { writer = mine i; seq = totals.own i; clock = totals.clock i + 1; prev = totals.last i; key = same i; value_hash = hash i; value_len = long i; deps = named i; history = whole i }
+    λ i. record { writer = mine i; seq = totals.own i; clock = totals.clock i + 1; prev = totals.last i; writes = ws; deps = named i; history = whole i }

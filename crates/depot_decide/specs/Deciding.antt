@@ -1,13 +1,15 @@
 -- What a node decides over its journal, and what comes of it.
-use Rattle.std.specs.Prelude.{◌≡◌, ℕ, List, [], ◌∷◌, Some, None, Result, Ok, Err, slice_get}
+use Rattle.std.specs.Prelude.{◌≡◌, ℕ, List, [], ◌∷◌, Option, Some, None, Result, Ok, Err, slice_get}
 use Rattle.depot_base.specs.declared.limits.TheConstants.{MOST_VALUE}
 use Rattle.depot_base.specs.Closed.{Closed, closing, rest_of}
 use Rattle.depot_base.specs.declared.check.Check.{Check}
 use Rattle.depot_base.specs.declared.check.Check.TheVariants as check
+use Rattle.depot_base.specs.declared.proof.Proof.{Proof}
 use Rattle.depot_base.specs.declared.record.Record.{Record}
 use Rattle.depot_base.specs.declared.record.Record.TheVariants.{Conviction}
 use Rattle.depot_base.specs.declared.statement.Signed.{Signed}
 use Rattle.depot_model.specs.declared.taken.Taken.{Taken}
+use Rattle.depot_model.specs.declared.taken.Taken.TheVariants.{New}
 use Rattle.depot_model.specs.declared.taken.TakeError.{TakeError}
 use Rattle.depot_model.specs.declared.taken.TakeError.TheVariants as refused
 use Rattle.depot_model.specs.Checks.{Setting, Given, given_statement, given_proof, given_value, answer_to, growth}
@@ -40,6 +42,11 @@ DecidesProof = Decides (closing proof) (λ p. given_proof p)
 
 abbrev pub DecidesValue : Setting → List Record → List ℕ → Result Taken Check → List Record → Type 0
 DecidesValue = Decides (rest_of MOST_VALUE) (λ v. given_value v)
+
+-- what is decided of a proof: this is answered and nothing grows, or without an answer it is new, and the journal grows by it
+abbrev pub IsSettled : Setting → List Record → Proof → Option (Result Taken Check) → Type 0
+IsSettled here J p (Some answer) = IsDecided here J (given_proof p) answer []
+IsSettled here J p None = IsDecided here J (given_proof p) (Ok New) (Conviction p ∷ [])
 
 -- the statement that was found is kept, and the conviction by it stands first in what the journal grows by
 pub record IsDueBy (here : Setting) (J : List Record) (s : Signed) (found : Found) : Type 0 where

@@ -1,60 +1,68 @@
 -- What a node answers to a put, and what its journal is then.
-use Rattle.std.specs.Prelude.{◌≡◌, ℕ, ◌<◌, List, [], ◌∷◌, ◌++◌, length, Some, None, option_map, Result, Ok, Err}
+use Rattle.std.specs.Prelude.{◌≡◌, ◌<◌, List, [], ◌∷◌, ◌++◌, length, Some, None, option_map, Result, Ok, Err}
+use Rattle.std.specs.List.{AllByRecursion}
+use Rattle.depot_base.specs.Sized.{IsKey, IsValue}
+use Rattle.depot_base.specs.Writes.{value_in_change}
 use Rattle.depot_base.specs.declared.limits.TheConstants.{MOST_ENTRIES}
 use Rattle.depot_base.specs.declared.update.Update.{Update}
+use Rattle.depot_base.specs.declared.write.Change.{Change}
 use Rattle.depot_base.specs.declared.record.Record.{Record}
 use Rattle.depot_base.specs.declared.record.Record.TheVariants.{OwnPut}
 use Rattle.depot_model.specs.Checks.{Setting}
 use Rattle.depot_model.specs.Lawful.{IsLawful}
 use Rattle.depot_model.specs.Limits.{Limit, spent, tips, collides, full, limit_of_put, IsCutShort}
-use Rattle.depot_model.specs.Own.{next_own}
+use Rattle.depot_model.specs.Own.{next_own, values_of}
 use Rattle.depot_model.specs.Room.{full_by}
 use Rattle.depot_model.specs.Texts.{id_of_update}
 use Rattle.depot_decide.specs.declared.put_answers.PutDone.{PutDone}
 use Rattle.depot_decide.specs.declared.put_answers.PutError.{PutError}
 use Rattle.depot_decide.specs.declared.put_answers.PutError.TheVariants as refused
 
+-- the key of a change is a key, and its value, where it has one, a value
+abbrev pub HasSizes : Change → Type 0
+HasSizes c = IsKey c.key × AllByRecursion IsValue (value_in_change c)
+
 -- what is told of an update that was put
 abbrev pub told_of : Update → PutDone
 told_of u = record { id = id_of_update u; seq = u.seq; clock = u.clock }
 
--- the records that a put appends: the next own update, with its value
-abbrev pub put_records : Setting → List Record → List ℕ → List ℕ → List Record
-put_records here J key value = OwnPut (next_own here.me J key value) value ∷ []
+-- the records that a put appends: the next own update, with its values
+abbrev pub put_records : Setting → List Record → List Change → List Record
+put_records here J changes = OwnPut (next_own here.me J changes) (values_of changes) ∷ []
 
 -- the put meets this limit, and nothing is appended
-abbrev pub IsLimited : Setting → List Record → List ℕ → List ℕ → Limit → List Record → Type 0
-IsLimited here J key value limit then = (limit_of_put here J key value ≡ Some limit) × (then ≡ J)
+abbrev pub IsLimited : Setting → List Record → List Change → Limit → List Record → Type 0
+IsLimited here J changes limit then = (limit_of_put here J changes ≡ Some limit) × (then ≡ J)
 
--- What a node answers to a put of a value under a key, and the journal after it. Memory may stand in place of each answer, and
+-- What a node answers to a put of changes, and the journal after it. Memory may stand in place of each answer, and
 -- then nothing is appended; nor is it by a stopped node.
-abbrev pub Puts : Setting → List Record → List ℕ → List ℕ → Result PutDone PutError → List Record → Type 0
-Puts here J key value (Ok done) then = (limit_of_put here J key value ≡ None) × ((done ≡ told_of (next_own here.me J key value)) × (then ≡ J ++ put_records here J key value))
-Puts here J key value (Err refused.Memory) then = then ≡ J
-Puts here J key value (Err refused.Disk) then = (limit_of_put here J key value ≡ None) × IsCutShort J (put_records here J key value) then
-Puts here J key value (Err refused.Stopped) then = then ≡ J
-Puts here J key value (Err (refused.Spent n)) then = IsLimited here J key value (spent n) then
-Puts here J key value (Err (refused.Tips n)) then = IsLimited here J key value (tips n) then
-Puts here J key value (Err (refused.Collides h)) then = IsLimited here J key value (collides h) then
-Puts here J key value (Err (refused.Full what)) then = IsLimited here J key value (full what) then
+abbrev pub Puts : Setting → List Record → List Change → Result PutDone PutError → List Record → Type 0
+Puts here J changes (Ok done) then = (limit_of_put here J changes ≡ None) × ((done ≡ told_of (next_own here.me J changes)) × (then ≡ J ++ put_records here J changes))
+Puts here J changes (Err refused.Memory) then = then ≡ J
+Puts here J changes (Err refused.Disk) then = (limit_of_put here J changes ≡ None) × IsCutShort J (put_records here J changes) then
+Puts here J changes (Err refused.Stopped) then = then ≡ J
+Puts here J changes (Err (refused.Spent n)) then = IsLimited here J changes (spent n) then
+Puts here J changes (Err (refused.Tips n)) then = IsLimited here J changes (tips n) then
+Puts here J changes (Err (refused.Collides h)) then = IsLimited here J changes (collides h) then
+Puts here J changes (Err (refused.Full what)) then = IsLimited here J changes (full what) then
 
 -- ---- deciding
 
 -- A put is planned: of its limits only the room is open, this is to be told of it, it is what the journal is to grow by, and with
 -- it the journal stays lawful where there is room.
-pub record IsPlanned (here : Setting) (J : List Record) (key value : List ℕ) (done : PutDone) (new : List Record) : Type 0 where
-  pub limit : limit_of_put here J key value ≡ option_map full (full_by here.me J new)
-  pub told : done ≡ told_of (next_own here.me J key value)
-  pub grows : new ≡ put_records here J key value
+pub record IsPlanned (here : Setting) (J : List Record) (changes : List Change) (done : PutDone) (new : List Record) : Type 0 where
+  pub limit : limit_of_put here J changes ≡ option_map full (full_by here.me J new)
+  pub told : done ≡ told_of (next_own here.me J changes)
+  pub grows : new ≡ put_records here J changes
   pub lawful : full_by here.me J new ≡ None → IsLawful here (J ++ new)
 
 -- What a refusal says before the room is asked for. Memory may stand in place of each answer.
-abbrev pub IsRefused : Setting → List Record → List ℕ → List ℕ → PutError → Type 0
-IsRefused here J key value refused.Memory = Unit {0}
-IsRefused here J key value (refused.Spent n) = limit_of_put here J key value ≡ Some (spent n)
-IsRefused here J key value (refused.Tips n) = limit_of_put here J key value ≡ Some (tips n)
-IsRefused here J key value (refused.Collides h) = limit_of_put here J key value ≡ Some (collides h)
-IsRefused here J key value e = ⊥
+abbrev pub IsRefused : Setting → List Record → List Change → PutError → Type 0
+IsRefused here J changes refused.Memory = Unit {0}
+IsRefused here J changes (refused.Spent n) = limit_of_put here J changes ≡ Some (spent n)
+IsRefused here J changes (refused.Tips n) = limit_of_put here J changes ≡ Some (tips n)
+IsRefused here J changes (refused.Collides h) = limit_of_put here J changes ≡ Some (collides h)
+IsRefused here J changes e = ⊥
 
 -- a refusal of an update while it is made: it has more than 1,024 entries, and this is their number; or no memory was found
 abbrev pub IsTooWide : Update → PutError → Type 0

@@ -1,13 +1,11 @@
 //! What is decided of a proof.
-ghost use Rattle.std.specs.Prelude.{◌≡◌, ◌∷◌, [], false, None, Ok, IfOk, IfSome};
-ghost use Rattle.depot_base.specs.declared.record.Record.TheVariants.{Conviction};
-ghost use Rattle.depot_model.specs.declared.taken.Taken.TheVariants.{New};
+ghost use Rattle.std.specs.Prelude.{◌≡◌, false, IfOk};
 ghost use Rattle.depot_model.specs.Checks.{check_of_point, given_proof, proof_checks};
 ghost use Rattle.depot_model.specs.Lists.{first};
 ghost use Rattle.depot_model.specs.Texts.{IsProof, text_of_proof};
 ghost use Rattle.depot_accept.specs.StateView.{setting};
 ghost use Rattle.depot_store.specs.Holdings.{standing};
-ghost use Rattle.depot_decide.specs.Deciding.{DecidesProof, IsDecided};
+ghost use Rattle.depot_decide.specs.Deciding.{DecidesProof, IsDecided, IsSettled};
 
 use crate::decision::Decision;
 use depot_accept::State;
@@ -47,7 +45,11 @@ pub fn decide_decoded<D: Disk, S: Scheme>(
     requires text { text.now ≡ text_of_proof proof }
     ensures { IfOk result (λ d. IsDecided (standing S.verifies store.now) store.now.records (given_proof proof) d.answer d.growth) }
 {
-    if let Some(answer) = settled(store, &proof) {
+    let Ok(answer) = settled(alloc, store, &proof) else {
+        drop(proof);
+        return Err(Memory);
+    };
+    if let Some(answer) = answer {
         drop(proof);
         return Ok(Decision::of(alloc, answer));
     }
@@ -62,35 +64,46 @@ pub fn decide_decoded<D: Disk, S: Scheme>(
     })
 }
 
-/// What is answered to a proof that isn't to be kept: the check that fails first, or that its node is convicted already. None where it is to be kept.
-fn settled<D: Disk, S: Scheme>(store: &Store<D, S>, proof: &Proof) -> Option<Result<Taken, Check>>
+/// What is answered to a proof that isn't to be kept: the check that fails first, or that its node is convicted already. None where
+/// it is to be kept.
+fn settled<D: Disk, S: Scheme>(
+    alloc: Global,
+    store: &Store<D, S>,
+    proof: &Proof,
+) -> Result<Option<Result<Taken, Check>>, Memory>
     requires runs { store.now.stopped ≡ false }
     requires proof { IsProof proof.now }
-    ensures old { IfSome result (λ answer. IsDecided (standing S.verifies store.now) store.now.records (given_proof proof.now) answer []) }
-    ensures new { result ≡ None → IsDecided (standing S.verifies store.now) store.now.records (given_proof proof.now) (Ok New) (Conviction proof.now ∷ []) }
+    ensures { IfOk result (IsSettled (standing S.verifies store.now) store.now.records proof.now) }
 {
-    if let Some(check) = failed_check(store.state(), proof) {
-        return Some(Err(check));
+    let failed = failed_check(alloc, store.state(), proof)?;
+    if let Some(check) = failed {
+        return Ok(Some(Err(check)));
     }
     if store.state().is_convicted(proof.accused()) {
-        return Some(Ok(Taken::Known));
+        return Ok(Some(Ok(Taken::Known)));
     }
-    None
+    Ok(None)
 }
 
-/// The first check of a proof that fails: what a judge asks of it, and then that it isn't against the node itself.
+/// The first check of a proof that fails: what a judge asks of it, and then that it isn't against the node itself. It takes memory
+/// only where a judge does.
 #[tactic(auto, unfolding(depot_model::specs::Checks::proof_checks))]
-fn failed_check<S: Scheme>(state: &State<S>, proof: &Proof) -> Option<Check>
+fn failed_check<S: Scheme>(
+    alloc: Global,
+    state: &State<S>,
+    proof: &Proof,
+) -> Result<Option<Check>, Memory>
     requires { IsProof proof.now }
-    ensures { result ≡ first (proof_checks (setting S.verifies state.now) proof.now) }
+    ensures { IfOk result (λ failed. failed ≡ first (proof_checks (setting S.verifies state.now) proof.now)) }
 {
-    if let Some(point) = first_failed_point(state.roster(), state.scheme(), proof) {
-        return Some(check_of_point(proof, &point));
+    let failed = first_failed_point(alloc, state.roster(), state.scheme(), proof)?;
+    if let Some(point) = failed {
+        return Ok(Some(check_of_point(proof, &point)));
     }
     if proof.accused() == state.me() {
-        return Some(Check::AgainstMe);
+        return Ok(Some(Check::AgainstMe));
     }
-    None
+    Ok(None)
 }
 
 /// The check that a proof fails where it fails a point of the judge.

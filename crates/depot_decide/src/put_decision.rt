@@ -1,22 +1,25 @@
 //! What is decided of a put.
-ghost use Rattle.std.specs.Prelude.{◌≡◌, ◌<◌, ◌≤◌, ◌↔◌, ◌∷◌, ◌++◌, [], List, length, map, IfOk, IfErr, IsTrue, false, nat_lt};
+ghost use Rattle.std.specs.Prelude.{◌≡◌, ◌<◌, ◌≤◌, ◌↔◌, ◌∷◌, ◌++◌, [], List, length, map, IfOk, IfErr, IsTrue, true, false, nat_lt};
 ghost use Rattle.std.specs.Option.{ForSome, option_to_list};
 ghost use Rattle.std.specs.List.{AllByRecursion};
-ghost use Rattle.depot_base.specs.declared.limits.TheConstants.{MOST_ENTRIES};
+ghost use Rattle.depot_base.specs.Pairs.{AllPairsByRecursion};
+ghost use Rattle.depot_base.specs.Parts.{is_below};
+ghost use Rattle.depot_base.specs.declared.limits.TheConstants.{MOST_ENTRIES, MOST_WRITES};
 ghost use Rattle.depot_base.specs.declared.record.Record.{Record};
 ghost use Rattle.depot_model.specs.Items.{place_of_prev, updates_at};
 ghost use Rattle.depot_model.specs.Journal.{accepted};
 ghost use Rattle.depot_model.specs.Lawful.{IsLawful, is_empty};
-ghost use Rattle.depot_model.specs.Own.{entry_of, next_own, IsFresh, leaf_count};
+ghost use Rattle.depot_model.specs.Own.{entry_of, next_with, IsFresh, leaf_count};
 ghost use Rattle.depot_store.specs.Holdings.{standing};
 ghost use Rattle.depot_decide.specs.Putting.{IsPlanned, IsRefused, IsTooWide};
 
 use crate::put_answers::{PutDone, PutError};
+use crate::put_writes::{Written, writes_of};
 use depot_base::limits::MOST_ENTRIES;
-use depot_base::{Dep, Deps, Hash32, Key, Memory, Record, Update, Value};
+use depot_base::{Changes, Dep, Deps, Hash32, Memory, Record, Update, Writes};
 use depot_graph::Graph;
 use depot_history::{changed_leaves, summary};
-use depot_model::{Past, Scheme, hash_of};
+use depot_model::{Past, Scheme};
 use depot_outside::Disk;
 use depot_store::{Growth, Store};
 use depot_update::encode_own_put;
@@ -31,27 +34,29 @@ pub struct Plan {
     pub growth: Growth,
 }
 
-/// What is decided of a put of a value under a key: the next own update, unless no leaf is left to sign it (`Spent`), it has more
-/// than 1,024 entries (`Tips`), or its id isn't fresh (`Collides`), asked in this order. Whether there is room for its record is
-/// left open. `Memory` may come in place of each answer; `Disk`, `Stopped` and `Full` never come.
+/// What is decided of a put of 1 to 16 changes, whose keys rise strictly: the next own update, unless no leaf is left to sign it
+/// (`Spent`), it has more than 1,024 entries (`Tips`), or its id isn't fresh (`Collides`), asked in this order. Whether there is
+/// room for its record is left open. `Memory` may come in place of each answer; `Disk`, `Stopped` and `Full` never come.
 pub fn decide_put<D: Disk, S: Scheme>(
     alloc: Global,
     store: &Store<D, S>,
-    key: Key,
-    value: Value,
+    changes: Changes,
 ) -> Result<Plan, PutError>
     requires runs { store.now.stopped ≡ false }
     requires lawful { IsLawful (standing S.verifies store.now) store.now.records }
     requires some { is_empty store.now.records ≡ false }
-    ensures planned { IfOk result (λ p. IsPlanned (standing S.verifies store.now) store.now.records key value p.done p.growth) }
-    ensures refused { IfErr result (IsRefused (standing S.verifies store.now) store.now.records key value) }
+    requires few { (1 ≤ length changes) × (length changes ≤ MOST_WRITES) }
+    requires rising { AllPairsByRecursion (λ c d. is_below c.key d.key ≡ true) changes }
+    ensures planned { IfOk result (λ p. IsPlanned (standing S.verifies store.now) store.now.records changes p.done p.growth) }
+    ensures refused { IfErr result (IsRefused (standing S.verifies store.now) store.now.records changes) }
 {
     let own = store.totals().own;
     if !has_leaf(store, own) {
         return Err(PutError::Spent(own));
     }
-    let next = next_own(alloc, store, key, &value)?;
-    let made = encode_own_put(alloc, &next.update, &value)?;
+    let Written { writes, values } = writes_of(alloc, changes)?;
+    let next = next_own(alloc, store, writes)?;
+    let made = encode_own_put(alloc, &next.update, &values)?;
     if !is_fresh(store.state().graph(), &made.id) {
         return Err(PutError::Collides(made.id));
     }
@@ -61,7 +66,7 @@ pub fn decide_put<D: Disk, S: Scheme>(
         clock: next.update.clock,
     };
     let Next { update, parents } = next;
-    let item = Record::OwnPut { update, value };
+    let item = Record::OwnPut { update, values };
     let growth = Growth::of_statement(alloc, item, made.id, made.text, parents)?;
     Ok(Plan { done, growth })
 }
@@ -87,18 +92,17 @@ pub struct Next {
     pub parents: Vec<u32>,
 }
 
-/// The next own update. `Tips` comes exactly where it would have more than 1,024 entries, with their number.
+/// The next own update, with these writes. `Tips` comes exactly where it would have more than 1,024 entries, with their number.
 pub fn next_own<D: Disk, S: Scheme>(
     alloc: Global,
     store: &Store<D, S>,
-    key: Key,
-    value: &Value,
+    writes: Writes,
 ) -> Result<Next, PutError>
     requires runs { store.now.stopped ≡ false }
     requires lawful { IsLawful (standing S.verifies store.now) store.now.records }
-    ensures next { IfOk result (λ n. n.update ≡ next_own store.now.me store.now.records key value.now) }
+    ensures next { IfOk result (λ n. n.update ≡ next_with store.now.me store.now.records writes) }
     ensures narrow { IfOk result (λ n. length n.update.deps ≤ MOST_ENTRIES) }
-    ensures wide { IfErr result (IsTooWide (next_own store.now.me store.now.records key value.now)) }
+    ensures wide { IfErr result (IsTooWide (next_with store.now.me store.now.records writes)) }
 {
     let state = store.state();
     let graph = state.graph();
@@ -118,9 +122,7 @@ pub fn next_own<D: Disk, S: Scheme>(
             seq: totals.own,
             clock: totals.clock + 1,
             prev: totals.last,
-            key,
-            value_hash: hash_of(value.bytes()),
-            value_len: value.bytes().len() as u32,
+            writes,
             deps,
             history,
         },

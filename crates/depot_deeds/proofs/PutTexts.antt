@@ -4,14 +4,15 @@ use Rattle.std.proofs.lemmas.List.{append-nil}
 use Rattle.depot_laws.proofs.OwnTexts.{own_put_is_lawful}
 use Rattle.depot_model.specs.Lawful.{IsLawful, is_empty}
 use Rattle.depot_model.proofs.LimitLaws.{unlimited_from}
-use Rattle.depot_base.specs.Sized.{IsKey, IsValue}
+use Rattle.depot_base.specs.declared.write.Change.{Change}
 use Rattle.depot_answers.specs.Answers.{spaced, text_of_limit, text_of_put}
 use Rattle.depot_base.specs.declared.record.Record.{Record}
 use Rattle.depot_base.specs.declared.record.Record.TheVariants.{OwnPut}
 use Rattle.depot_base.specs.declared.update.Update.{Update}
+use Rattle.depot_model.specs.Changes.{AreChanges}
 use Rattle.depot_model.specs.Checks.{Setting}
 use Rattle.depot_model.specs.Limits.{Limit, limit_of_put}
-use Rattle.depot_model.specs.Own.{next_own}
+use Rattle.depot_model.specs.Own.{next_own, values_of}
 use Rattle.depot_model.specs.World.{Correct}
 use Rattle.depot_decide.specs.Putting.{Puts, put_records}
 use Rattle.depot_decide.specs.declared.put_answers.PutDone.{PutDone}
@@ -24,44 +25,44 @@ use Rattle.depot_deeds.specs.PutPrinting.{IsLimitOf, SettlesPut}
 use Rattle.depot_deeds.specs.Printing.{lines_of_deed}
 
 -- what a put does that meets this limit, or none
-pub deed_within : (here : Setting) (c : Correct) (key value : List ℕ) (o : Option Limit) → limit_of_put here c.journal key value ≡ o
-    → put_by here c key value ≡ elim o as (λ x. Deed) [ None ↦ grown c (c.journal ++ OwnPut (next_own c.node c.journal key value) value ∷ []) (text_of_put (next_own c.node c.journal key value)) [] | Some limit ↦ idle c (text_of_limit limit) ]
+pub deed_within : (here : Setting) (c : Correct) (changes : List Change) (o : Option Limit) → limit_of_put here c.journal changes ≡ o
+    → put_by here c changes ≡ elim o as (λ x. Deed) [ None ↦ grown c (c.journal ++ OwnPut (next_own c.node c.journal changes) (values_of changes) ∷ []) (text_of_put (next_own c.node c.journal changes)) [] | Some limit ↦ idle c (text_of_limit limit) ]
 unfolding put_by
-deed_within here c key value None is = rw (is, put_by) refl
-deed_within here c key value (Some limit) is = rw (is, put_by) refl
+deed_within here c changes None is = rw (is, put_by) refl
+deed_within here c changes (Some limit) is = rw (is, put_by) refl
 
 -- with the update of a put that meets no limit a journal is lawful
-pub put_lawful : (here : Setting) (J : List Record) (key value : List ℕ) → IsLawful here J → is_empty J ≡ false → IsKey key → IsValue value → limit_of_put here J key value ≡ None → IsLawful here (J ++ put_records here J key value)
+pub put_lawful : (here : Setting) (J : List Record) (changes : List Change) → IsLawful here J → is_empty J ≡ false → AreChanges changes → limit_of_put here J changes ≡ None → IsLawful here (J ++ put_records here J changes)
 unfolding limit_of_put
-put_lawful here J key value l some is_key is_value none =
-    let free = unlimited_from here J (next_own here.me J key value) (put_records here J key value) none in
-    own_put_is_lawful here J (next_own here.me J key value) key value l some is_key is_value refl free.fresh free.tips free.leaf free.room
+put_lawful here J changes l some are none =
+    let free = unlimited_from here J (next_own here.me J changes) (put_records here J changes) none in
+    own_put_is_lawful here J (next_own here.me J changes) changes l some are refl free.fresh free.tips free.leaf free.room
 
 -- ---- what is printed
 
-pub put_is_printed : (here : Setting) (c : Correct) (key value : List ℕ) (done : PutDone) (then : List Record) (line : List ℕ) → here.me ≡ c.node → Puts here c.journal key value (Ok done) then
-    → ((u : Update) → u.seq ≡ done.seq → u.clock ≡ done.clock → line ≡ ended (spaced (text_of_put u))) → (line ≡ lines_of_deed (put_by here c key value)) × ([] ≡ (put_by here c key value).bytes)
-put_is_printed here c key value done then line same puts is =
-    let d = deed_within here c key value None puts.0 in
-    let u = next_own here.me c.journal key value in
+pub put_is_printed : (here : Setting) (c : Correct) (changes : List Change) (done : PutDone) (then : List Record) (line : List ℕ) → here.me ≡ c.node → Puts here c.journal changes (Ok done) then
+    → ((u : Update) → u.seq ≡ done.seq → u.clock ≡ done.clock → line ≡ ended (spaced (text_of_put u))) → (line ≡ lines_of_deed (put_by here c changes)) × ([] ≡ (put_by here c changes).bytes)
+put_is_printed here c changes done then line same puts is =
+    let d = deed_within here c changes None puts.0 in
+    let u = next_own here.me c.journal changes in
     let told = is u (sym (ap (λ (x : PutDone). x.seq) puts.1.0)) (sym (ap (λ (x : PutDone). x.clock) puts.1.0)) in
-    let text : text_of_put u ≡ text_of_put (next_own c.node c.journal key value) = ap (λ (n : ℕ). text_of_put (next_own n c.journal key value)) same in
-    (told ∙ ap (λ (t : List ℕ). ended (spaced t)) text ∙ sym (append-nil (ended (spaced (text_of_put (next_own c.node c.journal key value))))) ∙ sym (ap lines_of_deed d), sym (ap (λ (x : Deed). x.bytes) d))
+    let text : text_of_put u ≡ text_of_put (next_own c.node c.journal changes) = ap (λ (n : ℕ). text_of_put (next_own n c.journal changes)) same in
+    (told ∙ ap (λ (t : List ℕ). ended (spaced t)) text ∙ sym (append-nil (ended (spaced (text_of_put (next_own c.node c.journal changes))))) ∙ sym (ap lines_of_deed d), sym (ap (λ (x : Deed). x.bytes) d))
 
-limit_by : (here : Setting) (c : Correct) (key value : List ℕ) (limit : Limit) (one all : List ℕ) → limit_of_put here c.journal key value ≡ Some limit → one ≡ 32 ∷ [] ++ text_of_limit limit → all ≡ one ++ 10 ∷ [] → (all ≡ lines_of_deed (put_by here c key value)) × ([] ≡ (put_by here c key value).bytes)
-limit_by here c key value limit one all is is_one is_all =
-    let d = deed_within here c key value (Some limit) is in
+limit_by : (here : Setting) (c : Correct) (changes : List Change) (limit : Limit) (one all : List ℕ) → limit_of_put here c.journal changes ≡ Some limit → one ≡ 32 ∷ [] ++ text_of_limit limit → all ≡ one ++ 10 ∷ [] → (all ≡ lines_of_deed (put_by here c changes)) × ([] ≡ (put_by here c changes).bytes)
+limit_by here c changes limit one all is is_one is_all =
+    let d = deed_within here c changes (Some limit) is in
     (is_all ∙ ap (λ (x : List ℕ). x ++ 10 ∷ []) is_one ∙ sym (append-nil (ended (spaced (text_of_limit limit)))) ∙ sym (ap lines_of_deed d), sym (ap (λ (x : Deed). x.bytes) d))
 
-pub limit_is_printed : (here : Setting) (c : Correct) (key value : List ℕ) (e : PutError) (then : List Record) (one all : List ℕ) → Puts here c.journal key value (Err e) then → IsLimitOf e (32 ∷ []) one → all ≡ one ++ 10 ∷ []
-    → (all ≡ lines_of_deed (put_by here c key value)) × ([] ≡ (put_by here c key value).bytes)
-limit_is_printed here c key value (refused.Spent n) then one all puts is whole = limit_by here c key value _ one all puts.0 is whole
-limit_is_printed here c key value (refused.Tips n) then one all puts is whole = limit_by here c key value _ one all puts.0 is whole
-limit_is_printed here c key value (refused.Collides h) then one all puts is whole = limit_by here c key value _ one all puts.0 is whole
-limit_is_printed here c key value (refused.Full what) then one all puts is whole = limit_by here c key value _ one all puts.0 is whole
-limit_is_printed here c key value refused.Memory then one all puts is whole = absurd is
-limit_is_printed here c key value refused.Disk then one all puts is whole = absurd is
-limit_is_printed here c key value refused.Stopped then one all puts is whole = absurd is
+pub limit_is_printed : (here : Setting) (c : Correct) (changes : List Change) (e : PutError) (then : List Record) (one all : List ℕ) → Puts here c.journal changes (Err e) then → IsLimitOf e (32 ∷ []) one → all ≡ one ++ 10 ∷ []
+    → (all ≡ lines_of_deed (put_by here c changes)) × ([] ≡ (put_by here c changes).bytes)
+limit_is_printed here c changes (refused.Spent n) then one all puts is whole = limit_by here c changes _ one all puts.0 is whole
+limit_is_printed here c changes (refused.Tips n) then one all puts is whole = limit_by here c changes _ one all puts.0 is whole
+limit_is_printed here c changes (refused.Collides h) then one all puts is whole = limit_by here c changes _ one all puts.0 is whole
+limit_is_printed here c changes (refused.Full what) then one all puts is whole = limit_by here c changes _ one all puts.0 is whole
+limit_is_printed here c changes refused.Memory then one all puts is whole = absurd is
+limit_is_printed here c changes refused.Disk then one all puts is whole = absurd is
+limit_is_printed here c changes refused.Stopped then one all puts is whole = absurd is
 
 -- a limit that has a line isn't the disk's
 pub limit_runs : (e : PutError) (old new : List ℕ) → IsLimitOf e old new → e ≡ refused.Disk → ⊥

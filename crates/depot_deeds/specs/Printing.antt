@@ -6,6 +6,7 @@ use Rattle.depot_offers.specs.declared.bundle_error.BundleError.TheVariants as b
 use Rattle.depot_feeds.specs.declared.feed_error.FeedError.{FeedError}
 use Rattle.depot_feeds.specs.declared.feed_error.FeedError.TheVariants as feed_error
 use Rattle.depot_offers.specs.declared.bundle_stream.Bundled.{Bundled}
+use Rattle.depot_model.specs.Contents.{Sighting, held_value, not_held}
 use Rattle.depot_model.specs.Feeding.{Feeding, report_of}
 use Rattle.depot_model.specs.Limits.{full, spent}
 use Rattle.depot_model.specs.World.{Shown}
@@ -25,6 +26,11 @@ lines_of_deed d = lines_after_arrow d.answer d.behind
 -- the lines of a stream that was fed
 abbrev pub fed_lines : Feeding → List ℕ
 fed_lines s = lines_after_arrow (spaced (text_of_report s)) (map text_of_refusal s.refused)
+
+-- what a read shows of a write that is no deletion: its value, if that is held
+abbrev pub shown_value : Option (List ℕ) → Sighting
+shown_value (Some v) = held_value v
+shown_value None = not_held
 
 -- what is printed of the writes that a read shows
 abbrev pub shown_text : List Shown → List ℕ

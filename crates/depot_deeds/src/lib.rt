@@ -16,5 +16,5 @@ mod reads;
 pub use exchanges::{bundle_printed, hello_line};
 pub use feeds::{Fed, fed_printed, feed_all, feed_whole};
 pub use printed::{Printed, counted_line};
-pub use puts::{have_sizes, put_printed};
+pub use puts::put_printed;
 pub use reads::shown_line;

@@ -1,6 +1,6 @@
 //! What is printed of a put.
-ghost use Rattle.std.specs.Prelude.{◌≡◌, ◌↔◌, ℕ, None, List, OnOk, IfOk, IsErrOf};
-ghost use Rattle.depot_base.specs.Sized.{IsKey, IsValue};
+ghost use Rattle.std.specs.Prelude.{◌≡◌, ◌↔◌, None, List, OnOk, IfOk, IsErrOf};
+ghost use Rattle.depot_base.specs.declared.write.Change.{Change};
 ghost use Rattle.depot_base.specs.declared.record.Record.{Record};
 ghost use Rattle.depot_base.specs.declared.update.Update.{Update};
 ghost use Rattle.depot_model.specs.Checks.{Setting};
@@ -14,18 +14,9 @@ ghost use Rattle.depot_deeds.specs.PutPrinting.{IsLimitOf, SettlesPut};
 
 use crate::printed::Printed;
 use depot_answers::{collides, full, put, spent, tips};
-use depot_base::{Bytes, Key, Memory, Value};
+use depot_base::{Bytes, Memory};
 use depot_node::{PutDone, PutError};
 use std::alloc::Global;
-
-/// A key and a value have the sizes of their types. It does nothing.
-pub fn have_sizes(key: &Key, value: &Value)
-    ensures key { IsKey key.now }
-    ensures value { IsValue value.now }
-{
-    key.bytes();
-    value.bytes();
-}
 
 /// The line of an update that was put.
 #[tactic(auto, using(depot_base::proofs::Writing::texts))]
@@ -59,7 +50,7 @@ pub fn put_printed(
 ) -> Result<Option<Printed>, Memory>
     ensures stopped { IfOk result (λ printed. (printed ≡ None) ↔ IsErrOf done PutError.Disk) }
     ensures settled { IfOk result (λ _. SettlesPut done) }
-    ensures printed { IfOk result (λ printed. (here : Setting) (c : Correct) (key value : List ℕ) (then : List Record) → here.me ≡ c.node → Puts here c.journal key value done then → IsPrintOf printed (put_by here c key value)) }
+    ensures printed { IfOk result (λ printed. (here : Setting) (c : Correct) (changes : List Change) (then : List Record) → here.me ≡ c.node → Puts here c.journal changes done then → IsPrintOf printed (put_by here c changes)) }
 {
     match done {
         Ok(done) => Ok(Some(Printed {

@@ -2,6 +2,7 @@
 
 use depot_outside::{Disk, OutError, RealDisk, RealShelf, RealSink, Shelf, Sink};
 use std::fs;
+use std::os::unix::fs::symlink;
 use std::test::Fail;
 
 /// The name of a file that is made and removed.
@@ -40,9 +41,32 @@ fn a_real_shelf_keeps_files(rt: HostRuntime) -> Result<(), Fail> {
     Ok(())
 }
 
+/// Names under which the journal of the current folder stands, the last two by links.
+const NAMES: [&str; 4] = [
+    "depot.journal",
+    "./depot.journal",
+    "depot.journal.twin",
+    "depot.journal.link",
+];
+
+/// Whether no store under one of these names changes the journal.
+fn spares_the_journal(rt: &HostRuntime) -> Result<bool, Fail> {
+    fs::hard_link(rt, "depot.journal", "depot.journal.twin")?;
+    symlink(rt, "depot.journal", "depot.journal.link")?;
+    let mut shelf = RealShelf::new(rt.clone()?);
+    let mut is_spared = true;
+    for name in NAMES {
+        is_spared = is_spared && shelf.store(name, b"stored").is_err();
+    }
+    fs::remove_file(rt, "depot.journal.twin")?;
+    fs::remove_file(rt, "depot.journal.link")?;
+    Ok(is_spared)
+}
+
 #[test]
 fn a_real_disk_is_the_journal(rt: HostRuntime) -> Result<(), Fail> {
     fs::write(&rt, "depot.journal", "four")?;
+    assert!(rt; spares_the_journal(&rt)?);
     let mut disk = RealDisk::new(rt.clone()?);
     let mut piece = [0u8; 4];
     disk.make_room(5, 2)?;
@@ -52,8 +76,9 @@ fn a_real_disk_is_the_journal(rt: HostRuntime) -> Result<(), Fail> {
     assert_eq!(rt; disk.length(), Ok(7));
     assert_eq!(rt; disk.read(3, &mut piece), Ok(()));
     assert_eq!(rt; piece.as_slice(), b"ders".as_slice());
-    // A read past the end is a fault of a disk that doesn't tell its bytes.
+    // A read past the end is a fault of a disk that doesn't tell its bytes, and so is each call while another has the file.
     assert!(rt; disk.read(4, &mut piece).is_err());
+    assert!(rt; RealDisk::new(rt.clone()?).length().is_err());
     fs::remove_file(&rt, "depot.journal")?;
     assert_eq!(rt; RealDisk::new(rt.clone()?).length(), Ok(0));
     fs::remove_file(&rt, "depot.journal")?;

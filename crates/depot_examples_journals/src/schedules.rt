@@ -10,11 +10,14 @@ const HEADER: &str = "depot schedule 1\nscheme plain 4\nnode 1\nnode 2\nfaulty 9
 
 /// A schedule of all kinds of events, with each kind of word.
 const SCHEDULE: &str = "depot schedule 1\nscheme winter 12\nnode 1\nfaulty 9\nnode 65535\n\
-    put 1 6b 61\nput 65535 00ff -\nget 1 6b\nhello 1 h\nbundle 65535 h b\ngive 1 b\ngive 1 b 1460\nrestart 1\nstop 1 1000000 2\n\
+    put 1 6b 61\nput 65535 00ff -\nputs 1 6b=61,6b00=-,6c!\nputs 65535 00!\nget 1 6b\nhello 1 h\nbundle 65535 h b\ngive 1 b\ngive 1 b 1460\nrestart 1\nstop 1 1000000 2\n\
     update u 9 0 1 - 6b 61 - right\nupdate v 9 4095 9223372036854775807 1.0 6b - u,65535.4095,u \
     5555555555555555555555555555555555555555555555555555555555555555\nupdate w 9 1 2 u 6b 61 1.0 right\n\
-    voucher x 9 2 u,v\nproof p SamePrev u x\nproof q SameNumber v u\nproof s Backward x x\njudge p\nraw r 00ff\nraw empty -\n\
-    cut c r 0 4294967295\nflip f c 1\njoin abcdefghijklmnopqrstuvwxyz012345 c f\n";
+    updates z 9 3 1 - 6b=61 - right\nupdates y 9 4 2 u 00!,6b=-,ff=00ff 1.0,u,z \
+    5555555555555555555555555555555555555555555555555555555555555555\n\
+    voucher x 9 2 u,v\nproof p SamePrev u x\nproof q SameNumber v u\nproof s Backward x z\njudge p\nraw r 00ff\nraw empty -\n\
+    cut c r 0 4294967295\nflip f c 1\njoin abcdefghijklmnopqrstuvwxyz012345 c f\n\
+    voucher k 9 5 r,u,1.0,c,f,abcdefghijklmnopqrstuvwxyz012345,empty,z\nhollow m k r\nhollow n x f\n";
 
 /// Texts, and the number of the first faulty line of each and its fault.
 static TEXTS: [(&str, u32, LineFault); 22] = [
@@ -26,7 +29,7 @@ static TEXTS: [(&str, u32, LineFault); 22] = [
     ("depot schedule 1\n", 2, LineFault::Header),
     ("depot schedule 1\nscheme plain 1\n", 2, LineFault::Number),
     ("depot schedule 1\nscheme plain 04\n", 2, LineFault::Number),
-    ("depot schedule 1\nscheme winter 13\n", 2, LineFault::Number),
+    ("depot schedule 1\nscheme winter 18\n", 2, LineFault::Number),
     ("depot schedule 1\nscheme other 13\n", 2, LineFault::Header),
     ("depot schedule 1\nscheme plain\n", 2, LineFault::Header),
     ("depot schedule 1\nscheme plain 4\n", 3, LineFault::Header),
@@ -83,7 +86,7 @@ static TEXTS: [(&str, u32, LineFault); 22] = [
 ];
 
 /// Lines behind the header, and the same of the text.
-static LINES: [(&str, u32, LineFault); 47] = [
+static LINES: [(&str, u32, LineFault); 97] = [
     ("put 1 6b 61", 6, LineFault::End),
     ("\n", 6, LineFault::Word),
     ("put  1 6b\n", 6, LineFault::Word),
@@ -143,6 +146,109 @@ static LINES: [(&str, u32, LineFault); 47] = [
     ("stop 1 1000001 0\n", 6, LineFault::Number),
     ("stop 1 1 3\n", 6, LineFault::Label),
     ("stop 1 1 00\n", 6, LineFault::Label),
+    ("puts 1\n", 6, LineFault::Fields),
+    ("puts 1 6b=61 6c=62\n", 6, LineFault::Fields),
+    ("puts 0 6b\n", 6, LineFault::Number),
+    ("puts 9 6b\n", 6, LineFault::Node),
+    ("puts 1 6b\n", 6, LineFault::Hex),
+    ("puts 1 -\n", 6, LineFault::Hex),
+    ("puts 1 !\n", 6, LineFault::Hex),
+    ("puts 1 =61\n", 6, LineFault::Hex),
+    ("puts 1 6b=\n", 6, LineFault::Hex),
+    ("puts 1 -=61\n", 6, LineFault::Hex),
+    ("puts 1 -!\n", 6, LineFault::Hex),
+    ("puts 1 6b=61!\n", 6, LineFault::Hex),
+    ("puts 1 6b!=61\n", 6, LineFault::Hex),
+    ("puts 1 6b!61\n", 6, LineFault::Hex),
+    ("puts 1 6b!!\n", 6, LineFault::Hex),
+    ("puts 1 6b=61=62\n", 6, LineFault::Hex),
+    ("puts 1 6b=6\n", 6, LineFault::Hex),
+    ("puts 1 6B=61\n", 6, LineFault::Hex),
+    ("puts 1 6b=61,\n", 6, LineFault::Hex),
+    ("puts 1 ,6b=61\n", 6, LineFault::Hex),
+    ("puts 1 6b=61,,6c!\n", 6, LineFault::Hex),
+    ("puts 1 6c=61,6b=62\n", 6, LineFault::Hex),
+    ("puts 1 6b00=61,6b!\n", 6, LineFault::Hex),
+    ("puts 1 6b=61,6b=61\n", 6, LineFault::Hex),
+    ("puts 1 6b=61,6b!\n", 6, LineFault::Hex),
+    ("puts 1 6b!,6c!,6b!\n", 6, LineFault::Hex),
+    (
+        "puts 1 00!,01!,02!,03!,04!,05!,06!,07!,08!,09!,0a!,0b!,0c!,0d!,0e!,0f!\n\
+        puts 1 00!,01!,02!,03!,04!,05!,06!,07!,08!,09!,0a!,0b!,0c!,0d!,0e!,0f!,10!\n",
+        7,
+        LineFault::Hex,
+    ),
+    ("update u 9 0 1 - 6b! - right\n", 6, LineFault::Fields),
+    ("updates u 9 0 1 - 6b 61 - right\n", 6, LineFault::Fields),
+    ("updates u 1 0 1 - 6b! - right\n", 6, LineFault::Node),
+    ("updates u 9 16 1 - 6b! - right\n", 6, LineFault::Number),
+    ("updates u 9 0 0 - 6b! - right\n", 6, LineFault::Number),
+    ("updates u 9 0 1 u 6b! - right\n", 6, LineFault::Label),
+    ("updates u 9 0 1 - 6b x right\n", 6, LineFault::Hex),
+    ("updates u 9 0 1 - 6c!,6b! x right\n", 6, LineFault::Hex),
+    ("updates u 9 0 1 - 6b! x right\n", 6, LineFault::Label),
+    ("updates u 9 0 1 - 6b! - 00\n", 6, LineFault::Hex),
+    (
+        "updates u 9 0 1 - 6b! - right\nvoucher u 9 1 u\n",
+        7,
+        LineFault::Label,
+    ),
+    (
+        "raw r -\nupdate u 9 0 1 r 6b 61 - right\n",
+        7,
+        LineFault::Label,
+    ),
+    (
+        "raw r -\nupdates u 9 0 1 - 6b! r right\n",
+        7,
+        LineFault::Label,
+    ),
+    ("hello 1 h\nvoucher v 9 0 h\n", 7, LineFault::Label),
+    (
+        "voucher v 9 0 1.0\nproof p NotUpdate v v\n",
+        7,
+        LineFault::Label,
+    ),
+    ("hollow k v\n", 6, LineFault::Fields),
+    ("raw r -\nhollow k r r\n", 7, LineFault::Label),
+    (
+        "update u 9 0 1 - 6b 61 - right\nraw r -\nhollow k u r\n",
+        8,
+        LineFault::Label,
+    ),
+    ("voucher v 9 0 1.0\nhollow k v v\n", 7, LineFault::Label),
+    (
+        "voucher v 9 0 1.0\nhello 1 h\nhollow k v h\n",
+        8,
+        LineFault::Label,
+    ),
+    (
+        "voucher v 9 0 1.0\nraw r -\nhollow r v r\n",
+        8,
+        LineFault::Label,
+    ),
+    (
+        "voucher v 9 0 1.0\nraw r -\nhollow k v r\nproof p SamePrev k v\n",
+        9,
+        LineFault::Label,
+    ),
+    (
+        "voucher v 9 0 1.0\nraw r -\nhollow k v r\nvoucher w 9 1 k\n",
+        9,
+        LineFault::Label,
+    ),
+];
+
+/// Lines in which a piece stands so many times: a front, the piece, its times, a back, and whether the line is faulty, which is Hex.
+static LONG: [(&str, &str, u32, &str, bool); 8] = [
+    ("puts 1 ", "0a", 255, "=61\n", false),
+    ("puts 1 ", "0a", 256, "=61\n", true),
+    ("puts 1 ", "0a", 256, "!\n", true),
+    ("puts 1 6b=", "ff", 65_536, "\n", false),
+    ("puts 1 6b=", "ff", 65_537, "\n", true),
+    ("put 1 ", "0a", 256, " -\n", true),
+    ("updates u 9 0 1 - ", "0a", 255, "! - right\n", false),
+    ("updates u 9 0 1 - ", "0a", 256, "! - right\n", true),
 ];
 
 /// The number of the first faulty line and its fault. None where there is none.
@@ -176,10 +282,10 @@ fn the_first_faulty_line_of_the_events_is_told(rt: HostRuntime) -> Result<(), Fa
     Ok(())
 }
 
-/// Adds an event so many times.
-fn put_events(text: &mut String, count: u32) -> Result<(), Fail> {
-    for _ in 0..count {
-        text.push_str("restart 1\n")?;
+/// Adds a piece so many times.
+fn push_pieces(text: &mut String, piece: &str, times: u32) -> Result<(), Fail> {
+    for _ in 0..times {
+        text.push_str(piece)?;
     }
     Ok(())
 }
@@ -187,9 +293,38 @@ fn put_events(text: &mut String, count: u32) -> Result<(), Fail> {
 #[test]
 fn a_line_after_100_000_is_told(rt: HostRuntime) -> Result<(), Fail> {
     let mut lines = String::new(rt.alloc());
-    put_events(&mut lines, 99_996)?;
+    push_pieces(&mut lines, "restart 1\n", 99_996)?;
     let told = fault_behind(rt.alloc(), lines.as_str())?;
     assert!(rt; told == Some((100_001, LineFault::Long)));
+    Ok(())
+}
+
+/// The fault of a line in which a piece stands so many times.
+fn long_fault(
+    alloc: Global,
+    front: &str,
+    piece: &str,
+    times: u32,
+    back: &str,
+) -> Result<Option<(u32, LineFault)>, Fail> {
+    let mut line = String::new(alloc);
+    line.push_str(front)?;
+    push_pieces(&mut line, piece, times)?;
+    line.push_str(back)?;
+    fault_behind(alloc, line.as_str())
+}
+
+#[test]
+fn keys_and_values_have_their_greatest_lengths(rt: HostRuntime) -> Result<(), Fail> {
+    for (front, piece, times, back, faulty) in LONG.iter() {
+        let told = long_fault(rt.alloc(), front, piece, *times, back)?;
+        let right = if *faulty {
+            Some((6, LineFault::Hex))
+        } else {
+            None
+        };
+        assert!(rt; told == right, "{front}{times}");
+    }
     Ok(())
 }
 
@@ -198,7 +333,7 @@ fn is_worked(schedule: &Schedule) -> bool {
     schedule.winter
         && schedule.height == 12
         && schedule.members.as_slice().len() == 3
-        && schedule.events.as_slice().len() == 22
+        && schedule.events.as_slice().len() == 29
 }
 
 /// Whether the worked schedule is read, and printed with the same bytes.

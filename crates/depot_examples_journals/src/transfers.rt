@@ -1,9 +1,9 @@
 //! The loops over read and write, on a device that moves a few bytes, is interrupted or breaks.
 
 use depot_base::{Bytes, Memory};
-use depot_outside::transfer::{read_whole, write_whole};
+use depot_outside::transfer::{read_piece_at, read_whole, write_whole, write_whole_at};
 use std::alloc::Global;
-use std::io::{self, ErrorKind, Read, Write};
+use std::io::{self, Cursor, ErrorKind, Read, Write};
 
 /// The bytes that are moved.
 const TEXT: &[u8] = b"transferred";
@@ -107,6 +107,18 @@ fn is_too_long(alloc: Global) -> bool {
     read_whole(alloc, 10, &mut device).is_err()
 }
 
+/// Whether bytes are written and read at an offset, and neither is told where there is no room for all of them.
+fn is_moved_at() -> bool {
+    let mut file = Cursor::new(*b"transferred");
+    let mut piece = [0u8; 4];
+    let mut rest = [0u8; 7];
+    write_whole_at(&mut file, 5, b"FER").is_ok()
+        && read_piece_at(&mut file, 3, &mut piece).is_ok()
+        && piece.as_slice() == b"nsFE".as_slice()
+        && write_whole_at(&mut file, 9, b"EDS").is_err()
+        && read_piece_at(&mut file, 5, &mut rest).is_err()
+}
+
 #[test]
 fn transfers_go_on_to_the_end_or_to_a_fault(rt: HostRuntime) {
     let alloc = rt.alloc();
@@ -115,4 +127,5 @@ fn transfers_go_on_to_the_end_or_to_a_fault(rt: HostRuntime) {
         assert!(rt; is_written(alloc, turns, *moved), "{turns:?}");
     }
     assert!(rt; is_too_long(alloc));
+    assert!(rt; is_moved_at());
 }

@@ -1,12 +1,11 @@
 //! Each text once, as docs/FORMATS.md or the worked schedules of `depot_world` have it.
 
 use depot_answers::{
-    Closing, check, collides, counts, faulty_line, full, named, numbered, point, put, record_fault,
-    records, refusal, report, roster_error, spent, tips, verdict, write,
+    Closing, Seen, check, collides, counts, faulty_line, full, named, numbered, point, put,
+    record_fault, records, refusal, report, roster_error, spent, tips, verdict, write,
 };
 use depot_base::{
-    Bytes, Check, Deps, Full, FullOf, Hash32, Ids, Key, Kind, LengthError, Memory, NodeId, Nodes,
-    Update,
+    Bytes, Check, Deps, Full, FullOf, Hash32, Ids, Kind, Memory, NodeId, Nodes, Update, Writes,
 };
 use depot_model::{
     Counts, Ending, Half, Hello, HelloLeaf, HelloLeaves, JudgeError, RecordFault, Refusal,
@@ -26,7 +25,7 @@ enum Answer {
     Tips(u32),
     Collides,
     Put(u32, u64),
-    Write(NodeId, Option<&'static [u8]>),
+    Write(NodeId, Seen<'static>),
     Records(u32),
     RecordFault(RecordFault),
     Named(NodeId),
@@ -39,26 +38,16 @@ enum Answer {
     Numbered(&'static str, u64),
 }
 
-/// The update of a node with seq 0 and clock 2.
-fn update(alloc: Global, writer: NodeId) -> Result<Update, LengthError> {
-    Ok(Update {
+/// The update of a node with seq 0 and clock 2; what it writes is no matter.
+fn update(alloc: Global, writer: NodeId) -> Update {
+    Update {
         writer,
         seq: 0,
         clock: 2,
         prev: Hash32::zeros(),
-        key: Key::new(alloc, b"k")?,
-        value_hash: Hash32::new([7; 32]),
-        value_len: 1,
+        writes: Writes::new(alloc),
         deps: Deps::new(alloc),
         history: Hash32::new([8; 32]),
-    })
-}
-
-/// Prints a read of it.
-fn print_write(alloc: Global, out: &mut Bytes, writer: NodeId, value: Option<&[u8]>) -> bool {
-    match update(alloc, writer) {
-        Ok(update) => write(alloc, out, &update, value).is_ok(),
-        Err(_) => false,
     }
 }
 
@@ -127,7 +116,7 @@ fn print(alloc: Global, out: &mut Bytes, answer: &Answer) -> bool {
         Answer::Tips(count) => tips(alloc, out, *count).is_ok(),
         Answer::Collides => collides(out).is_ok(),
         Answer::Put(seq, clock) => put(alloc, out, *seq, *clock).is_ok(),
-        Answer::Write(writer, value) => print_write(alloc, out, *writer, *value),
+        Answer::Write(writer, seen) => { write(alloc, out, &update(alloc, *writer), *seen).is_ok() }
         Answer::Records(count) => records(alloc, out, *count).is_ok(),
         Answer::RecordFault(fault) => record_fault(alloc, out, fault).is_ok(),
         Answer::Named(node) => print_hello(alloc, out, *node),
@@ -184,9 +173,10 @@ fn each_answer_has_its_text(rt: HostRuntime) -> Result<(), Fail> {
         (Answer::Tips(1025), "Tips 1025"),
         (Answer::Collides, "Collides"),
         (Answer::Put(0, 1), "0/1"),
-        (Answer::Write(one, Some(b"\x0f\xab")), "1/0/2=0fab"),
-        (Answer::Write(one, Some(b"")), "1/0/2="),
-        (Answer::Write(one, None), "1/0/2=?"),
+        (Answer::Write(one, Seen::Held(b"\x0f\xab")), "1/0/2=0fab"),
+        (Answer::Write(one, Seen::Held(b"")), "1/0/2="),
+        (Answer::Write(one, Seen::NotHeld), "1/0/2=?"),
+        (Answer::Write(one, Seen::Gone), "1/0/2!"),
         (Answer::Records(2), "records 2"),
         (Answer::RecordFault(RecordFault::Ill(3)), "Ill 3"),
         (
@@ -222,7 +212,18 @@ fn each_answer_has_its_text(rt: HostRuntime) -> Result<(), Fail> {
             Answer::Point(JudgeError::NotContradictory(kind)),
             "NotContradictory SamePrev",
         ),
+        (
+            Answer::Point(JudgeError::NotContradictory(Kind::NotUpdate)),
+            "NotContradictory NotUpdate",
+        ),
         (Answer::Verdict(Verdict { node, kind }), "9 SamePrev"),
+        (
+            Answer::Verdict(Verdict {
+                node,
+                kind: Kind::NotUpdate,
+            }),
+            "9 NotUpdate",
+        ),
         (Answer::RosterError(RosterError::TwiceNode(node)), "twice 9"),
         (Answer::Numbered("stopped records", 2), "stopped records 2"),
     ];

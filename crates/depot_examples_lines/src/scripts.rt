@@ -7,7 +7,7 @@ use std::alloc::Global;
 use std::test::Fail;
 
 /// Scripts, and how many commands each has.
-static GOOD: [(&[u8], &[u8], usize, &[u8], usize); 8] = [
+static GOOD: [(&[u8], &[u8], usize, &[u8], usize); 12] = [
     (b"", b"", 0, b"", 0),
     (
         b"put 6b 61\nput 00ff -\nget 6b\nhello h.bin\nbundle h.bin b.bin\ntake b.bin\n",
@@ -22,10 +22,20 @@ static GOOD: [(&[u8], &[u8], usize, &[u8], usize); 8] = [
     (b"put 0a ", b"ff", 65_536, b"\n", 1),
     (b"bundle a ", b"x", 4096, b"\n", 1),
     (b"", b"get 0a\n", 100_000, b"", 100_000),
+    (b"puts 6b=61,6b00=-,6c!\nputs 00!\n", b"", 0, b"", 2),
+    (
+        b"puts 00!,01!,02!,03!,04!,05!,06!,07!,08!,09!,0a!,0b!,0c!,0d!,0e!,0f!\n",
+        b"",
+        0,
+        b"",
+        1,
+    ),
+    (b"puts ", b"0a", 255, b"!\n", 1),
+    (b"puts 0a=", b"ff", 65_536, b",0b!\n", 1),
 ];
 
 /// Texts, and the number of the first faulty line of each and its fault.
-static FAULTY: [(&[u8], &[u8], usize, &[u8], u32, LineFault); 32] = [
+static FAULTY: [(&[u8], &[u8], usize, &[u8], u32, LineFault); 50] = [
     (b"get 6b", b"", 0, b"", 1, LineFault::End),
     (b"get 6b\ngot", b"", 0, b"", 2, LineFault::End),
     (
@@ -65,6 +75,31 @@ static FAULTY: [(&[u8], &[u8], usize, &[u8], u32, LineFault); 32] = [
     (b"take \xed\xa0\x80\n", b"", 0, b"", 1, LineFault::Label),
     (b"hello ", b"x", 4097, b"\n", 1, LineFault::Label),
     (b"bundle ", b"x", 4097, b" b\n", 1, LineFault::Label),
+    (b"puts\n", b"", 0, b"", 1, LineFault::Fields),
+    (b"puts 6b=61 6c=62\n", b"", 0, b"", 1, LineFault::Fields),
+    (b"puts 6b\n", b"", 0, b"", 1, LineFault::Hex),
+    (b"puts -\n", b"", 0, b"", 1, LineFault::Hex),
+    (b"puts 6b=\n", b"", 0, b"", 1, LineFault::Hex),
+    (b"puts -=61\n", b"", 0, b"", 1, LineFault::Hex),
+    (b"puts -!\n", b"", 0, b"", 1, LineFault::Hex),
+    (b"puts 6b=61!\n", b"", 0, b"", 1, LineFault::Hex),
+    (b"puts 6b=61,\n", b"", 0, b"", 1, LineFault::Hex),
+    (b"puts 6b!,,6c!\n", b"", 0, b"", 1, LineFault::Hex),
+    (b"puts 6c!,6b!\n", b"", 0, b"", 1, LineFault::Hex),
+    (b"puts 6b=61,6b!\n", b"", 0, b"", 1, LineFault::Hex),
+    (
+        b"puts 00!,01!,02!,03!,04!,05!,06!,07!,08!,09!,0a!,0b!,0c!,0d!,0e!,0f!,10!\n",
+        b"",
+        0,
+        b"",
+        1,
+        LineFault::Hex,
+    ),
+    (b"updates 6b=61\n", b"", 0, b"", 1, LineFault::Word),
+    (b"put 6b=61\n", b"", 0, b"", 1, LineFault::Fields),
+    (b"puts ", b"0a", 256, b"!\n", 1, LineFault::Hex),
+    (b"puts ", b"0a", 256, b"=61\n", 1, LineFault::Hex),
+    (b"puts 0a=", b"ff", 65_537, b"\n", 1, LineFault::Hex),
 ];
 
 /// A front, a piece so many times, and a back.

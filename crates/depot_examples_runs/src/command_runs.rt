@@ -15,6 +15,11 @@ const LOG: &str = "0000007801010001000000000000000000000001\
 ba7816bf8f01cfea414140de5dae2223b00361a396177a9cb410ff61f20015ad000000030000\
 e3b0c44298fc1c149afbf4c8996fb92427ae41e4649b934ca495991b7852b855";
 
+/// A log of one update of writer 1, which deletes the key `k`.
+const GONE: &str = "0000005602010001000000000000000000000001\
+000000000000000000000000000000000000000000000000000000000000000001016b000000\
+e3b0c44298fc1c149afbf4c8996fb92427ae41e4649b934ca495991b7852b855";
+
 const LINE: &str = "1/0/1=ba7816bf8f01cfea414140de5dae2223b00361a396177a9cb410ff61f20015ad\n";
 
 /// `key` of 32 zero bytes and height 2.
@@ -36,12 +41,41 @@ const NODE_PUT: &str =
 const NODE_HELLO: &str =
     "node ROSTER 0909090909090909090909090909090909090909090909090909090909090909 2 9 HELLO";
 
+/// Node 9 gives one key a value and deletes another at once, and reads both.
+const NODE_PUTS: &str =
+    "node ROSTER 0909090909090909090909090909090909090909090909090909090909090909 2 9 PUTS";
+
 /// A schedule of one node, which puts and reads what it put.
 const SCHEDULE: &str = "depot schedule 1
 scheme plain 2
 node 1
 put 1 6b 61
 get 1 6b
+";
+
+/// A schedule of writes of several keys, by a node and by a writer that is none, which then vouches for bytes that are no update.
+const SEVERAL: &str = "depot schedule 1
+scheme plain 2
+node 1
+faulty 9
+puts 1 6b=61,6c!
+updates x 9 0 1 - 6b!,6d=61 - right
+give 1 x
+get 1 6b
+raw t 00
+voucher v 9 1 t
+hollow p v t
+judge p
+";
+
+const SEVERAL_TEXT: &str = "puts 1 -> 0/1
+updates x -> 9/0/1
+give 1 x -> accepted 1 known 1 refused 0 bare
+get 1 6b -> 1/0/1=61 9/0/1!
+raw t -> 1 bytes
+voucher v -> 9/1 ids 1
+hollow p -> NotUpdate
+judge p -> 9 NotUpdate
 ";
 
 /// The number of the call that fails, or no number for 0.
@@ -99,21 +133,43 @@ fn put_proofs(alloc: Global, shelf: &mut MemShelf) -> Result<(), Memory> {
     shelf.put("FORGED", &forged)
 }
 
+/// Puts a proof that node 9 vouches for one byte, which is no update.
+fn put_hollow(alloc: Global, shelf: &mut MemShelf) -> Result<(), Memory> {
+    let mut body = Bytes::from_slice(alloc, &[1, 2, 0, 9, 0, 0, 0, 2, 0, 1])?;
+    body.push_all(&Sha256::digest(&[0]))?;
+    let mut proof = Bytes::from_slice(alloc, &[1, 4])?;
+    proof.push_u32(42)?;
+    proof.push_all(body.as_slice())?;
+    proof.push_u32(2212)?;
+    proof.push_all(signature(alloc, 2, body.as_slice())?.as_slice())?;
+    proof.push_all(&[0, 0, 0, 1, 0])?;
+    shelf.put("HOLLOW", proof.as_slice())
+}
+
 /// Puts the bytes of a text in hexadecimal digits.
 fn put_hex(alloc: Global, shelf: &mut MemShelf, name: &str, text: &str) -> Result<(), Fail> {
     let bytes = hex::decode(alloc, text)?;
     Ok(shelf.put(name, &bytes)?)
 }
 
-/// Puts a log, a schedule, scripts, a roster and three texts that may be a proof.
+/// Puts schedules and scripts.
+fn put_lines(shelf: &mut MemShelf) -> Result<(), Memory> {
+    shelf.put("SCHEDULE", SCHEDULE.as_bytes())?;
+    shelf.put("SEVERAL", SEVERAL.as_bytes())?;
+    shelf.put("PUT", b"put 6b 61\n")?;
+    shelf.put("PUTS", b"puts 6b=61,6c!\nget 6b\nget 6c\n")?;
+    shelf.put("HELLO", b"get 6b\nhello a\n")?;
+    shelf.put("EMPTY", b"")
+}
+
+/// Puts logs, schedules, scripts, a roster and four texts that may be a proof.
 fn put_files(alloc: Global, shelf: &mut MemShelf) -> Result<(), Fail> {
     put_hex(alloc, shelf, "LOG", LOG)?;
+    put_hex(alloc, shelf, "GONE", GONE)?;
     put_hex(alloc, shelf, "ROSTER", ROSTER)?;
     put_proofs(alloc, shelf)?;
-    shelf.put("SCHEDULE", SCHEDULE.as_bytes())?;
-    shelf.put("PUT", b"put 6b 61\n")?;
-    shelf.put("HELLO", b"get 6b\nhello a\n")?;
-    shelf.put("EMPTY", b"")?;
+    put_hollow(alloc, shelf)?;
+    put_lines(shelf)?;
     Ok(())
 }
 
@@ -158,10 +214,11 @@ fn ends_so(
 /// Words, the calls of the shelf and of the sink that fail, and how the run ends.
 type Case = (&'static str, u32, u32, End);
 
-static CASES: [Case; 20] = [
+static CASES: [Case; 24] = [
     ("scan LOG 6b", 0, 0, (Status::Done, Some(LINE))),
     ("scan LOG 6b", 1, 0, (Status::Shelf, Some("shelf LOG\n"))),
     ("scan LOG 6b", 0, 1, (Status::Sink, Some(""))),
+    ("scan GONE 6b", 0, 0, (Status::Done, Some("1/0/1!\n"))),
     (KEY, 0, 0, (Status::Done, Some(ROOT))),
     (
         "judge LOG NOWHERE",
@@ -194,6 +251,12 @@ static CASES: [Case; 20] = [
         (Status::NoProof, Some("BadSignature second\n")),
     ),
     (
+        "judge ROSTER HOLLOW",
+        0,
+        0,
+        (Status::Done, Some("9 NotUpdate\n")),
+    ),
+    (
         "replay EMPTY",
         0,
         0,
@@ -214,6 +277,7 @@ static CASES: [Case; 20] = [
             Some("put 1 6b -> 0/1\nget 1 6b -> 1/0/1=61\n"),
         ),
     ),
+    ("replay SEVERAL", 0, 0, (Status::Done, Some(SEVERAL_TEXT))),
     ("replay SCHEDULE", 0, 1, (Status::Sink, Some(""))),
     (
         "replay SCHEDULE",
@@ -225,6 +289,15 @@ static CASES: [Case; 20] = [
     (NODE_PUT, 2, 0, (Status::Shelf, Some("shelf PUT\n"))),
     (NODE_PUT, 0, 0, (Status::Done, Some("put 6b -> 0/1\n"))),
     (NODE_PUT, 0, 1, (Status::Sink, Some(""))),
+    (
+        NODE_PUTS,
+        0,
+        0,
+        (
+            Status::Done,
+            Some("puts -> 0/1\nget 6b -> 9/0/1=61\nget 6c -> 9/0/1!\n"),
+        ),
+    ),
     (
         NODE_HELLO,
         3,

@@ -6,10 +6,16 @@
 #![tactic(auto)]
 
 #[cfg(test)]
+mod hex_digits;
+#[cfg(test)]
 mod plain_tests;
 #[cfg(test)]
 mod rosters;
 #[cfg(test)]
 mod signing_tests;
 #[cfg(test)]
+mod two_layers;
+#[cfg(test)]
 mod winternitz;
+#[cfg(test)]
+mod worked_keys;

@@ -1,5 +1,6 @@
 //! Plain signatures from outside, computed by Python's hashlib, and statements under the keys of a roster.
 
+use crate::hex_digits::is_hex;
 use crate::signing_tests::signs_and_verifies;
 use depot_base::{Bytes, Hash32, Ids, NodeId, PublicKey, Signed, Statement, Voucher};
 use depot_sign::*;
@@ -51,14 +52,6 @@ static CASES: [(u32, &str, &str, bool); 7] = [
         false,
     ),
 ];
-
-/// Whether these bytes are those of the digits.
-fn is_hex(alloc: Global, bytes: &[u8], digits: &str) -> bool {
-    match hex::encode(alloc, bytes) {
-        Ok(text) => text.as_str() == digits,
-        Err(_) => false,
-    }
-}
 
 #[test]
 fn a_plain_signer_has_its_key_and_signs(rt: HostRuntime) -> Result<(), Fail> {

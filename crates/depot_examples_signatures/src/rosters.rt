@@ -13,14 +13,14 @@ const GOOD: &[u8] = b"\x01\x04\0\x03\
     \0\x07\x0c\
     \x22\x22\x22\x22\x22\x22\x22\x22\x22\x22\x22\x22\x22\x22\x22\x22\
     \x22\x22\x22\x22\x22\x22\x22\x22\x22\x22\x22\x22\x22\x22\x22\x22\
-    \xff\xff\x04\
+    \xff\xff\x11\
     \x33\x33\x33\x33\x33\x33\x33\x33\x33\x33\x33\x33\x33\x33\x33\x33\
     \x33\x33\x33\x33\x33\x33\x33\x33\x33\x33\x33\x33\x33\x33\x33\x33";
 
 /// SHA-256 of it, by Python's hashlib.
 const HASH: [u8; 32] = [
-    0x2b, 0x40, 0x1f, 0x63, 0x9b, 0x00, 0x23, 0xfc, 0x03, 0xe3, 0x1b, 0xc8, 0x47, 0x9c, 0x86, 0x2e,
-    0x29, 0x5e, 0xf3, 0x89, 0x17, 0xcc, 0x1c, 0xee, 0xef, 0xfd, 0xe9, 0x72, 0x32, 0xa8, 0x0f, 0xc6,
+    0xe4, 0x6d, 0xaa, 0xe5, 0xa2, 0x28, 0xc2, 0x64, 0x8f, 0x6a, 0xea, 0xfc, 0xa7, 0xba, 0xc4, 0x59,
+    0x99, 0x81, 0x93, 0xb0, 0x1e, 0x7a, 0xec, 0x3e, 0xb3, 0xc0, 0xa1, 0xd9, 0x66, 0x67, 0xb0, 0xdb,
 ];
 
 /// Nodes, and the height and the byte of the root of the key that the roster has for each.
@@ -29,7 +29,7 @@ static KEYS: [(u16, Option<(u8, u8)>); 5] = [
     (2, None),
     (7, Some((12, 0x22))),
     (8, None),
-    (65535, Some((4, 0x33))),
+    (65535, Some((17, 0x33))),
 ];
 
 /// Texts that no roster has, and the offset of the first fault of each.
@@ -48,7 +48,7 @@ static ILL_FORMED: [(&[u8], u32); 18] = [
         6,
     ),
     (
-        b"\x01\x04\0\x01\0\x07\x0daaaaaaaaaaaaaaaaaaaaaaaaaaaaaaaa",
+        b"\x01\x04\0\x01\0\x07\x12aaaaaaaaaaaaaaaaaaaaaaaaaaaaaaaa",
         6,
     ),
     (

@@ -1,10 +1,11 @@
-//! Keys, values and digests have their lengths, statements and vouchers are copied, and a count of steps takes no bytes.
+//! Keys, values and digests have their lengths, statements, vouchers and changes are copied, what an update writes is found by its key,
+//! and a count of steps takes no bytes.
 
 ghost use Rattle.std.specs.Prelude.{◌≡◌, ◌<◌};
 
 use depot_base::{
-    Bytes, Deps, Hash32, Ids, Key, LengthError, Memory, NodeId, Signed, Statement, Steps, Update,
-    Value, Voucher,
+    Bytes, Change, Changes, Deps, Hash32, Ids, Key, LengthError, Memory, NodeId, Signed, Statement,
+    Steps, Update, Value, ValueList, Voucher, Write, Writes, Wrote,
 };
 use std::alloc::Global;
 use std::marker::Brand;
@@ -45,6 +46,24 @@ fn values_have_their_lengths(rt: HostRuntime) {
     assert!(rt; NodeId::new(0).is_none());
 }
 
+/// What is said of a key that gets a value of 6 bytes.
+fn put() -> Wrote {
+    Wrote::Put {
+        hash: Hash32::new([7; 32]),
+        length: 6,
+    }
+}
+
+/// Two writes: `log` gets that value, and `old` is deleted.
+fn writes(alloc: Global) -> Result<Writes, LengthError> {
+    let mut writes = Writes::new(alloc);
+    for (key, what) in [(b"log", put()), (b"old", Wrote::Gone)] {
+        let key = Key::new(alloc, key)?;
+        writes.push(Write { key, what })?;
+    }
+    Ok(writes)
+}
+
 /// An update of node 1, with seq 4.
 fn update(alloc: Global, writer: NodeId) -> Result<Update, LengthError> {
     Ok(Update {
@@ -52,9 +71,7 @@ fn update(alloc: Global, writer: NodeId) -> Result<Update, LengthError> {
         seq: 4,
         clock: 5,
         prev: Hash32::zeros(),
-        key: Key::new(alloc, b"log")?,
-        value_hash: Hash32::new([7; 32]),
-        value_len: 6,
+        writes: writes(alloc)?,
         deps: Deps::new(alloc),
         history: Hash32::new([8; 32]),
     })
@@ -100,6 +117,89 @@ fn statements_are_copied(rt: HostRuntime) -> Result<(), Fail> {
     let node = NodeId::new(1).ok_or("1")?;
     assert!(rt; is_copied(rt.alloc(), node)?);
     assert_eq!(rt; ids_of_copy(rt.alloc(), node)?, [1, 1]);
+    Ok(())
+}
+
+/// What a copy of that update writes under a key.
+fn wrote(alloc: Global, writer: NodeId, key: &[u8]) -> Result<Option<Wrote>, LengthError> {
+    let update = update(alloc, writer)?;
+    Ok(update.copy()?.wrote(key))
+}
+
+/// Whether a copy of that update is the same update.
+fn is_the_same_update(alloc: Global, writer: NodeId) -> Result<bool, LengthError> {
+    let update = update(alloc, writer)?;
+    let copy = update.copy()?;
+    Ok(update.is_same(&copy))
+}
+
+/// The length of the value that a write names.
+fn named_length(what: Wrote) -> Option<u32> {
+    match what.named() {
+        Some(value) => Some(value.size),
+        None => None,
+    }
+}
+
+#[test]
+fn a_write_is_found_by_its_key(rt: HostRuntime) -> Result<(), Fail> {
+    let node = NodeId::new(1).ok_or("1")?;
+    for (key, right) in [
+        (b"log", Some(put())),
+        (b"old", Some(Wrote::Gone)),
+        (b"new", None),
+    ] {
+        assert!(rt; wrote(rt.alloc(), node, key)? == right);
+    }
+    assert!(rt; is_the_same_update(rt.alloc(), node)?);
+    assert!(rt; named_length(put()) == Some(6));
+    assert!(rt; named_length(Wrote::Gone).is_none());
+    Ok(())
+}
+
+/// Two changes: `k` gets a value of 3 bytes, and `l` is deleted.
+fn changes(alloc: Global) -> Result<Changes, LengthError> {
+    let key = Key::new(alloc, b"k")?;
+    let mut changes = Changes::one(alloc, key, Value::new(alloc, b"abc")?)?;
+    let key = Key::new(alloc, b"l")?;
+    changes.push(Change { key, value: None })?;
+    Ok(changes)
+}
+
+/// How many bytes the value of a change has; none of a deletion.
+fn length_of(change: &Change) -> Option<usize> {
+    match &change.value {
+        Some(value) => Some(value.bytes().len()),
+        None => None,
+    }
+}
+
+/// The lengths of the values of a copy of two changes.
+fn copied_lengths(changes: &Changes) -> Result<[Option<usize>; 2], Memory> {
+    let copy = changes.copy()?;
+    match copy.as_slice() {
+        [first, second] => Ok([length_of(first), length_of(second)]),
+        _ => Ok([None, None]),
+    }
+}
+
+/// Whether a copy of those changes is the same.
+fn are_copied(alloc: Global) -> Result<bool, LengthError> {
+    let changes = changes(alloc)?;
+    Ok(copied_lengths(&changes)? == [Some(3), None])
+}
+
+/// How many values a copy of a list of one has.
+fn copied_values(alloc: Global) -> Result<usize, LengthError> {
+    let mut values = ValueList::new(alloc);
+    values.push(Value::new(alloc, b"abc")?)?;
+    Ok(values.copy()?.as_slice().len())
+}
+
+#[test]
+fn changes_are_copied(rt: HostRuntime) -> Result<(), Fail> {
+    assert!(rt; are_copied(rt.alloc())?);
+    assert!(rt; copied_values(rt.alloc())? == 1);
     Ok(())
 }
 

@@ -11,7 +11,7 @@ use std::alloc::Global;
 use std::test::Fail;
 
 /// The hello of node 1: it convicted nodes 3 and 5, has a leaf of writer 1 and one of writer 2, and wants two values.
-const HELLO: &str = "0103 0001 \
+pub const HELLO: &str = "0103 0001 \
     5555555555555555555555555555555555555555555555555555555555555555 \
     0002 0003 0005 \
     0002 0001 1111111111111111111111111111111111111111111111111111111111111111 \

@@ -13,12 +13,12 @@ use std::process::Abort;
 use std::test::Fail;
 
 /// The roster of nodes 1 and 9, whose seeds are 31 zero bytes and the node's number.
-const ROSTER: &str =
+pub const ROSTER: &str =
     "01040002000104ec4916dd28fc4c10d78e287ca5d9cc51ee1ae73cbfde08c6b37324cbfaac8bc5000904887bf140ce0b \
     6a497ed8db5c7498a45454f0b2bd644b0313f7a82acc084d0027";
 
 /// The first write of node 9: key `k`, value `a`, no entries.
-const X: &str =
+pub const X: &str =
     "000000780101000900000000000000000000000100000000000000000000000000000000000000000000000000000000 \
     00000000016bca978112ca1bbdcafac231b39a23dc4da786eff8147c4e72b9807785afee48bb000000010000e3b0c442 \
     98fc1c149afbf4c8996fb92427ae41e4649b934ca495991b7852b85500000020814b6a17b7c7b435aa3bd8ecdb6f5dcc \
@@ -177,7 +177,7 @@ fn roster(alloc: Global) -> Result<Roster, Fail> {
 }
 
 /// What the judge says of a text.
-fn judged(alloc: Global, text: &[u8]) -> Result<Result<Verdict, JudgeError>, Fail> {
+pub fn judged(alloc: Global, text: &[u8]) -> Result<Result<Verdict, JudgeError>, Fail> {
     let roster = roster(alloc)?;
     Ok(judge(alloc, &roster, &PlainScheme, text))
 }

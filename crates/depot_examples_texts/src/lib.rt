@@ -1,4 +1,4 @@
-//! Examples of texts: updates, vouchers, signed statements, proofs, records and hellos, and proofs before a judge.
+//! Examples of texts: updates, vouchers, signed statements, proofs, records and hellos, and proofs of both shapes before a judge.
 //!
 //! Texts and offsets that were written by hand or by other programs are tried on the codecs and on the judge, and each of their
 //! public functions is called once with ample memory. What is promised of them is proved in their crates; nothing is promised
@@ -12,6 +12,8 @@ mod base_values;
 mod hellos;
 #[cfg(test)]
 mod hex;
+#[cfg(test)]
+mod hollow_proofs;
 #[cfg(test)]
 mod judgements;
 #[cfg(test)]

@@ -16,7 +16,7 @@ pub const UPDATE: &str = "0101 0001 00000000 0000000000000001 \
 const UPDATE_ID: &str = "b1b71fe559a0af9d8cd799bec43413803425cbf3ce164fded47cc3300867a6ba";
 
 /// The same with two entries of writer 2, from offset 88 and from 130.
-const JOINING: &str = "0101 0001 00000000 0000000000000001 \
+pub const JOINING: &str = "0101 0001 00000000 0000000000000001 \
     0000000000000000000000000000000000000000000000000000000000000000 016b \
     ba7816bf8f01cfea414140de5dae2223b00361a396177a9cb410ff61f20015ad 00000003 0002 \
     0002 0000000000000005 1111111111111111111111111111111111111111111111111111111111111111 \
@@ -25,6 +25,30 @@ const JOINING: &str = "0101 0001 00000000 0000000000000001 \
 
 /// SHA-256 of it, by another program.
 const JOINING_ID: &str = "f7c26c5ccec6a769f1b2cb8c2f3730baf44c3ed1f0d42a32235ab57325cf6563";
+
+/// Two writes of node 1: `k` gets the value `abc`, and `l` is deleted. They stand from offset 49 and from 88.
+pub const SEVERAL: &str = "0201 0001 00000000 0000000000000001 \
+    0000000000000000000000000000000000000000000000000000000000000000 02 \
+    016b 01 ba7816bf8f01cfea414140de5dae2223b00361a396177a9cb410ff61f20015ad 00000003 \
+    016c 00 0000 e3b0c44298fc1c149afbf4c8996fb92427ae41e4649b934ca495991b7852b855";
+
+/// SHA-256 of it, by another program.
+const SEVERAL_ID: &str = "df912840030be019d117991b6fab9fdcb5d1c99192572cae2d76bf3952c5a431";
+
+/// The same, but that `l` gets the value `d`.
+pub const TWO_VALUES: &str = "0201 0001 00000000 0000000000000001 \
+    0000000000000000000000000000000000000000000000000000000000000000 02 \
+    016b 01 ba7816bf8f01cfea414140de5dae2223b00361a396177a9cb410ff61f20015ad 00000003 \
+    016c 01 18ac3e7343f016890c510e93f935261169d9e3f565436429830faf0934f4f8e4 00000001 \
+    0000 e3b0c44298fc1c149afbf4c8996fb92427ae41e4649b934ca495991b7852b855";
+
+/// The first update of node 1, which deletes `k`: the shortest body.
+pub const DELETION: &str = "0201 0001 00000000 0000000000000001 \
+    0000000000000000000000000000000000000000000000000000000000000000 01 016b 00 0000 \
+    e3b0c44298fc1c149afbf4c8996fb92427ae41e4649b934ca495991b7852b855";
+
+/// SHA-256 of it, by another program.
+const DELETION_ID: &str = "d609511b6422ba44285efd0222fd11e8f03de76b7d231653680886b5a16a0f0a";
 
 /// A voucher of node 7 for two updates, whose ids stand from offset 10 and from 42.
 pub const VOUCHER: &str = "0102 0007 00000005 0002 \
@@ -40,6 +64,11 @@ pub const PROOF: &str = "0102 0000002a 0102 0007 00000005 0001 \
     3333333333333333333333333333333333333333333333333333333333333333 00000002 aabb \
     0000002a 0102 0007 00000005 0001 \
     4444444444444444444444444444444444444444444444444444444444444444 00000002 ccdd";
+
+/// A hollow proof of that signed voucher and the text `abc`, whose length stands from offset 54.
+pub const HOLLOW: &str = "0104 0000002a 0102 0007 00000005 0001 \
+    3333333333333333333333333333333333333333333333333333333333333333 00000002 aabb \
+    00000003 616263";
 
 /// The same with another byte at one place. Past its end nothing is changed.
 pub fn changed(alloc: Global, hex: &str, place: usize, byte: u8) -> Result<Vec<u8>, Memory> {
@@ -80,6 +109,11 @@ fn fault_of(alloc: Global, kind: Kind, text: &[u8]) -> Option<u32> {
 /// Where the fields of the worked body start.
 static STARTS: [u32; 12] = [0, 1, 2, 4, 8, 16, 48, 49, 50, 82, 86, 88];
 
+/// Where those of the body of two writes start.
+static STARTS_OF_TWO: [u32; 17] = [
+    0, 1, 2, 4, 8, 16, 48, 49, 50, 51, 52, 84, 88, 89, 90, 91, 93,
+];
+
 /// The start of the field in which a text goes wrong that is cut to so many bytes.
 pub fn cut_field(starts: &[u32], length: u32) -> u32 {
     let mut last = 0;
@@ -91,10 +125,10 @@ pub fn cut_field(starts: &[u32], length: u32) -> u32 {
     last
 }
 
-/// Whether a text that is cut to so many bytes goes wrong at the cut field.
-fn tells_cut(alloc: Global, kind: Kind, text: &[u8], length: u32) -> bool {
+/// Whether a text whose fields start there goes wrong at the cut field, where it is cut to so many bytes.
+fn tells_cut(alloc: Global, kind: Kind, text: &[u8], starts: &[u32], length: u32) -> bool {
     match text.get(..length as usize) {
-        Some(cut) => fault_of(alloc, kind, cut) == Some(cut_field(&STARTS, length)),
+        Some(cut) => fault_of(alloc, kind, cut) == Some(cut_field(starts, length)),
         None => false,
     }
 }
@@ -106,7 +140,7 @@ fn a_body_goes_wrong_where_it_is_cut_or_goes_on(rt: HostRuntime) -> Result<(), F
     for n in 0..120 {
         for kind in [Kind::Statement, Kind::Update] {
             assert!(rt;
-                tells_cut(rt.alloc(), kind, &body, n),
+                tells_cut(rt.alloc(), kind, &body, &STARTS, n),
                 "{n} bytes of a {kind:?}"
             );
         }
@@ -116,9 +150,24 @@ fn a_body_goes_wrong_where_it_is_cut_or_goes_on(rt: HostRuntime) -> Result<(), F
     Ok(())
 }
 
+#[test]
+fn a_body_of_two_writes_goes_wrong_where_it_is_cut(rt: HostRuntime) -> Result<(), Fail> {
+    let body = bytes(rt.alloc(), SEVERAL)?;
+    assert!(rt; body.len() == 125);
+    for n in 0..125 {
+        assert!(rt;
+            tells_cut(rt.alloc(), Kind::Statement, &body, &STARTS_OF_TWO, n),
+            "{n} bytes"
+        );
+    }
+    Ok(())
+}
+
 /// Texts with another byte at one place, and the offset at which each goes wrong.
-static FAULTS: [(Kind, &str, usize, u8, u32); 65] = [
-    (Kind::Statement, JOINING, 0, 2, 0),
+static FAULTS: [(Kind, &str, usize, u8, u32); 127] = [
+    (Kind::Statement, JOINING, 0, 3, 0),
+    (Kind::Statement, JOINING, 0, 2, 157),
+    (Kind::Statement, UPDATE, 0, 2, 50),
     (Kind::Statement, JOINING, 1, 0, 1),
     (Kind::Statement, JOINING, 1, 3, 1),
     (Kind::Statement, JOINING, 3, 0, 2),
@@ -133,7 +182,10 @@ static FAULTS: [(Kind, &str, usize, u8, u32); 65] = [
     (Kind::Statement, JOINING, 171, 0x11, 130),
     (Kind::Statement, JOINING, 171, 0x10, 130),
     (Kind::Statement, JOINING, 87, 3, 182),
-    (Kind::Update, JOINING, 0, 2, 0),
+    (Kind::Update, JOINING, 0, 0, 0),
+    (Kind::Update, JOINING, 0, 3, 0),
+    (Kind::Update, JOINING, 0, 2, 157),
+    (Kind::Update, UPDATE, 0, 2, 50),
     (Kind::Update, JOINING, 1, 0, 1),
     (Kind::Update, JOINING, 1, 3, 1),
     (Kind::Update, JOINING, 3, 0, 2),
@@ -150,8 +202,11 @@ static FAULTS: [(Kind, &str, usize, u8, u32); 65] = [
     (Kind::Update, JOINING, 87, 3, 182),
     (Kind::Update, JOINING, 87, 1, 162),
     (Kind::Update, VOUCHER, 0, 1, 1),
+    (Kind::Update, VOUCHER, 0, 2, 1),
     (Kind::Statement, JOINING, 87, 1, 162),
     (Kind::Statement, VOUCHER, 0, 0, 0),
+    (Kind::Statement, VOUCHER, 0, 2, 1),
+    (Kind::Statement, VOUCHER, 0, 3, 0),
     (Kind::Statement, VOUCHER, 1, 3, 1),
     (Kind::Statement, VOUCHER, 3, 0, 2),
     (Kind::Statement, VOUCHER, 9, 0, 8),
@@ -164,7 +219,8 @@ static FAULTS: [(Kind, &str, usize, u8, u32); 65] = [
     (Kind::Signed, SIGNED, 2, 1, 4),
     (Kind::Signed, SIGNED, 3, 43, 46),
     (Kind::Signed, SIGNED, 3, 41, 14),
-    (Kind::Signed, SIGNED, 4, 2, 4),
+    (Kind::Signed, SIGNED, 4, 2, 5),
+    (Kind::Signed, SIGNED, 4, 3, 4),
     (Kind::Signed, SIGNED, 5, 3, 5),
     (Kind::Signed, SIGNED, 7, 0, 6),
     (Kind::Signed, SIGNED, 13, 0, 12),
@@ -173,7 +229,9 @@ static FAULTS: [(Kind, &str, usize, u8, u32); 65] = [
     (Kind::Signed, SIGNED, 49, 1, 51),
     (Kind::Proof, PROOF, 0, 2, 0),
     (Kind::Proof, PROOF, 1, 0, 1),
-    (Kind::Proof, PROOF, 1, 4, 1),
+    (Kind::Proof, PROOF, 1, 4, 100),
+    (Kind::Proof, PROOF, 1, 5, 1),
+    (Kind::Proof, PROOF, 6, 2, 7),
     (Kind::Proof, PROOF, 3, 1, 2),
     (Kind::Proof, PROOF, 4, 1, 6),
     (Kind::Proof, PROOF, 9, 0, 8),
@@ -183,6 +241,57 @@ static FAULTS: [(Kind, &str, usize, u8, u32); 65] = [
     (Kind::Proof, PROOF, 59, 3, 59),
     (Kind::Proof, PROOF, 103, 3, 104),
     (Kind::Proof, PROOF, 103, 1, 105),
+    (Kind::Statement, SEVERAL, 0, 3, 0),
+    (Kind::Statement, SEVERAL, 1, 2, 1),
+    (Kind::Statement, SEVERAL, 48, 0, 48),
+    (Kind::Statement, SEVERAL, 48, 1, 51),
+    (Kind::Statement, SEVERAL, 48, 3, 91),
+    (Kind::Statement, SEVERAL, 48, 17, 48),
+    (Kind::Statement, SEVERAL, 49, 0, 49),
+    (Kind::Statement, SEVERAL, 49, 2, 52),
+    (Kind::Statement, SEVERAL, 51, 0, 53),
+    (Kind::Statement, SEVERAL, 51, 2, 51),
+    (Kind::Statement, SEVERAL, 85, 1, 84),
+    (Kind::Statement, SEVERAL, 88, 0, 88),
+    (Kind::Statement, SEVERAL, 89, 0x6b, 88),
+    (Kind::Statement, SEVERAL, 89, 0x6a, 88),
+    (Kind::Statement, SEVERAL, 90, 1, 123),
+    (Kind::Statement, SEVERAL, 90, 2, 90),
+    (Kind::Statement, SEVERAL, 91, 5, 91),
+    (Kind::Statement, DELETION, 0, 1, 82),
+    (Kind::Statement, DELETION, 48, 2, 52),
+    (Kind::Statement, DELETION, 51, 1, 51),
+    (Kind::Statement, DELETION, 51, 2, 51),
+    (Kind::Update, SEVERAL, 0, 3, 0),
+    (Kind::Update, SEVERAL, 1, 2, 1),
+    (Kind::Update, SEVERAL, 48, 0, 48),
+    (Kind::Update, SEVERAL, 48, 1, 51),
+    (Kind::Update, SEVERAL, 48, 3, 91),
+    (Kind::Update, SEVERAL, 48, 17, 48),
+    (Kind::Update, SEVERAL, 49, 0, 49),
+    (Kind::Update, SEVERAL, 49, 2, 52),
+    (Kind::Update, SEVERAL, 51, 0, 53),
+    (Kind::Update, SEVERAL, 51, 2, 51),
+    (Kind::Update, SEVERAL, 85, 1, 84),
+    (Kind::Update, SEVERAL, 88, 0, 88),
+    (Kind::Update, SEVERAL, 89, 0x6b, 88),
+    (Kind::Update, SEVERAL, 89, 0x6a, 88),
+    (Kind::Update, SEVERAL, 90, 1, 123),
+    (Kind::Update, SEVERAL, 90, 2, 90),
+    (Kind::Update, SEVERAL, 91, 5, 91),
+    (Kind::Update, DELETION, 0, 1, 82),
+    (Kind::Update, DELETION, 48, 2, 52),
+    (Kind::Update, DELETION, 51, 1, 51),
+    (Kind::Update, DELETION, 51, 2, 51),
+    (Kind::Proof, HOLLOW, 0, 2, 0),
+    (Kind::Proof, HOLLOW, 1, 0, 1),
+    (Kind::Proof, HOLLOW, 1, 2, 58),
+    (Kind::Proof, HOLLOW, 1, 5, 1),
+    (Kind::Proof, HOLLOW, 4, 1, 6),
+    (Kind::Proof, HOLLOW, 7, 3, 7),
+    (Kind::Proof, HOLLOW, 55, 1, 54),
+    (Kind::Proof, HOLLOW, 57, 2, 60),
+    (Kind::Proof, HOLLOW, 57, 4, 58),
 ];
 
 /// The offset at which a text goes wrong, with this byte at this place.
@@ -241,14 +350,21 @@ fn is_kept(alloc: Global, kind: Kind, text: &[u8]) -> bool {
 }
 
 /// Texts that are read and written.
-static KEPT: [(Kind, &str); 7] = [
+static KEPT: [(Kind, &str); 14] = [
     (Kind::Statement, UPDATE),
     (Kind::Statement, JOINING),
     (Kind::Statement, VOUCHER),
+    (Kind::Statement, SEVERAL),
+    (Kind::Statement, TWO_VALUES),
+    (Kind::Statement, DELETION),
     (Kind::Update, UPDATE),
     (Kind::Update, JOINING),
+    (Kind::Update, SEVERAL),
+    (Kind::Update, TWO_VALUES),
+    (Kind::Update, DELETION),
     (Kind::Signed, SIGNED),
     (Kind::Proof, PROOF),
+    (Kind::Proof, HOLLOW),
 ];
 
 #[test]
@@ -260,17 +376,38 @@ fn a_text_is_read_and_written(rt: HostRuntime) -> Result<(), Fail> {
     Ok(())
 }
 
-/// Adds what stands before the entries of the longest body: it has a key of 255 bytes.
-fn put_front(text: &mut Bytes) -> Result<(), Memory> {
-    text.push_all(&[1, 1, 0, 1, 0, 0, 0, 0, 0, 0, 0, 0, 0, 0, 0, 1])?;
-    text.push_all(&[0; 32])?;
-    text.push_all(&[255; 256])?;
+/// Adds what stands before the writes of the longest body of a version.
+fn put_front(text: &mut Bytes, version: u8) -> Result<(), Memory> {
+    text.push_all(&[version, 1, 0, 1, 0, 0, 0, 0, 0, 0, 0, 0, 0, 0, 0, 1])?;
+    text.push_all(&[0; 32])
+}
+
+/// Adds the hash and the length of a value of 65,536 bytes.
+fn put_named(text: &mut Bytes) -> Result<(), Memory> {
     text.push_all(&[7; 32])?;
-    text.push_all(&[0, 1, 0, 0, 4, 0])
+    text.push_all(&[0, 1, 0, 0])
+}
+
+/// Adds the one write of the longest body of version 1: it has a key of 255 bytes.
+fn put_single(text: &mut Bytes) -> Result<(), Memory> {
+    text.push_all(&[255; 256])?;
+    put_named(text)
+}
+
+/// Adds the 16 writes of the longest body: their keys have 255 bytes, of which the last rises.
+fn put_several(text: &mut Bytes) -> Result<(), Memory> {
+    text.push_u8(16)?;
+    for n in 0u8..16 {
+        text.push_all(&[255; 255])?;
+        text.push_all(&[n, 1])?;
+        put_named(text)?;
+    }
+    Ok(())
 }
 
 /// Adds its entries: 1,024 of writer 2, whose ids rise.
 fn put_entries(text: &mut Bytes) -> Result<(), Memory> {
+    text.push_u16(1024)?;
     for n in 0..1024 {
         text.push_all(&[0, 2, 255, 255, 255, 255, 255, 255, 255, 255])?;
         text.push_u16(n)?;
@@ -279,22 +416,37 @@ fn put_entries(text: &mut Bytes) -> Result<(), Memory> {
     Ok(())
 }
 
-/// The longest body of an update.
-fn longest(alloc: Global) -> Result<Bytes, Memory> {
+/// The longest body of an update, by its version.
+pub fn longest(alloc: Global, version: u8) -> Result<Bytes, Memory> {
     let mut text = Bytes::new(alloc);
-    put_front(&mut text)?;
+    put_front(&mut text, version)?;
+    if version == 1 {
+        put_single(&mut text)?;
+    } else {
+        put_several(&mut text)?;
+    }
     put_entries(&mut text)?;
     text.push_all(&[9; 32])?;
     Ok(text)
 }
 
 #[test]
-fn the_longest_body_is_read_and_written(rt: HostRuntime) -> Result<(), Fail> {
-    let text = longest(rt.alloc())?;
-    assert!(rt; text.as_slice().len() == 43_382);
-    assert!(rt; is_kept(rt.alloc(), Kind::Update, text.as_slice()));
+fn the_longest_bodies_are_read_and_written(rt: HostRuntime) -> Result<(), Fail> {
+    for (version, length) in [(1, 43_382), (2, 47_779)] {
+        let text = longest(rt.alloc(), version)?;
+        assert!(rt; text.as_slice().len() == length);
+        assert!(rt; is_kept(rt.alloc(), Kind::Update, text.as_slice()));
+    }
     Ok(())
 }
+
+/// Bodies, and the ids of the updates.
+static IDS: [(&str, &str); 4] = [
+    (UPDATE, UPDATE_ID),
+    (JOINING, JOINING_ID),
+    (SEVERAL, SEVERAL_ID),
+    (DELETION, DELETION_ID),
+];
 
 /// The id of the update that is read from a text.
 fn id_in(alloc: Global, text: &[u8]) -> Option<Hash32> {
@@ -306,13 +458,38 @@ fn id_in(alloc: Global, text: &[u8]) -> Option<Hash32> {
 
 #[test]
 fn an_id_is_the_hash_of_the_body(rt: HostRuntime) -> Result<(), Fail> {
-    for (hex, right) in [(UPDATE, UPDATE_ID), (JOINING, JOINING_ID)] {
+    for (hex, right) in IDS.iter() {
         let text = bytes(rt.alloc(), hex)?;
         let right = bytes(rt.alloc(), right)?;
         assert!(rt;
             id_in(rt.alloc(), &text) == Hash32::from_slice(&right),
             "{hex}"
         );
+    }
+    Ok(())
+}
+
+/// Texts, and whether each is the body of an update.
+static BODIES: [(&str, bool); 7] = [
+    (UPDATE, true),
+    (JOINING, true),
+    (SEVERAL, true),
+    (DELETION, true),
+    (VOUCHER, false),
+    (SIGNED, false),
+    ("", false),
+];
+
+/// Whether it is said rightly of a text whether it is the body of an update.
+fn is_told(alloc: Global, hex: &str, right: bool) -> Result<bool, Memory> {
+    let text = bytes(alloc, hex)?;
+    Ok(is_update(alloc, &text)? == right)
+}
+
+#[test]
+fn a_text_is_an_update_or_not(rt: HostRuntime) -> Result<(), Fail> {
+    for (hex, right) in BODIES.iter() {
+        assert!(rt; is_told(rt.alloc(), hex, *right)?, "{hex}");
     }
     Ok(())
 }

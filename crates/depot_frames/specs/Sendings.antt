@@ -1,7 +1,8 @@
 -- What a bundle sends of updates and values, frame by frame, as far as it is chosen.
-use Rattle.std.specs.Prelude.{◌≡◌, ℕ, ◌+◌, ◌≤◌, List, ◌++◌, length, map, sum_by, Bool, true, false, Option, option_to_list, Result, Ok, Err}
-use Rattle.std.specs.List.{flat_map}
-use Rattle.depot_base.specs.declared.limits.TheConstants.{MOST_BUNDLE, MOST_BUNDLE_FRAMES}
+use Rattle.std.specs.Prelude.{◌≡◌, ℕ, ◌+◌, ◌≤◌, List, ◌++◌, length, map, sum_by, Bool, true, false, Result, Ok, Err}
+use Rattle.std.specs.Borrow.{Bor}
+use Rattle.std.specs.List.{AllByRecursion, flat_map}
+use Rattle.depot_base.specs.declared.limits.TheConstants.{MOST_BUNDLE, MOST_BUNDLE_FRAMES, MOST_PAYLOAD}
 use Rattle.depot_model.specs.Frames.{Frame, text_of_frame}
 use Rattle.depot_model.specs.Bundle.{Parcel, frames_of, bytes_of_frames, sent_foreign}
 use Rattle.depot_frames.specs.declared.sending.Sending.{Sending}
@@ -24,13 +25,21 @@ pub record Holds (me : ℕ) (xs : List Parcel) (s : Sending) : Type 0 where
 
 -- ---- one parcel more
 
+-- the texts that are lent
+abbrev pub payloads_of : List (Bor (List ℕ)) → List (List ℕ)
+payloads_of lent = map (λ t. t.now) lent
+
+-- each of these texts is short enough for a frame
+abbrev pub ArePayloads : List (List ℕ) → Type 0
+ArePayloads texts = AllByRecursion (λ t. length t ≤ MOST_PAYLOAD) texts
+
 -- the frames of texts, all under one tag
 abbrev pub frames_under : ℕ → List (List ℕ) → List Frame
 frames_under tag texts = map (λ t. record { tag = tag; payload = t }) texts
 
--- the frames of a statement's text and of a value behind it
-abbrev pub parcel_frames : Option (List ℕ) → Option (List ℕ) → List Frame
-parcel_frames told value = frames_under 2 (option_to_list told) ++ frames_under 3 (option_to_list value)
+-- the frames of the texts of statements, and of the values behind them
+abbrev pub parcel_frames : List (List ℕ) → List (List ℕ) → List Frame
+parcel_frames told values = frames_under 2 told ++ frames_under 3 values
 
 -- what is chosen is short enough
 pub record IsShort (s : Sending) : Type 0 where
@@ -38,19 +47,19 @@ pub record IsShort (s : Sending) : Type 0 where
   pub few : s.updates + s.values ≤ MOST_BUNDLE_FRAMES
 
 -- these frames stand behind those before them
-pub record HasAdded (s t : Sending) (told value : Option (List ℕ)) : Type 0 where
-  pub frames : t.frames ≡ s.frames ++ flat_map text_of_frame (parcel_frames told value)
-  pub updates : t.updates ≡ s.updates + length (option_to_list told)
-  pub values : t.values ≡ s.values + length (option_to_list value)
+pub record HasAdded (s t : Sending) (told behind : List (List ℕ)) : Type 0 where
+  pub frames : t.frames ≡ s.frames ++ flat_map text_of_frame (parcel_frames told behind)
+  pub updates : t.updates ≡ s.updates + length told
+  pub values : t.values ≡ s.values + length behind
   pub ids : t.ids ≡ s.ids
   pub short : IsShort t
 
 -- with these frames it would be too long
-pub record HasNoRoom (s : Sending) (told value : Option (List ℕ)) : Type 0 where
-  pub over : length s.frames + bytes_of_frames (parcel_frames told value) ≤ MOST_BUNDLE → s.updates + s.values + length (parcel_frames told value) ≤ MOST_BUNDLE_FRAMES → ⊥
+pub record HasNoRoom (s : Sending) (told values : List (List ℕ)) : Type 0 where
+  pub over : length s.frames + bytes_of_frames (parcel_frames told values) ≤ MOST_BUNDLE → s.updates + s.values + length (parcel_frames told values) ≤ MOST_BUNDLE_FRAMES → ⊥
 
 -- the frames were added, or there is no room for them
-abbrev pub Adds : {E : Type 0} → Sending → Option (List ℕ) → Option (List ℕ) → Result Bool E → Sending → Type 0
-Adds s told value (Ok true) t = HasAdded s t told value
-Adds s told value (Ok false) t = (t ≡ s) × HasNoRoom s told value
-Adds s told value (Err e) t = Unit {0}
+abbrev pub Adds : {E : Type 0} → Sending → List (List ℕ) → List (List ℕ) → Result Bool E → Sending → Type 0
+Adds s told values (Ok true) t = HasAdded s t told values
+Adds s told values (Ok false) t = (t ≡ s) × HasNoRoom s told values
+Adds s told values (Err e) t = Unit {0}

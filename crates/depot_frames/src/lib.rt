@@ -4,7 +4,7 @@
 //! bytes is told at the first byte that decides it, and so is how many bytes may come in one go before a frame can end.
 //!
 //! A `Sending` is seen as what it has: the frames of updates and values, one behind another, their numbers, and the ids of the
-//! updates of others among them. A statement is added with the value behind it, and only where both fit into a bundle.
+//! updates of others among them. A statement is added with the values behind it, and only where all of them fit into a bundle.
 //!
 //! All of it goes by bytes alone: no node is asked, and nothing here says what is sent or what is taken.
 #![tactic(auto)]

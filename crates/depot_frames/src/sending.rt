@@ -1,10 +1,10 @@
 //! The updates and values that a bundle sends, as far as they are chosen.
-ghost use Rattle.std.specs.Prelude.{◌≡◌, ◌++◌, ◌≤◌, ◌+◌, ℕ, [], length, map, OnOk, IfSome, option_copied, option_to_list, false};
+ghost use Rattle.std.specs.Prelude.{◌≡◌, ◌++◌, ◌≤◌, ◌+◌, ◌*◌, ℕ, [], length, map, OnOk, false};
 ghost use Rattle.std.specs.List.{flat_map};
-ghost use Rattle.depot_base.specs.declared.limits.TheConstants.{MOST_PAYLOAD};
+ghost use Rattle.depot_base.specs.declared.limits.TheConstants.{MOST_PAYLOAD, MOST_WRITES};
 ghost use Rattle.depot_model.specs.Frames.{text_of_frame};
 ghost use Rattle.depot_model.specs.Bundle.{bytes_of_frames};
-ghost use Rattle.depot_frames.specs.Sendings.{Holds, IsShort, Adds, frames_under};
+ghost use Rattle.depot_frames.specs.Sendings.{Holds, IsShort, Adds, ArePayloads, payloads_of, frames_under};
 
 use crate::frame_text::put_frame;
 use depot_base::limits::{MOST_BUNDLE, MOST_BUNDLE_FRAMES};
@@ -26,37 +26,29 @@ pub struct Sending {
     pub more: bool,
 }
 
-/// How many payloads there are: none or one.
-fn count_of(payload: Option<&[u8]>) -> u32
-    ensures { result ≡ length (option_to_list (option_copied payload.entry)) }
+/// How many bytes the frames of payloads have.
+fn frames_length(payloads: &[&[u8]]) -> usize
+    requires few { length payloads.now ≤ 1 + MOST_WRITES }
+    requires short { ArePayloads (payloads_of payloads.now) }
+    ensures bytes { (tag : ℕ) → result ≡ bytes_of_frames (frames_under tag (payloads_of payloads.now)) }
+    ensures short { result ≤ length payloads.now * (5 + MOST_PAYLOAD) }
 {
-    match payload {
-        Some(_) => 1,
-        None => 0,
+    let mut bytes = 0;
+    for payload in payloads {
+        bytes += 5 + payload.len();
     }
+    bytes
 }
 
-/// How many bytes the frame of a payload has, if there is one.
-fn frame_length(payload: Option<&[u8]>) -> usize
-    requires { IfSome (option_copied payload) (λ p. length p ≤ MOST_PAYLOAD) }
-    ensures bytes { (tag : ℕ) → result ≡ bytes_of_frames (frames_under tag (option_to_list (option_copied payload.entry))) }
-    ensures short { result ≤ 5 + MOST_PAYLOAD }
+/// Writes the frames of payloads, all under one tag.
+fn put_frames(out: &mut Bytes, tag: u8, payloads: &[&[u8]]) -> Result<(), Memory>
+    requires { ArePayloads (payloads_of payloads.now) }
+    ensures { OnOk result (out.new ≡ out.old ++ flat_map text_of_frame (frames_under tag (payloads_of payloads.now))) }
 {
-    match payload {
-        Some(payload) => 5 + payload.len(),
-        None => 0,
+    for payload in payloads {
+        put_frame(out, tag, payload)?;
     }
-}
-
-/// Writes the frame of a payload, if there is one.
-fn put_some(out: &mut Bytes, tag: u8, payload: Option<&[u8]>) -> Result<(), Memory>
-    requires { IfSome (option_copied payload) (λ p. length p ≤ MOST_PAYLOAD) }
-    ensures { OnOk result (out.new ≡ out.old ++ flat_map text_of_frame (frames_under tag (option_to_list (option_copied payload.entry)))) }
-{
-    match payload {
-        Some(payload) => put_frame(out, tag, payload),
-        None => Ok(()),
-    }
+    Ok(())
 }
 
 impl Sending {
@@ -73,23 +65,24 @@ impl Sending {
         }
     }
 
-    /// Adds the frame of a signed statement, and that of a value behind it, where both fit into a bundle behind what is chosen. Says
-    /// whether they do. Where they don't, nothing is added.
-    pub fn add(&mut self, told: Option<&[u8]>, value: Option<&[u8]>) -> Result<bool, Memory>
+    /// Adds the frames of signed statements, and those of the values behind them, where all fit into a bundle behind what is
+    /// chosen: at most 17 of them. Says whether they do. Where they don't, nothing is added.
+    pub fn add(&mut self, told: &[&[u8]], values: &[&[u8]]) -> Result<bool, Memory>
         requires short { IsShort self.old }
-        requires told { IfSome (option_copied told) (λ p. length p ≤ MOST_PAYLOAD) }
-        requires value { IfSome (option_copied value) (λ p. length p ≤ MOST_PAYLOAD) }
-        ensures { Adds self.old (option_copied told.entry) (option_copied value.entry) result self.new }
+        requires few { length told.now + length values.now ≤ 1 + MOST_WRITES }
+        requires told { ArePayloads (payloads_of told.now) }
+        requires values { ArePayloads (payloads_of values.now) }
+        ensures { Adds self.old (payloads_of told.now) (payloads_of values.now) result self.new }
     {
-        let bytes = self.frames.as_slice().len() + frame_length(told) + frame_length(value);
-        let count = self.updates + self.values + count_of(told) + count_of(value);
-        if bytes > MOST_BUNDLE as usize || count > MOST_BUNDLE_FRAMES {
+        let bytes = self.frames.as_slice().len() + frames_length(told) + frames_length(values);
+        let count = (self.updates + self.values) as usize + told.len() + values.len();
+        if bytes > MOST_BUNDLE as usize || count > MOST_BUNDLE_FRAMES as usize {
             return Ok(false);
         }
-        put_some(&mut self.frames, 2, told)?;
-        put_some(&mut self.frames, 3, value)?;
-        self.updates += count_of(told);
-        self.values += count_of(value);
+        put_frames(&mut self.frames, 2, told)?;
+        put_frames(&mut self.frames, 3, values)?;
+        self.updates += told.len() as u32;
+        self.values += values.len() as u32;
         Ok(true)
     }
 }

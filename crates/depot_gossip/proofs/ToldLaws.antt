@@ -136,7 +136,7 @@ told_fits here sign K s l short (inr other) = kept_is_signed here K s l other
 
 -- two signed statements with one frame are one
 one_frame : (s t : Signed) → IsSigned s → IsSigned t → statement_frame s ≡ statement_frame t → s ≡ t
-one_frame s t fs ft same = (prefix_free signed 51582 signed_lawful s t [] [] fs ft (ap (λ (f : Frame). f.payload ++ []) same)).0
+one_frame s t fs ft same = (prefix_free signed 55979 signed_lawful s t [] [] fs ft (ap (λ (f : Frame). f.payload ++ []) same)).0
 
 own_is_signed : (here : Setting) (sign : Signs) (K : List Record) (s : Signed) → IsLawful here K → writer_of s.statement ≡ here.me → IsTold sign K s → IsSignedOwn sign K s
 unfolding signed_with

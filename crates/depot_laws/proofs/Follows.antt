@@ -15,19 +15,19 @@ use Rattle.depot_model.specs.Order.{IsParent, Precedes, prevs, parents, is_named
 use Rattle.depot_model.specs.History.{is_prev_in, leaves_of}
 use Rattle.depot_model.specs.Journal.{accepted, accepted_by, own_by, has_id, named, prev_of, last_own, last_own_behind}
 use Rattle.depot_model.specs.Checks.{Setting}
-use Rattle.depot_model.specs.Own.{entry_of, precedes_named, next_entries, next_own}
+use Rattle.depot_model.specs.Own.{entry_of, precedes_named, next_entries, next_with}
 use Rattle.depot_model.specs.Lawful.{MayFollow, IsLawful}
 use Rattle.depot_model.proofs.Members.{in_left, in_right, in_last, in_map, any_from, any_to, among_from, among_to, chosen_cases, in_filter}
 use Rattle.depot_model.proofs.Orders.{leads_one, leads_more, leads_trans, precedes_child, precedes_wider, parent_precedes, fresh, one_of_id, first_names_none, causal_behind, child_is_behind}
 use Rattle.depot_model.proofs.Pasts.{past_in, past_of_listed, past_of_next}
 use Rattle.depot_model.specs.Causality.{puts_of}
-use Rattle.depot_model.specs.Contents.{key_written}
 use Rattle.depot_laws.proofs.Splits.{flat_left, flat_gives, flat_cases, lawful_before, lawful_from_end, accepted_push}
 use Rattle.depot_model.proofs.RisingUpdates.{in_by_id}
 use Rattle.depot_model.proofs.NamedIds.{named_is, has_id_to}
 use Rattle.depot_laws.proofs.Causes.{lawful_is_causal}
 use Rattle.depot_laws.proofs.OwnAgree.{last_own-pushed}
 use Rattle.depot_laws.proofs.Puts.{put_by, PutAt, put_at, put_allowed, put_is_accepted, put_from_writer}
+use Rattle.depot_laws.proofs.Nexts.{next_of}
 
 -- ---- parents
 
@@ -104,15 +104,14 @@ IsInLine J = (t : Update) → IsIn t (puts_of J) → (id_of_update t ≡ last_ow
 next_stays : (J : List Record) (r : Record) (t : Update) → HasNext J t → HasNext (J ++ r ∷ []) t
 next_stays J r t n = record { next = n.next; on = flat_left put_by n.next J (r ∷ []) n.on; prev = n.prev }
 
-put_in_line : (me : ℕ) (J : List Record) (u : Update) (value : List ℕ) → u ≡ next_own me J (key_written u) value → IsInLine J → IsInLine (J ++ OwnPut u value ∷ [])
-unfolding next_own
-put_in_line me J u value next before t on = elim (flat_cases put_by t J (OwnPut u value) on) [
+put_in_line : (me : ℕ) (J : List Record) (u : Update) (values : List (List ℕ)) → u ≡ next_with me J u.writes → IsInLine J → IsInLine (J ++ OwnPut u values ∷ [])
+put_in_line me J u values next before t on = elim (flat_cases put_by t J (OwnPut u values) on) [
   | inl old ↦ inr (elim (before t old) [
-    | inl last ↦ record { next = u; on = flat_gives put_by u (OwnPut u value) (J ++ OwnPut u value ∷ []) (in_last J (OwnPut u value)) (inl refl); prev = ap (λ (x : Update). x.prev) next ∙ sym last }
-    | inr n ↦ next_stays J (OwnPut u value) t n
+    | inl last ↦ record { next = u; on = flat_gives put_by u (OwnPut u values) (J ++ OwnPut u values ∷ []) (in_last J (OwnPut u values)) (inl refl); prev = ap (λ (x : Update). x.prev) next ∙ sym last }
+    | inr n ↦ next_stays J (OwnPut u values) t n
   ])
   | inr now ↦ elim now [
-    | inl same ↦ inl (ap id_of_update (sym same) ∙ sym (last_own-pushed J (OwnPut u value)))
+    | inl same ↦ inl (ap id_of_update (sym same) ∙ sym (last_own-pushed J (OwnPut u values)))
     | inr never ↦ absurd never
   ]
 ]
@@ -127,7 +126,7 @@ other_in_line J r none same before t on = elim (flat_cases put_by t J r on) [
 ]
 
 line_more : (here : Setting) (J : List Record) (r : Record) → MayFollow here J r → IsInLine J → IsInLine (J ++ r ∷ [])
-line_more here J (OwnPut u value) may before = put_in_line here.me J u value may.next before
+line_more here J (OwnPut u values) may before = put_in_line here.me J u values (next_of may) before
 line_more here J (OwnVoucher v) may before = other_in_line J (OwnVoucher v) (λ t never. never) refl before
 line_more here J (Birth node h) may before = other_in_line J (Birth node h) (λ t never. never) refl before
 line_more here J (Foreign s) may before = other_in_line J (Foreign s) (λ t never. never) refl before
@@ -164,14 +163,13 @@ behind_prev : (us : List Update) (h : List ℕ) (t : Update) → IsCausal [] us 
 unfolding precedes_named prev_of
 behind_prev us h t c t_on e = before_named us h t (bytes_eq h zeros) (named us h) refl refl c t_on e
 
-next_prev : (me : ℕ) (J : List Record) (u : Update) (value : List ℕ) → u ≡ next_own me J (key_written u) value → u.prev ≡ last_own J
-unfolding next_own
-next_prev me J u value next = ap (λ (x : Update). x.prev) next
+pub next_prev : (me : ℕ) (J : List Record) (u : Update) → u ≡ next_with me J u.writes → u.prev ≡ last_own J
+next_prev me J u next = ap (λ (x : Update). x.prev) next
 
 -- a leaf of another writer that doesn't precede the prev is an entry
-leaf_is_entry : (me : ℕ) (J : List Record) (u : Update) (value : List ℕ) (t : Update) → u ≡ next_own me J (key_written u) value → IsIn t (accepted J) → is_prev_in (accepted J) (id_of_update t) ≡ false → (t.writer == me) ≡ false → precedes_named (accepted J) (last_own J) t ≡ false → IsIn (id_of_update t) (parents u)
-unfolding next_own next_entries leaves_of
-leaf_is_entry me J u value t next on last other behind =
+leaf_is_entry : (me : ℕ) (J : List Record) (u t : Update) → u ≡ next_with me J u.writes → IsIn t (accepted J) → is_prev_in (accepted J) (id_of_update t) ≡ false → (t.writer == me) ≡ false → precedes_named (accepted J) (last_own J) t ≡ false → IsIn (id_of_update t) (parents u)
+unfolding next_entries leaves_of
+leaf_is_entry me J u t next on last other behind =
     let us = accepted J in
     let leaf = in_filter (λ (x : Update). not (is_prev_in us (id_of_update x))) t us on (ap not last) in
     let wanted = in_filter (λ (x : Update). not (x.writer == me) && not (precedes_named us (last_own J) x)) t (leaves_of us) leaf (and_from _ _ (ap not other) (ap not behind)) in
@@ -179,8 +177,8 @@ leaf_is_entry me J u value t next on last other behind =
     entry_is_parent u (entry_of t) (subst (λ (ds : List Dep). IsIn (entry_of t) ds) (sym (ap (λ (x : Update). x.deps) next)) entry)
 
 -- a leaf is a parent of the next own update, or precedes its prev
-leaf_follows : (here : Setting) (J : List Record) (u : Update) (value : List ℕ) (t : Update) → IsLawful here J → u ≡ next_own here.me J (key_written u) value → IsIn t (accepted J) → is_prev_in (accepted J) (id_of_update t) ≡ false → Precedes (accepted J ++ u ∷ []) t u
-leaf_follows here J u value t l next on last =
+leaf_follows : (here : Setting) (J : List Record) (u t : Update) → IsLawful here J → u ≡ next_with here.me J u.writes → IsIn t (accepted J) → is_prev_in (accepted J) (id_of_update t) ≡ false → Precedes (accepted J ++ u ∷ []) t u
+leaf_follows here J u t l next on last =
     let us = accepted J in
     let above = in_left t us (u ∷ []) on in
     let below = in_last us u in
@@ -189,26 +187,26 @@ leaf_follows here J u value t l next on last =
           let put = put_from_writer here J t l on (eqb-true _ _ mine) in
           let some : id_of_update t ≡ zeros → ⊥ = (put_allowed here J t l (put_at t J put)).fresh.named in
           elim (in_line here J l t put) [
-            | inl end ↦ parent_precedes (us ++ u ∷ []) t u above below (prev_is_parent u (id_of_update t) (in_prevs u (id_of_update t) (next_prev here.me J u value next ∙ sym end) some))
+            | inl end ↦ parent_precedes (us ++ u ∷ []) t u above below (prev_is_parent u (id_of_update t) (in_prevs u (id_of_update t) (next_prev here.me J u next ∙ sym end) some))
             | inr n ↦ absurd (both_ways _ last (any_from (λ (w : Update). is_among (id_of_update t) (prevs w)) n.next us (put_is_accepted n.next J n.on) (among_from (id_of_update t) (prevs n.next) (in_prevs n.next (id_of_update t) n.prev some))))
           ]
       | inr other ↦ elim (cases_Bool (precedes_named us (last_own J) t)) [
         | inl before ↦
             let p = behind_prev us (last_own J) t (lawful_is_causal here J l) on before in
-            let named : IsIn (id_of_update p.prev) (prevs u) = in_prevs u (id_of_update p.prev) (next_prev here.me J u value next ∙ sym p.id) (λ e. p.some (sym p.id ∙ e)) in
+            let named : IsIn (id_of_update p.prev) (prevs u) = in_prevs u (id_of_update p.prev) (next_prev here.me J u next ∙ sym p.id) (λ e. p.some (sym p.id ∙ e)) in
             precedes_child (us ++ u ∷ []) t p.prev u (precedes_wider us (us ++ u ∷ []) (λ w w_on. in_left w us (u ∷ []) w_on) t p.prev p.before) below (prev_is_parent u (id_of_update p.prev) named)
-        | inr behind ↦ parent_precedes (us ++ u ∷ []) t u above below (leaf_is_entry here.me J u value t next on last other behind)
+        | inr behind ↦ parent_precedes (us ++ u ∷ []) t u above below (leaf_is_entry here.me J u t next on last other behind)
       ]
     ]
 
 -- ---- all that is accepted
 
 -- each accepted update precedes the next own one
-pub next_follows : (here : Setting) (J : List Record) (u : Update) (value : List ℕ) (t : Update) → IsLawful here J → u ≡ next_own here.me J (key_written u) value → IsIn t (accepted J) → Precedes (accepted J ++ u ∷ []) t u
-next_follows here J u value t l next on =
+pub next_follows : (here : Setting) (J : List Record) (u t : Update) → IsLawful here J → u ≡ next_with here.me J u.writes → IsIn t (accepted J) → Precedes (accepted J ++ u ∷ []) t u
+next_follows here J u t l next on =
     let us = accepted J in
     let leaf = leaf_of [] us t (lawful_is_causal here J l) on in
-    let up = leaf_follows here J u value leaf.leaf l next leaf.on leaf.last in
+    let up = leaf_follows here J u leaf.leaf l next leaf.on leaf.last in
     elim leaf.above [
       | inl same ↦ subst (λ (x : Update). Precedes (us ++ u ∷ []) x u) (sym same) up
       | inr before ↦ follows_on us u t leaf.leaf before up
@@ -219,11 +217,11 @@ next_follows here J u value t l next on =
 -- so it does in each lawful journal that puts it
 pub put_follows : (here : Setting) (J : List Record) (u t : Update) → IsLawful here J → (p : PutAt u J) → IsIn t (accepted p.before) → Precedes (accepted J) t u
 put_follows here J u t l p on =
-    let front = p.before ++ OwnPut u p.value ∷ [] in
-    let whole : J ≡ front ++ p.after = p.is ∙ sym (append_assoc p.before (OwnPut u p.value ∷ []) p.after) in
+    let front = p.before ++ OwnPut u p.values ∷ [] in
+    let whole : J ≡ front ++ p.after = p.is ∙ sym (append_assoc p.before (OwnPut u p.values ∷ []) p.after) in
     precedes_wider (accepted p.before ++ u ∷ []) (accepted J)
-    (λ x x_on. subst (λ (K : List Record). IsIn x (accepted K)) (sym whole) (flat_left accepted_by x front p.after (subst (λ (us : List Update). IsIn x us) (sym (accepted_push p.before (OwnPut u p.value))) x_on))) t u
-    (next_follows here p.before u p.value t (lawful_before here J p.before (OwnPut u p.value) p.after l p.is) (put_allowed here J u l p).next on)
+    (λ x x_on. subst (λ (K : List Record). IsIn x (accepted K)) (sym whole) (flat_left accepted_by x front p.after (subst (λ (us : List Update). IsIn x us) (sym (accepted_push p.before (OwnPut u p.values))) x_on))) t u
+    (next_follows here p.before u t (lawful_before here J p.before (OwnPut u p.values) p.after l p.is) (next_of (put_allowed here J u l p)) on)
 
 -- a past that has each update of the list is the list
 past_is_whole : (ids : List (List ℕ)) (u : Update) (us : List Update) → IsCausal ids us → ((t : Update) → IsIn t us → IsIn t (past u us)) → past u us ≡ us
@@ -245,7 +243,7 @@ past_is_whole ids u (x ∷ xs) c all =
       chosen false e = absurd cc
 
 -- the past of the next own update is all that is accepted
-pub past_of_own : (here : Setting) (J : List Record) (u : Update) (value : List ℕ) → IsLawful here J → u ≡ next_own here.me J (key_written u) value → past u (accepted J) ≡ accepted J
-past_of_own here J u value l next =
+pub past_of_own : (here : Setting) (J : List Record) (u : Update) → IsLawful here J → u ≡ next_with here.me J u.writes → past u (accepted J) ≡ accepted J
+past_of_own here J u l next =
     let c = lawful_is_causal here J l in
-    past_is_whole [] u (accepted J) c (λ t on. (past_of_next (accepted J) u t c).1 (on, next_follows here J u value t l next on))
+    past_is_whole [] u (accepted J) c (λ t on. (past_of_next (accepted J) u t c).1 (on, next_follows here J u t l next on))

@@ -11,6 +11,7 @@ pub mod GoodProofs
 pub mod Convictions
 pub mod LateChecks
 pub mod Growing
+pub mod Nexts
 pub mod Clocks
 pub mod OwnSteps
 pub mod Prevs
@@ -32,6 +33,7 @@ pub mod Traces
 pub mod TraceLines
 pub mod Once
 pub mod Exact
+pub mod OwnVouchers
 pub mod NoVerdicts
 pub mod ForkJoin
 pub mod Histories
@@ -61,3 +63,38 @@ pub mod HelloTexts
 pub mod ClosedBundles
 pub mod LawfulFeeds
 pub mod Newcomer
+pub mod RisingNumbers
+pub mod HeldStays
+pub mod TrueReceipts
+pub mod Settled
+pub mod OwnOrder
+pub mod TrimLaw
+pub mod ClosedPaths
+pub mod SameBodies
+pub mod ObservedTests
+pub mod FirstOfRow
+pub mod InLine
+pub mod Branches
+pub mod ByParents
+pub mod EachPasses
+pub mod ExactTests
+pub mod AuditLaws
+pub mod WritesAlone
+pub mod NeverLatest
+pub mod ReceiptExamples
+pub mod AuditExamples
+pub mod TrimmingExamples
+pub mod PrunedReadings
+pub mod PrunedAnswers
+pub mod PrunedGrowth
+pub mod Superseded
+pub mod FaultLaws
+pub mod OneFinding
+pub mod TracedWorlds
+pub mod YesOfTraces
+pub mod NeverBelow
+pub mod ReadTestLaws
+pub mod FramesTold
+mod LateMeetings
+mod Apart
+mod ForkWorld

@@ -32,7 +32,7 @@ use Rattle.depot_laws.proofs.Convictions.{convicted_by}
 use Rattle.depot_laws.proofs.OwnSteps.{own_writer}
 use Rattle.depot_laws.proofs.ChainLaws.{brought}
 use Rattle.depot_laws.proofs.SamePasts.{past_over, own_parent}
-use Rattle.depot_laws.proofs.Worlds.{giver_in, write_from, journal_lawful, one_write}
+use Rattle.depot_laws.proofs.Worlds.{one_text, giver_in, write_from, journal_lawful, one_write}
 use Rattle.depot_laws.proofs.NoVerdicts.{convicts_none}
 use Rattle.depot_laws.proofs.Parcels.{is_candidate_for, candidates_for}
 use Rattle.depot_laws.proofs.Exact.{kept_in_world}
@@ -101,16 +101,16 @@ module _ (W : World) (a v : Correct) (K : List Record) (m : Meeting W a v K) whe
   reader_write u on = write_from W a u m.reader on
 
   pub one_of_writes : (t u : Update) → IsIn t (writes_of W) → IsIn u (writes_of W) → id_of_update t ≡ id_of_update u → t ≡ u
-  one_of_writes t u t_on u_on e = one_write W m.world m.free t u t_on u_on e
+  one_of_writes t u t_on u_on e = one_write W m.world (one_text W m.free) t u t_on u_on e
 
   -- no proof of either names a correct node
   pub sender_spares : (p : Proof) (c : Correct) → IsIn p (flat_map proof_by K) → IsIn c W.nodes → accused p ≡ c.node → ⊥
-  sender_spares p c on c_on named = (convicts_none W m.world m.authentic).never c p c_on (in_left p _ W.judged (flat_gives (λ (d : Correct). flat_map proof_by d.journal) p v W.nodes m.sender (still_told proof_by p on))) named
+  sender_spares p c on c_on named = (convicts_none W m.world m.authentic m.free).never c p c_on (in_left p _ W.judged (flat_gives (λ (d : Correct). flat_map proof_by d.journal) p v W.nodes m.sender (still_told proof_by p on))) named
 
   pub reader_spares : is_convicted a.journal v.node ≡ false
   reader_spares = false_from_ne_true (is_convicted a.journal v.node) (λ e.
       let p = convicted_by a.journal v.node e in
-      (convicts_none W m.world m.authentic).never v p.0 m.sender (in_left p.0 _ W.judged (flat_gives (λ (d : Correct). flat_map proof_by d.journal) p.0 a W.nodes m.reader p.1.0)) p.1.1)
+      (convicts_none W m.world m.authentic m.free).never v p.0 m.sender (in_left p.0 _ W.judged (flat_gives (λ (d : Correct). flat_map proof_by d.journal) p.0 a W.nodes m.reader p.1.0)) p.1.1)
 
   -- what the one has of the other is the other's own
   pub reader_authentic : (s : Signed) → IsIn s (foreign a.journal) → writer_of s.statement ≡ v.node → IsIn s.statement (own v.journal)

@@ -9,7 +9,7 @@ use Rattle.depot_base.specs.declared.voucher.Voucher.{Voucher}
 use Rattle.depot_base.specs.declared.statement.Statement.{Statement}
 use Rattle.depot_base.specs.declared.statement.Statement.TheVariants as statement
 use Rattle.depot_base.specs.declared.proof.Kind.{Kind}
-use Rattle.depot_base.specs.declared.proof.Kind.TheVariants.{SameNumber, SamePrev, Backward}
+use Rattle.depot_base.specs.declared.proof.Kind.TheVariants.{SameNumber, SamePrev, Backward, NotUpdate}
 use Rattle.depot_base.specs.declared.record.Record.{Record}
 use Rattle.depot_base.specs.declared.record.Record.TheVariants.{Birth, OwnPut, OwnVoucher, Foreign, Conviction, Held}
 use Rattle.depot_model.specs.Lists.{IsIn}
@@ -18,18 +18,18 @@ use Rattle.depot_model.specs.Order.{prevs}
 use Rattle.depot_model.specs.Contradictions.{goes_back, is_of_kind, contradicts}
 use Rattle.depot_model.specs.Journal.{accepted, own, own_by, last_own, last_own_behind}
 use Rattle.depot_model.specs.Checks.{Setting}
-use Rattle.depot_model.specs.Own.{next_own, IsFresh}
+use Rattle.depot_model.specs.Own.{IsFresh}
 use Rattle.depot_model.specs.Lawful.{MayPut, MayVouch, MayFollow, IsLawful}
 use Rattle.depot_model.proofs.Members.{among_to}
 use Rattle.depot_model.proofs.ContradictionLaws.{contradicts_comm, other_body}
 use Rattle.depot_model.specs.Chains.{IsEarlierStep}
-use Rattle.depot_model.specs.Contents.{key_written}
 use Rattle.depot_base.proofs.GeneralLaws.{flat_push}
 use Rattle.depot_laws.proofs.Splits.{flat_cases, lawful_from_end}
 use Rattle.depot_model.proofs.NamedIds.{has_id_from}
 use Rattle.depot_laws.proofs.Causes.{own_in_accepted, prevs_is}
 use Rattle.depot_laws.proofs.OwnSteps.{own_seq, below_next}
 use Rattle.depot_laws.proofs.Prevs.{KnowsPrev, put_prev, accepted_prev}
+use Rattle.depot_laws.proofs.Nexts.{next_of}
 
 -- a fresh id is no prev of these
 not_named : (J : List Record) (w x : Update) → IsFresh J (id_of_update w) → KnowsPrev (accepted J) x → x.prev ≡ id_of_update w → ⊥
@@ -47,14 +47,14 @@ pub last_own-pushed : (J : List Record) (r : Record) → last_own (J ++ r ∷ []
 last_own-pushed J r = ap (last_own_behind zeros) (flat_push own_by J r) ∙ last_own-append zeros (own J) (own_by r)
 
 -- no own update has the last one as its prev
-abbrev IsOpen : List Record → Type 0
+abbrev pub IsOpen : List Record → Type 0
 IsOpen J = (x : Update) → IsIn (statement.Update x) (own J) → x.prev ≡ last_own J → ⊥
 
 open_more : (here : Setting) (J : List Record) (r : Record) → IsLawful here J → MayFollow here J r → IsOpen J → (x : Update) → IsIn (statement.Update x) (own J) ⊎ IsIn (statement.Update x) (own_by r) → x.prev ≡ last_own_behind (last_own J) (own_by r) → ⊥
 open_more here J (OwnPut w value) l may before x (inl old) e = not_named J w x may.fresh (accepted_prev here J x l (own_in_accepted x J old)) e
 open_more here J (OwnPut w value) l may before x (inr (inl now)) e =
     let same : w ≡ x = cc in
-    not_named J w w may.fresh (put_prev here J w (key_written w) value l may.next) (ap (λ (y : Update). y.prev) same ∙ e)
+    not_named J w w may.fresh (put_prev here J w l (next_of may)) (ap (λ (y : Update). y.prev) same ∙ e)
 open_more here J (OwnPut w value) l may before x (inr (inr never)) e = never
 open_more here J (OwnVoucher v) l may before x (inl old) e = before x old e
 open_more here J (OwnVoucher v) l may before x (inr (inl now)) e = absurd cc
@@ -68,7 +68,7 @@ open_more here J (Conviction p) l may before x (inr never) e = never
 open_more here J (Held value) l may before x (inl old) e = before x old e
 open_more here J (Held value) l may before x (inr never) e = never
 
-open_end : (here : Setting) (J : List Record) → IsLawful here J → IsOpen J
+pub open_end : (here : Setting) (J : List Record) → IsLawful here J → IsOpen J
 open_end here J l = lawful_from_end here IsOpen (λ x never e. never)
     (λ J r l allowed before x on e. open_more here J r l allowed.may before x (flat_cases own_by (statement.Update x) J r on) (e ∙ last_own-pushed J r)) J l
 
@@ -81,22 +81,23 @@ not_back t u e earlier = elim (or_cases (nat_le u.seq t.seq) (nat_le u.clock t.c
   | inr le ↦ omega (arith, leb-true _ _ le, earlier.clock)
 ]
 
-put_agrees : (here : Setting) (J : List Record) (w : Update) (value : List ℕ) (k : Kind) (a : Statement) → IsLawful here J → MayPut here J w value → IsIn a (own J) → is_of_kind k a (statement.Update w) ≡ true → ⊥
-unfolding is_of_kind next_own
-put_agrees here J w value SameNumber a l may on e =
+put_agrees : (here : Setting) (J : List Record) (w : Update) (values : List (List ℕ)) (k : Kind) (a : Statement) → IsLawful here J → MayPut here J w values → IsIn a (own J) → is_of_kind k a (statement.Update w) ≡ true → ⊥
+unfolding is_of_kind
+put_agrees here J w values SameNumber a l may on e =
     let below = own_seq here J l a on in
     let same : seq_of a ≡ w.seq = eqb-true _ _ e in
-    let next : w.seq ≡ length (own J) = ap (λ (x : Update). x.seq) may.next in
+    let next : w.seq ≡ length (own J) = ap (λ (x : Update). x.seq) (next_of may) in
     omega arith
-put_agrees here J w value SamePrev (statement.Update x) l may on e = open_end here J l x on ((bytes_eq-Decides x.prev w.prev).0 e ∙ ap (λ (x : Update). x.prev) may.next)
-put_agrees here J w value SamePrev (statement.Voucher v) l may on e = absurd cc
-put_agrees here J w value Backward (statement.Update x) l may on e = elim (or_cases (goes_back x w) (goes_back w x) e) [
-  | inl back ↦ not_back x w back (below_next here J x w (key_written w) value l may.next on)
+put_agrees here J w values SamePrev (statement.Update x) l may on e = open_end here J l x on ((bytes_eq-Decides x.prev w.prev).0 e ∙ ap (λ (x : Update). x.prev) (next_of may))
+put_agrees here J w values SamePrev (statement.Voucher v) l may on e = absurd cc
+put_agrees here J w values Backward (statement.Update x) l may on e = elim (or_cases (goes_back x w) (goes_back w x) e) [
+  | inl back ↦ not_back x w back (below_next here J x w l (next_of may) on)
   | inr ahead ↦
       let named : x.prev ≡ id_of_update w = (prevs_is x (id_of_update w) (among_to (id_of_update w) (prevs x) (and_parts _ _ ahead).0)).0 in
       not_named J w x may.fresh (accepted_prev here J x l (own_in_accepted x J on)) named
 ]
-put_agrees here J w value Backward (statement.Voucher v) l may on e = absurd cc
+put_agrees here J w values Backward (statement.Voucher v) l may on e = absurd cc
+put_agrees here J w values NotUpdate a l may on e = absurd cc
 
 voucher_agrees : (here : Setting) (J : List Record) (v : Voucher) (k : Kind) (a : Statement) → IsLawful here J → MayVouch here J v → IsIn a (own J) → is_of_kind k a (statement.Voucher v) ≡ true → ⊥
 unfolding is_of_kind
@@ -109,6 +110,7 @@ voucher_agrees here J v SamePrev (statement.Update x) l may on e = absurd cc
 voucher_agrees here J v SamePrev (statement.Voucher w) l may on e = absurd cc
 voucher_agrees here J v Backward (statement.Update x) l may on e = absurd cc
 voucher_agrees here J v Backward (statement.Voucher w) l may on e = absurd cc
+voucher_agrees here J v NotUpdate a l may on e = absurd cc
 
 of_kind : (k : Kind) (a b : Statement) → contradicts k a b ≡ true → is_of_kind k a b ≡ true
 unfolding contradicts
@@ -116,8 +118,8 @@ of_kind k a b e = (and_parts _ _ e).1
 
 -- an own statement agrees with those before it
 agrees : (here : Setting) (J : List Record) (r : Record) (a b : Statement) → IsLawful here J → MayFollow here J r → IsIn a (own J) → IsIn b (own_by r) → (k : Kind) → contradicts k a b ≡ true → ⊥
-agrees here J (OwnPut w value) a b l may on (inl same) k e = put_agrees here J w value k a l may on (of_kind k a (statement.Update w) (subst (λ (x : Statement). contradicts k a x ≡ true) (sym same) e))
-agrees here J (OwnPut w value) a b l may on (inr never) k e = never
+agrees here J (OwnPut w values) a b l may on (inl same) k e = put_agrees here J w values k a l may on (of_kind k a (statement.Update w) (subst (λ (x : Statement). contradicts k a x ≡ true) (sym same) e))
+agrees here J (OwnPut w values) a b l may on (inr never) k e = never
 agrees here J (OwnVoucher v) a b l may on (inl same) k e = voucher_agrees here J v k a l may on (of_kind k a (statement.Voucher v) (subst (λ (x : Statement). contradicts k a x ≡ true) (sym same) e))
 agrees here J (OwnVoucher v) a b l may on (inr never) k e = never
 agrees here J (Birth node roster) a b l may on never k e = never
@@ -128,7 +130,7 @@ agrees here J (Held value) a b l may on never k e = never
 -- ---- all own statements
 
 -- a record tells of one own statement at most
-same_own : (r : Record) (a b : Statement) → IsIn a (own_by r) → IsIn b (own_by r) → a ≡ b
+pub same_own : (r : Record) (a b : Statement) → IsIn a (own_by r) → IsIn b (own_by r) → a ≡ b
 same_own (OwnPut w value) a b (inl p) (inl q) = sym p ∙ q
 same_own (OwnPut w value) a b (inl p) (inr never) = absurd never
 same_own (OwnPut w value) a b (inr never) q = absurd never

@@ -1,6 +1,6 @@
 -- A node's own statements: the node is their writer, they are numbered in turn, and each own update is an earlier step than
 -- the next one.
-use Rattle.std.proofs.Common.{◌≡◌, ℕ, ◌+◌, ◌<◌, List, length, refl, sym, ap, ◌∙◌, inl, inr, arith, length-append}
+use Rattle.std.proofs.Common.{◌≡◌, ◌+◌, ◌<◌, List, length, refl, sym, ap, ◌∙◌, inl, inr, arith, length-append}
 use Rattle.depot_base.specs.Statement.{writer_of, seq_of}
 use Rattle.depot_base.specs.declared.update.Update.{Update}
 use Rattle.depot_base.specs.declared.statement.Statement.{Statement}
@@ -11,25 +11,25 @@ use Rattle.depot_model.specs.Lists.{IsIn}
 use Rattle.depot_model.specs.History.{greatest_clock}
 use Rattle.depot_model.specs.Journal.{accepted, own, own_by}
 use Rattle.depot_model.specs.Checks.{Setting}
-use Rattle.depot_model.specs.Own.{next_own}
+use Rattle.depot_model.specs.Own.{next_with}
 use Rattle.depot_model.specs.Lawful.{MayFollow, IsLawful}
 use Rattle.depot_model.specs.Chains.{IsEarlierStep}
 use Rattle.depot_base.proofs.GeneralLaws.{flat_push}
 use Rattle.depot_laws.proofs.Splits.{given_by, flat_cases, lawful_from_end}
 use Rattle.depot_laws.proofs.Causes.{own_in_accepted}
 use Rattle.depot_laws.proofs.Clocks.{clock_below}
+use Rattle.depot_laws.proofs.Nexts.{next_of}
 
 -- what an own statement has: the node as its writer, and the next number
-record IsNextOwn (here : Setting) (J : List Record) (r : Record) (s : Statement) : Type 0 where
+pub record IsNextOwn (here : Setting) (J : List Record) (r : Record) (s : Statement) : Type 0 where
   pub writer : writer_of s ≡ here.me
   pub seq : seq_of s ≡ length (own J)
   pub one : length (own_by r) ≡ 1
 
-next_own_is : (here : Setting) (J : List Record) (r : Record) (s : Statement) → MayFollow here J r → IsIn s (own_by r) → IsNextOwn here J r s
-unfolding next_own
+pub next_own_is : (here : Setting) (J : List Record) (r : Record) (s : Statement) → MayFollow here J r → IsIn s (own_by r) → IsNextOwn here J r s
 next_own_is here J (Birth node roster) s may never = absurd never
-next_own_is here J (OwnPut u value) s may (inl e) = record { writer = ap writer_of (sym e) ∙ ap (λ (x : Update). x.writer) may.next; seq = ap seq_of (sym e) ∙ ap (λ (x : Update). x.seq) may.next; one = refl }
-next_own_is here J (OwnPut u value) s may (inr never) = absurd never
+next_own_is here J (OwnPut u values) s may (inl e) = record { writer = ap writer_of (sym e) ∙ ap (λ (x : Update). x.writer) (next_of may); seq = ap seq_of (sym e) ∙ ap (λ (x : Update). x.seq) (next_of may); one = refl }
+next_own_is here J (OwnPut u values) s may (inr never) = absurd never
 next_own_is here J (OwnVoucher v) s may (inl e) = record { writer = ap writer_of (sym e) ∙ may.node; seq = ap seq_of (sym e) ∙ may.seq; one = refl }
 next_own_is here J (OwnVoucher v) s may (inr never) = absurd never
 next_own_is here J (Foreign t) s may never = absurd never
@@ -51,9 +51,8 @@ own_seq here J l = lawful_from_end here (λ (J : List Record). (s : Statement) �
     ]) J l
 
 -- an own update is an earlier step than the next one
-pub below_next : (here : Setting) (J : List Record) (t u : Update) (key value : List ℕ) → IsLawful here J → u ≡ next_own here.me J key value → IsIn (statement.Update t) (own J) → IsEarlierStep t u
-unfolding next_own
-below_next here J t u key value l next on =
+pub below_next : (here : Setting) (J : List Record) (t u : Update) → IsLawful here J → u ≡ next_with here.me J u.writes → IsIn (statement.Update t) (own J) → IsEarlierStep t u
+below_next here J t u l next on =
     let seq : u.seq ≡ length (own J) = ap (λ (x : Update). x.seq) next in
     let clock : u.clock ≡ greatest_clock (accepted J) + 1 = ap (λ (x : Update). x.clock) next in
     record { seq = omega (arith, seq, own_seq here J l (statement.Update t) on); clock = omega (arith, clock, clock_below t (accepted J) (own_in_accepted t J on)) }

@@ -17,7 +17,6 @@ use Rattle.depot_model.proofs.Members.{all_at, all_from, any_to, among_to, chose
 use Rattle.depot_model.proofs.Orders.{parent_is_there}
 use Rattle.depot_model.proofs.Pasts.{past_in, past_takes}
 use Rattle.depot_model.specs.World.{Correct, World, setting_of, IsWorld, IsCollisionFree}
-use Rattle.depot_model.specs.Contents.{key_written}
 use Rattle.depot_laws.specs.Parents.{HasParents}
 use Rattle.depot_laws.proofs.Splits.{lawful_before}
 use Rattle.depot_model.proofs.NamedIds.{has_id_from, has_id_to, named_some}
@@ -28,7 +27,8 @@ use Rattle.depot_laws.proofs.Follows.{prev_is_parent, entry_is_parent}
 use Rattle.depot_laws.proofs.OwnContent.{own_passes}
 use Rattle.depot_model.proofs.RisingLists.{HaveSame}
 use Rattle.depot_laws.proofs.Histories.{same_history}
-use Rattle.depot_laws.proofs.Worlds.{taken_in, write_from, journal_lawful, taken_lawful, one_write}
+use Rattle.depot_laws.proofs.Worlds.{one_text, taken_in, write_from, journal_lawful, taken_lawful, one_write}
+use Rattle.depot_laws.proofs.Nexts.{next_of}
 
 -- ---- two lists
 
@@ -123,7 +123,7 @@ are_there J u all h on =
 
 module _ (W : World) (world : IsWorld W) (free : IsCollisionFree W) (c d : Correct) (c_on : IsIn c W.nodes) (d_on : IsIn d W.nodes) (m n : ℕ) where
   agree_on_ids : AgreeOnIds (accepted (take m c.journal)) (accepted (take n d.journal))
-  agree_on_ids t u t_on u_on e = one_write W world free t u (write_from W c t c_on (taken_in accepted_by t m c.journal t_on)) (write_from W d u d_on (taken_in accepted_by u n d.journal u_on)) e
+  agree_on_ids t u t_on u_on e = one_write W world (one_text W free) t u (write_from W c t c_on (taken_in accepted_by t m c.journal t_on)) (write_from W d u d_on (taken_in accepted_by u n d.journal u_on)) e
 
   module _ (u : Update) (there_c : HasParents (take m c.journal) u) (there_d : HasParents (take n d.journal) u) where
     pub pasts_agree : HaveSame (past u (accepted (take m c.journal))) (past u (accepted (take n d.journal)))
@@ -145,13 +145,13 @@ has_parents : (J : List Record) (u : Update) → AreThere (accepted J) u → Has
 has_parents J u there = all_from (λ (h : List ℕ). has_id (accepted J) h ≡ true) (parents u) (λ h on. let t = there h on in has_id_from (accepted J) h t.update t.on t.id)
 
 -- what a correct node put passes the checks of its content wherever its parents are accepted
-pub own_passes_there : (W : World) (c d : Correct) (before : List Record) (u : Update) (value : List ℕ) (after : List Record) (n : ℕ) → IsWorld W → IsCollisionFree W → IsIn c W.nodes → IsIn d W.nodes → c.journal ≡ before ++ OwnPut u value ∷ after → HasParents (take n d.journal) u
+pub own_passes_there : (W : World) (c d : Correct) (before : List Record) (u : Update) (values : List (List ℕ)) (after : List Record) (n : ℕ) → IsWorld W → IsCollisionFree W → IsIn c W.nodes → IsIn d W.nodes → c.journal ≡ before ++ OwnPut u values ∷ after → HasParents (take n d.journal) u
     → first (content_of (take n d.journal) (statement.Update u)) ≡ None
-own_passes_there W c d before u value after n world free c_on d_on is there =
+own_passes_there W c d before u values after n world free c_on d_on is there =
     let here = setting_of W c in
-    let may : MayPut here before u value = ((journal_lawful W world c c_on).each before (OwnPut u value) after is).may in
-    let lawful = lawful_before here c.journal before (OwnPut u value) after (journal_lawful W world c c_on) is in
-    let front : take (length before) c.journal ≡ before = ap (take (length before)) is ∙ take-append_seam before (OwnPut u value ∷ after) in
-    let mine = has_parents before u (own_joins c.node before u (key_written u) value may.next may.fresh).there in
+    let may : MayPut here before u values = ((journal_lawful W world c c_on).each before (OwnPut u values) after is).may in
+    let lawful = lawful_before here c.journal before (OwnPut u values) after (journal_lawful W world c c_on) is in
+    let front : take (length before) c.journal ≡ before = ap (take (length before)) is ∙ take-append_seam before (OwnPut u values ∷ after) in
+    let mine = has_parents before u (own_joins c.node before u (next_of may) may.fresh).there in
     let same = contents_agree W world free c d c_on d_on (length before) n u (subst (λ (J : List Record). HasParents J u) (sym front) mine) there in
-    ap first (sym same ∙ ap (λ (J : List Record). content_of J (statement.Update u)) front) ∙ own_passes here before u value lawful may.next may.fresh
+    ap first (sym same ∙ ap (λ (J : List Record). content_of J (statement.Update u)) front) ∙ own_passes here before u lawful (next_of may) may.fresh

@@ -8,7 +8,7 @@ use Rattle.depot_base.specs.declared.record.Record.TheVariants.{Birth, OwnPut, O
 use Rattle.depot_model.specs.Lists.{IsIn}
 use Rattle.depot_model.proofs.Members.{in_parts, in_right}
 use Rattle.depot_model.proofs.Orders.{leads_one}
-use Rattle.depot_model.specs.World.{Correct, World, IsWorld, IsCollisionFree}
+use Rattle.depot_model.specs.World.{Correct, World, IsWorld}
 use Rattle.depot_model.specs.Causality.{Operation, write, read_at, puts_of, Edge, ObservedBefore, IsOf, StandsBefore, MadeBefore, IsLine}
 use Rattle.std.proofs.lemmas.Bool.{cases_order}
 use Rattle.depot_laws.proofs.Puts.{put_by, PutAt, put_at, put_is_accepted}
@@ -19,7 +19,7 @@ use Rattle.depot_base.proofs.GeneralLaws.{same_at}
 -- ---- one before another
 
 -- x stands before y in a list
-abbrev Stands : {X : Type 0} → X → X → List X → Type 0
+abbrev pub Stands : {X : Type 0} → X → X → List X → Type 0
 Stands x y [] = ⊥
 Stands x y (z ∷ zs) = ((z ≡ x) × IsIn y zs) ⊎ Stands x y zs
 
@@ -35,7 +35,7 @@ around u (x ∷ us) (inl here) = record { front = []; behind = us; parts = ap (�
 around u (x ∷ us) (inr there) = let a = around u us there in record { front = x ∷ a.front; behind = a.behind; parts = ap (λ (ys : List Update). x ∷ ys) a.parts }
 
 -- it stands in what is in front of the other
-stands_before : (t u : Update) (us : List Update) → Stands t u us → StandsBefore us t u
+pub stands_before : (t u : Update) (us : List Update) → Stands t u us → StandsBefore us t u
 stands_before t u [] never = absurd never
 stands_before t u (x ∷ us) (inl first) = let a = around u us first.1 in record { front = x ∷ a.front; behind = a.behind; parts = ap (λ (ys : List Update). x ∷ ys) a.parts; earlier = inl first.0 }
 stands_before t u (x ∷ us) (inr later) =
@@ -55,7 +55,7 @@ stands t u (x ∷ us) (y ∷ front) behind parts on =
     ]
 
 -- two of a list are one, or one stands before the other
-stand : {X : Type 0} (x y : X) (xs : List X) → IsIn x xs → IsIn y xs → (x ≡ y) ⊎ (Stands x y xs ⊎ Stands y x xs)
+pub stand : {X : Type 0} (x y : X) (xs : List X) → IsIn x xs → IsIn y xs → (x ≡ y) ⊎ (Stands x y xs ⊎ Stands y x xs)
 stand x y [] never on = absurd never
 stand x y (z ∷ zs) (inl one) (inl two) = inl (sym one ∙ two)
 stand x y (z ∷ zs) (inl one) (inr two) = inr (inl (inl (one, two)))
@@ -72,25 +72,25 @@ put_parts : (u : Update) (n : ℕ) (J : List Record) → IsIn u (puts_of J) → 
 put_parts u n J on = in_parts u (puts_of (take n J)) (puts_of (drop n J)) (subst (λ (us : List Update). IsIn u us) (ap puts_of (sym (take-append-drop n J)) ∙ flat_map-append put_by (take n J) (drop n J)) on)
 
 -- an own update that was put before another
-record PutAfter (t u : Update) (J : List Record) : Type 0 where
+pub record PutAfter (t u : Update) (J : List Record) : Type 0 where
   pub put : PutAt u J
   pub earlier : IsIn t (puts_of put.before)
 
 behind_one : (t u : Update) (r : Record) (J : List Record) → PutAfter t u J → PutAfter t u (r ∷ J)
 behind_one t u r J p = record {
-  put = record { before = r ∷ p.put.before; value = p.put.value; after = p.put.after; is = ap (λ (K : List Record). r ∷ K) p.put.is };
+  put = record { before = r ∷ p.put.before; values = p.put.values; after = p.put.after; is = ap (λ (K : List Record). r ∷ K) p.put.is };
   earlier = in_right t (put_by r) (puts_of p.put.before) p.earlier;
 }
 
-put_after : (t u : Update) (J : List Record) → Stands t u (puts_of J) → PutAfter t u J
+pub put_after : (t u : Update) (J : List Record) → Stands t u (puts_of J) → PutAfter t u J
 put_after t u [] never = absurd never
-put_after t u (OwnPut w value ∷ J) (inl first) =
+put_after t u (OwnPut w values ∷ J) (inl first) =
     let p = put_at u J first.1 in
     record {
-      put = record { before = OwnPut w value ∷ p.before; value = p.value; after = p.after; is = ap (λ (K : List Record). OwnPut w value ∷ K) p.is };
+      put = record { before = OwnPut w values ∷ p.before; values = p.values; after = p.after; is = ap (λ (K : List Record). OwnPut w values ∷ K) p.is };
       earlier = inl first.0;
     }
-put_after t u (OwnPut w value ∷ J) (inr later) = behind_one t u (OwnPut w value) J (put_after t u J later)
+put_after t u (OwnPut w values ∷ J) (inr later) = behind_one t u (OwnPut w values) J (put_after t u J later)
 put_after t u (Birth node h ∷ J) later = behind_one t u (Birth node h) J (put_after t u J later)
 put_after t u (OwnVoucher v ∷ J) later = behind_one t u (OwnVoucher v) J (put_after t u J later)
 put_after t u (Foreign s ∷ J) later = behind_one t u (Foreign s) J (put_after t u J later)
@@ -115,12 +115,12 @@ total c (read_at d i r) (read_at e j s) one two = elim (cases_order i j) [
   | inr other ↦ inr other
 ]
 
-module _ (W : World) (world : IsWorld W) (free : IsCollisionFree W) where
+module _ (W : World) (world : IsWorld W) where
   -- what was made before is observed before
   order : (c : Correct) → IsIn c W.nodes → (a b : Operation) → IsOf c a → IsOf c b → MadeBefore c a b → ObservedBefore W a b
   order c c_on (write t) (write u) one two made =
       let p = put_after t u c.journal (stands t u (puts_of c.journal) made.front made.behind made.parts made.earlier) in
-      writes_follow W world free c c_on p.put.before (OwnPut u p.put.value) p.put.after p.put.is t u (put_is_accepted t p.put.before p.earlier) (inl refl)
+      writes_follow W world c c_on p.put.before (OwnPut u p.put.values) p.put.after p.put.is t u (put_is_accepted t p.put.before p.earlier) (inl refl)
   order c c_on (write u) (read_at d place r) one two made = subst (λ (x : Correct). ObservedBefore W (write u) (read_at x place r)) (sym two.0) (leads_one (Edge W) (write u) (read_at c place r) (record {
     above = write_from W c u c_on (put_is_accepted u c.journal one);
     below = (c_on, two.1);

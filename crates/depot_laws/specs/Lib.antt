@@ -4,3 +4,5 @@ pub mod Parents
 pub mod Verdicts
 pub mod Streams
 pub mod Rejoin
+pub mod OneText
+pub mod ToReads

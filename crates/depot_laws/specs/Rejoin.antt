@@ -1,5 +1,5 @@
 -- Two histories that rejoin: a node takes what another one sends for its hello.
-use Rattle.std.specs.Prelude.{◌≡◌, ℕ, ◌≤◌, List, [], ◌++◌, length, true, Some, ◌⊎◌, ◌↔◌}
+use Rattle.std.specs.Prelude.{◌≡◌, ℕ, ◌≤◌, List, [], ◌∷◌, ◌++◌, length, true, Some, ◌⊎◌, ◌↔◌}
 use Rattle.std.specs.List.{flat_map}
 use Rattle.depot_base.specs.declared.limits.TheConstants.{MOST_SIGNATURE}
 use Rattle.depot_base.specs.Statement.{writer_of}
@@ -12,6 +12,7 @@ use Rattle.depot_model.specs.declared.hello.Hello.{Hello}
 use Rattle.depot_model.specs.declared.bundle.Ending.TheVariants as ending
 use Rattle.depot_model.specs.Lists.{IsIn}
 use Rattle.depot_model.specs.Texts.{id_of_update}
+use Rattle.depot_model.specs.Order.{parents}
 use Rattle.depot_model.specs.Contradictions.{contradicts}
 use Rattle.depot_model.specs.Roster.{is_signed}
 use Rattle.depot_model.specs.Journal.{accepted, own, foreign, update_in, is_convicted, held_as}
@@ -49,6 +50,10 @@ pub record HasOrGets (a : Correct) (front : List Update) (h : List ℕ) : Type 0
   pub parent : Update
   pub id : id_of_update parent ≡ h
   pub on : IsIn parent (accepted a.journal) ⊎ IsIn parent front
+
+-- each parent of each of these updates is one that the reader accepted, or one of those in front of it
+abbrev pub ComeInOrder : Correct → List Update → Type 0
+ComeInOrder a us = (front : List Update) (u : Update) (behind : List Update) → us ≡ front ++ u ∷ behind → (h : List ℕ) → IsIn h (parents u) → HasOrGets a front h
 
 -- the signature isn't too long, and verifies under the writer's key
 pub record IsWellSigned (W : World) (s : Signed) : Type 0 where

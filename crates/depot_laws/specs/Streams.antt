@@ -1,7 +1,7 @@
--- Feeds of whole frames, and what a feed keeps.
-use Rattle.std.specs.Prelude.{◌≡◌, ℕ, ◌<◌, List, [], ◌∷◌, length, false, is_some, slice_index}
+-- Feeds of whole frames, what a feed keeps, and what stands at a place of a stream.
+use Rattle.std.specs.Prelude.{◌≡◌, ℕ, ◌<◌, List, [], ◌∷◌, ◌++◌, length, false, is_some, slice_index}
 use Rattle.depot_model.specs.Checks.{Setting}
-use Rattle.depot_model.specs.Frames.{Frame, text_of_frame}
+use Rattle.depot_model.specs.Frames.{Frame, text_of_frame, IsFrame}
 use Rattle.depot_model.specs.Feeding.{Feeding, fed, fed_frame, is_over}
 use Rattle.depot_model.specs.Lawful.{IsLawful, is_empty}
 
@@ -29,3 +29,17 @@ pub record IsInOrder (here : Setting) (s : Feeding) : Type 0 where
   pub lawful : IsLawful here s.journal
   pub some : is_empty s.journal ≡ false
   pub bytes : AreBytes s.begun
+
+-- the text of this frame stands in front of the bytes
+pub record BeginsWith (bytes : List ℕ) (f : Frame) : Type 0 where
+  pub good : IsFrame f
+  pub rest : List ℕ
+  pub is : bytes ≡ text_of_frame f ++ rest
+
+-- the text of a frame begins with these bytes, and some of it is still to come
+pub record IsBegun (bytes : List ℕ) : Type 0 where
+  pub frame : Frame
+  pub good : IsFrame frame
+  pub more : List ℕ
+  pub some : 0 < length more
+  pub is : bytes ++ more ≡ text_of_frame frame

@@ -1,18 +1,24 @@
 //! What holds of each world of correct nodes.
-ghost use Rattle.std.specs.Prelude.{◌≡◌, ℕ, List, [], ◌∷◌, ◌++◌, take, None, ◌↔◌};
+ghost use Rattle.std.specs.Prelude.{◌≡◌, ℕ, List, [], ◌∷◌, ◌++◌, take, map, None, ◌↔◌};
 ghost use Rattle.depot_base.specs.declared.update.Update.{Update};
 ghost use Rattle.depot_base.specs.declared.statement.Statement.TheVariants as statement;
+ghost use Rattle.depot_base.specs.Statement.{writer_of};
+ghost use Rattle.depot_base.specs.declared.statement.Signed.{Signed};
+ghost use Rattle.depot_base.specs.declared.proof.Kind.{Kind};
+ghost use Rattle.depot_base.specs.declared.proof.Proof.{Proof};
+ghost use Rattle.depot_base.specs.declared.proof.Proof.TheVariants.{Pair};
 ghost use Rattle.depot_base.specs.declared.record.Record.{Record};
 ghost use Rattle.depot_base.specs.declared.record.Record.TheVariants.{OwnPut};
-ghost use Rattle.depot_model.specs.Contents.{key_written};
 ghost use Rattle.depot_model.specs.Lists.{IsIn, first};
-ghost use Rattle.depot_model.specs.Texts.{id_of_update};
+ghost use Rattle.depot_model.specs.Texts.{IsProof, id_of_update};
 ghost use Rattle.depot_model.specs.Order.{Precedes, past};
+ghost use Rattle.depot_model.specs.Items.{AreDistinct};
+ghost use Rattle.depot_model.specs.Judgement.{first_failed_point};
 ghost use Rattle.depot_model.specs.Journal.{accepted};
-ghost use Rattle.depot_model.specs.Own.{next_own, IsFresh};
+ghost use Rattle.depot_model.specs.Own.{next_with, IsFresh};
 ghost use Rattle.depot_model.specs.Checks.{Setting, sight, content_of};
 ghost use Rattle.depot_model.specs.Lawful.{IsLawful};
-ghost use Rattle.depot_model.specs.World.{Correct, World, IsWorld, IsAuthentic, IsCollisionFree};
+ghost use Rattle.depot_model.specs.World.{Correct, World, IsCorrect, IsWorld, IsAuthentic, IsCollisionFree, proofs_of};
 ghost use Rattle.depot_model.specs.Causality.{puts_of, IsForkJoinCausal, ConvictsNoCorrectNode};
 ghost use Rattle.depot_laws.specs.Parents.{HasParents};
 
@@ -20,15 +26,15 @@ ghost use Rattle.depot_laws.specs.Parents.{HasParents};
 /// entry, or precedes the last own update. So in a lawful journal an own update has in its past all that was accepted
 /// before it. With a fresh id, the next own update passes the checks of its content where it is put.
 pub fn own_puts_follow_all()
-    ensures precedes { (here : Setting) (J : List Record) (u t : Update) (value : List ℕ) → IsLawful here J → u ≡ next_own here.me J (key_written u) value → IsIn t (accepted J) → Precedes (accepted J ++ u ∷ []) t u }
-    ensures recorded { (here : Setting) (J after : List Record) (u t : Update) (value : List ℕ) → IsLawful here (J ++ OwnPut u value ∷ after) → IsIn t (accepted J) → Precedes (accepted (J ++ OwnPut u value ∷ after)) t u }
-    ensures past { (here : Setting) (J : List Record) (u : Update) (value : List ℕ) → IsLawful here J → u ≡ next_own here.me J (key_written u) value → past u (accepted J) ≡ accepted J }
-    ensures content { (here : Setting) (J : List Record) (u : Update) (value : List ℕ) → IsLawful here J → u ≡ next_own here.me J (key_written u) value → IsFresh J (id_of_update u) → first (content_of J (statement.Update u)) ≡ None }
+    ensures precedes { (here : Setting) (J : List Record) (u t : Update) → IsLawful here J → u ≡ next_with here.me J u.writes → IsIn t (accepted J) → Precedes (accepted J ++ u ∷ []) t u }
+    ensures recorded { (here : Setting) (J after : List Record) (u t : Update) (values : List (List ℕ)) → IsLawful here (J ++ OwnPut u values ∷ after) → IsIn t (accepted J) → Precedes (accepted (J ++ OwnPut u values ∷ after)) t u }
+    ensures past { (here : Setting) (J : List Record) (u : Update) → IsLawful here J → u ≡ next_with here.me J u.writes → past u (accepted J) ≡ accepted J }
+    ensures content { (here : Setting) (J : List Record) (u : Update) → IsLawful here J → u ≡ next_with here.me J u.writes → IsFresh J (id_of_update u) → first (content_of J (statement.Update u)) ≡ None }
 {}
 
 /// Of the records of a lawful journal one alone puts an update.
 pub fn own_puts_stand_once()
-    ensures { (here : Setting) (before after : List Record) (u : Update) (value : List ℕ) → IsLawful here (before ++ OwnPut u value ∷ after) → IsIn u (puts_of (before ++ after)) → ⊥ }
+    ensures { (here : Setting) (before after : List Record) (u : Update) (values : List (List ℕ)) → IsLawful here (before ++ OwnPut u values ∷ after) → IsIn u (puts_of (before ++ after)) → ⊥ }
 {}
 
 /// Where no two hashed texts of a world collide, an update whose parents two nodes have accepted, each by some length of
@@ -42,14 +48,23 @@ pub fn pasts_agree()
 
 /// So an update that a correct node put passes the checks of its content at each node that has accepted its parents.
 pub fn own_puts_pass_everywhere()
-    ensures { (W : World) (c d : Correct) (before : List Record) (u : Update) (value : List ℕ) (after : List Record) (n : ℕ) → IsWorld W → IsCollisionFree W → IsIn c W.nodes → IsIn d W.nodes → c.journal ≡ before ++ OwnPut u value ∷ after → HasParents (take n d.journal) u → first (content_of (take n d.journal) (statement.Update u)) ≡ None }
+    ensures { (W : World) (c d : Correct) (before : List Record) (u : Update) (values : List (List ℕ)) (after : List Record) (n : ℕ) → IsWorld W → IsCollisionFree W → IsIn c W.nodes → IsIn d W.nodes → c.journal ≡ before ++ OwnPut u values ∷ after → HasParents (take n d.journal) u → first (content_of (take n d.journal) (statement.Update u)) ≡ None }
+{}
+
+/// Correct nodes under one scheme and one roster make a world, each with its reads, as long as no two have one number. Whatever
+/// proofs with a text and a verdict were judged belong to it too.
+pub fn correct_nodes_make_a_world()
+    ensures { (W : World) → AreDistinct (map (λ c. c.node) W.nodes) → ((c : Correct) → IsIn c W.nodes → IsCorrect (record { verifies = W.verifies; listed = W.listed; nodes = []; judged = [] }) c) → ((p : Proof) → IsIn p W.judged → IsProof p × (first_failed_point W.verifies W.listed p ≡ None)) → IsWorld W }
 {}
 
 /// Whatever the nodes of a world were given, while no correct node's signature was forged and no two hashed texts collide:
 /// observation is one strict partial order, in which each correct node's operations form a chain, all that it accepted
 /// precedes what it then writes, and each read gives exactly the latest writes that precede it; and forks are separate
-/// branches. No conviction and no judged proof names a correct node, whether hashes collide or not.
+/// branches. No conviction and no judged proof names a correct node. For proofs of two statements that holds whether hashes
+/// collide or not. A voucher names updates by their hashes, so another text with the hash of one of them would seem to show
+/// that its node misbehaved.
 pub fn fjc_law()
     ensures causal { (W : World) → IsWorld W → IsAuthentic W → IsCollisionFree W → IsForkJoinCausal W }
-    ensures convicts { (W : World) → IsWorld W → IsAuthentic W → ConvictsNoCorrectNode W }
+    ensures convicts { (W : World) → IsWorld W → IsAuthentic W → IsCollisionFree W → ConvictsNoCorrectNode W }
+    ensures pairs { (W : World) (c : Correct) (kind : Kind) (first second : Signed) → IsWorld W → IsAuthentic W → IsIn c W.nodes → IsIn (Pair kind first second) (proofs_of W) → writer_of first.statement ≡ c.node → ⊥ }
 {}

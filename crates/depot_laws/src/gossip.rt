@@ -1,5 +1,5 @@
 //! What nodes send each other: bundles, feeds, and histories that rejoin.
-ghost use Rattle.std.specs.Prelude.{◌≡◌, ◌≤◌, ℕ, List, [], ◌∷◌, ◌++◌, length, false, Some, ◌⊎◌};
+ghost use Rattle.std.specs.Prelude.{◌≡◌, ◌↔◌, ◌≤◌, ℕ, List, [], ◌∷◌, ◌++◌, length, false, Some, ◌⊎◌};
 ghost use Rattle.std.specs.List.{AllByRecursion, flat_map};
 ghost use Rattle.depot_base.specs.declared.limits.TheConstants.{MOST_FRAMES};
 ghost use Rattle.depot_base.specs.declared.update.Update.{Update};
@@ -8,17 +8,16 @@ ghost use Rattle.depot_base.specs.declared.check.Full.{Full};
 ghost use Rattle.depot_model.specs.declared.hello.Hello.{Hello};
 ghost use Rattle.depot_model.specs.Lists.{IsIn};
 ghost use Rattle.depot_model.specs.Texts.{IsRoster};
-ghost use Rattle.depot_model.specs.Order.{parents};
 ghost use Rattle.depot_model.specs.Journal.{accepted};
 ghost use Rattle.depot_model.specs.Checks.{Setting};
 ghost use Rattle.depot_model.specs.Lawful.{IsLawful, is_empty};
 ghost use Rattle.depot_model.specs.Hello.{IsHello, hello_of};
-ghost use Rattle.depot_model.specs.Frames.{Frame, text_of_frame, IsFrame};
+ghost use Rattle.depot_model.specs.Frames.{Frame, text_of_frame, IsFrame, whole_frame, open_frame, no_frame, frame_at};
 ghost use Rattle.depot_model.specs.Bundle.{Signs, sent_for, bundle_of, bytes_of_bundle};
 ghost use Rattle.depot_model.specs.Feeding.{Feeding, out_of_room, feeding_from, fed};
 ghost use Rattle.depot_model.specs.World.{Correct, World, setting_of, IsWorld, IsAuthentic, IsCollisionFree};
-ghost use Rattle.depot_laws.specs.Streams.{fed_pieces, fed_frames, StaysOpen, AreBytes, IsInOrder};
-ghost use Rattle.depot_laws.specs.Rejoin.{updates_of, hello_at, bundle_at, Hears, HasOrGets, Meet, HasRejoined};
+ghost use Rattle.depot_laws.specs.Streams.{fed_pieces, fed_frames, StaysOpen, AreBytes, IsInOrder, BeginsWith, IsBegun};
+ghost use Rattle.depot_laws.specs.Rejoin.{updates_of, hello_at, bundle_at, Hears, ComeInOrder, Meet, HasRejoined};
 
 /// The hello of a lawful journal has a text: it names at most 256 convicted nodes, 4,097 leaves and 1,024 wanted hashes, each in
 /// rising order.
@@ -31,6 +30,14 @@ pub fn hellos_have_a_text()
 pub fn feeds_take_frames()
     ensures pieces { (here : Setting) (s : Feeding) (pieces : List (List ℕ)) → fed_pieces here s pieces ≡ fed here s (flat_map (λ p. p) pieces) }
     ensures frames { (here : Setting) (s : Feeding) (fs : List Frame) → AllByRecursion IsFrame fs → s.begun ≡ [] → StaysOpen here s fs → fed here s (flat_map text_of_frame fs) ≡ fed_frames here s fs }
+{}
+
+/// What stands at a place of a stream is told at the first byte that decides it. A whole frame is told exactly where its text stands
+/// in front, an open one exactly where the bytes begin a frame's text, and none exactly where no bytes behind them make one.
+pub fn frames_are_told_at_once()
+    ensures whole { (bytes : List ℕ) (f : Frame) → AreBytes bytes → (frame_at bytes ≡ whole_frame f ↔ BeginsWith bytes f) }
+    ensures begun { (bytes : List ℕ) → AreBytes bytes → (frame_at bytes ≡ open_frame ↔ IsBegun bytes) }
+    ensures none { (bytes : List ℕ) → AreBytes bytes → (frame_at bytes ≡ no_frame ↔ ((f : Frame) (more : List ℕ) → BeginsWith (bytes ++ more) f → ⊥)) }
 {}
 
 /// Whatever bytes a feed is given, a lawful journal stays lawful.
@@ -49,7 +56,7 @@ pub fn bundles_fit_a_stream()
 /// something else. No correct node's signature was forged, and no two hashed texts collide.
 pub fn bundles_are_closed()
     ensures left { (W : World) (a v : Correct) (sign : Signs) (P J : List Record) (u : Update) → IsWorld W → IsAuthentic W → IsCollisionFree W → Hears W a v P J → (bundle_at W a v sign P J).more ≡ false → IsIn u (accepted J) → IsIn u (accepted a.journal) ⊎ IsIn u (updates_of (sent_for sign J (hello_at W a P))) }
-    ensures parents { (W : World) (a v : Correct) (sign : Signs) (P J : List Record) (front behind : List Update) (u : Update) (h : List ℕ) → IsWorld W → IsAuthentic W → IsCollisionFree W → Hears W a v P J → updates_of (sent_for sign J (hello_at W a P)) ≡ front ++ u ∷ behind → IsIn h (parents u) → HasOrGets a front h }
+    ensures parents { (W : World) (a v : Correct) (sign : Signs) (P J : List Record) → IsWorld W → IsAuthentic W → IsCollisionFree W → Hears W a v P J → ComeInOrder a (updates_of (sent_for sign J (hello_at W a P))) }
 {}
 
 /// Where a node takes all of a bundle that another one made for its hello, in whatever pieces, and meets no limit, the two

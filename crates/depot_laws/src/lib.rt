@@ -1,27 +1,39 @@
 //! Laws of the journals that a correct node may have, and of worlds of correct nodes.
 //!
-//! `growth` says how a lawful journal grows: by a birth, by the next own update, and by what a node is given, so a node that
+//! `growth_laws` says how a lawful journal grows: by a birth, by the next own update, and by what a node is given, so a node that
 //! appends what the definitions say keeps its journal lawful. `journals` says what holds of every lawful journal: its own
 //! statements agree with each other, whoever contradicts himself in it is convicted, and nobody else's updates fork.
 //! `causality` says what holds of all correct nodes together: an update has one past everywhere, and what they observe is
 //! fork-join-causal. `gossip` says what they tell one another: hellos and bundles have texts, and histories rejoin. `verdicts`
 //! says when a conviction is allowed, and that a fork or a step back leaves one.
+//! `receipts`, `trimming` and `audits` say when a receipt is true and a put settled, what a reader may give up below a checkpoint,
+//! and when an audit of worlds and traces finds nothing.
 //!
 //! A law is a public function with an empty body, whose contract is the law. This crate computes nothing.
 #![tactic(auto)]
 
+mod audits;
 mod causality;
 mod gossip;
 mod growth_laws;
 mod journals;
+mod receipts;
+mod trimming;
 mod verdicts;
 
+pub use audits::{
+    audits_look_at_writes_alone, audits_say_yes, causal_worlds_get_yes, closures_find_paths,
+    exact_reads_pass, lawful_worlds_are_in_line, observed_is_observation, texts_have_one_fault,
+    traces_get_yes, traces_have_one_finding, worlds_apart_are_ordered,
+    writes_are_observed_by_parents,
+};
 pub use causality::{
-    fjc_law, own_puts_follow_all, own_puts_pass_everywhere, own_puts_stand_once, pasts_agree,
+    correct_nodes_make_a_world, fjc_law, own_puts_follow_all, own_puts_pass_everywhere,
+    own_puts_stand_once, pasts_agree,
 };
 pub use gossip::{
     bundles_are_closed, bundles_fit_a_stream, feeds_keep_journals_lawful, feeds_take_frames,
-    hellos_have_a_text, rejoin_law,
+    frames_are_told_at_once, hellos_have_a_text, rejoin_law,
 };
 pub use growth_laws::{
     a_birth_is_lawful, clocks_are_bounded, growth_keeps_journals_lawful,
@@ -31,5 +43,10 @@ pub use growth_laws::{
 pub use journals::{
     contrary_statements_convict, no_conviction_law, nobody_convicts_itself,
     unconvicted_writers_make_one_chain, writers_make_forests,
+};
+pub use receipts::{receipt_keys, receipts_speak_of_held_values, receipts_stay_true, settled_law};
+pub use trimming::{
+    contrary_statements_name, pruned_journals_answer_alike, superseded_updates_are_trimmed,
+    trim_law, trimmed_updates_are_never_latest,
 };
 pub use verdicts::{convictions_are_verdicts, forks_and_steps_back_convict};

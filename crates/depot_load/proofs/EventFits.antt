@@ -8,8 +8,10 @@ use Rattle.depot_schedule.specs.declared.event.Event.{Event}
 use Rattle.depot_schedule.specs.declared.event.Event.TheVariants.{Put, Get, Hello, Bundle, Give, Restart, Update}
 use Rattle.depot_schedule.specs.declared.event.HistoryWord.TheVariants.{Right}
 use Rattle.depot_schedule.specs.EventLines.{put, get, hello, bundle, give, restart, update}
+use Rattle.depot_schedule.specs.declared.verb.Made.{Made}
+use Rattle.depot_schedule.specs.declared.verb.Wanted.TheVariants as wanted
 use Rattle.depot_schedule.specs.Spelling.{is_letter}
-use Rattle.depot_schedule.specs.Vocabulary.{correct, key, value, new_label, made_label, is_correct, named_by}
+use Rattle.depot_schedule.specs.Vocabulary.{correct, key, value, new_label, made_label, meets, is_correct, named_by}
 use Rattle.depot_schedule.specs.Schedules.{FitsEvent, FitEvents}
 use Rattle.depot_world.proofs.OnlyBytes.{by_places, only_numeral}
 use Rattle.depot_load.specs.Loads.{key_of, value_of, label_of, members, faulty_node, schedule_with, round_update}
@@ -52,8 +54,13 @@ value-fits es t = (refl, by_places (numeral w32 t) (only_numeral w32 t))
 new-fits : (es : List Event) (c n : ℕ) → is_letter c ≡ true → n < 2 ^ 32 → named_by es (label_of c n) ≡ None → new_label.fits (schedule_with es) (label_of c n)
 new-fits es c n letter small none = (is_label_of c n letter small, rw none refl)
 
+-- a label that names something is one that was made
+is_made : (o : Option Made) → is_some o ≡ true → meets wanted.Any o ≡ true
+is_made None e = e
+is_made (Some what) e = refl
+
 made-fits : (es : List Event) (c n : ℕ) → is_letter c ≡ true → n < 2 ^ 32 → is_some (named_by es (label_of c n)) ≡ true → made_label.fits (schedule_with es) (label_of c n)
-made-fits es c n letter small is = (is_label_of c n letter small, is)
+made-fits es c n letter small is = (is_label_of c n letter small, is_made (named_by es (label_of c n)) is)
 
 -- ---- events
 

@@ -1,20 +1,24 @@
 -- Worked examples of feeds: streams of no frames, cut streams, refused frames, and what closes a feed.
-use Rattle.std.proofs.Common.{◌≡◌, ℕ, List, [], ◌∷◌, true, Some, None, refl}
+use Rattle.std.proofs.Common.{◌≡◌, ℕ, List, [], ◌∷◌, ◌++◌, length, true, Some, None, Ok, refl}
+use Rattle.std.proofs.lemmas.List.{length-append}
 use Rattle.sha2.specs.Sha256.{sha256}
 use Rattle.depot_base.specs.Format.{number}
 use Rattle.depot_base.specs.Closed.{rest_of}
 use Rattle.depot_base.specs.Zeros.{zeros}
 use Rattle.depot_base.specs.declared.record.Record.{Record}
-use Rattle.depot_base.specs.declared.record.Record.TheVariants.{Birth}
+use Rattle.depot_base.specs.declared.record.Record.TheVariants.{Birth, Held}
 use Rattle.depot_base.specs.declared.check.Check.TheVariants as check
+use Rattle.depot_base.specs.declared.check.FullOf.TheVariants as full_of
+use Rattle.depot_model.specs.declared.taken.Taken.TheVariants.{New}
 use Rattle.depot_model.specs.declared.bundle.Report.{Report}
 use Rattle.depot_model.specs.declared.bundle.Ending.TheVariants as ending
 use Rattle.depot_model.specs.Texts.{signed, proof}
-use Rattle.depot_model.specs.Checks.{Setting, is_known, first_failed_check, answer_to, growth}
+use Rattle.depot_model.specs.Checks.{Setting, given_value, is_known, first_failed_check, answer_to, growth}
 use Rattle.depot_model.specs.Journal.{holds_hash, is_wanted, first_values}
-use Rattle.depot_model.specs.Frames.{frame_at}
+use Rattle.depot_model.specs.Frames.{Frame, frame_at}
+use Rattle.depot_model.specs.Room.{full_by, full_with}
 use Rattle.depot_model.specs.Taking.{given_as}
-use Rattle.depot_model.specs.Feeding.{Feeding, ill_formed, fed, fed_byte, fed_frame, take_frame, given_by, feed_of, report_of, ending_of}
+use Rattle.depot_model.specs.Feeding.{Feeding, ill_formed, out_of_room, fed, fed_byte, fed_frame, take_frame, given_by, feed_of, report_of, ending_of}
 
 -- node 1, with a scheme that takes every signature
 abbrev here : Setting
@@ -88,3 +92,27 @@ one_more = refl
 closed_takes_nothing : fed here (fed_byte here (so_many 524288) 3) (4 ∷ 0 ∷ []) ≡ fed_byte here (so_many 524288) 3
 unfolding fed fed_byte
 closed_takes_nothing = refl
+
+-- ---- room
+
+-- the frame of a value of one byte, and a feed that has taken three frames
+abbrev a_value : Frame
+a_value = record { tag = 3; payload = 97 ∷ [] }
+
+abbrev feeding : List Record → Feeding
+feeding J = record { journal = J; frames = 3; begun = 3 ∷ []; start = 18; ended = None; accepted = 2; known = 1; refused = []; closed = None }
+
+-- where there is no room for what a frame adds it isn't taken: the feed is closed, and its journal and its counts stay
+no_room_closes : (J : List Record) → length J ≡ 131072 → growth here J (given_value (97 ∷ [])) ≡ Held (97 ∷ []) ∷ [] → fed_frame here 6 a_value (feeding J) ≡ record (feeding J) { begun = []; closed = Some (out_of_room (record { what = full_of.Records; number = 131072 })) }
+unfolding fed_frame take_frame given_by given_as rest_of full_with
+no_room_closes J e grows = rw (grows, length-append J (Held (97 ∷ []) ∷ []), e) refl
+
+-- and where there is room it is counted, and the journal grows
+room_is_used : (J : List Record) → full_by 1 J (Held (97 ∷ []) ∷ []) ≡ None → answer_to here J (given_value (97 ∷ [])) ≡ Ok New → growth here J (given_value (97 ∷ [])) ≡ Held (97 ∷ []) ∷ [] → fed_frame here 6 a_value (feeding J) ≡ record (feeding J) { journal = J ++ Held (97 ∷ []) ∷ []; frames = 4; begun = []; start = 24; accepted = 3 }
+unfolding fed_frame take_frame given_by given_as rest_of
+room_is_used J room is_new grows = rw (grows, room, is_new) refl
+
+-- it tells that it closed
+closed_is_told : (J : List Record) → (report_of (record (feeding J) { closed = Some (out_of_room (record { what = full_of.Bytes; number = 7 })) })).ending ≡ ending.Closed
+unfolding report_of ending_of
+closed_is_told J = refl

@@ -20,8 +20,12 @@ pub mod FeedExamples
 pub mod Exchanges
 pub mod LimitExamples
 pub mod WorldExamples
+pub mod WriteExamples
+pub mod HollowExamples
+pub mod ChangeExamples
 pub mod HelloLaws
 pub mod ContentLaws
+pub mod ChangeLaws
 pub mod FeedLaws
 pub mod FeedGrowth
 pub mod LimitLaws
@@ -52,3 +56,9 @@ pub mod SchemeExamples
 pub mod StopLaws
 pub mod CallsOnDisk
 pub mod NodeCallExamples
+pub mod InsertionLaws
+pub mod LatestWrites
+pub mod CheckpointLaws
+pub mod BundleExamples
+pub mod HelloExamples
+pub mod ForestExamples

@@ -88,6 +88,13 @@ untouched moment left_since n = record { same_moment = refl; no_more = λ t file
 not_untouched : IsUntouched (λ n. n) (λ n since image. Unit {0}) 0 1 → ⊥
 not_untouched u = omega (arith, u.same_moment)
 
+-- nor where a stop may leave a file more; one less is no harm
+not_an_image_more : IsUntouched {N = Bool} (λ n. 0) (λ n since image. n ≡ true) false true → ⊥
+not_an_image_more u = let wrong : false ≡ true = u.no_more 0 [] refl in cc
+
+an_image_less : IsUntouched {N = Bool} (λ n. 0) (λ n since image. n ≡ true) true false
+an_image_less = record { same_moment = refl; no_more = λ t image left. refl }
+
 -- ---- the records of a file
 
 abbrev one : Record

@@ -18,6 +18,7 @@ pub mod Journal
 pub mod Checks
 pub mod Room
 pub mod Taking
+pub mod Changes
 pub mod Own
 pub mod Lawful
 pub mod Chains
@@ -35,3 +36,12 @@ pub mod LawfulFacts
 pub mod Replicas
 pub mod Stops
 pub mod RecordFaults
+pub mod Insertion
+pub mod LatestList
+pub mod ReadTests
+pub mod Receipts
+pub mod Checkpoints
+pub mod Trimming
+pub mod Pruning
+pub mod Audit
+pub mod Traces

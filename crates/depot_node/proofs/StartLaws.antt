@@ -21,7 +21,7 @@ use Rattle.depot_store.proofs.RecordTextLaws.{records_of_texts}
 use Rattle.depot_node.specs.Starting.{BeginWithBirth, HaveFaultAt, IsNotStarted, IsStartedFrom, LeavesFile, OfFile, started}
 use Rattle.depot_node.specs.declared.start_error.StartError.{StartError}
 use Rattle.depot_node.specs.declared.start_error.StartError.TheVariants as refused
-use Rattle.depot_records.proofs.RecordFaultLaws.{one_record, no_fault}
+use Rattle.depot_laws.proofs.FaultLaws.{one_record, no_fault}
 
 -- ---- births
 

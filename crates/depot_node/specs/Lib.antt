@@ -1,3 +1,4 @@
 pub mod Starting
 pub mod StartReading
 pub mod Keyed
+pub mod ShownValues

@@ -2,7 +2,8 @@
 //!
 //! A `Node` has a journal, a list of records, which is lawful: each record is allowed where it stands. It grows by what the
 //! node puts, which is the next own update, and by what the node takes, which is what the checks say of it; a refusal leaves
-//! it as it is, but where a fork or a step back convicts its writer. Reads go over the accepted updates of the journal.
+//! it as it is, but where a fork or a step back convicts its writer. Reads go over the accepted updates of the journal, and show of
+//! a write its value where it is held (`held`).
 //!
 //! `Replica` is what others see of a node and give it, with its laws: the journal is lawful and has its birth record, and the
 //! roster has the node. `Peer` is what it tells them, by `depot_tell`. A node is started from the journal on a disk, whose records
@@ -16,6 +17,7 @@
 //! No check and no limit is decided here, and nothing is sent.
 #![tactic(auto)]
 
+mod held;
 mod node;
 mod node_laws;
 mod node_peer;

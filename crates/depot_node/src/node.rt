@@ -1,8 +1,13 @@
 //! The node.
-ghost use Rattle.std.specs.Prelude.{◌≡◌, ◌≢◌, ◌<◌, [], length, false, refl, Some, IfErr, IsErrOf, All, option_copied, slice_get};
+ghost use Rattle.std.specs.Prelude.{◌≡◌, ◌≢◌, ◌<◌, ◌≤◌, [], length, true, false, refl, Some, IfErr, IsErrOf, All, option_copied, slice_get};
+ghost use Rattle.depot_base.specs.Pairs.{AllPairsByRecursion};
+ghost use Rattle.depot_base.specs.Parts.{is_below};
+ghost use Rattle.depot_base.specs.Writes.{one_change};
+ghost use Rattle.depot_base.specs.declared.limits.TheConstants.{MOST_WRITES};
 ghost use Rattle.depot_base.specs.declared.record.Record.{Record};
 ghost use Rattle.depot_base.specs.declared.update.Update.{Update};
-ghost use Rattle.depot_model.specs.Journal.{accepted, value_of};
+ghost use Rattle.depot_model.specs.Journal.{accepted, seen_under};
+ghost use Rattle.depot_model.specs.Contents.{Writes};
 ghost use Rattle.depot_model.specs.Lawful.{IsLawful, is_empty};
 ghost use Rattle.depot_model.specs.LawfulFacts.{IsLawful-prop};
 ghost use Rattle.depot_model.specs.Order.{AreLatestIn};
@@ -13,12 +18,14 @@ ghost use Rattle.depot_model.specs.TextFacts.{IsRoster-prop};
 ghost use Rattle.depot_model.specs.Texts.{IsRoster};
 ghost use Rattle.depot_model.specs.Items.{updates_at};
 ghost use Rattle.depot_store.specs.Holdings.{standing};
+ghost use Rattle.depot_node.specs.ShownValues.{value_seen};
 ghost use Rattle.depot_node.specs.Keyed.{HasKey-prop, AllRead-prop};
 ghost use Rattle.depot_decide.specs.Putting.{Puts, put_records};
 
-use crate::put::put;
+use crate::held::held_as;
+use crate::put::{put, put_all};
 use crate::take::{take_proof, take_statement, take_value};
-use depot_base::{Hash32, Key, NodeId, Update, Value};
+use depot_base::{Changes, Hash32, Key, NodeId, Update, Value};
 use depot_decide::{PutDone, PutError};
 use depot_model::{Past, Replica, Scheme, Signer, TakeError, Taken};
 use depot_outside::Disk;
@@ -47,20 +54,36 @@ impl<D: Disk, S: Scheme, G: Signer<Of = S>> Node<D, S, G> {
         self.store.into_disk()
     }
 
-    /// Puts a value under a key: the journal grows by the next own update, whose id, seq and clock are told. `Spent`,
-    /// `Tips`, `Collides` and `Full` come exactly where the definition says, in this order, and then, as after Memory, the
-    /// journal is as before. After `Disk` the node is stopped. A stop at any moment leaves the records from before, or these and
-    /// the new one; where another error is answered, those from before.
+    /// Puts a value under a key, as [`put_all`](Node::put_all) puts this one change.
     pub fn put(&mut self, key: Key, value: Value) -> Result<PutDone, PutError>
-        ensures puts { Puts (⟦<Node<D, S, G> as Replica>⟧.stands self.old) (⟦<Node<D, S, G> as Replica>⟧.records self.old) key value result (⟦<Node<D, S, G> as Replica>⟧.records self.new) }
+        ensures puts { Puts (⟦<Node<D, S, G> as Replica>⟧.stands self.old) (⟦<Node<D, S, G> as Replica>⟧.records self.old) (one_change key value) result (⟦<Node<D, S, G> as Replica>⟧.records self.new) }
         ensures stays { IsSameNode (⟦<Node<D, S, G> as Replica>⟧.stands self.old) (⟦<Node<D, S, G> as Replica>⟧.stands self.new) (⟦<Node<D, S, G> as Replica>⟧.key self.old) (⟦<Node<D, S, G> as Replica>⟧.key self.new) (⟦<Node<D, S, G> as Replica>⟧.signature_of self.old) (⟦<Node<D, S, G> as Replica>⟧.signature_of self.new) }
         ensures stops { StopsBy (⟦<Node<D, S, G> as Replica>⟧.stopped self.old) (⟦<Node<D, S, G> as Replica>⟧.stopped self.new) (IsErrOf result PutError.Stopped) (IsErrOf result PutError.Disk) }
         ensures disk { KeepsDisk (⟦<Node<D, S, G> as Replica>⟧.handle self.old) (⟦<Node<D, S, G> as Replica>⟧.handle self.new) (⟦<Node<D, S, G> as Replica>⟧.faults self.old) (⟦<Node<D, S, G> as Replica>⟧.faults self.new) (⟦<Node<D, S, G> as Replica>⟧.is_faultless self.old) (⟦<Node<D, S, G> as Replica>⟧.is_faultless self.new) (IsErrOf result PutError.Disk) }
-        ensures lasts { Lasts ⟦<Node<D, S, G> as Replica>⟧.tells ⟦<Node<D, S, G> as Replica>⟧.stopped ⟦<Node<D, S, G> as Replica>⟧.records ⟦<Node<D, S, G> as Replica>⟧.moment ⟦<Node<D, S, G> as Replica>⟧.left_since ⟦<Node<D, S, G> as Replica>⟧.may_leave self.old self.new (put_records (⟦<Node<D, S, G> as Replica>⟧.stands self.old) (⟦<Node<D, S, G> as Replica>⟧.records self.old) key value) }
-        ensures calls { CallsDisk ⟦<Node<D, S, G> as Replica>⟧.after ⟦<Node<D, S, G> as Replica>⟧.reads ⟦<Node<D, S, G> as Replica>⟧.stopped ⟦<Node<D, S, G> as Replica>⟧.records self.old self.new (put_records (⟦<Node<D, S, G> as Replica>⟧.stands self.old) (⟦<Node<D, S, G> as Replica>⟧.records self.old) key value) (IsErrOf result PutError.Disk) }
+        ensures lasts { Lasts ⟦<Node<D, S, G> as Replica>⟧.tells ⟦<Node<D, S, G> as Replica>⟧.stopped ⟦<Node<D, S, G> as Replica>⟧.records ⟦<Node<D, S, G> as Replica>⟧.moment ⟦<Node<D, S, G> as Replica>⟧.left_since ⟦<Node<D, S, G> as Replica>⟧.may_leave self.old self.new (put_records (⟦<Node<D, S, G> as Replica>⟧.stands self.old) (⟦<Node<D, S, G> as Replica>⟧.records self.old) (one_change key value)) }
+        ensures calls { CallsDisk ⟦<Node<D, S, G> as Replica>⟧.after ⟦<Node<D, S, G> as Replica>⟧.reads ⟦<Node<D, S, G> as Replica>⟧.stopped ⟦<Node<D, S, G> as Replica>⟧.records self.old self.new (put_records (⟦<Node<D, S, G> as Replica>⟧.stands self.old) (⟦<Node<D, S, G> as Replica>⟧.records self.old) (one_change key value)) (IsErrOf result PutError.Disk) }
         ensures idle { IfErr result (λ e. e ≢ PutError.Disk → Lasts ⟦<Node<D, S, G> as Replica>⟧.tells ⟦<Node<D, S, G> as Replica>⟧.stopped ⟦<Node<D, S, G> as Replica>⟧.records ⟦<Node<D, S, G> as Replica>⟧.moment ⟦<Node<D, S, G> as Replica>⟧.left_since ⟦<Node<D, S, G> as Replica>⟧.may_leave self.old self.new []) }
     {
         put(self.alloc, &mut self.store, key, value)
+    }
+
+    /// Gives keys a value or deletes them, 1 to 16 of them at once, rising strictly: the journal grows by the next own update,
+    /// whose id, seq and clock are told. `Stopped` comes exactly where the disk failed in an earlier call. `Spent`,
+    /// `Tips`, `Collides` and `Full` come exactly where the definition says, in this order, and then, as after Memory, the
+    /// journal is as before. After `Disk` the node is stopped. A stop at any moment leaves the records from before, or these and
+    /// the new one; where another error is answered, those from before.
+    pub fn put_all(&mut self, changes: Changes) -> Result<PutDone, PutError>
+        requires few { (1 ≤ length changes) × (length changes ≤ MOST_WRITES) }
+        requires rising { AllPairsByRecursion (λ c d. is_below c.key d.key ≡ true) changes }
+        ensures puts { Puts (⟦<Node<D, S, G> as Replica>⟧.stands self.old) (⟦<Node<D, S, G> as Replica>⟧.records self.old) changes result (⟦<Node<D, S, G> as Replica>⟧.records self.new) }
+        ensures stays { IsSameNode (⟦<Node<D, S, G> as Replica>⟧.stands self.old) (⟦<Node<D, S, G> as Replica>⟧.stands self.new) (⟦<Node<D, S, G> as Replica>⟧.key self.old) (⟦<Node<D, S, G> as Replica>⟧.key self.new) (⟦<Node<D, S, G> as Replica>⟧.signature_of self.old) (⟦<Node<D, S, G> as Replica>⟧.signature_of self.new) }
+        ensures stops { StopsBy (⟦<Node<D, S, G> as Replica>⟧.stopped self.old) (⟦<Node<D, S, G> as Replica>⟧.stopped self.new) (IsErrOf result PutError.Stopped) (IsErrOf result PutError.Disk) }
+        ensures disk { KeepsDisk (⟦<Node<D, S, G> as Replica>⟧.handle self.old) (⟦<Node<D, S, G> as Replica>⟧.handle self.new) (⟦<Node<D, S, G> as Replica>⟧.faults self.old) (⟦<Node<D, S, G> as Replica>⟧.faults self.new) (⟦<Node<D, S, G> as Replica>⟧.is_faultless self.old) (⟦<Node<D, S, G> as Replica>⟧.is_faultless self.new) (IsErrOf result PutError.Disk) }
+        ensures lasts { Lasts ⟦<Node<D, S, G> as Replica>⟧.tells ⟦<Node<D, S, G> as Replica>⟧.stopped ⟦<Node<D, S, G> as Replica>⟧.records ⟦<Node<D, S, G> as Replica>⟧.moment ⟦<Node<D, S, G> as Replica>⟧.left_since ⟦<Node<D, S, G> as Replica>⟧.may_leave self.old self.new (put_records (⟦<Node<D, S, G> as Replica>⟧.stands self.old) (⟦<Node<D, S, G> as Replica>⟧.records self.old) changes) }
+        ensures calls { CallsDisk ⟦<Node<D, S, G> as Replica>⟧.after ⟦<Node<D, S, G> as Replica>⟧.reads ⟦<Node<D, S, G> as Replica>⟧.stopped ⟦<Node<D, S, G> as Replica>⟧.records self.old self.new (put_records (⟦<Node<D, S, G> as Replica>⟧.stands self.old) (⟦<Node<D, S, G> as Replica>⟧.records self.old) changes) (IsErrOf result PutError.Disk) }
+        ensures idle { IfErr result (λ e. e ≢ PutError.Disk → Lasts ⟦<Node<D, S, G> as Replica>⟧.tells ⟦<Node<D, S, G> as Replica>⟧.stopped ⟦<Node<D, S, G> as Replica>⟧.records ⟦<Node<D, S, G> as Replica>⟧.moment ⟦<Node<D, S, G> as Replica>⟧.left_since ⟦<Node<D, S, G> as Replica>⟧.may_leave self.old self.new []) }
+    {
+        put_all(self.alloc, &mut self.store, changes)
     }
 
     /// How many updates it accepted. It takes no memory.
@@ -90,18 +113,21 @@ impl<D: Disk, S: Scheme, G: Signer<Of = S>> Node<D, S, G> {
         self.store.state().graph().update(item)
     }
 
-    /// The value of an item's update. None exactly where no value of its hash and its length is held. It takes no memory.
-    pub fn value_of(&self, item: u32) -> Option<&[u8]>
+    /// The held value that an item's update writes under a key: that of the hash and the length that its write of this key names.
+    /// None exactly where this write is a deletion or its value isn't held. It takes no memory.
+    pub fn value_of(&self, item: u32, key: &Key) -> Option<&[u8]>
         requires runs { ⟦<Node<D, S, G> as Replica>⟧.stopped self.now ≡ false }
         requires item { item < length (accepted (⟦<Node<D, S, G> as Replica>⟧.records self.now)) }
-        ensures { (u : Update) → slice_get (accepted (⟦<Node<D, S, G> as Replica>⟧.records self.now)) item ≡ Some u → option_copied result ≡ value_of (⟦<Node<D, S, G> as Replica>⟧.records self.now) u }
+        requires writes { (u : Update) → slice_get (accepted (⟦<Node<D, S, G> as Replica>⟧.records self.now)) item ≡ Some u → Writes key.now u }
+        ensures { (u : Update) → slice_get (accepted (⟦<Node<D, S, G> as Replica>⟧.records self.now)) item ≡ Some u → option_copied result ≡ value_seen (seen_under (⟦<Node<D, S, G> as Replica>⟧.records self.now) key.now u) }
     {
-        let update = self.update(item);
-        let named = update.value_named();
-        match self.store.value(&named.hash) {
-            Some(value) if value.len() == named.size as usize => Some(value),
-            _ => None,
-        }
+        let Some(wrote) = self.update(item).wrote(key.bytes()) else {
+            unreachable!();
+        };
+        let Some(name) = wrote.named() else {
+            return None;
+        };
+        held_as(&self.store, &name)
     }
 }
 

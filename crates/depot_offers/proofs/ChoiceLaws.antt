@@ -1,16 +1,13 @@
 -- The candidates that are chosen one by one are those of a bundle.
 use Rattle.std.proofs.Common.{◌≡◌, ℕ, ◌+◌, ◌<◌, ◌≤◌, List, [], ◌∷◌, ◌++◌, length, map, take, drop, get_or, Bool, true, false, not, cond, ◌||◌, eqb, Option, Some, None, refl, sym, ap, subst, ◌∙◌, inl, inr, arith, add-one, length-append, append_assoc}
-use Rattle.std.specs.Prelude.{option_to_list, option_map, slice_get, IfSome}
+use Rattle.std.specs.Prelude.{option_to_list, option_map, slice_get, Result, Ok, Err}
 use Rattle.std.specs.List.{AllByRecursion, filter, flat_map, list_any}
-use Rattle.std.specs.Str.{bytes_eq}
 use Rattle.std.proofs.Math.Seq.{take-suc}
 use Rattle.std.proofs.Math.Bool.{or-false}
-use Rattle.std.proofs.lemmas.List.{take-append-drop}
+use Rattle.std.proofs.lemmas.List.{append-nil, take-append-drop}
 use Rattle.std.proofs.lemmas.Option.{slice_get-get_or, slice_get-map}
 use Rattle.std.proofs.lemmas.Grind.{flat_map-append}
-use Rattle.std.proofs.lemmas.Bool.{eqb-true, eq-eqb}
 use Rattle.sha2.specs.Sha256.{sha256}
-use Rattle.depot_base.specs.Statement.{writer_of}
 use Rattle.depot_base.specs.declared.update.Update.{Update}
 use Rattle.depot_base.specs.declared.statement.Statement.{Statement}
 use Rattle.depot_base.specs.declared.statement.Statement.TheVariants as statement
@@ -21,8 +18,8 @@ use Rattle.depot_model.specs.declared.hello.Hello.{Hello}
 use Rattle.depot_model.specs.Lists.{IsIn, is_among, AreTogether}
 use Rattle.depot_model.specs.Texts.{IsSigned, text_of_signed, id_of_update}
 use Rattle.depot_model.specs.Records.{IsRecord, text_of_record}
-use Rattle.depot_model.specs.Journal.{accepted, accepted_by, own_by, foreign_by, update_in, held, held_as, value_with}
-use Rattle.depot_model.specs.Contents.{NamedValue, values_named, value_named}
+use Rattle.depot_model.specs.Journal.{accepted, accepted_by, own_by, update_in, held, value_with}
+use Rattle.depot_model.specs.Contents.{values_named}
 use Rattle.depot_model.specs.Checks.{Setting}
 use Rattle.depot_model.specs.Lawful.{IsLawful}
 use Rattle.depot_model.specs.Bundle.{Signs, signed_with, signed_by, is_candidate, has_candidate, candidates, records_where, candidate_places, Parcel, values_behind, candidate_parcel, candidate_parcels, wanted_parcel, hashes_of, parcels, sent_foreign}
@@ -33,16 +30,14 @@ use Rattle.depot_laws.proofs.Splits.{flat_gives, lawful_texts}
 use Rattle.depot_laws.proofs.Causes.{none_or_one}
 use Rattle.depot_laws.proofs.LawfulRecords.{IsSigned-from_record}
 use Rattle.depot_laws.proofs.OwnTexts.{own_statement_fits}
-use Rattle.depot_laws.proofs.OwnSteps.{own_writer}
-use Rattle.depot_laws.proofs.ChainLaws.{foreign_writer}
-use Rattle.depot_laws.proofs.HeldValues.{held_as_is, held_is_brought}
-use Rattle.depot_laws.proofs.Exact.{value_with_is}
+use Rattle.depot_laws.proofs.HeldValues.{held_is_brought, value_with_is}
 use Rattle.depot_laws.proofs.WantedValues.{value_fits}
-use Rattle.depot_laws.proofs.Candidates.{signed_fits, behind_is}
+use Rattle.depot_laws.proofs.Candidates.{signed_fits}
 use Rattle.depot_base.proofs.GeneralLaws.{get_last, flat_push, or_swap, take_next}
 use Rattle.depot_frames.specs.declared.sending.Sending.{Sending}
-use Rattle.depot_offers.specs.Choosing.{IsCutAt, TellsAt, records_at, foreign_ids, hashes_named, AreAlike, value_parcels}
+use Rattle.depot_offers.specs.Choosing.{IsCutAt, TellsAt, records_at, foreign_ids, Finds, AreAlike, AddsHashes, value_parcels}
 use Rattle.depot_offers.proofs.FitLaws.{cut_on}
+use Rattle.depot_offers.proofs.ValueLaws.{behind_alike}
 
 -- ---- the places of the candidates
 
@@ -108,7 +103,7 @@ pub record IsTold (sign : Signs) (r : Record) (u : Update) : Type 0 where
 
 pub told_by : (sign : Signs) (r : Record) (u : Update) → accepted_by r ≡ u ∷ [] → IsTold sign r u
 unfolding signed_with
-told_by sign (OwnPut w value) u e = record { told = signed_with sign (statement.Update w); tells = refl; is = e }
+told_by sign (OwnPut w values) u e = record { told = signed_with sign (statement.Update w); tells = refl; is = e }
 told_by sign (Foreign s) u e = record { told = s; tells = refl; is = e }
 told_by sign (Birth node h) u e = absurd cc
 told_by sign (OwnVoucher v) u e = absurd cc
@@ -119,81 +114,89 @@ own_signed : (here : Setting) (sign : Signs) (J : List Record) (s : Statement) �
 unfolding signed_with
 own_signed here sign J s l short on = signed_fits sign s (own_statement_fits here J s l on) (short _ _)
 
--- the signed statement of a record is short
-pub told_is_short : (here : Setting) (sign : Signs) (J : List Record) (r : Record) (text : List ℕ) → IsLawful here J → ((seq : ℕ) (body : List ℕ) → length (sign seq body) ≤ 8192) → IsIn r J → map text_of_signed (signed_by sign r) ≡ text ∷ [] → length text ≤ 51582
-told_is_short here sign J (OwnPut u value) text l short on e =
-    let same : text_of_signed (signed_with sign (statement.Update u)) ≡ text = cc in
-    subst (λ (t : List ℕ). length t ≤ 51582) same (signed_is_short _ (own_signed here sign J (statement.Update u) l short (flat_gives own_by (statement.Update u) (OwnPut u value) J on (inl refl))))
-told_is_short here sign J (OwnVoucher v) text l short on e =
-    let same : text_of_signed (signed_with sign (statement.Voucher v)) ≡ text = cc in
-    subst (λ (t : List ℕ). length t ≤ 51582) same (signed_is_short _ (own_signed here sign J (statement.Voucher v) l short (flat_gives own_by (statement.Voucher v) (OwnVoucher v) J on (inl refl))))
-told_is_short here sign J (Foreign s) text l short on e =
-    let same : text_of_signed s ≡ text = cc in
-    subst (λ (t : List ℕ). length t ≤ 51582) same (signed_is_short s (IsSigned-from_record s (lawful_texts here J (Foreign s) l on)))
-told_is_short here sign J (Birth node h) text l short on e = absurd cc
-told_is_short here sign J (Conviction p) text l short on e = absurd cc
-told_is_short here sign J (Held value) text l short on e = absurd cc
+-- the signed statement of a record is in its ranges
+told_fits : (here : Setting) (sign : Signs) (J : List Record) (r : Record) (s : Signed) → IsLawful here J → ((seq : ℕ) (body : List ℕ) → length (sign seq body) ≤ 8192) → IsIn r J → signed_by sign r ≡ s ∷ [] → IsSigned s
+told_fits here sign J (OwnPut u values) s l short on e =
+    let same : signed_with sign (statement.Update u) ≡ s = cc in
+    subst (λ (x : Signed). IsSigned x) same (own_signed here sign J (statement.Update u) l short (flat_gives own_by (statement.Update u) (OwnPut u values) J on (inl refl)))
+told_fits here sign J (OwnVoucher v) s l short on e =
+    let same : signed_with sign (statement.Voucher v) ≡ s = cc in
+    subst (λ (x : Signed). IsSigned x) same (own_signed here sign J (statement.Voucher v) l short (flat_gives own_by (statement.Voucher v) (OwnVoucher v) J on (inl refl)))
+told_fits here sign J (Foreign t) s l short on e =
+    let same : t ≡ s = cc in
+    subst (λ (x : Signed). IsSigned x) same (IsSigned-from_record t (lawful_texts here J (Foreign t) l on))
+told_fits here sign J (Birth node h) s l short on e = absurd cc
+told_fits here sign J (Conviction p) s l short on e = absurd cc
+told_fits here sign J (Held value) s l short on e = absurd cc
+
+-- so the text of the one signed statement of a record is short
+pub told_is_short : (here : Setting) (sign : Signs) (J : List Record) (r : Record) (text : List ℕ) → IsLawful here J → ((seq : ℕ) (body : List ℕ) → length (sign seq body) ≤ 8192) → IsIn r J → map text_of_signed (signed_by sign r) ≡ text ∷ [] → length text ≤ 55979
+told_is_short here sign J r text l short on e = by_told (signed_by sign r) refl e where
+  by_told : (ss : List Signed) → signed_by sign r ≡ ss → map text_of_signed ss ≡ text ∷ [] → length text ≤ 55979
+  by_told [] is one = absurd cc
+  by_told (s ∷ []) is one =
+      let same : text_of_signed s ≡ text = cc in
+      subst (λ (t : List ℕ). length t ≤ 55979) same (signed_is_short s (told_fits here sign J r s l short on is))
+  by_told (s ∷ t ∷ ss) is one = absurd cc
+
+-- What is told of a place: one signed statement, with this text, that of the update which the record there accepts.
+pub record IsToldAt (sign : Signs) (J : List Record) (place : ℕ) (text : List ℕ) : Type 0 where
+  pub item : Record
+  pub told : Signed
+  pub at : slice_get J place ≡ Some item
+  pub fits : IsSigned told
+  pub is : text ≡ text_of_signed told
+  pub tells : signed_by sign item ≡ told ∷ []
+  pub accepts : accepted_by item ≡ update_in told.statement
+
+pub told_at : (here : Setting) (sign : Signs) (J : List Record) (place : ℕ) (text : List ℕ) → IsLawful here J → ((seq : ℕ) (body : List ℕ) → length (sign seq body) ≤ 8192) → TellsAt J place
+    → ((r : Record) → slice_get J place ≡ Some r → map text_of_signed (signed_by sign r) ≡ text ∷ []) → IsToldAt sign J place text
+told_at here sign J place text l short t texts =
+    let told = told_by sign t.item t.update t.accepts in
+    let one : text_of_signed told.told ∷ [] ≡ text ∷ [] = ap (map text_of_signed) (sym told.tells) ∙ texts t.item t.at in
+    record {
+      item = t.item;
+      told = told.told;
+      at = t.at;
+      fits = told_fits here sign J t.item told.told l short (in_at J place t.item t.at) told.tells;
+      is = cc;
+      tells = told.tells;
+      accepts = t.accepts ∙ sym told.is;
+    }
+
+-- the record of a place is the one that is told of
+pub is_item : (sign : Signs) (J : List Record) (place : ℕ) (text : List ℕ) (t : IsToldAt sign J place text) (r : Record) → slice_get J place ≡ Some r → t.item ≡ r
+is_item sign J place text t r at = let both : Some t.item ≡ Some r = sym t.at ∙ at in cc
 
 -- the ids of the updates of others in what tells of a record
-pub foreign_are : (here : Setting) (sign : Signs) (J : List Record) (r : Record) (values : List (List ℕ)) → IsLawful here J → IsIn r J → foreign_ids r ≡ sent_foreign here.me (record { told = signed_by sign r; values = values } ∷ [])
-unfolding sent_foreign signed_with
-foreign_are here sign J (OwnPut u value) values l on = by_test (eqb u.writer here.me) (eq-eqb u.writer here.me (own_writer here J l (statement.Update u) (flat_gives own_by (statement.Update u) (OwnPut u value) J on (inl refl)))) where
-  by_test : (b : Bool) → b ≡ true → [] ≡ map id_of_update (cond (not b) (u ∷ []) [])
-  by_test true e = refl
-  by_test false e = absurd cc
-foreign_are here sign J (Foreign s) values l on = of_statement s.statement refl where
-  of_statement : (x : Statement) → s.statement ≡ x → map id_of_update (update_in x) ≡ map id_of_update (filter (λ u. not (eqb u.writer here.me)) ((update_in x ++ []) ++ []))
-  of_statement (statement.Voucher v) is = refl
-  of_statement (statement.Update u) is = by_test (eqb u.writer here.me) refl where
-    by_test : (b : Bool) → eqb u.writer here.me ≡ b → id_of_update u ∷ [] ≡ map id_of_update (cond (not b) (u ∷ []) [])
-    by_test false e = refl
-    by_test true e = absurd (foreign_writer here J s l (flat_gives foreign_by s (Foreign s) J on (inl refl)) (ap writer_of is ∙ eqb-true u.writer here.me e))
-foreign_are here sign J (Birth node h) values l on = refl
-foreign_are here sign J (OwnVoucher v) values l on = refl
-foreign_are here sign J (Conviction p) values l on = refl
-foreign_are here sign J (Held value) values l on = refl
+pub foreign_are : (me : ℕ) (x : Parcel) (s : Signed) → x.told ≡ s ∷ [] → foreign_ids me s ≡ sent_foreign me (x ∷ [])
+unfolding sent_foreign
+foreign_are me x s told =
+    let other = λ (u : Update). not (eqb u.writer me) in
+    sym (ap (λ (ss : List Signed). map id_of_update (filter other (flat_map (λ (t : Signed). update_in t.statement) ss ++ []))) told
+    ∙ ap (λ (us : List Update). map id_of_update (filter other us)) (append-nil (update_in s.statement ++ []) ∙ append-nil (update_in s.statement)))
+
+-- the values of its parcel are those that were found behind its statement
+pub parcel_values : (sign : Signs) (J : List Record) (place : ℕ) (text : List ℕ) (t : IsToldAt sign J place text) (keys : List (List ℕ)) (r : Record) (s : Signed) (found new : List (List ℕ)) → slice_get J place ≡ Some r → s ≡ t.told
+    → Finds J keys (flat_map values_named (update_in s.statement)) found new → (candidate_parcel sign J keys r).values ≡ found
+parcel_values sign J place text t keys r s found new at same f =
+    let updates : accepted_by r ≡ update_in s.statement = ap accepted_by (sym (is_item sign J place text t r at)) ∙ t.accepts ∙ ap (λ (x : Signed). update_in x.statement) (sym same) in
+    ap (λ (us : List Update). values_behind J keys (flat_map values_named us)) updates ∙ sym f.values
+
+-- with more hashes, whatever the answer
+pub hashes_added : {E : Type 0} (old more new : List (List ℕ)) (r : Result Bool E) → AreTogether old more new → AddsHashes old more r new
+hashes_added old more new (Ok true) t = t
+hashes_added old more new (Ok false) t = tt
+hashes_added old more new (Err e) t = tt
 
 -- ---- the values behind a candidate
-
--- the first of a name's value and the rest, where it is to be sent, or what comes else
-abbrev value_first : Bool → Option (List ℕ) → List (List ℕ) → List (List ℕ) → List (List ℕ)
-value_first sent o one two = elim (cond sent None o) as (λ p. List (List ℕ)) [ None ↦ one | Some v ↦ v ∷ two ]
-
--- which values are sent goes by the members of what was sent
-pub behind_alike : (J : List Record) (a b : List (List ℕ)) (ns : List NamedValue) → AreAlike a b → values_behind J a ns ≡ values_behind J b ns
-unfolding values_behind
-behind_alike J a b [] alike = refl
-behind_alike J a b (n ∷ ns) alike =
-    ap (λ (c : Bool). value_first c (held_as J n) (values_behind J a ns) (values_behind J (n.hash ∷ a) ns)) (alike n.hash)
-    ∙ ap (λ (vs : List (List ℕ)). value_first (is_among n.hash b) (held_as J n) vs (values_behind J (n.hash ∷ a) ns)) (behind_alike J a b ns alike)
-    ∙ ap (value_first (is_among n.hash b) (held_as J n) (values_behind J b ns)) (behind_alike J (n.hash ∷ a) (n.hash ∷ b) ns (λ h. ap (λ (c : Bool). bytes_eq h n.hash || c) (alike h)))
 
 pub candidate_alike : (sign : Signs) (J : List Record) (a b : List (List ℕ)) (r : Record) → AreAlike a b → candidate_parcel sign J a r ≡ candidate_parcel sign J b r
 candidate_alike sign J a b r alike = ap (λ (vs : List (List ℕ)). record { told = signed_by sign r; values = vs }) (behind_alike J a b (flat_map values_named (accepted_by r)) alike)
 
--- the hash of the value that was found is the one that the update names
-pub hashes_found : (J : List Record) (sent : List (List ℕ)) (r : Record) (u : Update) (found : Option (List ℕ)) → accepted_by r ≡ u ∷ [] → option_to_list found ≡ values_behind J sent (flat_map values_named (accepted_by r)) → hashes_named r found ≡ map sha256 (values_behind J sent (flat_map values_named (accepted_by r)))
-hashes_found J sent r u None one e = ap (map sha256) e
-hashes_found J sent r u (Some v) one e =
-    let named : flat_map values_named (accepted_by r) ≡ value_named u ∷ [] = ap (flat_map values_named) one in
-    let b = behind_is J sent (flat_map values_named (accepted_by r)) v (subst (λ (vs : List (List ℕ)). IsIn v vs) e (inl refl)) in
-    let hash : sha256 v ≡ (value_named u).hash = (held_as_is J b.name v b.held).hash ∙ of_name b.name (subst (λ (ns : List NamedValue). IsIn b.name ns) named b.on) in
-    ap (map (λ (n : NamedValue). n.hash)) named ∙ ap (λ (h : List ℕ). h ∷ []) (sym hash) ∙ ap (map sha256) e where
-      of_name : (n : NamedValue) → IsIn n (value_named u ∷ []) → n.hash ≡ (value_named u).hash
-      of_name n (inl same) = sym (ap (λ (k : NamedValue). k.hash) same)
-      of_name n (inr never) = absurd never
-
 -- a held value is short
 pub held_is_short : (here : Setting) (J : List Record) (h v : List ℕ) → IsLawful here J → value_with h (held J) ≡ Some v → length v ≤ 65536
 held_is_short here J h v l e = value_fits here J v l (held_is_brought J v (value_with_is (held J) h v e).on)
-
-behind_fits : (here : Setting) (J : List Record) (sent : List (List ℕ)) (ns : List NamedValue) (v : List ℕ) → IsLawful here J → IsIn v (values_behind J sent ns) → length v ≤ 65536
-behind_fits here J sent ns v l on = let b = behind_is J sent ns v on in value_fits here J v l (held_as_is J b.name v b.held).on
-
--- and so is one that was found
-pub found_is_short : (here : Setting) (J : List Record) (sent : List (List ℕ)) (ns : List NamedValue) (found : Option (List ℕ)) → IsLawful here J → option_to_list found ≡ values_behind J sent ns → IfSome found (λ v. length v ≤ 131072)
-found_is_short here J sent ns None l e = tt
-found_is_short here J sent ns (Some v) l e = let short = behind_fits here J sent ns v l (subst (λ (vs : List (List ℕ)). IsIn v vs) e (inl refl)) in omega (arith, short)
 
 -- ---- one candidate after another
 

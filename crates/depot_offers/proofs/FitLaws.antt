@@ -1,6 +1,5 @@
 -- What is chosen for a bundle is the longest front of all that there is to send that fits.
-use Rattle.std.proofs.Common.{◌≡◌, ℕ, suc, ◌+◌, ◌-◌, ◌≤◌, List, [], ◌∷◌, ◌++◌, length, map, sum_by, Bool, true, false, not, cond, ◌&&◌, leb, ltb, eqb, Option, Some, None, Result, Ok, Err, refl, sym, ap, subst, ◌∙◌, arith, length-append, append_assoc}
-use Rattle.std.specs.Prelude.{option_to_list}
+use Rattle.std.proofs.Common.{◌≡◌, ℕ, suc, ◌+◌, ◌-◌, ◌≤◌, List, [], ◌∷◌, ◌++◌, length, map, sum_by, Bool, true, false, not, cond, ◌&&◌, leb, ltb, eqb, Result, Ok, Err, refl, sym, ap, subst, ◌∙◌, arith, length-append, append_assoc}
 use Rattle.std.specs.List.{filter, flat_map}
 use Rattle.std.proofs.lemmas.Bool.{cond-true, and_parts, and_from, leb-true, le-leb, le-ltb, lt-ltb}
 use Rattle.std.proofs.lemmas.List.{length-map, map-append, append-nil}
@@ -104,13 +103,13 @@ told_frames : (ss : List Signed) → map statement_frame ss ≡ frames_under 2 (
 told_frames [] = refl
 told_frames (s ∷ ss) = ap (λ (fs : List Frame). statement_frame s ∷ fs) (told_frames ss)
 
--- the parcel's statement has this text, if it has one, and this is its value, if it has one
-pub record IsParcel (x : Parcel) (text value : Option (List ℕ)) : Type 0 where
-  pub told : map text_of_signed x.told ≡ option_to_list text
-  pub values : x.values ≡ option_to_list value
+-- the parcel's statements have these texts, and these are its values
+pub record IsParcel (x : Parcel) (texts behind : List (List ℕ)) : Type 0 where
+  pub told : map text_of_signed x.told ≡ texts
+  pub values : x.values ≡ behind
 
-parcel_is : (x : Parcel) (told value : Option (List ℕ)) → IsParcel x told value → frames_of x ≡ parcel_frames told value
-parcel_is x told value p = rw (told_frames x.told, p.told, p.values) refl
+parcel_is : (x : Parcel) (told values : List (List ℕ)) → IsParcel x told values → frames_of x ≡ parcel_frames told values
+parcel_is x told values p = rw (told_frames x.told, p.told, p.values) refl
 
 holds_short : (me : ℕ) (xs : List Parcel) (s : Sending) → Holds me xs s → length s.frames ≡ bytes_in xs
 holds_short me xs s h = ap length h.frames ∙ frames_long (flat_map frames_of xs)
@@ -142,20 +141,20 @@ foreign_push me xs x =
     ∙ map-append id_of_update (filter other (flat_map told xs)) (filter other (flat_map told (x ∷ [])))
 
 -- a parcel was added, and the ids of its updates of others
-pub added : (me : ℕ) (xs : List Parcel) (x : Parcel) (s t : Sending) (told value : Option (List ℕ)) (ids : List (List ℕ)) → Holds me xs s → IsParcel x told value → ids ≡ sent_foreign me (x ∷ []) → HasAddedFound s t told value ids → Holds me (xs ++ x ∷ []) t
-added me xs x s t told value ids h p foreign a =
-    let parcel = parcel_is x told value p in
+pub added : (me : ℕ) (xs : List Parcel) (x : Parcel) (s t : Sending) (told values : List (List ℕ)) (ids : List (List ℕ)) → Holds me xs s → IsParcel x told values → ids ≡ sent_foreign me (x ∷ []) → HasAddedFound s t told values ids → Holds me (xs ++ x ∷ []) t
+added me xs x s t told values ids h p foreign a =
+    let parcel = parcel_is x told values p in
     let frames : t.frames ≡ flat_map text_of_frame (flat_map frames_of (xs ++ x ∷ [])) =
-    a.frames ∙ ap (λ (bytes : List ℕ). bytes ++ flat_map text_of_frame (parcel_frames told value)) h.frames
+    a.frames ∙ ap (λ (bytes : List ℕ). bytes ++ flat_map text_of_frame (parcel_frames told values)) h.frames
     ∙ ap (λ (fs : List Frame). flat_map text_of_frame (flat_map frames_of xs) ++ flat_map text_of_frame fs) (sym parcel)
     ∙ sym (ap (flat_map text_of_frame) (flat_push frames_of xs x) ∙ flat_map-append text_of_frame (flat_map frames_of xs) (frames_of x)) in
-    let updates : length x.told ≡ length (option_to_list told) = sym (length-map x.told text_of_signed) ∙ ap length p.told in
-    let values : length x.values ≡ length (option_to_list value) = ap length p.values in
-    let count : count_in (xs ++ x ∷ []) ≡ t.updates + t.values = omega (arith, count_push xs x, one_count x, updates, values, counts_all xs, h.updates, h.values, a.updates, a.values) in
+    let updates : length x.told ≡ length told = sym (length-map x.told text_of_signed) ∙ ap length p.told in
+    let count_values : length x.values ≡ length values = ap length p.values in
+    let count : count_in (xs ++ x ∷ []) ≡ t.updates + t.values = omega (arith, count_push xs x, one_count x, updates, count_values, counts_all xs, h.updates, h.values, a.updates, a.values) in
     record {
       frames = frames;
       updates = omega (arith, a.updates, h.updates, updates, sum_by-append (λ (y : Parcel). length y.told) xs (x ∷ []));
-      values = omega (arith, a.values, h.values, values, sum_by-append (λ (y : Parcel). length y.values) xs (x ∷ []));
+      values = omega (arith, a.values, h.values, count_values, sum_by-append (λ (y : Parcel). length y.values) xs (x ∷ []));
       ids = a.ids ∙ ap (λ (is : List (List ℕ)). is ++ ids) h.ids ∙ ap (λ (is : List (List ℕ)). sent_foreign me xs ++ is) foreign ∙ sym (foreign_push me xs x);
       fit = record {
         within = omega (arith, ap length frames, frames_long (flat_map frames_of (xs ++ x ∷ [])), a.short.within);
@@ -164,9 +163,9 @@ added me xs x s t told value ids h p foreign a =
     }
 
 -- or it doesn't fit
-pub not_added : (me : ℕ) (xs : List Parcel) (x : Parcel) (s : Sending) (told value : Option (List ℕ)) → Holds me xs s → IsParcel x told value → HasNoRoom s told value → IsCutAt me (xs ++ x ∷ []) s
-not_added me xs x s told value h p n =
-    let parcel = parcel_is x told value p in
+pub not_added : (me : ℕ) (xs : List Parcel) (x : Parcel) (s : Sending) (told values : List (List ℕ)) → Holds me xs s → IsParcel x told values → HasNoRoom s told values → IsCutAt me (xs ++ x ∷ []) s
+not_added me xs x s told values h p n =
+    let parcel = parcel_is x told values p in
     record {
       sent = xs;
       next = x;
@@ -177,16 +176,16 @@ not_added me xs x s told value h p n =
     }
 
 -- the answer to a candidate
-pub found_adds : {E : Type 0} (me : ℕ) (xs : List Parcel) (x : Parcel) (s t : Sending) (told value : Option (List ℕ)) (ids : List (List ℕ)) (r : Result Bool E) → Holds me xs s → IsParcel x told value → ids ≡ sent_foreign me (x ∷ []) → AddsFound s told value ids r t → AddsTo me (xs ++ x ∷ []) t r
-found_adds me xs x s t told value ids (Ok true) h p foreign a = added me xs x s t told value ids h p foreign a
-found_adds me xs x s t told value ids (Ok false) h p foreign a = subst (λ (q : Sending). IsCutAt me (xs ++ x ∷ []) q) (sym a.0) (not_added me xs x s told value h p a.1)
-found_adds me xs x s t told value ids (Err e) h p foreign a = tt
+pub found_adds : {E : Type 0} (me : ℕ) (xs : List Parcel) (x : Parcel) (s t : Sending) (told values : List (List ℕ)) (ids : List (List ℕ)) (r : Result Bool E) → Holds me xs s → IsParcel x told values → ids ≡ sent_foreign me (x ∷ []) → AddsFound s told values ids r t → AddsTo me (xs ++ x ∷ []) t r
+found_adds me xs x s t told values ids (Ok true) h p foreign a = added me xs x s t told values ids h p foreign a
+found_adds me xs x s t told values ids (Ok false) h p foreign a = subst (λ (q : Sending). IsCutAt me (xs ++ x ∷ []) q) (sym a.0) (not_added me xs x s told values h p a.1)
+found_adds me xs x s t told values ids (Err e) h p foreign a = tt
 
 -- the answer to a wanted value
-pub value_adds : {E : Type 0} (me : ℕ) (xs : List Parcel) (v : List ℕ) (s t : Sending) (r : Result Bool E) → Holds me xs s → Adds s None (Some v) r t → AddsTo me (xs ++ record { told = []; values = v ∷ [] } ∷ []) t r
+pub value_adds : {E : Type 0} (me : ℕ) (xs : List Parcel) (v : List ℕ) (s t : Sending) (r : Result Bool E) → Holds me xs s → Adds s [] (v ∷ []) r t → AddsTo me (xs ++ record { told = []; values = v ∷ [] } ∷ []) t r
 unfolding sent_foreign
-value_adds me xs v s t (Ok true) h a = added me xs (record { told = []; values = v ∷ [] }) s t None (Some v) [] h (record { told = refl; values = refl }) refl (record { frames = a.frames; updates = a.updates; values = a.values; ids = a.ids ∙ sym (append-nil s.ids); short = a.short })
-value_adds me xs v s t (Ok false) h a = subst (λ (q : Sending). IsCutAt me (xs ++ record { told = []; values = v ∷ [] } ∷ []) q) (sym a.0) (not_added me xs (record { told = []; values = v ∷ [] }) s None (Some v) h (record { told = refl; values = refl }) a.1)
+value_adds me xs v s t (Ok true) h a = added me xs (record { told = []; values = v ∷ [] }) s t [] (v ∷ []) [] h (record { told = refl; values = refl }) refl (record { frames = a.frames; updates = a.updates; values = a.values; ids = a.ids ∙ sym (append-nil s.ids); short = a.short })
+value_adds me xs v s t (Ok false) h a = subst (λ (q : Sending). IsCutAt me (xs ++ record { told = []; values = v ∷ [] } ∷ []) q) (sym a.0) (not_added me xs (record { told = []; values = v ∷ [] }) s [] (v ∷ []) h (record { told = refl; values = refl }) a.1)
 value_adds me xs v s t (Err e) h a = tt
 
 -- what is told of the rest doesn't matter

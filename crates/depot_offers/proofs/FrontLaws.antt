@@ -40,7 +40,7 @@ pub record HasTag (r : Record) : Type 0 where
 pub has_tag : (r : Record) → HasTag r
 unfolding record_text number numeral
 has_tag (Birth node h) = record { rest = (tagged 1).text (Birth node h); is = refl }
-has_tag (OwnPut u value) = record { rest = (tagged 2).text (OwnPut u value); is = refl }
+has_tag (OwnPut u values) = record { rest = (tagged 2).text (OwnPut u values); is = refl }
 has_tag (OwnVoucher v) = record { rest = (tagged 3).text (OwnVoucher v); is = refl }
 has_tag (Foreign s) = record { rest = (tagged 4).text (Foreign s); is = refl }
 has_tag (Conviction p) = record { rest = (tagged 5).text (Conviction p); is = refl }
@@ -110,7 +110,7 @@ pub front_same : (sign : Signs) (K : List Record) (r : Record) (h : Hello) (ids 
 front_same sign K (OwnVoucher v) h ids f e is = absurd cc
 front_same sign K (Conviction p) h ids f e is = absurd cc
 front_same sign K (Birth node x) h ids f e is = front_push sign K (Birth node x) h ids f f is (none_more sign f)
-front_same sign K (OwnPut u value) h ids f e is = front_push sign K (OwnPut u value) h ids f f is (none_more sign f)
+front_same sign K (OwnPut u values) h ids f e is = front_push sign K (OwnPut u values) h ids f f is (none_more sign f)
 front_same sign K (Foreign s) h ids f e is = front_push sign K (Foreign s) h ids f f is (none_more sign f)
 front_same sign K (Held value) h ids f e is = front_push sign K (Held value) h ids f f is (none_more sign f)
 
@@ -175,7 +175,7 @@ pub voucher_told : (r : Record) (tag : ℕ) → tag ≡ tag_of r → tag ≡ 3 �
 voucher_told (OwnVoucher v) tag e is = ap (λ (n : ℕ). eqb n 3) e
 voucher_told (Conviction p) tag e is = absurd (omega (arith, e, is))
 voucher_told (Birth node h) tag e is = absurd (omega (arith, e, is))
-voucher_told (OwnPut u value) tag e is = absurd (omega (arith, e, is))
+voucher_told (OwnPut u values) tag e is = absurd (omega (arith, e, is))
 voucher_told (Foreign s) tag e is = absurd (omega (arith, e, is))
 voucher_told (Held value) tag e is = absurd (omega (arith, e, is))
 
@@ -183,7 +183,7 @@ pub proof_told : (r : Record) (tag : ℕ) → tag ≡ tag_of r → (tag ≡ 3 �
 proof_told (OwnVoucher v) tag e not_voucher = absurd (not_voucher e)
 proof_told (Conviction p) tag e not_voucher = ap (λ (n : ℕ). eqb n 5) e
 proof_told (Birth node h) tag e not_voucher = ap (λ (n : ℕ). eqb n 5) e
-proof_told (OwnPut u value) tag e not_voucher = ap (λ (n : ℕ). eqb n 5) e
+proof_told (OwnPut u values) tag e not_voucher = ap (λ (n : ℕ). eqb n 5) e
 proof_told (Foreign s) tag e not_voucher = ap (λ (n : ℕ). eqb n 5) e
 proof_told (Held value) tag e not_voucher = ap (λ (n : ℕ). eqb n 5) e
 
@@ -192,7 +192,7 @@ pub not_in_front : (r : Record) → ((v : Voucher) → r ≡ OwnVoucher v → �
 not_in_front (OwnVoucher v) a b = absurd (a v refl)
 not_in_front (Conviction p) a b = absurd (b p refl)
 not_in_front (Birth node h) a b = refl
-not_in_front (OwnPut u value) a b = refl
+not_in_front (OwnPut u values) a b = refl
 not_in_front (Foreign s) a b = refl
 not_in_front (Held value) a b = refl
 

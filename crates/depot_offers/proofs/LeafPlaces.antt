@@ -50,8 +50,8 @@ text_at J place text e = by_item (slice_get J place) refl (sym (slice_get-map te
 -- ---- the leaf of a place
 
 accepts_this : (r : Record) (t : Update) → IsIn t (accepted_by r) → accepted_by r ≡ t ∷ []
-accepts_this (OwnPut u value) t (inl is) = ap (λ (x : Update). x ∷ []) is
-accepts_this (OwnPut u value) t (inr never) = absurd never
+accepts_this (OwnPut u values) t (inl is) = ap (λ (x : Update). x ∷ []) is
+accepts_this (OwnPut u values) t (inr never) = absurd never
 accepts_this (Foreign s) t on = by_statement s.statement on where
   by_statement : (x : Statement) → IsIn t (update_in x) → update_in x ≡ t ∷ []
   by_statement (statement.Update u) (inl is) = ap (λ (y : Update). y ∷ []) is

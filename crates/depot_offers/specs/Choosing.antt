@@ -1,15 +1,16 @@
 -- What a bundle sends of updates and values, as far as it is chosen.
-use Rattle.std.specs.Prelude.{◌≡◌, ℕ, ◌+◌, List, [], ◌∷◌, ◌++◌, length, map, Bool, true, false, Option, Some, None, option_to_list, slice_get, Result, Ok, Err, is_some, if◌then◌else◌}
+use Rattle.std.specs.Prelude.{◌≡◌, ℕ, ◌+◌, List, [], ◌∷◌, ◌++◌, length, map, filter, Bool, true, false, not, ◌==◌, Option, Some, None, option_to_list, slice_get, Result, Ok, Err}
 use Rattle.std.specs.List.{flat_map}
+use Rattle.sha2.specs.Sha256.{sha256}
+use Rattle.depot_base.specs.declared.update.NamedValue.{NamedValue}
 use Rattle.depot_base.specs.declared.update.Update.{Update}
+use Rattle.depot_base.specs.declared.statement.Signed.{Signed}
 use Rattle.depot_base.specs.declared.record.Record.{Record}
-use Rattle.depot_base.specs.declared.record.Record.TheVariants.{Foreign}
 use Rattle.depot_model.specs.Lists.{is_among, AreTogether}
 use Rattle.depot_model.specs.Texts.{id_of_update}
 use Rattle.depot_model.specs.Journal.{accepted_by, update_in}
 use Rattle.depot_model.specs.Frames.{text_of_frame}
-use Rattle.depot_model.specs.Contents.{values_named}
-use Rattle.depot_model.specs.Bundle.{Parcel, hashes_of}
+use Rattle.depot_model.specs.Bundle.{Parcel, values_behind, hashes_of}
 use Rattle.depot_frames.specs.declared.sending.Sending.{Sending}
 use Rattle.depot_frames.specs.Sendings.{DoFit, Holds, parcel_frames, IsShort, HasNoRoom}
 
@@ -37,18 +38,18 @@ AddsTo me all s (Err e) = Unit {0}
 -- ---- one parcel more
 
 -- the frames of a candidate and the ids of its updates of others stand behind those before them
-pub record HasAddedFound (s t : Sending) (told value : Option (List ℕ)) (more : List (List ℕ)) : Type 0 where
-  pub frames : t.frames ≡ s.frames ++ flat_map text_of_frame (parcel_frames told value)
-  pub updates : t.updates ≡ s.updates + length (option_to_list told)
-  pub values : t.values ≡ s.values + length (option_to_list value)
+pub record HasAddedFound (s t : Sending) (told behind more : List (List ℕ)) : Type 0 where
+  pub frames : t.frames ≡ s.frames ++ flat_map text_of_frame (parcel_frames told behind)
+  pub updates : t.updates ≡ s.updates + length told
+  pub values : t.values ≡ s.values + length behind
   pub ids : t.ids ≡ s.ids ++ more
   pub short : IsShort t
 
 -- both were added, or there is no room for the frames
-abbrev pub AddsFound : {E : Type 0} → Sending → Option (List ℕ) → Option (List ℕ) → List (List ℕ) → Result Bool E → Sending → Type 0
-AddsFound s told value ids (Ok true) t = HasAddedFound s t told value ids
-AddsFound s told value ids (Ok false) t = (t ≡ s) × HasNoRoom s told value
-AddsFound s told value ids (Err e) t = Unit {0}
+abbrev pub AddsFound : {E : Type 0} → Sending → List (List ℕ) → List (List ℕ) → List (List ℕ) → Result Bool E → Sending → Type 0
+AddsFound s told values ids (Ok true) t = HasAddedFound s t told values ids
+AddsFound s told values ids (Ok false) t = (t ≡ s) × HasNoRoom s told values
+AddsFound s told values ids (Err e) t = Unit {0}
 
 -- ---- candidates
 
@@ -63,14 +64,14 @@ pub record TellsAt (J : List Record) (place : ℕ) : Type 0 where
 abbrev pub records_at : List Record → List ℕ → List Record
 records_at J places = flat_map (λ place. option_to_list (slice_get J place)) places
 
--- the id of the update of another that a record accepts
-abbrev pub foreign_ids : Record → List (List ℕ)
-foreign_ids (Foreign s) = map id_of_update (update_in s.statement)
-foreign_ids r = []
+-- the id of a signed statement's update, if it is one of another node than this
+abbrev pub foreign_ids : ℕ → Signed → List (List ℕ)
+foreign_ids me s = map id_of_update (filter (λ u. not (u.writer == me)) (update_in s.statement))
 
--- the hashes of the values that a record's update names, where one was found
-abbrev pub hashes_named : Record → Option (List ℕ) → List (List ℕ)
-hashes_named r found = if is_some found then map (λ n. n.hash) (flat_map values_named (accepted_by r)) else []
+-- These are the held values of the names that have none of these hashes, each hash once; and with theirs the hashes are the new ones.
+pub record Finds (J : List Record) (keys : List (List ℕ)) (names : List NamedValue) (found new : List (List ℕ)) : Type 0 where
+  pub values : found ≡ values_behind J keys names
+  pub hashes : AreTogether keys (map sha256 found) new
 
 -- the two have the same members
 abbrev pub AreAlike : List (List ℕ) → List (List ℕ) → Type 0

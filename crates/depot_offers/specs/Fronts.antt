@@ -1,7 +1,6 @@
 -- What stands in front of the updates and values of a bundle.
 use Rattle.std.specs.Prelude.{◌≡◌, ℕ, List, length, map, Bool, true, false}
 use Rattle.std.specs.List.{flat_map}
-use Rattle.depot_base.specs.declared.statement.Statement.TheVariants as statement
 use Rattle.depot_base.specs.declared.record.Record.{Record}
 use Rattle.depot_base.specs.declared.record.Record.TheVariants.{OwnVoucher, Conviction}
 use Rattle.depot_model.specs.declared.hello.Hello.{Hello}

@@ -1,80 +1,130 @@
-//! What a bundle goes by of the record of a candidate.
-ghost use Rattle.std.specs.Prelude.{◌≡◌, false, map, length, OnOk, IfOk, is_some, option_copied, option_to_list};
+//! What a bundle goes by of a candidate's signed statement.
+ghost use Rattle.std.specs.Prelude.{◌≡◌, ◌∷◌, [], false, map, IfOk, option_copied, option_to_list};
 ghost use Rattle.std.specs.List.{flat_map};
-ghost use Rattle.depot_base.specs.declared.record.Record.{Record};
-ghost use Rattle.depot_model.specs.Lists.{AreTogether};
-ghost use Rattle.depot_model.specs.Journal.{accepted_by, held, value_with};
+ghost use Rattle.depot_base.specs.Writes.{values_in};
+ghost use Rattle.depot_base.specs.declared.statement.Signed.{Signed};
 ghost use Rattle.depot_model.specs.Contents.{values_named};
-ghost use Rattle.depot_model.specs.Records.{IsRecord};
-ghost use Rattle.depot_model.specs.Bundle.{values_behind};
-ghost use Rattle.depot_offers.specs.Choosing.{foreign_ids, hashes_named};
+ghost use Rattle.depot_model.specs.Journal.{held_as, update_in};
+ghost use Rattle.depot_model.specs.Texts.{IsSigned, text_of_signed};
+ghost use Rattle.depot_frames.specs.Sendings.{payloads_of};
+ghost use Rattle.depot_offers.specs.Choosing.{Finds, foreign_ids};
 
 use crate::hashes::{Hashes, add_hash, has_hash};
-use depot_base::{Hash32, Memory, Record, Statement, Update};
+use depot_base::{
+    DecodeError, Hash32, Memory, NamedValue, NodeId, Signed, Statement, Update, Write,
+};
 use depot_model::Peer;
+use depot_update::decode_signed;
 use sha2::{Digest, Sha256};
+use std::alloc::Global;
 
-/// The update that a record accepts, if it accepts one.
-fn accepted_in(item: &Record) -> Option<&Update>
-    ensures { option_to_list (option_copied result) ≡ accepted_by item.now }
+/// The signed statement with this text, which is one's: nothing but memory can be wanting.
+pub(crate) fn signed_of(alloc: Global, text: &[u8]) -> Result<Signed, Memory>
+    requires { (s : Signed) × (IsSigned s × (text.now ≡ text_of_signed s)) }
+    ensures { IfOk result (λ found. (s : Signed) → IsSigned s → text.now ≡ text_of_signed s → found ≡ s) }
 {
-    match item {
-        Record::OwnPut { update, .. } => Some(update),
-        Record::Foreign { signed } => match &signed.statement {
-            Statement::Update(update) => Some(update),
-            Statement::Voucher(_) => None,
-        },
-        _ => None,
+    match decode_signed(alloc, text) {
+        Ok(signed) => Ok(signed),
+        Err(DecodeError::Memory) => Err(Memory),
+        Err(DecodeError::IllFormed(_)) => unreachable!(),
     }
 }
 
-/// The id of the update of another that a record accepts, if it accepts one: SHA-256 of the body as it stands there.
+/// The update of a signed statement, if it is one.
+fn update_in(signed: &Signed) -> Option<&Update>
+    ensures { option_to_list (option_copied result) ≡ update_in signed.now.statement }
+{
+    match &signed.statement {
+        Statement::Update(update) => Some(update),
+        Statement::Voucher(_) => None,
+    }
+}
+
+/// The id of a signed statement's update, if it is one of another node than this: SHA-256 of the body as it stands there.
 #[tactic(auto, unfolding(depot_model::specs::Texts::id_of_update))]
-pub(crate) fn foreign_id(item: &Record) -> Option<Hash32>
-    requires { IsRecord item.now }
-    ensures { option_to_list result ≡ foreign_ids item.now }
+pub(crate) fn foreign_id(signed: &Signed, me: NodeId) -> Option<Hash32>
+    requires { IsSigned signed.now }
+    ensures { option_to_list result ≡ foreign_ids me signed.now }
 {
-    match item {
-        Record::Foreign { signed } => match &signed.statement {
-            Statement::Update(_) => Some(Hash32::new(Sha256::digest(signed.body.as_slice()))),
-            Statement::Voucher(_) => None,
-        },
-        _ => None,
+    match &signed.statement {
+        Statement::Update(update) => {
+            if update.writer == me {
+                return None;
+            }
+            Some(Hash32::new(Sha256::digest(signed.body.as_slice())))
+        }
+        Statement::Voucher(_) => None,
     }
 }
 
-/// The held value that a record's update names, unless its hash is among these.
-pub(crate) fn value_behind<'n, R: Peer>(
-    node: &'n R,
-    hashes: &Hashes,
-    item: &Record,
-) -> Option<&'n [u8]>
+/// The held value of a name. None exactly where no value of its hash and its length is held.
+fn held_as<'n, R: Peer>(node: &'n R, name: &NamedValue) -> Option<&'n [u8]>
     requires { R.stopped node.now ≡ false }
-    ensures { option_to_list (option_copied result) ≡ values_behind (R.records node.now) hashes.now.keys (flat_map values_named (accepted_by item.now)) }
+    ensures { option_copied result ≡ held_as (R.records node.now) name.now }
 {
-    let update = accepted_in(item)?;
-    let named = update.value_named();
-    if has_hash(hashes, &named.hash) {
-        return None;
-    }
-    let value = node.held(&named.hash)?;
-    if value.len() == named.size as usize {
+    let value = node.held(&name.hash)?;
+    if value.len() == name.size as usize {
         Some(value)
     } else {
         None
     }
 }
 
-/// Puts the hash of a value that was found for a record's update among these.
-pub(crate) fn add_found(
+/// The held value of a name, unless its hash is among these. Where there is one, its hash is then among these.
+fn value_behind<'n, R: Peer>(
+    node: &'n R,
     hashes: &mut Hashes,
-    item: &Record,
-    found: Option<&[u8]>,
-) -> Result<(), Memory>
-    ensures { OnOk result (AreTogether hashes.old.keys (hashes_named item.now (option_copied found.entry)) hashes.new.keys) }
+    name: &NamedValue,
+) -> Result<Option<&'n [u8]>, Memory>
+    requires { R.stopped node.now ≡ false }
+    ensures { IfOk result (λ found. Finds (R.records node.now) hashes.old.keys (name.now ∷ []) (option_to_list (option_copied found)) hashes.new.keys) }
 {
-    match (found, accepted_in(item)) {
-        (Some(_), Some(update)) => add_hash(hashes, update.value_named().hash),
-        _ => Ok(()),
+    if has_hash(hashes, &name.hash) {
+        return Ok(None);
+    }
+    let Some(value) = held_as(node, name) else {
+        return Ok(None);
+    };
+    add_hash(hashes, name.hash)?;
+    Ok(Some(value))
+}
+
+/// The values that these writes name, in their order, as far as they are held and none of these hashes is theirs. Their hashes are
+/// then among these, so that a value that two writes name comes once.
+fn values_behind<'n, R: Peer>(
+    alloc: Global,
+    node: &'n R,
+    hashes: &mut Hashes,
+    writes: &[Write],
+) -> Result<Vec<&'n [u8]>, Memory>
+    requires { R.stopped node.now ≡ false }
+    ensures { IfOk result (λ found. Finds (R.records node.now) hashes.old.keys (values_in writes.now) (payloads_of found.items) hashes.new.keys) }
+{
+    let mut found = Vec::new(alloc);
+    for write in writes {
+        let Some(name) = write.what.named() else {
+            continue;
+        };
+        let Some(value) = value_behind(node, hashes, &name)? else {
+            continue;
+        };
+        found.push(value)?;
+    }
+    Ok(found)
+}
+
+/// The same of the writes of a signed statement's update, if it is one.
+pub(crate) fn values_of<'n, R: Peer>(
+    alloc: Global,
+    node: &'n R,
+    hashes: &mut Hashes,
+    signed: &Signed,
+) -> Result<Vec<&'n [u8]>, Memory>
+    requires { R.stopped node.now ≡ false }
+    ensures { IfOk result (λ found. Finds (R.records node.now) hashes.old.keys (flat_map values_named (update_in signed.now.statement)) (payloads_of found.items) hashes.new.keys) }
+{
+    match update_in(signed) {
+        Some(update) => values_behind(alloc, node, hashes, update.writes.as_slice()),
+        None => Ok(Vec::new(alloc)),
     }
 }

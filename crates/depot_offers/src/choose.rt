@@ -1,18 +1,17 @@
 //! What a bundle sends for a hello.
-ghost use Rattle.std.specs.Prelude.{◌≡◌, ◌++◌, ◌≤◌, List, [], ◌∷◌, false, length, map, nat_lt, Some, IfSome, OnOk, IfOk, option_to_list, option_copied, slice_get};
+ghost use Rattle.std.specs.Prelude.{◌≡◌, ◌++◌, ◌≤◌, List, [], ◌∷◌, false, length, map, nat_lt, Some, OnOk, IfOk, option_to_list, option_copied, slice_get};
 ghost use Rattle.std.specs.List.{AllByRecursion, flat_map};
 ghost use Rattle.sha2.specs.Sha256.{sha256};
-ghost use Rattle.depot_base.specs.declared.limits.TheConstants.{MOST_PAYLOAD};
+ghost use Rattle.depot_base.specs.declared.limits.TheConstants.{MOST_PAYLOAD, MOST_WRITES};
 ghost use Rattle.depot_base.specs.declared.record.Record.{Record};
-ghost use Rattle.depot_model.specs.Records.{IsRecord};
+ghost use Rattle.depot_model.specs.Texts.{IsSigned};
 ghost use Rattle.depot_model.specs.Bundle.{Parcel, candidate_parcel, candidate_parcels, wanted_parcel, hashes_of, parcels, sent_for};
-ghost use Rattle.depot_frames.specs.Sendings.{Holds, IsShort};
-ghost use Rattle.depot_offers.specs.Choosing.{AddsTo, AddsFound, TellsAt, records_at, foreign_ids, hashes_named, AddsHashes, AreHashesOf, value_parcels};
+ghost use Rattle.depot_frames.specs.Sendings.{Holds, IsShort, ArePayloads, payloads_of};
+ghost use Rattle.depot_offers.specs.Choosing.{AddsTo, AddsFound, TellsAt, records_at, foreign_ids, AddsHashes, AreHashesOf, value_parcels};
 
-use crate::candidate::{add_found, foreign_id, value_behind};
+use crate::candidate::{foreign_id, signed_of, values_of};
 use crate::hashes::{Hashes, has_hash};
-use crate::own_hello::record_of;
-use depot_base::{Hash32, Ids, Memory, Record};
+use depot_base::{Hash32, Ids, Memory, NodeId, Signed};
 use depot_frames::Sending;
 use depot_model::{Hello, HelloLeaves, Peer};
 use std::alloc::Global;
@@ -38,51 +37,30 @@ fn push_id(ids: &mut Ids, id: Option<Hash32>) -> Result<(), Memory>
     }
 }
 
-/// Chooses a candidate: its signed statement, and the value that was found behind it, if one was. Says whether it has room.
-fn add_found_candidate(
+/// Chooses a candidate: its signed statement, with this text, and the values that were found behind it. Says whether it has room.
+fn add_found(
     sending: &mut Sending,
-    hashes: &mut Hashes,
-    item: &Record,
+    me: NodeId,
+    signed: &Signed,
     told: &[u8],
-    found: Option<&[u8]>,
+    found: &[&[u8]],
 ) -> Result<bool, Memory>
-    requires fits { IsRecord item.now }
+    requires fits { IsSigned signed.now }
     requires short { IsShort sending.old }
+    requires few { length found.now ≤ MOST_WRITES }
     requires told { length told.now ≤ MOST_PAYLOAD }
-    requires found { IfSome (option_copied found) (λ v. length v ≤ MOST_PAYLOAD) }
-    ensures adds { AddsFound sending.old (Some told.now) (option_copied found.entry) (foreign_ids item.now) result sending.new }
-    ensures hashes { AddsHashes hashes.old.keys (hashes_named item.now (option_copied found.entry)) result hashes.new.keys }
+    requires found { ArePayloads (payloads_of found.now) }
+    ensures { AddsFound sending.old (told.now ∷ []) (payloads_of found.now) (foreign_ids me signed.now) result sending.new }
 {
-    if !sending.add(Some(told), found)? {
+    if !sending.add(&[told], found)? {
         return Ok(false);
     }
-    push_id(&mut sending.ids, foreign_id(item))?;
-    add_found(hashes, item, found)?;
+    push_id(&mut sending.ids, foreign_id(signed, me))?;
     Ok(true)
 }
 
-/// Chooses the candidate of a place, whose record this is, with the held value that it names, unless one of these hashes is that
-/// value's. Says whether it has room.
-fn add_item<R: Peer>(
-    sending: &mut Sending,
-    hashes: &mut Hashes,
-    node: &R,
-    place: u32,
-    item: &Record,
-) -> Result<bool, Memory>
-    requires running { R.stopped node.now ≡ false }
-    requires tells { TellsAt (R.records node.now) place }
-    requires at { slice_get (R.records node.now) place ≡ Some item.now }
-    requires short { IsShort sending.old }
-    ensures adds { (xs : List Parcel) → Holds (R.stands node.now).me xs sending.old → AddsTo (R.stands node.now).me (xs ++ candidate_parcel (R.signature_of node.now) (R.records node.now) hashes.old.keys item.now ∷ []) sending.new result }
-    ensures hashes { AddsHashes hashes.old.keys (map sha256 (candidate_parcel (R.signature_of node.now) (R.records node.now) hashes.old.keys item.now).values) result hashes.new.keys }
-{
-    let told = node.signed_text(place)?;
-    let found = value_behind(node, hashes, item);
-    add_found_candidate(sending, hashes, item, told.as_slice(), found)
-}
-
-/// Chooses the candidate of a place, in the same way.
+/// Chooses the candidate of a place, with the held values that it names, but for those whose hashes are among these. Says whether
+/// it has room.
 fn add_candidate<R: Peer>(
     alloc: Global,
     sending: &mut Sending,
@@ -96,8 +74,16 @@ fn add_candidate<R: Peer>(
     ensures adds { (xs : List Parcel) (r : Record) → Holds (R.stands node.now).me xs sending.old → slice_get (R.records node.now) place ≡ Some r → AddsTo (R.stands node.now).me (xs ++ candidate_parcel (R.signature_of node.now) (R.records node.now) hashes.old.keys r ∷ []) sending.new result }
     ensures hashes { (r : Record) → slice_get (R.records node.now) place ≡ Some r → AddsHashes hashes.old.keys (map sha256 (candidate_parcel (R.signature_of node.now) (R.records node.now) hashes.old.keys r).values) result hashes.new.keys }
 {
-    let item = record_of(alloc, node.record_text(place))?;
-    add_item(sending, hashes, node, place, &item)
+    let told = node.signed_text(place)?;
+    let signed = signed_of(alloc, told.as_slice())?;
+    let found = values_of(alloc, node, hashes, &signed)?;
+    add_found(
+        sending,
+        node.me(),
+        &signed,
+        told.as_slice(),
+        found.as_slice(),
+    )
 }
 
 /// Chooses the candidates of these places, as long as there is room. Says whether all have room.
@@ -146,7 +132,7 @@ fn add_wanted_value<R: Peer>(
     ensures { (xs : List Parcel) → Holds (R.stands node.now).me xs sending.old → AddsTo (R.stands node.now).me (xs ++ wanted_parcel (R.records node.now) hashes.now.keys hash.now) sending.new result }
 {
     match wanted_value(node, hashes, hash) {
-        Some(value) => sending.add(None, Some(value)),
+        Some(value) => sending.add(&[], &[value]),
         None => Ok(true),
     }
 }

@@ -8,7 +8,7 @@ ghost use Rattle.depot_model.specs.Records.{IsRecord, text_of_record};
 ghost use Rattle.depot_model.specs.Hello.{named_leaf, text_of_hello, hello_of};
 ghost use Rattle.depot_offers.specs.RecordLeaves.{leaf_list, leaf_at};
 
-use depot_base::{Bytes, Hash32, Memory, Record, Signed, Statement};
+use depot_base::{Bytes, DecodeError, Hash32, Memory, Record, Signed, Statement};
 use depot_frames::encode_hello;
 use depot_model::{Hello, HelloLeaf, HelloLeaves, Peer, Replica};
 use depot_update::{decode_record, id_in_own_put};
@@ -22,7 +22,8 @@ pub(crate) fn record_of(alloc: Global, text: &[u8]) -> Result<Record, Memory>
 {
     match decode_record(alloc, text) {
         Ok(item) => Ok(item),
-        Err(_) => Err(Memory),
+        Err(DecodeError::Memory) => Err(Memory),
+        Err(DecodeError::IllFormed(_)) => unreachable!(),
     }
 }
 

@@ -1,5 +1,5 @@
 -- What calls on the outside do.
-use Rattle.std.specs.Prelude.{◌≡◌, ℕ, List, ◌++◌, take, Result, Ok, Err}
+use Rattle.std.specs.Prelude.{◌≡◌, ℕ, List, [], ◌∷◌, ◌++◌, take, Result, Ok, Err}
 use Rattle.depot_outside.specs.declared.outside_error.OutError.{OutError}
 use Rattle.depot_outside.specs.declared.outside_error.OutError.TheVariants as error
 
@@ -8,3 +8,9 @@ abbrev pub Writes : List ℕ → List ℕ → List ℕ → Result (Unit {0}) Out
 Writes old new piece (Ok _) = new ≡ old ++ piece
 Writes old new piece (Err error.Failed) = (n : ℕ) × (new ≡ old ++ take n piece)
 Writes old new piece (Err error.Memory) = new ≡ old
+
+-- The names that a shelf failed on are one more where it failed in this call, and as they were where it didn't.
+abbrev pub FailsOn : {A : Type 0} → List (List ℕ) → List (List ℕ) → List ℕ → Result A OutError → Type 0
+FailsOn old new name (Ok _) = new ≡ old
+FailsOn old new name (Err error.Failed) = new ≡ old ++ name ∷ []
+FailsOn old new name (Err error.Memory) = new ≡ old

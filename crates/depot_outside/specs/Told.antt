@@ -1,21 +1,36 @@
 -- What a shelf, a disk and a sink tell before and after a run.
-use Rattle.std.specs.Prelude.{◌≡◌, ◌<◌, ◌⊎◌, ℕ, List, ◌++◌, take, Bool, IsTrue, Option, Some, None}
+use Rattle.std.specs.Prelude.{◌≡◌, ◌<◌, ◌⊎◌, ℕ, List, [], ◌∷◌, ◌++◌, take, Bool, IsTrue, Option, Some, None}
 use Rattle.depot_outside.specs.declared.disk.Disk as disk_of
 use Rattle.depot_outside.specs.declared.shelf.Shelf as shelf_of
 use Rattle.depot_outside.specs.declared.sink.Sink as sink_of
 
 -- ---- the shelf
 
--- its files, as it tells them, and its count of faults
+-- its files, as it tells them, the names on which it failed, and its count of faults
 pub record Shelves : Type 0 where
   pub tells : Bool
   pub file : List ℕ → Option (List ℕ)
   pub file_after : List ℕ → Option (List ℕ)
+  pub failed_before : List (List ℕ)
+  pub failed_after : List (List ℕ)
   pub faults_before : ℕ
   pub faults_after : ℕ
 
 abbrev pub shelves : {F : Type 0} → shelf_of.Ghosts F → F → F → Shelves
-shelves g old new = record { tells = g.tells old; file = g.file old; file_after = g.file new; faults_before = g.faults old; faults_after = g.faults new }
+shelves g old new = record {
+  tells = g.tells old;
+  file = g.file old;
+  file_after = g.file new;
+  failed_before = g.failed old;
+  failed_after = g.failed new;
+  faults_before = g.faults old;
+  faults_after = g.faults new;
+}
+
+-- The shelf failed in this run, and only on this name.
+pub record HasFailedOn (shelf : Shelves) (name : List ℕ) : Type 0 where
+  pub rose : shelf.faults_before < shelf.faults_after
+  pub only : shelf.failed_after ≡ shelf.failed_before ++ name ∷ []
 
 -- the names that it was asked to load
 pub record Loads : Type 0 where

@@ -3,8 +3,8 @@ ghost use Rattle.std.specs.Prelude.{◌≡◌, ◌≢◌, ℕ, List, [], Some, N
 ghost use Rattle.std.specs.BTreeMap.{get_by_text};
 
 use crate::calls::Calls;
-use crate::loads::Loads;
-use crate::{OutError, Shelf};
+use crate::name_list::NameList;
+use crate::{Failed, OutError, Shelf};
 use depot_base::{Bytes, Items, Memory};
 use std::alloc::Global;
 use std::collections::BTreeMap;
@@ -15,16 +15,20 @@ pub struct MemShelf {
     alloc: Global,
     files: BTreeMap<String, Bytes>,
     calls: Calls,
-    loads: Loads,
+    loads: NameList,
+    stores: NameList,
+    failed: NameList,
 }
 
 impl MemShelf {
-    /// A shelf with no file. Of its loads and stores, counted together from 1, those of these numbers fail. It takes no
-    /// memory.
+    /// A shelf with no file. Of its loads and stores, counted together from 1, those of these numbers fail: tests say so,
+    /// a clause only that none fails where there is no number. It takes no memory.
     pub fn new(alloc: Global, fails: Items) -> MemShelf
         ensures tells { IsTrue (⟦<MemShelf as Shelf>⟧.tells result) }
         ensures empty { (name : List ℕ) → ⟦<MemShelf as Shelf>⟧.file result name ≡ None }
         ensures loads { ⟦<MemShelf as Shelf>⟧.loads result ≡ [] }
+        ensures stores { ⟦<MemShelf as Shelf>⟧.stores result ≡ [] }
+        ensures failed { ⟦<MemShelf as Shelf>⟧.failed result ≡ [] }
         ensures faults { ⟦<MemShelf as Shelf>⟧.faults result ≡ 0 }
         ensures faultless { fails ≡ [] → ⟦<MemShelf as Shelf>⟧.is_faultless result }
     {
@@ -32,7 +36,9 @@ impl MemShelf {
             alloc,
             files: BTreeMap::new(alloc),
             calls: Calls::new(fails),
-            loads: Loads::new(),
+            loads: NameList::new(),
+            stores: NameList::new(),
+            failed: NameList::new(),
         }
     }
 
@@ -45,6 +51,8 @@ impl MemShelf {
             ⟦<MemShelf as Shelf>⟧.file self.new other ≡ ⟦<MemShelf as Shelf>⟧.file self.old other }
         ensures memory { OnErr result (⟦<MemShelf as Shelf>⟧.file self.new ≡ ⟦<MemShelf as Shelf>⟧.file self.old) }
         ensures loads { ⟦<MemShelf as Shelf>⟧.loads self.new ≡ ⟦<MemShelf as Shelf>⟧.loads self.old }
+        ensures stores { ⟦<MemShelf as Shelf>⟧.stores self.new ≡ ⟦<MemShelf as Shelf>⟧.stores self.old }
+        ensures failed { ⟦<MemShelf as Shelf>⟧.failed self.new ≡ ⟦<MemShelf as Shelf>⟧.failed self.old }
         ensures faults { ⟦<MemShelf as Shelf>⟧.faults self.new ≡ ⟦<MemShelf as Shelf>⟧.faults self.old }
         ensures faultless { ⟦<MemShelf as Shelf>⟧.is_faultless self.old → ⟦<MemShelf as Shelf>⟧.is_faultless self.new }
     {
@@ -62,13 +70,20 @@ impl Shelf for MemShelf {
 
     ghost loads = { λ s. s.loads.names };
 
+    ghost stores = { λ s. s.stores.names };
+
+    ghost failed = { λ s. s.failed.names };
+
     ghost faults = { λ s. s.calls.faults.number };
 
     ghost is_faultless = { λ s. s.calls.fails ≡ [] };
 
     fn load(&mut self, name: &str) -> Result<Option<Bytes>, OutError> {
         self.loads.note(name.as_bytes());
-        self.calls.begin()?;
+        if let Err(Failed) = self.calls.begin() {
+            self.failed.note(name.as_bytes());
+            return Err(OutError::Failed);
+        }
         match self.files.get(name) {
             Some(file) => Ok(Some(file.copy()?)),
             None => Ok(None),
@@ -76,7 +91,11 @@ impl Shelf for MemShelf {
     }
 
     fn store(&mut self, name: &str, bytes: &[u8]) -> Result<(), OutError> {
-        self.calls.begin()?;
+        self.stores.note(name.as_bytes());
+        if let Err(Failed) = self.calls.begin() {
+            self.failed.note(name.as_bytes());
+            return Err(OutError::Failed);
+        }
         Ok(self.put(name, bytes)?)
     }
 }

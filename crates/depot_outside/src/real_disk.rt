@@ -4,26 +4,27 @@ ghost use Rattle.std.proofs.Common.{rules};
 ghost use Rattle.depot_base.specs.Faults.{HasCause};
 
 use crate::faults::Faults;
-use crate::transfer::write_whole;
+use crate::transfer::{read_piece_at, write_whole_at};
 use crate::{Disk, Failed};
 use depot_base::Memory;
-use std::fs::{OpenFile, OpenOptions};
-use std::io::{self, ErrorKind, Read, Seek, SeekFrom};
+use std::fs::{File, OpenOptions};
+use std::io;
 use std::rt::Files;
 
 /// The name of the journal's file in the current folder.
-const NAME: &str = "depot.journal";
+pub(crate) const JOURNAL: &str = "depot.journal";
 
 /// The file `depot.journal` of the current folder. It tells nothing of its bytes or of what a stop may leave, and takes no
-/// memory of the run.
+/// memory of the run. From its first call on it has a lock on the file, which no other disk has meanwhile, be it of this
+/// process or of another. The lock ends with the disk, or with its process, however that ends.
 #[derive(Drop)]
-pub struct RealDisk<R: Files + Drop> {
+pub struct RealDisk<R: Files<File = File> + Drop> {
     rt: R,
-    file: Option<R::File>,
+    file: Option<File>,
     faults: Faults,
 }
 
-impl<R: Files + Drop> RealDisk<R> {
+impl<R: Files<File = File> + Drop> RealDisk<R> {
     /// The disk of a runtime. The file is reached at the first call, and made where it is absent.
     pub fn new(rt: R) -> RealDisk<R>
         ensures { ⟦<RealDisk<R> as Disk>⟧.faults result ≡ 0 }
@@ -36,65 +37,66 @@ impl<R: Files + Drop> RealDisk<R> {
     }
 }
 
-/// The file, once it is open. The folder that names it is synced then, so that no stop loses a file that was made.
-fn reach<'a, R: Files>(rt: &R, file: &'a mut Option<R::File>) -> io::Result<&'a mut R::File> {
+/// The file, once it is open.
+fn reach<'a, R: Files<File = File>>(
+    rt: &R,
+    file: &'a mut Option<File>,
+) -> io::Result<&'a mut File> {
     match file {
         Some(file) => Ok(file),
-        None => {
-            let opened = OpenOptions::new()
-                .read(true)
-                .write(true)
-                .create(true)
-                .open(rt, NAME)?;
-            sync_folder(rt)?;
-            Ok(file.insert(opened))
-        }
+        None => Ok(file.insert(open_journal(rt)?)),
     }
 }
 
+/// Opens the file, and makes it where it is absent. Where another disk has it locked that is an error. The folder that
+/// names it is synced then, so that no stop loses a file that was made.
+fn open_journal<R: Files<File = File>>(rt: &R) -> io::Result<File> {
+    let file = OpenOptions::new()
+        .read(true)
+        .write(true)
+        .create(true)
+        .open(rt, JOURNAL)?;
+    file.try_lock()?;
+    sync_folder(rt)?;
+    Ok(file)
+}
+
 /// Has the system write out the names that it holds back of the current folder.
-fn sync_folder<R: Files>(rt: &R) -> io::Result<()> {
+fn sync_folder<R: Files<File = File>>(rt: &R) -> io::Result<()> {
     OpenOptions::new().read(true).open(rt, ".")?.sync_all()
 }
 
 /// How many bytes the file has.
-fn measure<R: Files>(rt: &R, file: &mut Option<R::File>) -> io::Result<u64> {
+fn measure<R: Files<File = File>>(rt: &R, file: &mut Option<File>) -> io::Result<u64> {
     Ok(reach(rt, file)?.metadata()?.len())
 }
 
-/// Reads from an offset on until the piece is full. A read that gives nothing is a fault.
-fn read_piece<R: Files>(
+/// Reads from an offset on until the piece is full.
+fn read_piece<R: Files<File = File>>(
     rt: &R,
-    file: &mut Option<R::File>,
+    file: &mut Option<File>,
     at: u64,
     into: &mut [u8],
 ) -> io::Result<()> {
-    let file = reach(rt, file)?;
-    file.seek(SeekFrom::Start(at))?;
-    file.read_exact(into)
+    read_piece_at(reach(rt, file)?, at, into)
 }
 
-/// Writes all of the bytes at an offset. A write that takes nothing is a fault.
-fn write_piece<R: Files>(
+/// Writes all of the bytes at an offset.
+fn write_piece<R: Files<File = File>>(
     rt: &R,
-    file: &mut Option<R::File>,
+    file: &mut Option<File>,
     at: u64,
     bytes: &[u8],
 ) -> io::Result<()> {
-    let file = reach(rt, file)?;
-    file.seek(SeekFrom::Start(at))?;
-    match write_whole(file, bytes) {
-        Ok(()) => Ok(()),
-        Err(Failed) => Err(ErrorKind::WriteZero.into()),
-    }
+    write_whole_at(reach(rt, file)?, at, bytes)
 }
 
 /// Has the system write out what it holds back of the file.
-fn flush<R: Files>(rt: &R, file: &mut Option<R::File>) -> io::Result<()> {
+fn flush<R: Files<File = File>>(rt: &R, file: &mut Option<File>) -> io::Result<()> {
     reach(rt, file)?.sync_data()
 }
 
-impl<R: Files + Drop> RealDisk<R> {
+impl<R: Files<File = File> + Drop> RealDisk<R> {
     /// Hands an outcome on. An error of the system is a fault.
     fn settle<T: Drop>(&mut self, outcome: io::Result<T>) -> Result<T, Failed>
         ensures cause { HasCause self.old.faults.number self.new.faults.number (IsErr result) }
@@ -109,7 +111,7 @@ impl<R: Files + Drop> RealDisk<R> {
     }
 }
 
-impl<R: Files + Drop> Disk for RealDisk<R> {
+impl<R: Files<File = File> + Drop> Disk for RealDisk<R> {
     ghost handle = { λ _. 0 };
 
     ghost tells = { λ _. false };

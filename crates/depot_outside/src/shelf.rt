@@ -1,6 +1,7 @@
 //! Named files.
 ghost use Rattle.std.specs.Prelude.{◌≡◌, ◌≢◌, ◌++◌, ◌∷◌, [], ℕ, List, Bool, IsTrue, Option, Some, OnOk, IfOk, IsErrOf};
 ghost use Rattle.depot_base.specs.Faults.{HasCause};
+ghost use Rattle.depot_outside.specs.Outside.{FailsOn};
 
 use crate::OutError;
 use depot_base::Bytes;
@@ -16,6 +17,12 @@ pub trait Shelf {
     /// The names that it was asked to load, in their order, whatever was answered.
     ghost loads: { Self → List (List ℕ) };
 
+    /// The names that it was asked to store under, in their order, whatever was answered.
+    ghost stores: { Self → List (List ℕ) };
+
+    /// The names on which it failed, in the order of these calls.
+    ghost failed: { Self → List (List ℕ) };
+
     /// How often it has failed.
     ghost faults: { Self → ℕ };
 
@@ -27,6 +34,8 @@ pub trait Shelf {
         ensures found { IsTrue (tells self.old) → IfOk result (λ found. found ≡ file self.old name.now) }
         ensures same { file self.new ≡ file self.old }
         ensures loads { loads self.new ≡ loads self.old ++ name.now ∷ [] }
+        ensures stores { stores self.new ≡ stores self.old }
+        ensures failed { FailsOn (failed self.old) (failed self.new) name.now result }
         ensures tells { tells self.new ≡ tells self.old }
         ensures cause { HasCause (faults self.old) (faults self.new) (IsErrOf result OutError.Failed) }
         ensures faultless { is_faultless self.old → is_faultless self.new × (faults self.new ≡ faults self.old) };
@@ -38,6 +47,8 @@ pub trait Shelf {
         ensures others { (other : List ℕ) → other ≢ name.now → file self.new other ≡ file self.old other }
         ensures memory { IsErrOf result OutError.Memory → file self.new ≡ file self.old }
         ensures loads { loads self.new ≡ loads self.old }
+        ensures stores { stores self.new ≡ stores self.old ++ name.now ∷ [] }
+        ensures failed { FailsOn (failed self.old) (failed self.new) name.now result }
         ensures tells { tells self.new ≡ tells self.old }
         ensures cause { HasCause (faults self.old) (faults self.new) (IsErrOf result OutError.Failed) }
         ensures faultless { is_faultless self.old → is_faultless self.new × (faults self.new ≡ faults self.old) };

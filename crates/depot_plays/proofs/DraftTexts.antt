@@ -1,7 +1,9 @@
 -- The update that a faulty node signs has a text, and its parents were seen.
 use Rattle.std.proofs.Common.{◌≡◌, ℕ, ◌≤◌, Bool, true, false, cond, eqb, leb, List, [], ◌∷◌, ◌++◌, length, map, Option, Some, None, option_map, option_and_then, refl, sym, ap, subst, ◌∙◌, inl, inr, arith}
 use Rattle.std.specs.List.{AllByRecursion, list_any}
+use Rattle.std.specs.Int.{w8}
 use Rattle.std.specs.Str.{bytes_eq}
+use Rattle.sha2.specs.Sha256.{sha256}
 use Rattle.std.proofs.lemmas.Bool.{and_parts, both_ways, false_from_ne_true, or_left}
 use Rattle.std.proofs.lemmas.Bool.Decides.{nat_tests}
 use Rattle.std.proofs.lemmas.List.{length-map}
@@ -11,33 +13,38 @@ use Rattle.depot_base.specs.Parts.{deps_of, digest}
 use Rattle.depot_base.specs.Zeros.{zeros}
 use Rattle.depot_base.specs.declared.statement.Statement.TheVariants as statement
 use Rattle.depot_base.specs.declared.update.Dep.{Dep}
+use Rattle.depot_base.specs.Writes.{is_put}
 use Rattle.depot_base.specs.declared.update.Update.{Update}
+use Rattle.depot_base.specs.declared.write.Change.{Change}
+use Rattle.depot_base.specs.declared.write.Write.{Write}
 use Rattle.depot_model.specs.Bundle.{Signs}
 use Rattle.depot_model.specs.History.{by_id, history_hash}
 use Rattle.depot_model.specs.Journal.{has_id}
 use Rattle.depot_model.specs.Lists.{IsIn, is_among}
 use Rattle.depot_model.specs.Log.{firsts, firsts_behind}
 use Rattle.depot_model.specs.Order.{is_named, past}
-use Rattle.depot_model.specs.Own.{entry_of}
-use Rattle.depot_model.specs.Texts.{IsStatement, IsUpdate, id_of_update, update_body, update_fields}
+use Rattle.depot_model.specs.Own.{entry_of, write_of}
+use Rattle.depot_model.specs.Texts.{IsStatement, IsUpdate, id_of_update, update_body, update_fields, version_of}
 use Rattle.depot_model.specs.Vouching.{rising}
 use Rattle.depot_model.proofs.Members.{all_from, among-append, among_from, any_from, from_map, in_last}
 use Rattle.depot_laws.proofs.NewVouchers.{voucher_fits}
-use Rattle.depot_laws.proofs.OwnTexts.{entry_fits, id_is_digest, value_is_digest}
+use Rattle.depot_laws.proofs.OwnTexts.{entry_fits, id_is_digest}
 use Rattle.depot_laws.proofs.LawfulRecords.{IsStatement-from_own_voucher}
 use Rattle.depot_laws.proofs.Sorted.{entries_follow}
 use Rattle.depot_model.proofs.RisingUpdates.{HaveOwnIds, rises_by_id, from_by_id, by_id_length as long_by_id}
-use Rattle.depot_schedule.specs.Vocabulary.{FitsHistory}
+use Rattle.depot_model.proofs.ChangeLaws.{changes_written}
+use Rattle.depot_model.proofs.FieldFacts.{writes_fit}
+use Rattle.depot_schedule.specs.Vocabulary.{FitsHistory, first_or}
 use Rattle.depot_schedule.specs.declared.event.HistoryWord.{HistoryWord}
 use Rattle.depot_schedule.specs.declared.event.HistoryWord.TheVariants as history_word
 use Rattle.depot_schedule.specs.declared.event.Ref.{Ref}
-use Rattle.depot_world.specs.Run.{Run, referred}
-use Rattle.depot_world.specs.FaultySigning.{all_referred, drafted, entries_of, history_by, prev_of, updated, with_history}
+use Rattle.depot_world.specs.Run.{Run, id_referred, plain_referred, referred}
+use Rattle.depot_world.specs.FaultySigning.{all_of, all_referred, drafted, entries_of, history_by, prev_of, updated, with_history}
 use Rattle.depot_base.proofs.GeneralLaws.{all_both}
 use Rattle.depot_plays.specs.Drafts.{MaySign, MayVouchFor}
 use Rattle.depot_stage.specs.Seen.{HasSeenParents}
-use Rattle.depot_plays.proofs.EventFields.{IsSizedUpdate, update_sizes, voucher_sizes}
-use Rattle.depot_plays.proofs.LabelledUpdates.{AreNamedWell, IsNamed, as_many, each_is}
+use Rattle.depot_plays.proofs.EventFields.{voucher_sizes}
+use Rattle.depot_plays.proofs.LabelledUpdates.{AreNamedWell, IsNamed, as_many, as_many_ids, each_is, id_named}
 
 -- ---- updates without those that stand earlier
 
@@ -164,9 +171,6 @@ seen_entries seen (u ∷ es) named = ((named u (inl refl)).was, seen_entries see
 
 -- ---- what a schedule says of it
 
-sized : (writer seq clock : ℕ) (prev : Option Ref) (key value : List ℕ) (refs : List Ref) (history : HistoryWord) → MaySign writer seq clock prev key value refs history → IsSizedUpdate writer seq clock key value refs history
-sized writer seq clock prev key value refs history (s, (label, fits)) = update_sizes s label writer seq clock prev key value refs history fits
-
 history_is_digest : (seen : List Update) (history : HistoryWord) (u : Update) → FitsHistory history → digest.fits (history_by seen history u)
 unfolding history_hash bytes_of
 history_is_digest seen history_word.Right u fits = length-sha256 _
@@ -180,32 +184,37 @@ record IsDrafted (writer : ℕ) (seen : List Update) (p : List ℕ) (es : List U
   pub entries : AreGood writer seen es
   pub few : length (map entry_of es) ≤ 1024
 
-text_of_draft : (writer seq clock : ℕ) (p key value : List ℕ) (seen es : List Update) (refs : List Ref) (history : HistoryWord) (h : List ℕ) → IsSizedUpdate writer seq clock key value refs history → IsDrafted writer seen p es → digest.fits h
-    → IsUpdate (with_history (drafted writer seq clock p key value es) h)
+version_fits : (ws : List Write) → (number w8 1 2).fits (version_of ws)
+unfolding number
+version_fits [] = (omega arith, omega arith)
+version_fits (w ∷ []) = one_or_two (is_put w.what) where
+  one_or_two : (b : Bool) → (1 ≤ cond b 1 2) × (cond b 1 2 ≤ 2)
+  one_or_two true = (omega arith, omega arith)
+  one_or_two false = (omega arith, omega arith)
+version_fits (w ∷ v ∷ ws) = (omega arith, omega arith)
+
+text_of_draft : (writer seq clock : ℕ) (p : List ℕ) (changes : List Change) (seen es : List Update) (refs : List Ref) (history : HistoryWord) (h : List ℕ) → MaySign writer seq clock changes refs history → IsDrafted writer seen p es → digest.fits h
+    → IsUpdate (with_history (drafted writer seq clock p (map write_of changes) es) h)
 unfolding update_body update_fields number bytes_of
-text_of_draft writer seq clock p key value seen es refs history h sized draft hash =
-    let one : (1 ≤ 1) × (1 ≤ 1) = (omega arith, omega arith) in (
-      one,
+text_of_draft writer seq clock p changes seen es refs history h sized draft hash = (
+  version_fits (map write_of changes),
+  (
+    (omega arith, omega arith),
+    (
+      sized.writer_is,
       (
-        one,
+        (omega arith, sized.seq_most),
         (
-          sized.writer_is,
-          (
-            (omega arith, sized.seq_most),
-            (
-              (sized.clock_least, omega (arith, sized.clock_most)),
-              (
-                draft.prev.fits,
-                ((omega (arith, sized.key_is.0), sized.key_is.1), (refl, (value_is_digest value, ((omega arith, sized.value_is), ((omega arith, draft.few), (draft.entries.fit, (hash, refl))))))),
-              ),
-            ),
-          ),
+          (sized.clock_least, omega (arith, sized.clock_most)),
+          (draft.prev.fits, (writes_fit (map write_of changes) (changes_written changes sized.changes_are), ((omega arith, draft.few), (draft.entries.fit, (hash, refl))))),
         ),
       ),
-    )
+    ),
+  ),
+)
 
-parents_of_draft : (writer seq clock : ℕ) (p key value : List ℕ) (seen es : List Update) (h : List ℕ) → IsDrafted writer seen p es → HasSeenParents seen (with_history (drafted writer seq clock p key value es) h)
-parents_of_draft writer seq clock p key value seen es h draft =
+parents_of_draft : (writer seq clock : ℕ) (p : List ℕ) (changes : List Change) (seen es : List Update) (h : List ℕ) → IsDrafted writer seen p es → HasSeenParents seen (with_history (drafted writer seq clock p (map write_of changes) es) h)
+parents_of_draft writer seq clock p changes seen es h draft =
     all_both (λ (x : List ℕ). has_id seen x ≡ true) (cond (bytes_eq p zeros) [] (p ∷ [])) (map (λ d. d.id) (map entry_of es)) (seen_prev seen p draft.prev.was) (seen_entries seen es draft.entries.named)
 
 -- ---- its history hash
@@ -227,49 +236,47 @@ pub record IsSeenUpdate (seen : List Update) (u : Update) : Type 0 where
   pub fits : IsUpdate u
   pub parents : HasSeenParents seen u
 
-drafted_is : (run : Run) (writer seq clock : ℕ) (prev : Option Ref) (p key value : List ℕ) (refs : List Ref) (history : HistoryWord) (es : List Update) → AreNamedWell run → MaySign writer seq clock prev key value refs history
+drafted_is : (run : Run) (writer seq clock : ℕ) (prev : Option Ref) (p : List ℕ) (changes : List Change) (refs : List Ref) (history : HistoryWord) (es : List Update) → AreNamedWell run → MaySign writer seq clock changes refs history
     → prev_of run prev ≡ Some p → entries_of run writer refs ≡ Some es → IsDrafted writer run.seen p es
-drafted_is run writer seq clock prev p key value refs history es named_well may is are =
+drafted_is run writer seq clock prev p changes refs history es named_well may is are =
     let from = entries_are run writer refs es are in
-    let s = sized writer seq clock prev key value refs history may in
-    record { prev = prev_is run prev p named_well is; entries = good_entries run writer refs es named_well from; few = omega (arith, few_entries run writer refs es from, s.few) }
+    record { prev = prev_is run prev p named_well is; entries = good_entries run writer refs es named_well from; few = omega (arith, few_entries run writer refs es from, may.few) }
 
-pub updated_is_seen : (run : Run) (sign : Signs) (writer seq clock : ℕ) (prev : Option Ref) (key value : List ℕ) (refs : List Ref) (history : HistoryWord) (u : Update) → AreNamedWell run
-    → MaySign writer seq clock prev key value refs history → Some u ≡ updated sign run writer seq clock prev key value refs history → IsSeenUpdate run.seen u
+pub updated_is_seen : (run : Run) (sign : Signs) (writer seq clock : ℕ) (prev : Option Ref) (changes : List Change) (refs : List Ref) (history : HistoryWord) (u : Update) → AreNamedWell run
+    → MaySign writer seq clock changes refs history → Some u ≡ updated sign run writer seq clock prev changes refs history → IsSeenUpdate run.seen u
 unfolding updated
-updated_is_seen run sign writer seq clock prev key value refs history u named_well may is = by_prev (prev_of run prev) refl is where
+updated_is_seen run sign writer seq clock prev changes refs history u named_well may is = by_prev (prev_of run prev) refl is where
   by_entries : (p : List ℕ) (o : Option (List Update)) → prev_of run prev ≡ Some p → entries_of run writer refs ≡ o
-      → Some u ≡ option_map (λ us. with_history (drafted writer seq clock p key value us) (history_by run.seen history (drafted writer seq clock p key value us))) o → IsSeenUpdate run.seen u
+      → Some u ≡ option_map (λ us. with_history (drafted writer seq clock p (map write_of changes) us) (history_by run.seen history (drafted writer seq clock p (map write_of changes) us))) o → IsSeenUpdate run.seen u
   by_entries p None named are e = absurd cc
   by_entries p (Some es) named are e =
-      let d = drafted writer seq clock p key value es in
+      let d = drafted writer seq clock p (map write_of changes) es in
       let same : with_history d (history_by run.seen history d) ≡ u = cc in
-      let s = sized writer seq clock prev key value refs history may in
-      let draft = drafted_is run writer seq clock prev p key value refs history es named_well may named are in
+      let draft = drafted_is run writer seq clock prev p changes refs history es named_well may named are in
       subst (λ (x : Update). IsSeenUpdate run.seen x) same (record {
-        fits = text_of_draft writer seq clock p key value run.seen es refs history (history_by run.seen history d) s draft (history_is_digest run.seen history d s.history_fits);
-        parents = parents_of_draft writer seq clock p key value run.seen es (history_by run.seen history d) draft;
+        fits = text_of_draft writer seq clock p changes run.seen es refs history (history_by run.seen history d) may draft (history_is_digest run.seen history d may.history_fits);
+        parents = parents_of_draft writer seq clock p changes run.seen es (history_by run.seen history d) draft;
       })
 
   by_prev : (o : Option (List ℕ)) → prev_of run prev ≡ o
-      → Some u ≡ option_and_then (λ p. option_map (λ us. with_history (drafted writer seq clock p key value us) (history_by run.seen history (drafted writer seq clock p key value us))) (entries_of run writer refs)) o → IsSeenUpdate run.seen u
+      → Some u ≡ option_and_then (λ p. option_map (λ us. with_history (drafted writer seq clock p (map write_of changes) us) (history_by run.seen history (drafted writer seq clock p (map write_of changes) us))) (entries_of run writer refs)) o → IsSeenUpdate run.seen u
   by_prev None named e = absurd cc
   by_prev (Some p) named e = by_entries p (entries_of run writer refs) named refl e
 
 -- ---- as it is put together
 
 -- its prev names nothing
-pub no_prev : (sign : Signs) (run : Run) (writer seq clock : ℕ) (prev : Option Ref) (key value : List ℕ) (refs : List Ref) (history : HistoryWord) → None ≡ prev_of run prev → None ≡ updated sign run writer seq clock prev key value refs history
+pub no_prev : (sign : Signs) (run : Run) (writer seq clock : ℕ) (prev : Option Ref) (changes : List Change) (refs : List Ref) (history : HistoryWord) → None ≡ prev_of run prev → None ≡ updated sign run writer seq clock prev changes refs history
 unfolding updated
-no_prev sign run writer seq clock prev key value refs history none = rw (← none) refl
+no_prev sign run writer seq clock prev changes refs history none = rw (← none) refl
 
 -- its entries name nothing
-pub no_entries : (sign : Signs) (run : Run) (writer seq clock : ℕ) (prev : Option Ref) (key value : List ℕ) (refs : List Ref) (history : HistoryWord) → None ≡ option_map (λ us. map entry_of us) (entries_of run writer refs)
-    → None ≡ updated sign run writer seq clock prev key value refs history
+pub no_entries : (sign : Signs) (run : Run) (writer seq clock : ℕ) (prev : Option Ref) (changes : List Change) (refs : List Ref) (history : HistoryWord) → None ≡ option_map (λ us. map entry_of us) (entries_of run writer refs)
+    → None ≡ updated sign run writer seq clock prev changes refs history
 unfolding updated
-no_entries sign run writer seq clock prev key value refs history none = by_prev (prev_of run prev) (entries_of run writer refs) none where
+no_entries sign run writer seq clock prev changes refs history none = by_prev (prev_of run prev) (entries_of run writer refs) none where
   by_prev : (o : Option (List ℕ)) (es : Option (List Update)) → None ≡ option_map (λ us. map entry_of us) es
-      → None ≡ option_and_then (λ p. option_map (λ us. with_history (drafted writer seq clock p key value us) (history_by run.seen history (drafted writer seq clock p key value us))) es) o
+      → None ≡ option_and_then (λ p. option_map (λ us. with_history (drafted writer seq clock p (map write_of changes) us) (history_by run.seen history (drafted writer seq clock p (map write_of changes) us))) es) o
   by_prev None es e = refl
   by_prev (Some p) None e = refl
   by_prev (Some p) (Some us) e = absurd cc
@@ -287,24 +294,24 @@ has_entries run writer refs deps e = by_entries (entries_of run writer refs) ref
   by_entries (Some es) are is = record { entries = es; are = are; is = cc }
 
 -- this is how the draft is put together
-abbrev pub IsPutTogether : ℕ → ℕ → ℕ → List ℕ → List ℕ → List ℕ → List Dep → Update → Type 0
-IsPutTogether writer seq clock p key value deps draft = (us : List Update) → deps ≡ map entry_of us → draft ≡ with_history (drafted writer seq clock p key value us) zeros
+abbrev pub IsPutTogether : ℕ → ℕ → ℕ → List ℕ → List Change → List Dep → Update → Type 0
+IsPutTogether writer seq clock p changes deps draft = (us : List Update) → deps ≡ map entry_of us → draft ≡ with_history (drafted writer seq clock p (map write_of changes) us) zeros
 
 -- its parents were seen
-pub draft_is_seen : (run : Run) (writer seq clock : ℕ) (prev : Option Ref) (p key value : List ℕ) (refs : List Ref) (history : HistoryWord) (deps : List Dep) (draft : Update) → AreNamedWell run
-    → MaySign writer seq clock prev key value refs history → Some p ≡ prev_of run prev → Some deps ≡ option_map (λ us. map entry_of us) (entries_of run writer refs) → IsPutTogether writer seq clock p key value deps draft → HasSeenParents run.seen draft
-draft_is_seen run writer seq clock prev p key value refs history deps draft named_well may is are made =
+pub draft_is_seen : (run : Run) (writer seq clock : ℕ) (prev : Option Ref) (p : List ℕ) (changes : List Change) (refs : List Ref) (history : HistoryWord) (deps : List Dep) (draft : Update) → AreNamedWell run
+    → MaySign writer seq clock changes refs history → Some p ≡ prev_of run prev → Some deps ≡ option_map (λ us. map entry_of us) (entries_of run writer refs) → IsPutTogether writer seq clock p changes deps draft → HasSeenParents run.seen draft
+draft_is_seen run writer seq clock prev p changes refs history deps draft named_well may is are made =
     let es = has_entries run writer refs deps are in
     subst (λ (x : Update). HasSeenParents run.seen x) (sym (made es.entries es.is))
-    (parents_of_draft writer seq clock p key value run.seen es.entries zeros (drafted_is run writer seq clock prev p key value refs history es.entries named_well may (sym is) es.are))
+    (parents_of_draft writer seq clock p changes run.seen es.entries zeros (drafted_is run writer seq clock prev p changes refs history es.entries named_well may (sym is) es.are))
 
 -- with its history hash it is the update
-pub draft_is_updated : (sign : Signs) (run : Run) (writer seq clock : ℕ) (prev : Option Ref) (p key value : List ℕ) (refs : List Ref) (history : HistoryWord) (deps : List Dep) (draft u : Update) → Some p ≡ prev_of run prev
-    → Some deps ≡ option_map (λ us. map entry_of us) (entries_of run writer refs) → IsPutTogether writer seq clock p key value deps draft → u ≡ with_history draft (history_by run.seen history draft) → Some u ≡ updated sign run writer seq clock prev key value refs history
+pub draft_is_updated : (sign : Signs) (run : Run) (writer seq clock : ℕ) (prev : Option Ref) (p : List ℕ) (changes : List Change) (refs : List Ref) (history : HistoryWord) (deps : List Dep) (draft u : Update) → Some p ≡ prev_of run prev
+    → Some deps ≡ option_map (λ us. map entry_of us) (entries_of run writer refs) → IsPutTogether writer seq clock p changes deps draft → u ≡ with_history draft (history_by run.seen history draft) → Some u ≡ updated sign run writer seq clock prev changes refs history
 unfolding updated
-draft_is_updated sign run writer seq clock prev p key value refs history deps draft u is are made now =
+draft_is_updated sign run writer seq clock prev p changes refs history deps draft u is are made now =
     let es = has_entries run writer refs deps are in
-    let d = drafted writer seq clock p key value es.entries in
+    let d = drafted writer seq clock p (map write_of changes) es.entries in
     let same : u ≡ with_history d (history_by run.seen history d) =
     now ∙ ap (λ (x : Update). with_history x (history_by run.seen history x)) (made es.entries es.is) ∙ ap (λ (h : List ℕ). with_history d h) (history_by-with_history run.seen history d zeros) in
     rw (← is, es.are) (ap (λ (x : Update). Some x) same)
@@ -318,12 +325,17 @@ voucher_sized node seq refs ids (s, (label, fits)) long digests =
     IsStatement-from_own_voucher (record { node = node; seq = seq; ids = rising ids })
     (voucher_fits node seq ids v.node_is v.seq_most (record { some = omega (arith, long, v.some); most = omega (arith, long, v.few) }) digests)
 
--- a voucher for the ids of what references name has a text
-pub vouched_has_text : (run : Run) (node seq : ℕ) (refs : List Ref) (ids : List (List ℕ)) → Some ids ≡ option_map (λ us. rising (map id_of_update us)) (all_referred run refs) → MayVouchFor node seq refs → IsStatement (statement.Voucher (record { node = node; seq = seq; ids = ids }))
-vouched_has_text run node seq refs ids is may = by_all (all_referred run refs) refl is where
-  by_all : (o : Option (List Update)) → all_referred run refs ≡ o → Some ids ≡ option_map (λ us. rising (map id_of_update us)) o → IsStatement (statement.Voucher (record { node = node; seq = seq; ids = ids }))
-  by_all None are e = absurd cc
-  by_all (Some us) are e =
-      let same : rising (map id_of_update us) ≡ ids = cc in
-      subst (λ (hs : List (List ℕ)). IsStatement (statement.Voucher (record { node = node; seq = seq; ids = hs }))) same
-      (voucher_sized node seq refs (map id_of_update us) may (length-map us id_of_update ∙ as_many run refs us are) (λ h on. let (u, (among, is)) = from_map id_of_update h us on in subst (λ (k : List ℕ). digest.fits k) is (id_is_digest u)))
+-- each id that a reference names for a voucher is a digest
+id_is_good : (run : Run) (r : Ref) (h : List ℕ) → id_referred run r ≡ Some h → digest.fits h
+unfolding id_referred bytes_of
+id_is_good run r h is = by_parts (plain_referred run r) (referred run r) is where
+  by_parts : (o : Option (List ℕ)) (p : Option Update) → first_or (option_map sha256 o) (option_map id_of_update p) ≡ Some h → digest.fits h
+  by_parts (Some bytes) p e = let same : sha256 bytes ≡ h = cc in subst (λ (x : List ℕ). length x ≡ 32) same (length-sha256 bytes)
+  by_parts None None e = absurd cc
+  by_parts None (Some u) e = let same : id_of_update u ≡ h = cc in subst (λ (x : List ℕ). digest.fits x) same (id_is_digest u)
+
+-- a voucher for the ids that references name has a text
+pub vouched_has_text : (run : Run) (node seq : ℕ) (refs : List Ref) (named ids : List (List ℕ)) → Some named ≡ all_of (map (id_referred run) refs) → ids ≡ rising named → MayVouchFor node seq refs → IsStatement (statement.Voucher (record { node = node; seq = seq; ids = ids }))
+vouched_has_text run node seq refs named ids are is may =
+    subst (λ (hs : List (List ℕ)). IsStatement (statement.Voucher (record { node = node; seq = seq; ids = hs }))) (sym is)
+    (voucher_sized node seq refs named may (as_many_ids run refs named (sym are)) (λ h on. let r = id_named run refs named h (sym are) on in id_is_good run r.0 h r.1))

@@ -1,17 +1,23 @@
 -- What a schedule says of what faulty nodes sign, and of stops: of each field of an event, by the field's name.
 use Rattle.std.proofs.Common.{◌≡◌, ℕ, ◌<◌, ◌≤◌, ◌^◌, true, List, [], ◌∷◌, length, Option, arith}
 use Rattle.std.proofs.lemmas.Bool.Decides.{nat_tests}
-use Rattle.depot_base.specs.Sized.{IsKey, IsValue}
-use Rattle.depot_schedule.specs.EventLines.{stop, update, voucher}
+use Rattle.depot_base.specs.Shown.{IsPairKind}
+use Rattle.depot_base.specs.Writes.{one_change}
+use Rattle.depot_base.specs.declared.proof.Kind.{Kind}
+use Rattle.depot_base.specs.declared.write.Change.{Change}
+use Rattle.depot_schedule.specs.EventLines.{proof, stop, update, updates, voucher}
 use Rattle.depot_schedule.specs.Language.{or_empty}
 use Rattle.depot_schedule.specs.Schedules.{FitsEvent}
 use Rattle.depot_schedule.specs.Vocabulary as word
 use Rattle.depot_schedule.specs.Vocabulary.{FitsHistory, is_faulty}
+use Rattle.depot_schedule.specs.declared.event.Event.{Event}
 use Rattle.depot_schedule.specs.declared.event.Event.TheVariants as event
 use Rattle.depot_schedule.specs.declared.event.HistoryWord.{HistoryWord}
 use Rattle.depot_schedule.specs.declared.event.Ref.{Ref}
 use Rattle.depot_schedule.specs.declared.schedule.Schedule.{Schedule}
 use Rattle.depot_world.proofs.EventFacts.{BringsBytes, events_bring_bytes}
+use Rattle.depot_plays.specs.Doing.{PutsChanges}
+use Rattle.depot_plays.specs.Drafts.{MaySign}
 
 -- ---- who signs
 
@@ -23,9 +29,13 @@ pub record IsFaultySigner (s : Schedule) (node seq : ℕ) : Type 0 where
 signer_is : (s : Schedule) (node seq : ℕ) → word.faulty.fits s node → word.seq.fits s seq → IsFaultySigner s node seq
 signer_is s node seq (in_range, faulty) (any, below) = record { faulty = faulty; leaf = grind (arith, nat_tests, below) }
 
-pub update_signer : (s : Schedule) (label : List ℕ) (writer seq clock : ℕ) (prev : Option Ref) (key value : List ℕ) (refs : List Ref) (history : HistoryWord) → FitsEvent s (event.Update label writer seq clock prev key value refs history) → IsFaultySigner s writer seq
+update_signer : (s : Schedule) (label : List ℕ) (writer seq clock : ℕ) (prev : Option Ref) (key value : List ℕ) (refs : List Ref) (history : HistoryWord) → FitsEvent s (event.Update label writer seq clock prev key value refs history) → IsFaultySigner s writer seq
 unfolding update
 update_signer s label writer seq clock prev key value refs history (of_label, (of_writer, (of_seq, more))) = signer_is s writer seq of_writer of_seq
+
+updates_signer : (s : Schedule) (label : List ℕ) (writer seq clock : ℕ) (prev : Option Ref) (changes : List Change) (refs : List Ref) (history : HistoryWord) → FitsEvent s (event.Updates label writer seq clock prev changes refs history) → IsFaultySigner s writer seq
+unfolding updates
+updates_signer s label writer seq clock prev changes refs history (of_label, (of_writer, (of_seq, more))) = signer_is s writer seq of_writer of_seq
 
 pub voucher_signer : (s : Schedule) (label : List ℕ) (node seq : ℕ) (refs : List Ref) → FitsEvent s (event.Voucher label node seq refs) → IsFaultySigner s node seq
 unfolding voucher
@@ -33,38 +43,45 @@ voucher_signer s label node seq refs (of_label, (of_node, (of_seq, more))) = sig
 
 -- ---- sizes
 
--- those of an update that a faulty node signs
-pub record IsSizedUpdate (writer seq clock : ℕ) (key value : List ℕ) (refs : List Ref) (history : HistoryWord) : Type 0 where
-  pub writer_is : (1 ≤ writer) × (writer ≤ 65535)
-  pub seq_most : seq ≤ 4294967295
-  pub clock_least : 1 ≤ clock
-  pub clock_most : clock ≤ 9223372036854775807
-  pub key_is : IsKey key
-  pub value_is : IsValue value
-  pub few : length refs ≤ 1024
-  pub history_fits : FitsHistory history
-
 few_entries : (s : Schedule) (refs : List Ref) → (or_empty (word.references 1024)).fits s refs → length refs ≤ 1024
 few_entries s [] fits = omega arith
 few_entries s (r ∷ refs) (each, few) = grind (arith, nat_tests, few)
 
-update_with_bytes : (s : Schedule) (label : List ℕ) (writer seq clock : ℕ) (prev : Option Ref) (key value : List ℕ) (refs : List Ref) (history : HistoryWord) → BringsBytes (event.Update label writer seq clock prev key value refs history)
-    → FitsEvent s (event.Update label writer seq clock prev key value refs history) → IsSizedUpdate writer seq clock key value refs history
-unfolding update
-update_with_bytes s label writer seq clock prev key value refs history (key_bytes, (value_bytes, history_bytes)) (of_label, ((writer_is, faulty), (((seq_least, seq_most), leaf), ((clock_least, clock_most), (of_prev, (of_key, (of_value, (of_refs, (of_history, same))))))))) = record {
-  writer_is = writer_is;
-  seq_most = seq_most;
-  clock_least = clock_least;
-  clock_most = clock_most;
-  key_is = key_bytes.sized;
-  value_is = value_bytes.sized;
-  few = few_entries s refs of_refs;
-  history_fits = of_history;
-}
+-- those of an update that a faulty node signs, and who signs it
+pub record IsSigned (s : Schedule) (writer seq clock : ℕ) (changes : List Change) (refs : List Ref) (history : HistoryWord) : Type 0 where
+  pub signer : IsFaultySigner s writer seq
+  pub may : MaySign writer seq clock changes refs history
 
-pub update_sizes : (s : Schedule) (label : List ℕ) (writer seq clock : ℕ) (prev : Option Ref) (key value : List ℕ) (refs : List Ref) (history : HistoryWord) → FitsEvent s (event.Update label writer seq clock prev key value refs history)
-    → IsSizedUpdate writer seq clock key value refs history
-update_sizes s label writer seq clock prev key value refs history fits = update_with_bytes s label writer seq clock prev key value refs history (events_bring_bytes s (event.Update label writer seq clock prev key value refs history) fits) fits
+pub update_signed : (s : Schedule) (label : List ℕ) (writer seq clock : ℕ) (prev : Option Ref) (key value : List ℕ) (refs : List Ref) (history : HistoryWord) → FitsEvent s (event.Update label writer seq clock prev key value refs history)
+    → IsSigned s writer seq clock (one_change key value) refs history
+unfolding update
+update_signed s label writer seq clock prev key value refs history fits = by_fields (events_bring_bytes s (event.Update label writer seq clock prev key value refs history) fits) fits where
+  by_fields : BringsBytes (event.Update label writer seq clock prev key value refs history) → FitsEvent s (event.Update label writer seq clock prev key value refs history) → IsSigned s writer seq clock (one_change key value) refs history
+  by_fields (changes_bytes, history_bytes) (of_label, ((writer_is, faulty), (((seq_least, seq_most), leaf), ((clock_least, clock_most), (of_prev, (of_key, (of_value, (of_refs, (of_history, same))))))))) = record {
+    signer = update_signer s label writer seq clock prev key value refs history fits;
+    may = record { writer_is = writer_is; seq_most = seq_most; clock_least = clock_least; clock_most = clock_most; changes_are = changes_bytes.are; few = few_entries s refs of_refs; history_fits = of_history };
+  }
+
+pub updates_signed : (s : Schedule) (label : List ℕ) (writer seq clock : ℕ) (prev : Option Ref) (changes : List Change) (refs : List Ref) (history : HistoryWord) → FitsEvent s (event.Updates label writer seq clock prev changes refs history)
+    → IsSigned s writer seq clock changes refs history
+unfolding updates
+updates_signed s label writer seq clock prev changes refs history fits = by_fields (events_bring_bytes s (event.Updates label writer seq clock prev changes refs history) fits) fits where
+  by_fields : BringsBytes (event.Updates label writer seq clock prev changes refs history) → FitsEvent s (event.Updates label writer seq clock prev changes refs history) → IsSigned s writer seq clock changes refs history
+  by_fields (changes_bytes, history_bytes) (of_label, ((writer_is, faulty), (((seq_least, seq_most), leaf), ((clock_least, clock_most), (of_prev, (of_changes, (of_refs, (of_history, same)))))))) = record {
+    signer = updates_signer s label writer seq clock prev changes refs history fits;
+    may = record { writer_is = writer_is; seq_most = seq_most; clock_least = clock_least; clock_most = clock_most; changes_are = changes_bytes.are; few = few_entries s refs of_refs; history_fits = of_history };
+  }
+
+-- what a node is asked to put
+pub put_changes : (s : Schedule) (e : Event) → FitsEvent s e → PutsChanges e
+put_changes s (event.Put node key value) fits = (events_bring_bytes s (event.Put node key value) fits).are
+put_changes s (event.Puts node changes) fits = (events_bring_bytes s (event.Puts node changes) fits).are
+put_changes s e fits = tt
+
+-- the kind of a proof is one of two statements
+pub proof_kind : (s : Schedule) (label : List ℕ) (kind : Kind) (first second : List ℕ) → FitsEvent s (event.Proof label kind first second) → IsPairKind kind
+unfolding proof
+proof_kind s label kind first second (of_label, (of_kind, more)) = of_kind
 
 -- those of a voucher
 pub record IsSizedVoucher (node seq : ℕ) (refs : List Ref) : Type 0 where

@@ -1,5 +1,6 @@
 -- Whatever a correct node does, and wherever a stop falls into it, its journal keeps its records.
 use Rattle.std.proofs.Common.{◌-◌, ℕ, Bool, true, false, leb, cond, List, take, drop, length, Option, Some, None, refl}
+use Rattle.depot_base.specs.declared.write.Change.{Change}
 use Rattle.depot_model.specs.Bundle.{Signs}
 use Rattle.depot_model.specs.Checks.{Setting}
 use Rattle.depot_world.specs.Deeds.{put_by, get_by, hello_by, bundle_by, give_by, restart_by}
@@ -24,8 +25,8 @@ went_grows s d e = by_stop s.armed where
 
 -- ---- the events of nodes
 
-pub put_grows : (here : Setting) (s : Station) (key value : List ℕ) → IsGrown s.correct.journal (went s (put_by here s.correct key value)).station.correct.journal
-put_grows here s key value = went_grows s (put_by here s.correct key value) (deeds.put_grows here s.correct key value)
+pub put_grows : (here : Setting) (s : Station) (changes : List Change) → IsGrown s.correct.journal (went s (put_by here s.correct changes)).station.correct.journal
+put_grows here s changes = went_grows s (put_by here s.correct changes) (deeds.put_grows here s.correct changes)
 
 pub get_grows : (s : Station) (key : List ℕ) → IsGrown s.correct.journal (went s (get_by s.correct key)).station.correct.journal
 get_grows s key = went_grows s (get_by s.correct key) (deeds.get_grows s.correct key)

@@ -1,9 +1,10 @@
 -- The updates that references name.
-use Rattle.std.proofs.Common.{◌≡◌, ℕ, suc, ◌+◌, ◌<◌, Bool, true, false, cond, eqb, List, [], ◌∷◌, ◌++◌, length, map, take, drop, get_or, Option, Some, None, option_map, option_and_then, refl, sym, ap, subst, ◌∙◌, inl, inr}
+use Rattle.std.proofs.Common.{◌≡◌, ℕ, suc, ◌+◌, ◌<◌, ◌≤◌, Bool, true, false, cond, eqb, List, [], ◌∷◌, ◌++◌, length, map, take, drop, get_or, Option, Some, None, option_map, option_and_then, refl, sym, ap, subst, ◌∙◌, inl, inr}
 use Rattle.std.specs.List.{filter, flat_map}
 use Rattle.std.specs.Str.{bytes_eq}
+use Rattle.sha2.specs.Sha256.{sha256}
 use Rattle.std.proofs.Math.Seq.{drop-cons}
-use Rattle.std.proofs.lemmas.List.{map-append, take_more, take-append-drop}
+use Rattle.std.proofs.lemmas.List.{map-append, take_all, take_more, take-append-drop}
 use Rattle.depot_base.specs.declared.record.Record.{Record}
 use Rattle.depot_base.specs.declared.record.Record.TheVariants.{Birth, OwnPut, OwnVoucher, Foreign, Conviction, Held}
 use Rattle.depot_base.specs.declared.statement.Signed.{Signed}
@@ -11,18 +12,19 @@ use Rattle.depot_base.specs.declared.statement.Statement.{Statement}
 use Rattle.depot_base.specs.declared.statement.Statement.TheVariants as statement
 use Rattle.depot_base.specs.declared.update.Dep.{Dep}
 use Rattle.depot_base.specs.declared.update.Update.{Update}
+use Rattle.depot_base.proofs.GeneralLaws.{take_next}
 use Rattle.depot_model.specs.Journal.{accepted, has_id, own, update_in}
 use Rattle.depot_model.specs.Lawful.{IsLawful}
 use Rattle.depot_model.specs.Lists.{IsIn}
 use Rattle.depot_model.specs.Own.{entry_of}
 use Rattle.depot_model.specs.Texts.{IsSigned, IsStatement, IsUpdate, id_of_update}
-use Rattle.depot_model.specs.Vouching.{rising}
 use Rattle.depot_model.proofs.BodyLaws.{IsStatement-from_signed, IsUpdate-from_statement}
 use Rattle.depot_model.proofs.Members.{all_at, from_filter, from_map, in_right}
 use Rattle.depot_laws.proofs.OwnTexts.{accepted_fit}
+use Rattle.depot_schedule.specs.Vocabulary.{first_or}
 use Rattle.depot_schedule.specs.declared.event.Ref.{Ref}
 use Rattle.depot_schedule.specs.declared.event.Ref.TheVariants as ref
-use Rattle.depot_world.specs.Run.{Made, Run, Station, first_update, made_in, own_update, referred, signed_of, station_in}
+use Rattle.depot_world.specs.Run.{Made, Run, Station, first_update, id_referred, made_in, own_update, plain_referred, referred, signed_of, station_in}
 use Rattle.depot_world.specs.FaultySigning.{all_of, all_referred, entries_of}
 use Rattle.depot_world.specs.Suite.{Stage}
 use Rattle.depot_world.proofs.GoodRuns.{found_is}
@@ -30,7 +32,6 @@ use Rattle.depot_plays.specs.Acting.{AreSeated, IsSeated, View}
 use Rattle.depot_plays.specs.Playing.{IsAtPlay, IsPlayed, IsRemembered}
 use Rattle.depot_plays.specs.declared.play.Play.{Play}
 use Rattle.depot_cast.specs.DraftEntries.{others_in_order}
-use Rattle.depot_cast.proofs.EntryOrder.{ids_of_entries}
 
 -- ---- own updates
 
@@ -43,8 +44,8 @@ first_is (x ∷ us) u is = let same : x ≡ u = cc in inl same
 own_is_accepted : (J : List Record) (u : Update) → IsIn u (flat_map update_in (own J)) → IsIn u (accepted J)
 own_is_accepted [] u never = absurd never
 own_is_accepted (Birth node h ∷ J) u on = own_is_accepted J u on
-own_is_accepted (OwnPut w value ∷ J) u (inl here) = inl here
-own_is_accepted (OwnPut w value ∷ J) u (inr there) = inr (own_is_accepted J u there)
+own_is_accepted (OwnPut w values ∷ J) u (inl here) = inl here
+own_is_accepted (OwnPut w values ∷ J) u (inr there) = inr (own_is_accepted J u there)
 own_is_accepted (OwnVoucher v ∷ J) u on = own_is_accepted J u on
 own_is_accepted (Foreign s ∷ J) u on = in_right u (update_in s.statement) (accepted J) (own_is_accepted J u on)
 own_is_accepted (Conviction p ∷ J) u on = own_is_accepted J u on
@@ -215,18 +216,67 @@ each_is run refs us named is u on =
     let r = from_map (referred run) (Some u) refs (all_of_from (map (referred run) refs) us u is on) in
     named r.0 u r.1.1
 
--- and they are as many
-pub as_many : (run : Run) (refs : List Ref) (us : List Update) → all_referred run refs ≡ Some us → length us ≡ length refs
+-- and they are as many, whatever is read of a reference
+as_many_of : {X : Type 0} (f : Ref → Option X) (refs : List Ref) (xs : List X) → all_of (map f refs) ≡ Some xs → length xs ≡ length refs
 unfolding all_of
-as_many run [] us is = let none : us ≡ [] = cc in ap (λ (xs : List Update). length xs) none
-as_many run (r ∷ refs) us is = by_first (referred run r) is (λ xs rest. as_many run refs xs rest) where
-  by_rest : (u : Update) (o : Option (List Update)) → option_map (λ (xs : List Update). u ∷ xs) o ≡ Some us → ((xs : List Update) → o ≡ Some xs → length xs ≡ length refs) → length us ≡ suc (length refs)
-  by_rest u None e rest = absurd cc
-  by_rest u (Some xs) e rest = let parts : us ≡ u ∷ xs = cc in ap (λ (ys : List Update). length ys) parts ∙ ap suc (rest xs refl)
+as_many_of {X = X} f [] xs is = let none : xs ≡ [] = cc in ap (λ (ys : List X). length ys) none
+as_many_of {X = X} f (r ∷ refs) xs is = by_first (f r) is (λ ys rest. as_many_of f refs ys rest) where
+  by_rest : (x : X) (o : Option (List X)) → option_map (λ (ys : List X). x ∷ ys) o ≡ Some xs → ((ys : List X) → o ≡ Some ys → length ys ≡ length refs) → length xs ≡ suc (length refs)
+  by_rest x None e rest = absurd cc
+  by_rest x (Some ys) e rest = let parts : xs ≡ x ∷ ys = cc in ap (λ (zs : List X). length zs) parts ∙ ap suc (rest ys refl)
 
-  by_first : (o : Option Update) → all_of (o ∷ map (referred run) refs) ≡ Some us → ((xs : List Update) → all_referred run refs ≡ Some xs → length xs ≡ length refs) → length us ≡ suc (length refs)
+  by_first : (o : Option X) → all_of (o ∷ map f refs) ≡ Some xs → ((ys : List X) → all_of (map f refs) ≡ Some ys → length ys ≡ length refs) → length xs ≡ suc (length refs)
   by_first None e rest = absurd cc
-  by_first (Some u) e rest = by_rest u (all_referred run refs) e rest
+  by_first (Some x) e rest = by_rest x (all_of (map f refs)) e rest
+
+pub as_many : (run : Run) (refs : List Ref) (us : List Update) → all_referred run refs ≡ Some us → length us ≡ length refs
+as_many run refs us is = as_many_of (referred run) refs us is
+
+-- ---- ids for vouchers
+
+-- that of plain bytes, and that of an update
+pub id_of_plain : (run : Run) (r : Ref) (bytes h : List ℕ) → Some bytes ≡ plain_referred run r → h ≡ sha256 bytes → Some h ≡ id_referred run r
+unfolding id_referred
+id_of_plain run r bytes h is hashed = ap (λ (x : List ℕ). Some x) hashed ∙ ap (λ (o : Option (List ℕ)). first_or (option_map sha256 o) (option_map id_of_update (referred run r))) is
+
+pub id_of_named : (run : Run) (r : Ref) (id : Option (List ℕ)) → None ≡ plain_referred run r → id ≡ option_map id_of_update (referred run r) → id ≡ id_referred run r
+unfolding id_referred
+id_of_named run r id none is = is ∙ ap (λ (o : Option (List ℕ)). first_or (option_map sha256 o) (option_map id_of_update (referred run r))) none
+
+-- these are the ids that all these references name
+abbrev pub AreIds : Run → List Ref → List (List ℕ) → Type 0
+AreIds run refs ids = Some ids ≡ all_of (map (id_referred run) refs)
+
+pub no_ids : (run : Run) (refs : List Ref) (ids : List (List ℕ)) → ids ≡ [] → AreIds run (take 0 refs) ids
+unfolding all_of
+no_ids run refs ids none = ap (λ (hs : List (List ℕ)). Some hs) none
+
+-- one reference more
+pub one_id : (run : Run) (refs : List Ref) (i : ℕ) (r : Ref) (h : List ℕ) (ids after : List (List ℕ)) → i < length refs → r ≡ get_or refs i r → Some h ≡ id_referred run r → after ≡ ids ++ h ∷ [] → AreIds run (take i refs) ids → AreIds run (take (i + 1) refs) after
+one_id run refs i r h ids after lt at is now are =
+    let f : Ref → Option (List ℕ) = id_referred run in
+    let os : map f (take (i + 1) refs) ≡ map f (take i refs) ++ Some h ∷ [] =
+    ap (map f) (take_next refs i r lt at) ∙ map-append f (take i refs) (r ∷ []) ∙ ap (λ (o : Option (List ℕ)). map f (take i refs) ++ o ∷ []) (sym is) in
+    ap (λ (hs : List (List ℕ)). Some hs) now ∙ ap (option_map (λ (hs : List (List ℕ)). hs ++ h ∷ [])) are ∙ sym (ap all_of os ∙ all_of-push (map f (take i refs)) h)
+
+-- one that names nothing
+pub no_id : (run : Run) (refs : List Ref) (i : ℕ) (r : Ref) → i < length refs → r ≡ get_or refs i r → None ≡ id_referred run r → None ≡ all_of (map (id_referred run) refs)
+no_id run refs i r lt at is =
+    let f : Ref → Option (List ℕ) = id_referred run in
+    let parts : refs ≡ take i refs ++ r ∷ drop (suc i) refs = sym (take-append-drop i refs) ∙ ap (λ (rest : List Ref). take i refs ++ rest) (drop-cons refs i r lt ∙ ap (λ (x : Ref). x ∷ drop (suc i) refs) (sym at)) in
+    let os : map f refs ≡ map f (take i refs) ++ None ∷ map f (drop (suc i) refs) =
+    ap (map f) parts ∙ map-append f (take i refs) (r ∷ drop (suc i) refs) ∙ ap (λ (o : Option (List ℕ)). map f (take i refs) ++ o ∷ map f (drop (suc i) refs)) (sym is) in
+    sym (ap all_of os ∙ all_of-none (map f (take i refs)) (map f (drop (suc i) refs)))
+
+pub all_ids : (run : Run) (refs : List Ref) (i : ℕ) (ids : List (List ℕ)) → length refs ≤ i → AreIds run (take i refs) ids → AreIds run refs ids
+all_ids run refs i ids end are = subst (λ (rs : List Ref). AreIds run rs ids) (take_all i refs end) are
+
+-- they are as many, and each of them is what one names
+pub as_many_ids : (run : Run) (refs : List Ref) (ids : List (List ℕ)) → all_of (map (id_referred run) refs) ≡ Some ids → length ids ≡ length refs
+as_many_ids run refs ids is = as_many_of (id_referred run) refs ids is
+
+pub id_named : (run : Run) (refs : List Ref) (ids : List (List ℕ)) (h : List ℕ) → all_of (map (id_referred run) refs) ≡ Some ids → IsIn h ids → (r : Ref) × (id_referred run r ≡ Some h)
+id_named run refs ids h is on = let r = from_map (id_referred run) (Some h) refs (all_of_from (map (id_referred run) refs) ids h is on) in (r.0, r.1.1)
 
 -- ---- entries of updates
 
@@ -237,19 +287,3 @@ entries_named run writer refs named slice deps are same of_others = by_all (all_
   by_all : (o : Option (List Update)) → Some named ≡ option_map (λ us. map entry_of us) o → deps ≡ option_map (λ us. map entry_of us) (option_and_then (others_in_order writer) o)
   by_all None e = absurd cc
   by_all (Some us) e = let is : named ≡ map entry_of us = cc in of_others us (same ∙ is)
-
--- and none are where one names nothing
-pub none_vouched : (run : Run) (refs : List Ref) → None ≡ option_map (λ us. map entry_of us) (all_referred run refs) → None ≡ option_map (λ us. rising (map id_of_update us)) (all_referred run refs)
-none_vouched run refs none = by_all (all_referred run refs) none where
-  by_all : (o : Option (List Update)) → None ≡ option_map (λ us. map entry_of us) o → None ≡ option_map (λ us. rising (map id_of_update us)) o
-  by_all None e = refl
-  by_all (Some us) e = absurd cc
-
--- the ids that are vouched for
-pub ids_vouched : (run : Run) (refs : List Ref) (named : List Dep) (ids : List (List ℕ)) → AreNamed run refs named → ids ≡ rising (map (λ d. d.id) named) → Some ids ≡ option_map (λ us. rising (map id_of_update us)) (all_referred run refs)
-ids_vouched run refs named ids are rise = by_all (all_referred run refs) are where
-  by_all : (o : Option (List Update)) → Some named ≡ option_map (λ us. map entry_of us) o → Some ids ≡ option_map (λ us. rising (map id_of_update us)) o
-  by_all None e = absurd cc
-  by_all (Some us) e =
-      let is : named ≡ map entry_of us = cc in
-      ap (λ (hs : List (List ℕ)). Some hs) (rise ∙ ap (λ (es : List Dep). rising (map (λ d. d.id) es)) is ∙ ap rising (ids_of_entries us))

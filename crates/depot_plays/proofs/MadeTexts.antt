@@ -1,10 +1,15 @@
 -- What events that only make a label give it.
-use Rattle.std.proofs.Common.{◌≡◌, ℕ, ◌<◌, ◌^◌, Bool, true, false, not, ◌&&◌, ◌||◌, eqb, List, [], ◌∷◌, ◌++◌, Vec, map, Option, Some, None, option_and_then, option_map, cond, refl, sym, ap, subst, ◌∙◌, inl, inr}
-use Rattle.std.specs.Prelude.{IfSome}
+use Rattle.std.proofs.Common.{◌≡◌, ℕ, ◌<◌, ◌≤◌, ◌^◌, Bool, true, false, not, ◌&&◌, ◌||◌, eqb, List, [], ◌∷◌, ◌++◌, length, Vec, map, Option, Some, None, option_and_then, option_map, cond, refl, sym, ap, subst, ◌∙◌, inl, inr, arith}
+use Rattle.std.specs.Prelude.{IfSome, nat_le, if◌then◌else◌}
+use Rattle.std.proofs.lemmas.Bool.Decides.{nat_tests}
 use Rattle.std.specs.Str.{bytes_eq}
 use Rattle.std.specs.declared.alloc.Global.{Global}
 use Rattle.std.proofs.lemmas.List.{append-nil}
+use Rattle.depot_base.specs.Writes.{one_change}
 use Rattle.depot_base.specs.declared.proof.Kind.{Kind}
+use Rattle.depot_base.specs.declared.proof.Kind.TheVariants.{NotUpdate}
+use Rattle.depot_base.specs.declared.proof.Proof.TheVariants.{Hollow}
+use Rattle.depot_base.specs.declared.write.Change.{Change}
 use Rattle.depot_answers.specs.Answers.{spaced}
 use Rattle.depot_base.specs.declared.statement.Signed.{Signed}
 use Rattle.depot_base.specs.declared.statement.Statement.{Statement}
@@ -12,10 +17,8 @@ use Rattle.depot_base.specs.declared.statement.Statement.TheVariants as statemen
 use Rattle.depot_graph.specs.Kept.{updates_in}
 use Rattle.depot_model.specs.Journal.{update_in}
 use Rattle.depot_model.specs.Lists.{IsIn}
-use Rattle.depot_model.specs.Bundle.{Signs, proof_frame}
-use Rattle.depot_model.specs.Frames.{text_of_frame}
-use Rattle.depot_model.specs.Lines.{name_of_kind}
-use Rattle.depot_model.specs.Texts.{IsSigned, id_of_update}
+use Rattle.depot_model.specs.Bundle.{Signs}
+use Rattle.depot_model.specs.Texts.{IsSigned}
 use Rattle.depot_model.specs.Vouching.{rising}
 use Rattle.depot_base.specs.declared.update.Update.{Update}
 use Rattle.depot_schedule.specs.EventLines.{label_of}
@@ -26,20 +29,21 @@ use Rattle.depot_schedule.specs.declared.event.HistoryWord.{HistoryWord}
 use Rattle.depot_schedule.specs.declared.event.Ref.{Ref}
 use Rattle.depot_schedule.specs.declared.member.Member.{Member}
 use Rattle.depot_schedule.specs.declared.schedule.Schedule.{Schedule}
-use Rattle.depot_world.specs.Run.{Made, Run, made_in, signed_of}
-use Rattle.depot_world.specs.FaultySigning.{Text, all_of, all_referred, no_reference, proof_by, proof_text, voucher_text, vouched_text}
+use Rattle.depot_world.specs.Run.{Made, Run, bytes_of, id_referred, made_in, signed_of}
+use Rattle.depot_world.specs.FaultySigning.{Text, all_of, hollow_text, no_reference, proof_by, proof_text, proof_with, voucher_text, vouched_text}
 use Rattle.depot_world.specs.Suite.{Stage}
 use Rattle.depot_world.specs.Transcript.{done, done_by_text}
 use Rattle.depot_plays.specs.Acting.{AreSeated, View}
 use Rattle.depot_stage.specs.Casting.{MayHappen}
 use Rattle.depot_plays.specs.Doing.{HasDone, is_text, text_by}
+use Rattle.depot_plays.specs.Drafts.{HasLeaf, MaySign}
 use Rattle.depot_stage.specs.Labels.{AreLabels}
 use Rattle.depot_plays.specs.Playing.{IsAtPlay, IsRemembered, WereSeen}
 use Rattle.depot_stage.specs.StageTexts.{IsText}
 use Rattle.depot_plays.specs.declared.play.Play.{Play}
 use Rattle.depot_stage.specs.declared.seen.Seen.{Seen}
 use Rattle.depot_stage.specs.declared.texts.Text as made_text
-use Rattle.depot_plays.proofs.EventFields.{IsFaultySigner, update_signer, voucher_signer}
+use Rattle.depot_plays.proofs.EventFields.{IsFaultySigner, update_signed, updates_signed, voucher_signer}
 use Rattle.depot_plays.proofs.RememberedRuns.{IsKept, label_remembers, none_is_kept}
 
 -- ---- who signs
@@ -52,11 +56,6 @@ faulty_is_declared (m ∷ ms) node e = by_tests (eqb m.node node) m.correct (fau
   by_tests true correct rest e = refl
   by_tests false correct rest e = rest e
 
--- who signs a statement is a member, and the number of the statement is that of a leaf
-pub record HasLeaf (height : ℕ) (members : List Member) (writer seq : ℕ) : Type 0 where
-  pub declared : is_declared members writer ≡ true
-  pub leaf : seq < 2 ^ height
-
 has_leaf : (height : ℕ) (members : List Member) (s : Schedule) (writer seq : ℕ) → s.height ≡ height → s.members ≡ members → IsFaultySigner s writer seq → HasLeaf height members writer seq
 has_leaf height members s writer seq same_height same_members signer = record {
   declared = subst (λ (ms : List Member). is_declared ms writer ≡ true) same_members (faulty_is_declared s.members writer signer.faulty);
@@ -66,49 +65,62 @@ has_leaf height members s writer seq same_height same_members signer = record {
 pub voucher_has_leaf : (height : ℕ) (members : List Member) (label : List ℕ) (writer seq : ℕ) (refs : List Ref) → MayHappen height members (event.Voucher label writer seq refs) → HasLeaf height members writer seq
 voucher_has_leaf height members label writer seq refs may = has_leaf height members may.before writer seq may.height_is may.members_are (voucher_signer may.before label writer seq refs may.fits)
 
-pub update_has_leaf : (height : ℕ) (members : List Member) (label : List ℕ) (writer seq clock : ℕ) (prev : Option Ref) (key value : List ℕ) (deps : List Ref) (history : HistoryWord) → MayHappen height members (event.Update label writer seq clock prev key value deps history) → HasLeaf height members writer seq
-update_has_leaf height members label writer seq clock prev key value deps history may =
-    has_leaf height members may.before writer seq may.height_is may.members_are (update_signer may.before label writer seq clock prev key value deps history may.fits)
+-- what some schedule says of an update that a faulty node signs there
+pub record IsSignedThere (height : ℕ) (members : List Member) (writer seq clock : ℕ) (changes : List Change) (refs : List Ref) (history : HistoryWord) : Type 0 where
+  pub leaf : HasLeaf height members writer seq
+  pub may : MaySign writer seq clock changes refs history
+
+pub update_there : (height : ℕ) (members : List Member) (label : List ℕ) (writer seq clock : ℕ) (prev : Option Ref) (key value : List ℕ) (refs : List Ref) (history : HistoryWord) → MayHappen height members (event.Update label writer seq clock prev key value refs history)
+    → IsSignedThere height members writer seq clock (one_change key value) refs history
+update_there height members label writer seq clock prev key value refs history may =
+    let s = update_signed may.before label writer seq clock prev key value refs history may.fits in
+    record { leaf = has_leaf height members may.before writer seq may.height_is may.members_are s.signer; may = s.may }
+
+pub updates_there : (height : ℕ) (members : List Member) (label : List ℕ) (writer seq clock : ℕ) (prev : Option Ref) (changes : List Change) (refs : List Ref) (history : HistoryWord) → MayHappen height members (event.Updates label writer seq clock prev changes refs history)
+    → IsSignedThere height members writer seq clock changes refs history
+updates_there height members label writer seq clock prev changes refs history may =
+    let s = updates_signed may.before label writer seq clock prev changes refs history may.fits in
+    record { leaf = has_leaf height members may.before writer seq may.height_is may.members_are s.signer; may = s.may }
 
 -- ---- vouchers
 
-by_named : Signs → ℕ → ℕ → Option (List (List ℕ)) → Text
-by_named sign node seq None = no_reference
-by_named sign node seq (Some ids) = voucher_text sign node seq ids
+by_ids : Signs → ℕ → ℕ → Option (List (List ℕ)) → Text
+by_ids sign node seq None = no_reference
+by_ids sign node seq (Some ids) = voucher_text sign node seq ids
 
-vouched_by : (sign : Signs) (run : Run) (node seq : ℕ) (refs : List Ref) → by_named sign node seq (option_map (λ us. rising (map id_of_update us)) (all_referred run refs)) ≡ vouched_text sign run node seq refs
-unfolding vouched_text by_named
-vouched_by sign run node seq refs = by_cases (all_referred run refs) where
-  by_cases : (o : Option (List Update)) → by_named sign node seq (option_map (λ us. rising (map id_of_update us)) o) ≡ elim o as (λ x. Text) [ None ↦ no_reference | Some us ↦ voucher_text sign node seq (rising (map id_of_update us)) ]
+vouched_by : (sign : Signs) (run : Run) (node seq : ℕ) (refs : List Ref) → by_ids sign node seq (option_map rising (all_of (map (id_referred run) refs))) ≡ vouched_text sign run node seq refs
+unfolding vouched_text by_ids
+vouched_by sign run node seq refs = by_cases (all_of (map (id_referred run) refs)) where
+  by_cases : (o : Option (List (List ℕ))) → by_ids sign node seq (option_map rising o) ≡ elim o as (λ x. Text) [ None ↦ no_reference | Some ids ↦ voucher_text sign node seq (rising ids) ]
   by_cases None = refl
-  by_cases (Some us) = refl
+  by_cases (Some ids) = refl
 
--- all references name updates
-pub vouched_is : (sign : Signs) (run : Run) (node seq : ℕ) (refs : List Ref) (ids : List (List ℕ)) → Some ids ≡ option_map (λ us. rising (map id_of_update us)) (all_referred run refs) → voucher_text sign node seq ids ≡ vouched_text sign run node seq refs
-unfolding by_named
-vouched_is sign run node seq refs ids is = ap (by_named sign node seq) is ∙ vouched_by sign run node seq refs
+-- all references name something
+pub vouched_is : (sign : Signs) (run : Run) (node seq : ℕ) (refs : List Ref) (ids : List (List ℕ)) → Some ids ≡ option_map rising (all_of (map (id_referred run) refs)) → voucher_text sign node seq ids ≡ vouched_text sign run node seq refs
+unfolding by_ids
+vouched_is sign run node seq refs ids is = ap (by_ids sign node seq) is ∙ vouched_by sign run node seq refs
 
--- one names none
-pub unvouched_is : (sign : Signs) (run : Run) (node seq : ℕ) (refs : List Ref) → None ≡ option_map (λ us. rising (map id_of_update us)) (all_referred run refs) → no_reference ≡ vouched_text sign run node seq refs
-unfolding by_named
-unvouched_is sign run node seq refs is = ap (by_named sign node seq) is ∙ vouched_by sign run node seq refs
+-- one names nothing
+pub unvouched_is : (sign : Signs) (run : Run) (node seq : ℕ) (refs : List Ref) → None ≡ option_map rising (all_of (map (id_referred run) refs)) → no_reference ≡ vouched_text sign run node seq refs
+unfolding by_ids
+unvouched_is sign run node seq refs is = ap (by_ids sign node seq) is ∙ vouched_by sign run node seq refs
 
 -- ---- proofs
 
 halves : Kind → Option Signed → Option Signed → Text
 halves kind None other = no_reference
 halves kind (Some s) None = no_reference
-halves kind (Some s) (Some t) = record { bytes = text_of_frame (proof_frame (proof_by kind s t)); signed = None; answer = name_of_kind kind }
+halves kind (Some s) (Some t) = proof_with kind (proof_by kind s t)
 
 proof_by_halves : (run : Run) (kind : Kind) (a b : List ℕ) → halves kind (signed_of run a) (signed_of run b) ≡ proof_text run kind a b
 unfolding proof_text all_of halves
 proof_by_halves run kind a b = by_cases (signed_of run a) (signed_of run b) where
-  by_cases : (x y : Option Signed) → halves kind x y ≡ elim (all_of (x ∷ y ∷ [])) as (λ z. Text) [ Some (s ∷ t ∷ []) ↦ record { bytes = text_of_frame (proof_frame (proof_by kind s t)); signed = None; answer = name_of_kind kind } | others ↦ no_reference ]
+  by_cases : (x y : Option Signed) → halves kind x y ≡ elim (all_of (x ∷ y ∷ [])) as (λ z. Text) [ Some (s ∷ t ∷ []) ↦ proof_with kind (proof_by kind s t) | others ↦ no_reference ]
   by_cases None y = refl
   by_cases (Some s) None = refl
   by_cases (Some s) (Some t) = refl
 
-pub proof_is : (run : Run) (kind : Kind) (a b : List ℕ) (s t : Signed) → Some s ≡ signed_of run a → Some t ≡ signed_of run b → record { bytes = text_of_frame (proof_frame (proof_by kind s t)); signed = None; answer = name_of_kind kind } ≡ proof_text run kind a b
+pub proof_is : (run : Run) (kind : Kind) (a b : List ℕ) (s t : Signed) → Some s ≡ signed_of run a → Some t ≡ signed_of run b → proof_with kind (proof_by kind s t) ≡ proof_text run kind a b
 unfolding halves
 proof_is run kind a b s t one two = ap (λ (x : Option Signed). halves kind x (Some t)) one ∙ ap (halves kind (signed_of run a)) two ∙ proof_by_halves run kind a b
 
@@ -119,6 +131,40 @@ no_first run kind a b none = ap (λ (x : Option Signed). halves kind x (signed_o
 pub no_second : (run : Run) (kind : Kind) (a b : List ℕ) (s : Signed) → Some s ≡ signed_of run a → None ≡ signed_of run b → no_reference ≡ proof_text run kind a b
 unfolding halves
 no_second run kind a b s one none = ap (λ (x : Option Signed). halves kind x None) one ∙ ap (halves kind (signed_of run a)) none ∙ proof_by_halves run kind a b
+
+-- ---- hollow proofs
+
+hollow_by : List ℕ → Option Signed → Text
+hollow_by text None = no_reference
+hollow_by text (Some s) = if nat_le (length text) 65536 then proof_with NotUpdate (Hollow s text) else no_reference
+
+hollow_is_by : (run : Run) (voucher plain : List ℕ) → hollow_by (bytes_of run plain) (signed_of run voucher) ≡ hollow_text run voucher plain
+unfolding hollow_text hollow_by
+hollow_is_by run voucher plain = by_cases (signed_of run voucher) where
+  by_cases : (o : Option Signed) → hollow_by (bytes_of run plain) o
+      ≡ elim o as (λ x. Text) [ None ↦ no_reference | Some s ↦ if nat_le (length (bytes_of run plain)) 65536 then proof_with NotUpdate (Hollow s (bytes_of run plain)) else no_reference ]
+  by_cases None = refl
+  by_cases (Some s) = refl
+
+-- the label of the voucher names none
+pub no_voucher : (run : Run) (voucher plain : List ℕ) → None ≡ signed_of run voucher → no_reference ≡ hollow_text run voucher plain
+unfolding hollow_by
+no_voucher run voucher plain none = ap (hollow_by (bytes_of run plain)) none ∙ hollow_is_by run voucher plain
+
+-- there are too many bytes
+pub long_text : (run : Run) (voucher plain text : List ℕ) (s : Signed) → Some s ≡ signed_of run voucher → text ≡ bytes_of run plain → 65536 < length text → no_reference ≡ hollow_text run voucher plain
+unfolding hollow_by
+long_text run voucher plain text s is same long =
+    let late : nat_le (length text) 65536 ≡ false = grind (arith, nat_tests, long) in
+    ap (λ (b : Bool). if b then proof_with NotUpdate (Hollow s text) else no_reference) (sym late) ∙ ap (λ (t : List ℕ). hollow_by t (Some s)) same ∙ ap (hollow_by (bytes_of run plain)) is ∙ hollow_is_by run voucher plain
+
+pub hollow_is : (run : Run) (voucher plain text : List ℕ) (s : Signed) → Some s ≡ signed_of run voucher → text ≡ bytes_of run plain → length text ≤ 65536 → proof_with NotUpdate (Hollow s text) ≡ hollow_text run voucher plain
+unfolding hollow_by
+hollow_is run voucher plain text s is same short =
+    let early : nat_le (length text) 65536 ≡ true = grind (arith, nat_tests, short) in
+    ap (λ (b : Bool). if b then proof_with NotUpdate (Hollow s text) else no_reference) (sym early) ∙ ap (λ (t : List ℕ). hollow_by t (Some s)) same ∙ ap (hollow_by (bytes_of run plain)) is ∙ hollow_is_by run voucher plain
+
+-- ---- signed statements of labels
 
 -- a signed statement was made under a label
 record IsMade (ms : List Made) (s : Signed) : Type 0 where
@@ -161,17 +207,19 @@ update_seen seen u (Some s) were is = subst (λ (st : Statement). WereSeen seen 
 -- a label was given a text
 pub text_given : (A : Type 0) (view : A → View) (stage : Stage) (run : Run) (label : List ℕ) (t : Text) (old new : Play A) (made : made_text.Text) (lines : List ℕ) → IsAtPlay view stage run old → IsText made t → IsKept run.seen made.signed
     → lines ≡ spaced made.answer ++ 10 ∷ [] → new.actors ≡ old.actors → new.seen ≡ old.seen
-    → ((labels : List Made) → AreLabels old.labels.map.entries labels → AreLabels new.labels.map.entries (labels ++ record { label = label; bytes = made.bytes; signed = made.signed } ∷ []))
+    → ((labels : List Made) → AreLabels old.labels.map.entries labels → AreLabels new.labels.map.entries (labels ++ record { label = label; bytes = made.bytes; signed = made.signed; plain = made.plain } ∷ []))
     → HasDone A view stage (done_by_text run label t) lines new
 text_given A view stage run label t old new made lines at is kept told actors seen labels = record {
   lines_are = told ∙ ap (λ (answer : List ℕ). spaced answer ++ 10 ∷ []) is.answer_is ∙ sym (append-nil (spaced t.answer ++ 10 ∷ []));
   at = record {
     seated = subst (λ (v : Vec A Global). AreSeated stage run.stations (map view v.items)) (sym actors) at.seated;
     labels_are = subst (λ (m : Made). AreLabels new.labels.map.entries (run.labels ++ m ∷ []))
-        (ap (λ (b : List ℕ). record { label = label; bytes = b; signed = made.signed }) is.bytes_are ∙ ap (λ (o : Option Signed). record { label = label; bytes = t.bytes; signed = o }) is.signed_is)
+        (ap (λ (b : List ℕ). record { label = label; bytes = b; signed = made.signed; plain = made.plain }) is.bytes_are
+        ∙ ap (λ (o : Option Signed). record { label = label; bytes = t.bytes; signed = o; plain = made.plain }) is.signed_is
+        ∙ ap (λ (p : Bool). record { label = label; bytes = t.bytes; signed = t.signed; plain = p }) is.plain_is)
         (labels run.labels at.labels_are);
     seen_are = ap (λ (x : Seen). updates_in x.graph.items.entries) seen ∙ at.seen_are;
-    remembered = label_remembers run label t.bytes t.signed at.remembered (subst (λ (o : Option Signed). IsKept run.seen o) is.signed_is kept);
+    remembered = label_remembers run (record { label = label; bytes = t.bytes; signed = t.signed; plain = t.plain }) at.remembered (subst (λ (o : Option Signed). IsKept run.seen o) is.signed_is kept);
   };
 }
 
@@ -180,16 +228,19 @@ pub made_is : (stage : Stage) (run : Run) (e : Event) → is_text e ≡ true →
 unfolding done
 made_is stage run (event.Voucher label writer seq refs) is = refl
 made_is stage run (event.Proof label kind first second) is = refl
+made_is stage run (event.Hollow label voucher plain) is = refl
 made_is stage run (event.Raw label bytes) is = refl
 made_is stage run (event.Cut label source start count) is = refl
 made_is stage run (event.Flip label source place) is = refl
 made_is stage run (event.Join label first second) is = refl
 made_is stage run (event.Put node key value) is = absurd cc
+made_is stage run (event.Puts node changes) is = absurd cc
 made_is stage run (event.Get node key) is = absurd cc
 made_is stage run (event.Hello node label) is = absurd cc
 made_is stage run (event.Bundle node hello label) is = absurd cc
 made_is stage run (event.Give node label size) is = absurd cc
 made_is stage run (event.Restart node) is = absurd cc
 made_is stage run (event.Update label writer seq clock prev key value deps history) is = absurd cc
+made_is stage run (event.Updates label writer seq clock prev changes deps history) is = absurd cc
 made_is stage run (event.Judge label) is = absurd cc
 made_is stage run (event.Stop node call image) is = absurd cc

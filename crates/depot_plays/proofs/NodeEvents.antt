@@ -1,8 +1,9 @@
 -- What an event of a node leaves of a play.
-use Rattle.std.proofs.Common.{◌≡◌, ◌≤◌, ℕ, true, eqb, List, [], ◌∷◌, ◌++◌, codes, take, length, map, Option, Some, None, refl, sym, ap, subst, ◌∙◌, arith}
+use Rattle.std.proofs.Common.{◌≡◌, ◌≤◌, ℕ, true, false, eqb, List, [], ◌∷◌, ◌++◌, codes, take, length, map, Option, Some, None, refl, sym, ap, subst, ◌∙◌, arith}
 use Rattle.std.specs.Prelude.{insert, position}
 use Rattle.std.proofs.lemmas.List.Edits.{length-remove}
 use Rattle.std.proofs.lemmas.Option.{slice_get_within}
+use Rattle.depot_base.specs.Writes.{one_change}
 use Rattle.depot_base.specs.declared.record.Record.{Record}
 use Rattle.depot_base.specs.declared.update.Update.{Update}
 use Rattle.depot_graph.specs.Kept.{updates_in}
@@ -37,15 +38,18 @@ use Rattle.depot_plays.proofs.SeatPlaces.{seat_at, no_seat}
 
 -- the journal keeps its records
 deed_grows : (stage : Stage) (run : Run) (e : Event) (s : Station) → IsGrown s.correct.journal (went s (deed_of stage run e s)).station.correct.journal
-deed_grows stage run (event.Put node key value) s = put_grows (stands_on stage s.correct.node) s key value
+deed_grows stage run (event.Put node key value) s = put_grows (stands_on stage s.correct.node) s (one_change key value)
+deed_grows stage run (event.Puts node changes) s = put_grows (stands_on stage s.correct.node) s changes
 deed_grows stage run (event.Get node key) s = get_grows s key
 deed_grows stage run (event.Hello node label) s = hello_grows (stands_on stage s.correct.node) s
 deed_grows stage run (event.Bundle node hello label) s = bundle_grows (stands_on stage s.correct.node) (signs_on stage s.correct.node) s (bytes_of run hello)
 deed_grows stage run (event.Give node label size) s = give_grows (stands_on stage s.correct.node) s (bytes_of run label)
 deed_grows stage run (event.Restart node) s = restart_grows s
 deed_grows stage run (event.Update label writer seq clock prev key value deps hash) s = restart_grows s
+deed_grows stage run (event.Updates label writer seq clock prev changes deps hash) s = restart_grows s
 deed_grows stage run (event.Voucher label writer seq refs) s = restart_grows s
 deed_grows stage run (event.Proof label kind first second) s = restart_grows s
+deed_grows stage run (event.Hollow label voucher plain) s = restart_grows s
 deed_grows stage run (event.Judge label) s = restart_grows s
 deed_grows stage run (event.Raw label bytes) s = restart_grows s
 deed_grows stage run (event.Cut label source start count) s = restart_grows s
@@ -71,7 +75,9 @@ none_is run node label deed found = ap (at_node run label deed) found
 
 deed_is : (stage : Stage) (run : Run) (e : Event) (s : Station) → is_deed e ≡ true → station_in run.stations (node_of e) ≡ Some s → s.correct.node ≡ node_of e → done stage run e ≡ done_by_node run (label_by e) (went s (deed_of stage run e s))
 unfolding done
-deed_is stage run (event.Put node key value) s deed found is = there_is run node None (λ x. put_by (stands_on stage node) x.correct key value) s found ∙ ap (λ (n : ℕ). done_by_node run None (went s (put_by (stands_on stage n) s.correct key value))) (sym is)
+deed_is stage run (event.Put node key value) s deed found is =
+    there_is run node None (λ x. put_by (stands_on stage node) x.correct (one_change key value)) s found ∙ ap (λ (n : ℕ). done_by_node run None (went s (put_by (stands_on stage n) s.correct (one_change key value)))) (sym is)
+deed_is stage run (event.Puts node changes) s deed found is = there_is run node None (λ x. put_by (stands_on stage node) x.correct changes) s found ∙ ap (λ (n : ℕ). done_by_node run None (went s (put_by (stands_on stage n) s.correct changes))) (sym is)
 deed_is stage run (event.Get node key) s deed found is = there_is run node None (λ x. get_by x.correct key) s found
 deed_is stage run (event.Hello node label) s deed found is = there_is run node (Some label) (λ x. hello_by (stands_on stage node) x.correct) s found ∙ ap (λ (n : ℕ). done_by_node run (Some label) (went s (hello_by (stands_on stage n) s.correct))) (sym is)
 deed_is stage run (event.Bundle node hello label) s deed found is =
@@ -81,8 +87,10 @@ deed_is stage run (event.Give node label size) s deed found is =
     there_is run node None (λ x. give_by (stands_on stage node) x.correct (bytes_of run label)) s found ∙ ap (λ (n : ℕ). done_by_node run None (went s (give_by (stands_on stage n) s.correct (bytes_of run label)))) (sym is)
 deed_is stage run (event.Restart node) s deed found is = there_is run node None (λ x. restart_by x.correct) s found
 deed_is stage run (event.Update label writer seq clock prev key value deps hash) s deed found is = absurd cc
+deed_is stage run (event.Updates label writer seq clock prev changes deps hash) s deed found is = absurd cc
 deed_is stage run (event.Voucher label writer seq refs) s deed found is = absurd cc
 deed_is stage run (event.Proof label kind first second) s deed found is = absurd cc
+deed_is stage run (event.Hollow label voucher plain) s deed found is = absurd cc
 deed_is stage run (event.Judge label) s deed found is = absurd cc
 deed_is stage run (event.Raw label bytes) s deed found is = absurd cc
 deed_is stage run (event.Cut label source start count) s deed found is = absurd cc
@@ -92,15 +100,18 @@ deed_is stage run (event.Stop node call image) s deed found is = absurd cc
 
 nowhere_is : (stage : Stage) (run : Run) (e : Event) → is_deed e ≡ true → station_in run.stations (node_of e) ≡ None → done stage run e ≡ record { answer = []; behind = []; run = run }
 unfolding done
-nowhere_is stage run (event.Put node key value) deed none = none_is run node None (λ x. put_by (stands_on stage node) x.correct key value) none
+nowhere_is stage run (event.Put node key value) deed none = none_is run node None (λ x. put_by (stands_on stage node) x.correct (one_change key value)) none
+nowhere_is stage run (event.Puts node changes) deed none = none_is run node None (λ x. put_by (stands_on stage node) x.correct changes) none
 nowhere_is stage run (event.Get node key) deed none = none_is run node None (λ x. get_by x.correct key) none
 nowhere_is stage run (event.Hello node label) deed none = none_is run node (Some label) (λ x. hello_by (stands_on stage node) x.correct) none
 nowhere_is stage run (event.Bundle node hello label) deed none = none_is run node (Some label) (λ x. bundle_by (stands_on stage node) (signs_on stage node) x.correct (bytes_of run hello)) none
 nowhere_is stage run (event.Give node label size) deed none = none_is run node None (λ x. give_by (stands_on stage node) x.correct (bytes_of run label)) none
 nowhere_is stage run (event.Restart node) deed none = none_is run node None (λ x. restart_by x.correct) none
 nowhere_is stage run (event.Update label writer seq clock prev key value deps hash) deed none = absurd cc
+nowhere_is stage run (event.Updates label writer seq clock prev changes deps hash) deed none = absurd cc
 nowhere_is stage run (event.Voucher label writer seq refs) deed none = absurd cc
 nowhere_is stage run (event.Proof label kind first second) deed none = absurd cc
+nowhere_is stage run (event.Hollow label voucher plain) deed none = absurd cc
 nowhere_is stage run (event.Judge label) deed none = absurd cc
 nowhere_is stage run (event.Raw label bytes) deed none = absurd cc
 nowhere_is stage run (event.Cut label source start count) deed none = absurd cc
@@ -177,7 +188,7 @@ done_at A view stage run (Some label) w lines new told seated labels seen_are ca
     seated = seated;
     labels_are = labels;
     seen_are = seen_are;
-    remembered = label_remembers (with_station run w.station) label w.bytes None (station_remembers run w.station r causal) (none_is_kept (seen_with run.seen (accepted w.station.correct.journal)));
+    remembered = label_remembers (with_station run w.station) (record { label = label; bytes = w.bytes; signed = None; plain = false }) (station_remembers run w.station r causal) (none_is_kept (seen_with run.seen (accepted w.station.correct.journal)));
   };
 }
 

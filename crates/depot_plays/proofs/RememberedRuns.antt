@@ -66,21 +66,19 @@ pub none_is_kept : (seen : List Update) → IsKept seen None
 none_is_kept seen = record { fits = λ s is. absurd cc; were = λ s is. absurd cc }
 
 -- one label more
-pub label_remembers : (run : Run) (label bytes : List ℕ) (signed : Option Signed) → IsRemembered run → IsKept run.seen signed → IsRemembered (with_label run label bytes signed)
-label_remembers run label bytes signed r k =
-    let new : Made = record { label = label; bytes = bytes; signed = signed } in
-    record {
-      causal = r.causal;
-      accepted_were = r.accepted_were;
-      signed_are = λ m s on is. elim (in_pushed m run.labels new on) [
-        | inl old ↦ r.signed_are m s old is
-        | inr now ↦ k.fits s (ap (λ (x : Made). x.signed) now ∙ is)
-      ];
-      signed_were = λ m s on is. elim (in_pushed m run.labels new on) [
-        | inl old ↦ r.signed_were m s old is
-        | inr now ↦ k.were s (ap (λ (x : Made). x.signed) now ∙ is)
-      ];
-    }
+pub label_remembers : (run : Run) (new : Made) → IsRemembered run → IsKept run.seen new.signed → IsRemembered (with_label run new)
+label_remembers run new r k = record {
+  causal = r.causal;
+  accepted_were = r.accepted_were;
+  signed_are = λ m s on is. elim (in_pushed m run.labels new on) [
+    | inl old ↦ r.signed_are m s old is
+    | inr now ↦ k.fits s (ap (λ (x : Made). x.signed) now ∙ is)
+  ];
+  signed_were = λ m s on is. elim (in_pushed m run.labels new on) [
+    | inl old ↦ r.signed_were m s old is
+    | inr now ↦ k.were s (ap (λ (x : Made). x.signed) now ∙ is)
+  ];
+}
 
 -- one update more, whose parents were seen
 pub update_remembers : (run : Run) (u : Update) → IsRemembered run → IdsWereSeen run.seen (parents u) → IsRemembered (record run { seen = seen_with run.seen (u ∷ []) })

@@ -1,31 +1,35 @@
 -- Updates that faulty nodes sign, and judgements.
-use Rattle.std.proofs.Common.{◌≡◌, ℕ, List, [], ◌∷◌, ◌++◌, Vec, take, codes, map, Option, Some, None, option_map, option_and_then, Result, Ok, Err, refl, sym, ap, subst, ◌∙◌, append_assoc}
+use Rattle.std.proofs.Common.{◌≡◌, ℕ, List, [], ◌∷◌, ◌++◌, Vec, take, true, codes, map, Option, Some, None, option_map, option_and_then, Result, Ok, Err, refl, sym, ap, subst, ◌∙◌, append_assoc}
 use Rattle.std.specs.declared.alloc.Global.{Global}
 use Rattle.std.specs.List.{flat_map}
+use Rattle.std.specs.Prelude.{OnOk}
 use Rattle.std.proofs.lemmas.List.{append-nil}
 use Rattle.depot_answers.specs.Answers.{spaced}
 use Rattle.depot_base.specs.declared.proof.Proof.{Proof}
+use Rattle.depot_base.specs.Writes.{one_change}
 use Rattle.depot_base.specs.declared.update.Update.{Update}
+use Rattle.depot_base.specs.declared.write.Change.{Change}
 use Rattle.depot_graph.specs.Kept.{updates_in}
 use Rattle.depot_model.specs.Bundle.{Signs}
 use Rattle.depot_model.specs.Judgement.{first_failed_point, verdict_of}
+use Rattle.depot_model.specs.Own.{values_of, write_of}
 use Rattle.depot_model.specs.Lines.{text_of_point, text_of_verdict}
 use Rattle.depot_model.specs.declared.judgement.JudgeError.{JudgeError}
 use Rattle.depot_schedule.specs.Language.{join}
 use Rattle.depot_schedule.specs.Schedules.{event_words}
-use Rattle.depot_schedule.specs.EventLines.{label_of, node_of, value_of, verb_of}
+use Rattle.depot_schedule.specs.EventLines.{changes_in, label_of, node_of}
 use Rattle.depot_schedule.specs.declared.event.Event.{Event}
 use Rattle.depot_schedule.specs.declared.event.Event.TheVariants as event
 use Rattle.depot_schedule.specs.declared.event.HistoryWord.{HistoryWord}
 use Rattle.depot_schedule.specs.declared.event.Ref.{Ref}
-use Rattle.depot_schedule.specs.declared.verb.Verb.TheVariants as verb
 use Rattle.depot_world.specs.Run.{Run, bytes_of, seen_with}
 use Rattle.depot_world.specs.FaultySigning.{drafted, entries_of, history_by, prev_of, proof_in, updated, update_text, with_history}
 use Rattle.depot_world.specs.Suite.{Stage, signs_on}
 use Rattle.depot_world.specs.Transcript.{Done, done, done_by_text, done_by_update, ended, head_count, judged_with, lines_after_arrow, lines_of}
 use Rattle.depot_plays.specs.Acting.{AreSeated, View}
-use Rattle.depot_plays.specs.Doing.{HasDone, signed_text, update_by, with_update}
+use Rattle.depot_plays.specs.Doing.{HasDone, is_signing, signed_text, update_by, with_update}
 use Rattle.depot_stage.specs.Labels.{AreLabels}
+use Rattle.depot_plays.specs.Drafts.{IsNumbered}
 use Rattle.depot_plays.specs.Playing.{IsAt, IsAtPlay}
 use Rattle.depot_stage.specs.Seen.{HasSeenParents}
 use Rattle.depot_stage.specs.declared.label_table.Given.{Given}
@@ -35,29 +39,27 @@ use Rattle.depot_plays.proofs.RememberedRuns.{judged_remembers, update_remembers
 
 -- ---- updates
 
--- an update of this writer, with this number
-pub record IsNumbered (writer seq : ℕ) (u : Update) : Type 0 where
-  pub writer_is : u.writer ≡ writer
-  pub seq_is : u.seq ≡ seq
-
-pub is_numbered : (sign : Signs) (run : Run) (writer seq clock : ℕ) (prev : Option Ref) (key value : List ℕ) (deps : List Ref) (history : HistoryWord) (u : Update) → Some u ≡ updated sign run writer seq clock prev key value deps history → IsNumbered writer seq u
+-- the update that is made is the writer's, and has its number
+pub is_numbered : (sign : Signs) (run : Run) (writer seq clock : ℕ) (prev : Option Ref) (changes : List Change) (deps : List Ref) (history : HistoryWord) (u : Update) → Some u ≡ updated sign run writer seq clock prev changes deps history → IsNumbered writer seq u
 unfolding updated
-is_numbered sign run writer seq clock prev key value deps history u is = by_parts (prev_of run prev) (entries_of run writer deps) is where
+is_numbered sign run writer seq clock prev changes deps history u is = by_parts (prev_of run prev) (entries_of run writer deps) is where
   by_parts : (o : Option (List ℕ)) (x : Option (List Update))
-      → Some u ≡ option_and_then (λ (p : List ℕ). option_map (λ (us : List Update). with_history (drafted writer seq clock p key value us) (history_by run.seen history (drafted writer seq clock p key value us))) x) o → IsNumbered writer seq u
+      → Some u ≡ option_and_then (λ (p : List ℕ). option_map (λ (us : List Update). with_history (drafted writer seq clock p (map write_of changes) us) (history_by run.seen history (drafted writer seq clock p (map write_of changes) us))) x) o → IsNumbered writer seq u
   by_parts None x e = absurd cc
   by_parts (Some p) None e = absurd cc
   by_parts (Some p) (Some us) e =
-      let d = drafted writer seq clock p key value us in
+      let d = drafted writer seq clock p (map write_of changes) us in
       let same : with_history d (history_by run.seen history d) ≡ u = cc in
       subst (IsNumbered writer seq) same (record { writer_is = refl; seq_is = refl })
 
--- what its label is given
-pub signed_is : (stage : Stage) (run : Run) (writer seq clock : ℕ) (prev : Option Ref) (key value : List ℕ) (deps : List Ref) (history : HistoryWord) (u : Update) → Some u ≡ updated (signs_on stage writer) run writer seq clock prev key value deps history
-    → update_text (signs_on stage u.writer) u value ≡ signed_text (signs_on stage writer) value (updated (signs_on stage writer) run writer seq clock prev key value deps history)
-signed_is stage run writer seq clock prev key value deps history u is =
-    let n = is_numbered (signs_on stage writer) run writer seq clock prev key value deps history u is in
-    ap (λ (k : ℕ). update_text (signs_on stage k) u value) n.writer_is ∙ ap (signed_text (signs_on stage writer) value) is
+-- what the label is given where it was made
+pub signed_is : (stage : Stage) (writer seq : ℕ) (changes : List Change) (u : Update) → IsNumbered writer seq u → update_text (signs_on stage u.writer) u (values_of changes) ≡ signed_text (signs_on stage writer) changes (Some u)
+signed_is stage writer seq changes u n = ap (λ (k : ℕ). update_text (signs_on stage k) u (values_of changes)) n.writer_is
+
+-- what follows where a call gave Ok
+pub on_ok : {T E P Q : Type 0} (r : Result T E) → OnOk r P → (P → Q) → OnOk r Q
+on_ok (Ok x) p more = more p
+on_ok (Err e) p more = tt
 
 -- an update was seen
 pub sees_update : (A : Type 0) (view : A → View) (stage : Stage) (run : Run) (u : Update) (old new : Play A) → IsAtPlay view stage run old → HasSeenParents (updates_in old.seen.graph.items.entries) u → new.actors ≡ old.actors → new.labels ≡ old.labels
@@ -70,13 +72,18 @@ sees_update A view stage run u old new at parents actors labels seen = record {
 }
 
 -- what an update does
-pub update_is : (stage : Stage) (run : Run) (e : Event) → verb_of e ≡ verb.Update → done_by_text (with_update run (update_by stage run e)) (label_of e) (signed_text (signs_on stage (node_of e)) (value_of e) (update_by stage run e)) ≡ done stage run e
+pub update_is : (stage : Stage) (run : Run) (e : Event) → is_signing e ≡ true → done_by_text (with_update run (update_by stage run e)) (label_of e) (signed_text (signs_on stage (node_of e)) (changes_in e) (update_by stage run e)) ≡ done stage run e
 unfolding done
-update_is stage run (event.Update label writer seq clock prev key value deps history) is = by_cases (updated (signs_on stage writer) run writer seq clock prev key value deps history) where
-  by_cases : (o : Option Update) → done_by_text (with_update run o) label (signed_text (signs_on stage writer) value o) ≡ done_by_update (signs_on stage writer) run label value o
+update_is stage run (event.Update label writer seq clock prev key value deps history) is = by_cases (updated (signs_on stage writer) run writer seq clock prev (one_change key value) deps history) where
+  by_cases : (o : Option Update) → done_by_text (with_update run o) label (signed_text (signs_on stage writer) (one_change key value) o) ≡ done_by_update (signs_on stage writer) run label (values_of (one_change key value)) o
+  by_cases None = refl
+  by_cases (Some u) = refl
+update_is stage run (event.Updates label writer seq clock prev changes deps history) is = by_cases (updated (signs_on stage writer) run writer seq clock prev changes deps history) where
+  by_cases : (o : Option Update) → done_by_text (with_update run o) label (signed_text (signs_on stage writer) changes o) ≡ done_by_update (signs_on stage writer) run label (values_of changes) o
   by_cases None = refl
   by_cases (Some u) = refl
 update_is stage run (event.Put node key value) is = absurd cc
+update_is stage run (event.Puts node changes) is = absurd cc
 update_is stage run (event.Get node key) is = absurd cc
 update_is stage run (event.Hello node label) is = absurd cc
 update_is stage run (event.Bundle node hello label) is = absurd cc
@@ -84,6 +91,7 @@ update_is stage run (event.Give node label size) is = absurd cc
 update_is stage run (event.Restart node) is = absurd cc
 update_is stage run (event.Voucher label writer seq refs) is = absurd cc
 update_is stage run (event.Proof label kind first second) is = absurd cc
+update_is stage run (event.Hollow label voucher plain) is = absurd cc
 update_is stage run (event.Judge label) is = absurd cc
 update_is stage run (event.Raw label bytes) is = absurd cc
 update_is stage run (event.Cut label source start count) is = absurd cc

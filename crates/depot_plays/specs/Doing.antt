@@ -1,13 +1,17 @@
 -- What an event does to a play.
 use Rattle.std.specs.Prelude.{◌≡◌, ◌==◌, ℕ, List, [], ◌∷◌, ◌++◌, length, take, drop, remove, position, slice_get, Bool, true, false, Option, Some, None}
+use Rattle.depot_base.specs.Writes.{one_change}
 use Rattle.depot_base.specs.declared.update.Update.{Update}
+use Rattle.depot_base.specs.declared.write.Change.{Change}
 use Rattle.depot_model.specs.Bundle.{Signs}
+use Rattle.depot_model.specs.Changes.{AreChanges}
 use Rattle.depot_model.specs.Journal.{accepted}
+use Rattle.depot_model.specs.Own.{values_of}
 use Rattle.depot_schedule.specs.declared.event.Event.{Event}
 use Rattle.depot_schedule.specs.declared.event.Event.TheVariants as event
 use Rattle.depot_world.specs.Deeds.{put_by, get_by, hello_by, bundle_by, give_by, restart_by}
 use Rattle.depot_world.specs.Run.{Run, Station, bytes_of, seen_with}
-use Rattle.depot_world.specs.FaultySigning.{Text, no_reference, counted_bytes, updated, update_text, vouched_text, proof_text, flip_at}
+use Rattle.depot_world.specs.FaultySigning.{Text, no_reference, counted_bytes, updated, update_text, vouched_text, proof_text, hollow_text, flip_at}
 use Rattle.depot_world.specs.ScheduleStops.{Deed}
 use Rattle.depot_world.specs.Suite.{Stage, stands_on, signs_on}
 use Rattle.depot_world.specs.Transcript.{Done, lines_after_arrow, lines_of}
@@ -33,6 +37,7 @@ pub record HasTold (A : Type 0) (view : A → View) (stage : Stage) (e : Event) 
 -- a node acts in it
 abbrev pub is_deed : Event → Bool
 is_deed (event.Put node key value) = true
+is_deed (event.Puts node changes) = true
 is_deed (event.Get node key) = true
 is_deed (event.Hello node label) = true
 is_deed (event.Bundle node hello label) = true
@@ -40,9 +45,16 @@ is_deed (event.Give node label size) = true
 is_deed (event.Restart node) = true
 is_deed e = false
 
+-- what it lets the node put are changes that a node may be asked for
+abbrev pub PutsChanges : Event → Type 0
+PutsChanges (event.Put node key value) = AreChanges (one_change key value)
+PutsChanges (event.Puts node changes) = AreChanges changes
+PutsChanges e = Unit {0}
+
 -- what it lets the node do
 abbrev pub deed_of : Stage → Run → Event → Station → Deed
-deed_of stage run (event.Put node key value) s = put_by (stands_on stage s.correct.node) s.correct key value
+deed_of stage run (event.Put node key value) s = put_by (stands_on stage s.correct.node) s.correct (one_change key value)
+deed_of stage run (event.Puts node changes) s = put_by (stands_on stage s.correct.node) s.correct changes
 deed_of stage run (event.Get node key) s = get_by s.correct key
 deed_of stage run (event.Hello node label) s = hello_by (stands_on stage s.correct.node) s.correct
 deed_of stage run (event.Bundle node hello label) s = bundle_by (stands_on stage s.correct.node) (signs_on stage s.correct.node) s.correct (bytes_of run hello)
@@ -70,6 +82,7 @@ pub record HasLeftPlay (A : Type 0) (view : A → View) (node : ℕ) (new : Play
 abbrev pub text_by : Stage → Run → Event → Text
 text_by stage run (event.Voucher label writer seq refs) = vouched_text (signs_on stage writer) run writer seq refs
 text_by stage run (event.Proof label kind first second) = proof_text run kind first second
+text_by stage run (event.Hollow label voucher plain) = hollow_text run voucher plain
 text_by stage run (event.Raw label bytes) = counted_bytes bytes
 text_by stage run (event.Cut label source start count) = counted_bytes (take count (drop start (bytes_of run source)))
 text_by stage run (event.Flip label source place) = counted_bytes (flip_at place (bytes_of run source))
@@ -79,6 +92,7 @@ text_by stage run e = no_reference
 abbrev pub is_text : Event → Bool
 is_text (event.Voucher label writer seq refs) = true
 is_text (event.Proof label kind first second) = true
+is_text (event.Hollow label voucher plain) = true
 is_text (event.Raw label bytes) = true
 is_text (event.Cut label source start count) = true
 is_text (event.Flip label source place) = true
@@ -87,9 +101,16 @@ is_text e = false
 
 -- ---- updates that faulty nodes sign
 
+-- a faulty node signs an update in it
+abbrev pub is_signing : Event → Bool
+is_signing (event.Update label writer seq clock prev key value deps history) = true
+is_signing (event.Updates label writer seq clock prev changes deps history) = true
+is_signing e = false
+
 -- the update that an event signs, if its references name updates
 abbrev pub update_by : Stage → Run → Event → Option Update
-update_by stage run (event.Update label writer seq clock prev key value deps history) = updated (signs_on stage writer) run writer seq clock prev key value deps history
+update_by stage run (event.Update label writer seq clock prev key value deps history) = updated (signs_on stage writer) run writer seq clock prev (one_change key value) deps history
+update_by stage run (event.Updates label writer seq clock prev changes deps history) = updated (signs_on stage writer) run writer seq clock prev changes deps history
 update_by stage run e = None
 
 -- it is seen
@@ -98,6 +119,6 @@ with_update run None = run
 with_update run (Some u) = record run { seen = seen_with run.seen (u ∷ []) }
 
 -- what its label is given
-abbrev pub signed_text : Signs → List ℕ → Option Update → Text
-signed_text sign value None = no_reference
-signed_text sign value (Some u) = update_text sign u value
+abbrev pub signed_text : Signs → List Change → Option Update → Text
+signed_text sign changes None = no_reference
+signed_text sign changes (Some u) = update_text sign u (values_of changes)

@@ -1,6 +1,7 @@
 //! A correct node at work.
 ghost use Rattle.std.specs.Prelude.{◌≡◌, ◌<◌, ◌≤◌, Some, IfOk, length, option_copied, slice_get};
 ghost use Rattle.depot_base.specs.declared.limits.TheConstants.{MOST_STOP_CALL};
+ghost use Rattle.depot_model.specs.Changes.{AreChanges};
 ghost use Rattle.depot_model.specs.Journal.{accepted};
 ghost use Rattle.depot_model.specs.Lawful.{IsLawful};
 ghost use Rattle.depot_world.specs.Deeds.{put_by, get_by, hello_by, bundle_by, give_by, restart_by};
@@ -9,7 +10,7 @@ ghost use Rattle.depot_world.specs.ScheduleStops.{went};
 ghost use Rattle.depot_world.specs.Suite.{Stage, stands_on, signs_on};
 ghost use Rattle.depot_plays.specs.Acting.{CameTo, IsSeated, View};
 
-use depot_base::{Bytes, Key, Memory, Update, Value};
+use depot_base::{Bytes, Changes, Key, Memory, Update};
 use depot_cast::Numbered;
 
 /// What an event of a node came to.
@@ -42,9 +43,10 @@ pub trait Actor: Drop + Numbered {
     fn own_update(&self, seq: u32) -> Option<&Update>
         ensures { option_copied result ≡ own_update (view self.now).journal seq };
 
-    /// It puts a value under a key.
-    fn put(self, key: Key, value: Value) -> Result<Told<Self>, Memory>
-        ensures { IfOk result (λ t. (stage : Stage) (s : Station) → IsSeated stage s (view self) → CameTo stage (went s (put_by (stands_on stage s.correct.node) s.correct key value)) (view t.actor) t.lines t.bytes) };
+    /// It gives keys values, or deletes them.
+    fn put(self, changes: Changes) -> Result<Told<Self>, Memory>
+        requires { AreChanges changes }
+        ensures { IfOk result (λ t. (stage : Stage) (s : Station) → IsSeated stage s (view self) → CameTo stage (went s (put_by (stands_on stage s.correct.node) s.correct changes)) (view t.actor) t.lines t.bytes) };
 
     /// It reads a key.
     fn get(self, key: &Key) -> Result<Told<Self>, Memory>

@@ -7,20 +7,21 @@ ghost use Rattle.depot_world.specs.Suite.{Stage};
 ghost use Rattle.depot_world.specs.Transcript.{done};
 ghost use Rattle.depot_plays.specs.Acting.{CameTo, IsSeated};
 ghost use Rattle.depot_plays.specs.declared.play.Play.{Play};
-ghost use Rattle.depot_plays.specs.Doing.{HasDone, HasLeft, HasLeftPlay, deed_of, is_deed};
+ghost use Rattle.depot_plays.specs.Doing.{HasDone, HasLeft, HasLeftPlay, PutsChanges, deed_of, is_deed};
 ghost use Rattle.depot_stage.specs.Labels.{AreLabels};
 ghost use Rattle.depot_plays.specs.Playing.{IsAtPlay, IsPlayed};
 
 use crate::actor::{Actor, Told};
 use crate::away::Away;
 use crate::play::Play;
-use depot_base::{Bytes, Memory, NodeId};
+use depot_base::{Bytes, Changes, Memory, NodeId};
 use depot_schedule::Event;
 
 impl<A: Actor> Play<A> {
     /// An event that a node acts in. The lines are those from the arrow on.
     pub fn deed(&mut self, node: NodeId, event: &Event) -> Result<Bytes, Memory>
         requires deed { is_deed event.now ≡ true }
+        requires changes { PutsChanges event.now }
         requires node { node_of event.now ≡ node }
         requires played { IsPlayed A.view self.old }
         ensures { IfOk result (λ lines. (stage : Stage) (run : Run) → IsAtPlay A.view stage run self.old → HasDone A A.view stage (done stage run event.now) lines self.new) }
@@ -34,6 +35,7 @@ impl<A: Actor> Play<A> {
     /// The same with the node that left its place for it.
     fn act(&mut self, away: Away<A>, event: &Event) -> Result<Bytes, Memory>
         requires deed { is_deed event.now ≡ true }
+        requires changes { PutsChanges event.now }
         requires left { HasLeftPlay A A.view (node_of event.now) self.old away }
         ensures { IfOk result (λ lines. (before : Play A) → HasLeft A A.view (node_of event.now) before self.old away → (stage : Stage) (run : Run) → IsAtPlay A.view stage run before → HasDone A A.view stage (done stage run event.now) lines self.new) }
     {
@@ -54,11 +56,15 @@ impl<A: Actor> Play<A> {
 
     /// What the event comes to for its node.
     fn acted(&self, actor: A, event: &Event) -> Result<Told<A>, Memory>
-        requires { is_deed event.now ≡ true }
+        requires deed { is_deed event.now ≡ true }
+        requires changes { PutsChanges event.now }
         ensures { IfOk result (λ told. (stage : Stage) (run : Run) (s : Station) → AreLabels self.now.labels.map.entries run.labels → IsSeated stage s (A.view actor) → CameTo stage (went s (deed_of stage run event.now s)) (A.view told.actor) told.lines told.bytes) }
     {
         match event {
-            Event::Put { key, value, .. } => actor.put(key.copy()?, value.copy()?),
+            Event::Put { key, value, .. } => {
+                actor.put(Changes::one(self.alloc, key.copy()?, value.copy()?)?)
+            }
+            Event::Puts { changes, .. } => actor.put(changes.copy()?),
             Event::Get { key, .. } => actor.get(key),
             Event::Hello { .. } => actor.hello(),
             Event::Bundle { hello, .. } => actor.bundle(self.labels.bytes(hello)),

@@ -6,21 +6,21 @@ ghost use Rattle.depot_model.specs.Bundle.{Signs};
 ghost use Rattle.depot_model.specs.Own.{entry_of};
 ghost use Rattle.depot_model.specs.Texts.{IsStatement, IsUpdate, id_of_update};
 ghost use Rattle.depot_model.specs.Vouching.{rising};
-ghost use Rattle.depot_world.specs.Run.{Run};
-ghost use Rattle.depot_world.specs.FaultySigning.{all_referred, entries_of, prev_of, updated};
+ghost use Rattle.depot_world.specs.Run.{Run, id_referred, referred};
+ghost use Rattle.depot_world.specs.FaultySigning.{all_of, all_referred, entries_of, prev_of, updated};
 ghost use Rattle.depot_world.specs.Suite.{Stage};
-ghost use Rattle.depot_plays.specs.Drafts.{MaySign, MayVouchFor};
+ghost use Rattle.depot_plays.specs.Drafts.{IsNumbered, MaySign, MayVouchFor};
 ghost use Rattle.depot_plays.specs.Playing.{IsAtPlay, IsPlayed};
 ghost use Rattle.depot_stage.specs.Seen.{HasSeenParents};
 
 use crate::actor::Actor;
 use crate::play::Play;
-use depot_base::{Deps, Hash32, Ids, Key, Memory, NodeId, Update, Value};
+use depot_base::{Change, Deps, Hash32, Ids, Memory, NodeId, Update};
 use depot_cast::{entries_of_others, entry_of, rising_ids};
 use depot_graph::Graph;
-use depot_model::Past;
+use depot_model::{Past, hash_of};
 use depot_schedule::{HistoryWord, Ref};
-use depot_stage::drafted;
+use depot_stage::{drafted, writes_of};
 use depot_update::id_of;
 
 impl<A: Actor> Play<A> {
@@ -32,15 +32,15 @@ impl<A: Actor> Play<A> {
         seq: u32,
         clock: u64,
         prev: &Option<Ref>,
-        key: &Key,
-        value: &Value,
+        changes: &[Change],
         deps: &[Ref],
         history: HistoryWord,
     ) -> Result<Option<Update>, Memory>
         requires played { IsPlayed A.view self.now }
-        requires fits { MaySign writer seq clock prev.now key.now value.now deps.now history }
-        ensures is { IfOk result (λ made. (stage : Stage) (run : Run) (sign : Signs) → IsAtPlay A.view stage run self.now → made ≡ updated sign run writer seq clock prev.now key.now value.now deps.now history) }
+        requires fits { MaySign writer seq clock changes.now deps.now history }
+        ensures is { IfOk result (λ made. (stage : Stage) (run : Run) (sign : Signs) → IsAtPlay A.view stage run self.now → made ≡ updated sign run writer seq clock prev.now changes.now deps.now history) }
         ensures text { IfOk result (λ made. IfSome made (λ u. IsUpdate u)) }
+        ensures numbered { IfOk result (λ made. IfSome made (λ u. IsNumbered writer seq u)) }
         ensures parents { IfOk result (λ made. IfSome made (λ u. HasSeenParents (⟦<Graph as Past>⟧.updates self.now.seen.graph) u)) }
     {
         let Some(prev) = self.prev_of(prev)? else {
@@ -49,20 +49,59 @@ impl<A: Actor> Play<A> {
         let Some(deps) = self.entries_of(writer, deps)? else {
             return Ok(None);
         };
-        let draft = drafted(writer, seq, clock, prev, key.copy()?, value, deps);
+        let writes = writes_of(self.alloc, changes)?;
+        let draft = drafted(writer, seq, clock, prev, writes, deps);
         Ok(Some(self.seen.with_history(draft, history)?))
     }
 
-    /// The ids of the updates that references name, in rising order, each once. None exactly where one names nothing.
+    /// The ids that references name for a voucher, in rising order, each once. None exactly where one names nothing.
     pub fn vouched_ids(&self, refs: &[Ref]) -> Result<Option<Ids>, Memory>
         requires { IsPlayed A.view self.now }
-        ensures is { IfOk result (λ made. (stage : Stage) (run : Run) → IsAtPlay A.view stage run self.now → made ≡ option_map (λ us. rising (map id_of_update us)) (all_referred run refs.now)) }
+        ensures is { IfOk result (λ made. (stage : Stage) (run : Run) → IsAtPlay A.view stage run self.now → made ≡ option_map rising (all_of (map (id_referred run) refs.now))) }
         ensures text { IfOk result (λ made. IfSome made (λ ids. (node seq : ℕ) → MayVouchFor node seq refs.now → IsStatement (statement.Voucher (record { node = node; seq = seq; ids = ids })))) }
     {
-        let Some(named) = self.named(refs)? else {
+        let Some(ids) = self.ids_of(refs)? else {
             return Ok(None);
         };
-        Ok(Some(rising_ids(self.alloc, named.as_slice())?))
+        Ok(Some(rising_ids(self.alloc, ids.as_slice())?))
+    }
+
+    /// The ids that references name for a voucher, in their order. None exactly where one names nothing.
+    fn ids_of(&self, refs: &[Ref]) -> Result<Option<Ids>, Memory>
+        requires { IsPlayed A.view self.now }
+        ensures { IfOk result (λ ids. (stage : Stage) (run : Run) → IsAtPlay A.view stage run self.now → ids ≡ all_of (map (id_referred run) refs.now)) }
+    {
+        let mut ids = Ids::new(self.alloc);
+        for r in refs {
+            let Some(id) = self.id_referred(r)? else {
+                return Ok(None);
+            };
+            ids.push(id)?;
+        }
+        Ok(Some(ids))
+    }
+
+    /// The id that a reference names for a voucher: SHA-256 of the bytes of a plain label, or an update's. None exactly where it names
+    /// nothing.
+    fn id_referred(&self, r: &Ref) -> Result<Option<Hash32>, Memory>
+        requires { IsPlayed A.view self.now }
+        ensures { IfOk result (λ id. (stage : Stage) (run : Run) → IsAtPlay A.view stage run self.now → id ≡ id_referred run r.now) }
+    {
+        match self.plain_referred(r) {
+            Some(bytes) => Ok(Some(hash_of(bytes))),
+            None => self.update_id(r),
+        }
+    }
+
+    /// The id of the update that a reference names. None exactly where it names nothing.
+    fn update_id(&self, r: &Ref) -> Result<Option<Hash32>, Memory>
+        requires { IsPlayed A.view self.now }
+        ensures { IfOk result (λ id. (stage : Stage) (run : Run) → IsAtPlay A.view stage run self.now → id ≡ option_map id_of_update (referred run r.now)) }
+    {
+        let Some(update) = self.referred(r) else {
+            return Ok(None);
+        };
+        Ok(Some(id_of(self.alloc, update)?))
     }
 
     /// The id that a prev names: zeros where there is none. None exactly where its reference names nothing.
@@ -70,13 +109,10 @@ impl<A: Actor> Play<A> {
         requires { IsPlayed A.view self.now }
         ensures { IfOk result (λ id. (stage : Stage) (run : Run) → IsAtPlay A.view stage run self.now → id ≡ prev_of run prev.now) }
     {
-        let Some(r) = prev else {
-            return Ok(Some(Hash32::zeros()));
-        };
-        let Some(update) = self.referred(r) else {
-            return Ok(None);
-        };
-        Ok(Some(id_of(self.alloc, update)?))
+        match prev {
+            Some(r) => self.update_id(r),
+            None => Ok(Some(Hash32::zeros())),
+        }
     }
 
     /// The entries that references name, in rising order, each once. None exactly where one names nothing, or an update of this

@@ -47,14 +47,17 @@ impl<A: Actor> Play<A> {
     {
         match event {
             Event::Put { node, .. } => self.deed(*node, event),
+            Event::Puts { node, .. } => self.deed(*node, event),
             Event::Get { node, .. } => self.deed(*node, event),
             Event::Hello { node, .. } => self.deed(*node, event),
             Event::Bundle { node, .. } => self.deed(*node, event),
             Event::Give { node, .. } => self.deed(*node, event),
             Event::Restart { node } => self.deed(*node, event),
             Event::Update { label, .. } => self.update(scene, label, event),
+            Event::Updates { label, .. } => self.update(scene, label, event),
             Event::Voucher { label, .. } => self.make(scene, label, event),
             Event::Proof { label, .. } => self.make(scene, label, event),
+            Event::Hollow { label, .. } => self.make(scene, label, event),
             Event::Judge { label } => self.judge(scene, label),
             Event::Raw { label, .. } => self.make(scene, label, event),
             Event::Cut { label, .. } => self.make(scene, label, event),

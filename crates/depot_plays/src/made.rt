@@ -1,11 +1,12 @@
 //! Events that only make a label.
 ghost use Rattle.std.specs.Prelude.{◌≡◌, [], ℕ, List, None, true, IfOk, IfSome};
+ghost use Rattle.depot_base.specs.Shown.{IsPairKind};
 ghost use Rattle.depot_model.specs.Journal.{update_in};
 ghost use Rattle.depot_model.specs.Texts.{IsSigned};
 ghost use Rattle.depot_schedule.specs.EventLines.{label_of};
 ghost use Rattle.depot_schedule.specs.declared.event.Event.TheVariants as event;
 ghost use Rattle.depot_world.specs.Run.{Run};
-ghost use Rattle.depot_world.specs.FaultySigning.{proof_text, vouched_text};
+ghost use Rattle.depot_world.specs.FaultySigning.{hollow_text, proof_text, vouched_text};
 ghost use Rattle.depot_world.specs.Suite.{Stage, signs_on};
 ghost use Rattle.depot_world.specs.Transcript.{done};
 ghost use Rattle.depot_stage.specs.Casting.{IsOn, IsOnSome, MayHappen};
@@ -15,6 +16,7 @@ ghost use Rattle.depot_stage.specs.StageTexts.{IsText};
 
 use crate::actor::Actor;
 use crate::play::Play;
+use depot_base::limits::MOST_VALUE;
 use depot_base::{Bytes, Kind, Memory, NodeId};
 use depot_model::{Scheme, Signer};
 use depot_schedule::{Event, Label, Ref};
@@ -68,6 +70,7 @@ impl<A: Actor> Play<A> {
                 second,
                 ..
             } => self.proof(*kind, first, second),
+            Event::Hollow { voucher, text, .. } => self.hollow(voucher, text),
             Event::Raw { bytes, .. } => texts::raw(self.alloc, bytes.as_slice()),
             Event::Cut {
                 source,
@@ -108,7 +111,8 @@ impl<A: Actor> Play<A> {
 
     /// The halves of a proof, if both labels name signed statements.
     fn proof(&self, kind: Kind, first: &Label, second: &Label) -> Result<Text, Memory>
-        requires { IsPlayed A.view self.now }
+        requires kind { IsPairKind kind }
+        requires played { IsPlayed A.view self.now }
         ensures is { IfOk result (λ text. (stage : Stage) (run : Run) → IsAtPlay A.view stage run self.now → IsText text (proof_text run kind first.now second.now)) }
         ensures none { IfOk result (λ text. text.signed ≡ None) }
     {
@@ -119,5 +123,21 @@ impl<A: Actor> Play<A> {
             return texts::no_reference(self.alloc);
         };
         texts::proof(self.alloc, kind, one, other)
+    }
+
+    /// A voucher and the bytes of a plain label as a hollow proof, if the label of the voucher names one and the bytes aren't too many.
+    fn hollow(&self, voucher: &Label, text: &Label) -> Result<Text, Memory>
+        requires { IsPlayed A.view self.now }
+        ensures is { IfOk result (λ made. (stage : Stage) (run : Run) → IsAtPlay A.view stage run self.now → IsText made (hollow_text run voucher.now text.now)) }
+        ensures none { IfOk result (λ made. made.signed ≡ None) }
+    {
+        let Some(signed) = self.signed_of(voucher) else {
+            return texts::no_reference(self.alloc);
+        };
+        let bytes = self.bytes_of(text);
+        if bytes.len() > MOST_VALUE {
+            return texts::no_reference(self.alloc);
+        }
+        texts::hollow(self.alloc, signed, bytes)
     }
 }

@@ -1,6 +1,6 @@
 //! A run of a schedule at work.
 ghost use Rattle.std.specs.Prelude.{◌≡◌, ◌==◌, option_copied, position, option_and_then};
-ghost use Rattle.depot_world.specs.Run.{Run, bytes_of, own_update, referred, signed_of, station_in};
+ghost use Rattle.depot_world.specs.Run.{Run, bytes_of, own_update, plain_referred, referred, signed_of, station_in};
 ghost use Rattle.depot_world.specs.Suite.{Stage};
 ghost use Rattle.depot_plays.specs.Playing.{IsAtPlay};
 
@@ -40,6 +40,16 @@ impl<A: Actor> Play<A> {
         ensures { (stage : Stage) (run : Run) → IsAtPlay A.view stage run self.now → option_copied result ≡ signed_of run label.now }
     {
         self.labels.signed(label)
+    }
+
+    /// The bytes that a reference names by a plain label, if it does. It takes no memory.
+    pub fn plain_referred(&self, r: &Ref) -> Option<&[u8]>
+        ensures { (stage : Stage) (run : Run) → IsAtPlay A.view stage run self.now → option_copied result ≡ plain_referred run r.now }
+    {
+        match r {
+            Ref::Label(label) => self.labels.plain(label),
+            Ref::Own { .. } => None,
+        }
     }
 
     /// The update that a reference names, if it names one. It takes no memory.

@@ -1,4 +1,4 @@
 mod RecordParts
-pub mod RecordFaultLaws
 mod RecordChecks
+mod PutValues
 mod RecordFaultExamples

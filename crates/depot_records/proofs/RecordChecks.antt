@@ -1,7 +1,7 @@
 -- What is checked of a record that is read, by its kind.
-use Rattle.std.proofs.Common.{◌≡◌, ◌↔◌, ℕ, ◌<◌, ◌≤◌, eqb, ltb, Bool, true, IsTrue, cond, List, [], ◌∷◌, ◌++◌, length, Some, None, Result, Ok, Err, refl, sym, ap, subst, ◌∙◌, arith, length-append}
+use Rattle.std.proofs.Common.{◌≡◌, ◌↔◌, ℕ, ◌<◌, ◌≤◌, eqb, ltb, Bool, true, false, IsTrue, cond, List, [], ◌∷◌, ◌++◌, length, map, Some, None, Result, Ok, Err, refl, sym, ap, subst, ◌∙◌, arith, length-append}
 use Rattle.std.specs.List.{AllByRecursion}
-use Rattle.std.proofs.lemmas.Bool.{ltb-true, eqb-true}
+use Rattle.std.proofs.lemmas.Bool.{both_ways, ltb-true, eqb-true}
 use Rattle.depot_base.specs.declared.limits.TheConstants.{MOST_ENTRIES}
 use Rattle.depot_base.specs.declared.check.Check.{Check}
 use Rattle.depot_base.specs.declared.proof.Proof.{Proof}
@@ -10,20 +10,21 @@ use Rattle.depot_base.specs.declared.record.Record.TheVariants.{OwnPut, Foreign,
 use Rattle.depot_base.specs.declared.statement.Signed.{Signed}
 use Rattle.depot_base.specs.declared.update.Update.{Update}
 use Rattle.depot_base.specs.declared.voucher.Voucher.{Voucher}
+use Rattle.depot_base.specs.declared.write.Write.{Write}
 use Rattle.depot_model.specs.declared.record_fault.RecordFault.{RecordFault}
 use Rattle.depot_model.specs.declared.record_fault.RecordFault.TheVariants as fault
 use Rattle.depot_model.specs.declared.taken.Taken.{Taken}
 use Rattle.depot_model.specs.declared.taken.Taken.TheVariants.{New, Known}
 use Rattle.depot_model.specs.Checks.{Setting, Given, given_statement, given_proof, given_value, opponent, due, added, growth_by, growth}
 use Rattle.depot_model.specs.Journal.{accepted, foreign, is_foreign, is_vouched, own}
-use Rattle.depot_model.specs.Lawful.{MayFollow, MayVouch}
+use Rattle.depot_model.specs.Lawful.{MayFollow, MayPut, MayVouch}
 use Rattle.depot_model.proofs.Members.{all_at, all_from}
-use Rattle.depot_model.specs.Own.{next_own, IsFresh, leaf_count}
+use Rattle.depot_model.specs.Own.{next_own, next_with, write_of, changes_of, IsFresh, leaf_count}
 use Rattle.depot_model.specs.RecordFaults.{given_by, IsAtPlace}
 use Rattle.depot_model.specs.Texts.{id_of_update}
-use Rattle.depot_model.specs.Contents.{key_written}
+use Rattle.depot_laws.proofs.Nexts.{next_of, own_writes}
 use Rattle.depot_decide.specs.Deciding.{IsDecided}
-use Rattle.depot_records.specs.ReadRecords.{IsGood, IsChecked, TakesNew, fault_of}
+use Rattle.depot_records.specs.ReadRecords.{IsGood, IsChecked, TakesNew, HasManyEntries, fault_of}
 use Rattle.depot_records.specs.declared.record_check.ReadError.{ReadError}
 use Rattle.depot_records.specs.declared.record_check.ReadError.TheVariants as refused
 
@@ -96,14 +97,46 @@ good_statement here J s answer decided new d taken short =
 -- ---- own updates
 
 -- it may be put
-pub may_put : (here : Setting) (J : List Record) (u next : Update) (value id : List ℕ) → u ≡ next → next ≡ next_own here.me J (key_written u) value
-    → length (own J) < leaf_count here.listed here.me → length (next_own here.me J (key_written u) value).deps ≤ MOST_ENTRIES → id ≡ id_of_update u → IsFresh J id → MayFollow here J (OwnPut u value)
-may_put here J u next value id same is leaf narrow named fresh = record {
-  next = same ∙ is;
+pub may_put : (here : Setting) (J : List Record) (u next : Update) (ws : List Write) (values : List (List ℕ)) (id : List ℕ) → u ≡ next → next ≡ next_with here.me J ws → ws ≡ u.writes → u.writes ≡ map write_of (changes_of u.writes values)
+    → length (own J) < leaf_count here.listed here.me → length (next_with here.me J ws).deps ≤ MOST_ENTRIES → id ≡ id_of_update u → IsFresh J id → MayFollow here J (OwnPut u values)
+unfolding next_own
+may_put here J u next ws values id same is copied made leaf narrow named fresh = record {
+  next = same ∙ is ∙ ap (next_with here.me J) (copied ∙ made);
   fresh = subst (λ (h : List ℕ). IsFresh J h) named fresh;
   tips = subst (λ (x : Update). length x.deps ≤ MOST_ENTRIES) (sym (same ∙ is)) narrow;
   leaf = leaf;
 }
+
+-- what is told of slices is told of the lists
+pub told_of : (ws xs : List Write) (vs ys : List (List ℕ)) (told : Bool) → ws ≡ xs → vs ≡ ys → IsTrue told ↔ (ws ≡ map write_of (changes_of ws vs)) → IsTrue told ↔ (xs ≡ map write_of (changes_of xs ys))
+told_of ws xs vs ys told one two is =
+    subst (λ (l : List Write). IsTrue told ↔ (l ≡ map write_of (changes_of l ys))) one (subst (λ (l : List (List ℕ)). IsTrue told ↔ (ws ≡ map write_of (changes_of ws l))) two is)
+
+-- what may be put has the values of its writes
+pub made_of : {here : Setting} {J : List Record} {u : Update} {values : List (List ℕ)} → MayPut here J u values → u.writes ≡ map write_of (changes_of u.writes values)
+made_of {here = here} {J = J} {u = u} {values = values} may = own_writes here.me J (changes_of u.writes values) u may.next
+
+-- it may not where the values aren't those of its writes
+pub other_values : (here : Setting) (J : List Record) (u : Update) (values : List (List ℕ)) (told : Bool) → IsAtPlace J (OwnPut u values) → IsTrue told ↔ (u.writes ≡ map write_of (changes_of u.writes values)) → told ≡ false
+    → IsChecked here J (OwnPut u values) (Err (refused.Fault fault.NotNext))
+other_values here J u values told place is none = (place, λ may. both_ways told none (is.1 (made_of may)))
+
+-- nor where another update with its writes comes next
+pub other_next : (here : Setting) (J : List Record) (u next : Update) (ws : List Write) (values : List (List ℕ)) (told : Bool) → IsAtPlace J (OwnPut u values) → IsTrue told ↔ (u ≡ next) → told ≡ false → next ≡ next_with here.me J ws → ws ≡ u.writes
+    → IsChecked here J (OwnPut u values) (Err (refused.Fault fault.NotNext))
+other_next here J u next ws values told place same none is copied =
+    (place, λ may. both_ways told none (same.1 (next_of may ∙ ap (next_with here.me J) (sym copied) ∙ sym is)))
+
+-- nor where its id isn't fresh
+pub stale_id : (here : Setting) (J : List Record) (u : Update) (values : List (List ℕ)) (id : List ℕ) (told : Bool) → IsAtPlace J (OwnPut u values) → id ≡ id_of_update u → IsTrue told ↔ IsFresh J id → told ≡ false → IsChecked here J (OwnPut u values) (Err (refused.Fault fault.NotNext))
+stale_id here J u values id told place named is none = (place, λ may. both_ways told none (is.1 (subst (λ (h : List ℕ). IsFresh J h) (sym named) may.fresh)))
+
+-- nor where it would have too many entries
+pub wide_put : (here : Setting) (J : List Record) (u : Update) (ws : List Write) (values : List (List ℕ)) (e : ReadError) → IsAtPlace J (OwnPut u values) → ws ≡ u.writes → HasManyEntries (next_with here.me J ws) e → IsChecked here J (OwnPut u values) (Err e)
+wide_put here J u ws values refused.Memory place copied wide = tt
+wide_put here J u ws values (refused.Fault fault.NotNext) place copied wide =
+    (place, λ may. (let deps = ap (λ (x : Update). length x.deps) (next_of may) in omega (arith, may.tips, wide, deps)))
+wide_put here J u ws values (refused.Fault f) place copied wide = absurd wide
 
 -- ---- own vouchers
 

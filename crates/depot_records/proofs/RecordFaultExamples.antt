@@ -5,11 +5,15 @@ use Rattle.sha2.specs.Sha256.{sha256, first_words, schedule, rounds, compress, h
 use Rattle.depot_base.specs.Closed.{rest_of}
 use Rattle.depot_base.specs.Cursor.{numeral}
 use Rattle.depot_base.specs.Format.{number, bytes_of, inner, list_of}
-use Rattle.depot_base.specs.Parts.{dep, roster_entry}
+use Rattle.depot_base.specs.Parts.{dep, marked, roster_entry, write}
+use Rattle.depot_base.specs.Writes.{put_one}
 use Rattle.depot_base.specs.declared.check.Check.TheVariants as check
 use Rattle.depot_base.specs.declared.record.Record.{Record}
 use Rattle.depot_base.specs.declared.record.Record.TheVariants.{Birth, OwnPut, OwnVoucher, Held}
 use Rattle.depot_base.specs.declared.update.Update.{Update}
+use Rattle.depot_base.specs.declared.write.Wrote.{Wrote}
+use Rattle.depot_base.specs.declared.write.Wrote.TheVariants.{Put, Gone}
+use Rattle.depot_base.specs.declared.write.Write.{Write}
 use Rattle.depot_base.proofs.FormatLaws.{cursor}
 use Rattle.depot_model.specs.declared.record_fault.RecordFault.{RecordFault}
 use Rattle.depot_model.specs.declared.record_fault.RecordFault.TheVariants as fault
@@ -19,28 +23,33 @@ use Rattle.depot_model.specs.Conviction.{proof_of}
 use Rattle.depot_model.specs.History.{leaves_of, put_by_id, by_id, history_text, history_hash}
 use Rattle.depot_model.specs.Journal.{first_values, has_id, named, prev_of, is_convicted, is_vouched, holds_hash, is_wanted}
 use Rattle.depot_model.specs.Judgement.{points}
-use Rattle.depot_model.specs.Lawful.{MayFollow}
+use Rattle.depot_model.specs.Lawful.{MayFollow, IsAllowed}
 use Rattle.depot_model.specs.Order.{past}
 use Rattle.depot_model.specs.Own.{precedes_named, next_entries, next_own, leaf_count}
 use Rattle.depot_model.specs.RecordFaults.{IsFaultOf, IsFault}
-use Rattle.depot_model.specs.Records.{record_text, text_of_record}
-use Rattle.depot_model.specs.Room.{HasRoom}
+use Rattle.depot_model.specs.Records.{birth, own_put, record_text, tagged, text_of_record}
+use Rattle.depot_model.specs.Room.{HasRoom, foreign_leaves, full_with}
 use Rattle.depot_model.specs.Roster.{key_of, is_signed}
 use Rattle.depot_model.specs.Texts.{update_fields, voucher_fields, update_body, voucher_body, statement, signed, proof, roster, id_of_update, id_of_statement, hash_of_roster}
 use Rattle.depot_model.proofs.Cast.{members, here, one, two, two_id, two_more, nine, nine_other, vouch, took, took_voucher}
 use Rattle.depot_model.proofs.RecordLaws.{record_text_lawful}
 use Rattle.depot_laws.proofs.JournalLimits.{within_from_room}
 use Rattle.depot_model.proofs.LawfulExamples.{birth_is_allowed}
-use Rattle.depot_records.proofs.RecordFaultLaws.{no_fault}
+use Rattle.depot_records.proofs.RecordChecks.{made_of}
+use Rattle.depot_laws.proofs.FaultLaws.{no_fault}
 
 abbrev begun : List Record
 begun = Birth 1 (hash_of_roster members) ∷ []
 
 abbrev first_put : Update
-first_put = record one { value_hash = sha256 (49 ∷ []) }
+first_put = record one { writes = put_one (107 ∷ []) (sha256 (49 ∷ [])) 1 }
 
 abbrev put_of : Update → Record
-put_of u = OwnPut u (49 ∷ [])
+put_of u = OwnPut u ((49 ∷ []) ∷ [])
+
+-- two keys with a value, and one that is deleted
+abbrev mixed : Update
+mixed = record one { writes = record { key = 107 ∷ []; what = Put (sha256 (97 ∷ [])) 1 } ∷ record { key = 108 ∷ []; what = Gone } ∷ record { key = 109 ∷ []; what = Put (sha256 (98 ∷ [])) 1 } ∷ [] }
 
 abbrev with_two : List Record
 with_two = begun ++ took two ∷ []
@@ -49,6 +58,22 @@ with_two = begun ++ took two ∷ []
 
 no_fault_in_birth : (f : RecordFault) → IsFault here [] (text_of_record (Birth 1 (hash_of_roster members))) f → ⊥
 no_fault_in_birth f wrong = no_fault here [] (Birth 1 (hash_of_roster members)) f birth_is_allowed wrong
+
+abbrev first_byte : List ℕ → ℕ
+first_byte [] = 0
+first_byte (b ∷ bytes) = b
+
+mixed_is_allowed : IsAllowed here begun (OwnPut mixed ((97 ∷ []) ∷ (98 ∷ []) ∷ []))
+unfolding sha256 first_words schedule rounds compress hash_after digest_bytes rest_of numeral bytes_of inner list_of number dep write marked roster_entry by_id history_hash history_text leaves_of put_by_id has_id named prev_of past leaf_count next_entries next_own precedes_named birth own_put record_text tagged foreign_leaves full_with key_of hash_of_roster id_of_update statement update_body update_fields
+mixed_is_allowed = record {
+  first = refl;
+  text = search rules;
+  may = record { next = refl; fresh = record { named = λ same. (let byte : first_byte (id_of_update mixed) ≡ 0 = ap first_byte same in omega (arith, byte)); new = refl }; tips = omega arith; leaf = omega arith };
+  room = refl;
+}
+
+no_fault_in_mixed : (f : RecordFault) → IsFault here begun (text_of_record (OwnPut mixed ((97 ∷ []) ∷ (98 ∷ []) ∷ []))) f → ⊥
+no_fault_in_mixed f wrong = no_fault here begun (OwnPut mixed ((97 ∷ []) ∷ (98 ∷ []) ∷ [])) f mixed_is_allowed wrong
 
 -- ---- one of each
 
@@ -71,6 +96,18 @@ no_birth = λ place. absurd cc
 not_next : IsFaultOf here begun (put_of (record first_put { seq = 1 })) fault.NotNext
 unfolding sha256 first_words schedule rounds compress hash_after digest_bytes numeral bytes_of list_of number dep by_id history_hash history_text leaves_of put_by_id has_id named prev_of past next_entries next_own precedes_named id_of_update statement update_body update_fields
 not_next = (refl, λ may. (let met : 1 ≡ 0 = ap (λ u. u.seq) may.next in omega (arith, met)))
+
+-- one whose values stand in the other order
+abbrev first_hashed : List Write → ℕ
+first_hashed [] = 0
+first_hashed (w ∷ ws) = by_what w.what where
+  by_what : Wrote → ℕ
+  by_what (Put hash size) = first_byte hash
+  by_what Gone = 0
+
+values_swapped : IsFaultOf here begun (OwnPut mixed ((98 ∷ []) ∷ (97 ∷ []) ∷ [])) fault.NotNext
+unfolding sha256 first_words schedule rounds compress hash_after digest_bytes numeral
+values_swapped = (refl, λ may. (let met : 202 ≡ 62 = ap first_hashed (made_of may) in omega (arith, met)))
 
 -- an own voucher with such a seq
 wrong_voucher : IsFaultOf here with_two (OwnVoucher (vouch 1 1 (two_id ∷ []))) fault.OwnVoucher

@@ -1,11 +1,12 @@
 //! A record of a journal is checked as if it came now.
-ghost use Rattle.std.specs.Prelude.{◌≡◌, ◌↔◌, ◌<◌, ◌≤◌, ◌∷◌, ℕ, List, Err, true, false, length, IfOk, IfErr, IsTrue};
+ghost use Rattle.std.specs.Prelude.{◌≡◌, ◌↔◌, ◌<◌, ◌≤◌, ◌∷◌, ℕ, List, Err, true, false, length, map, IfOk, IfErr, IsTrue};
 ghost use Rattle.std.specs.List.{AllByRecursion};
+ghost use Rattle.depot_base.specs.Writes.{sizes_of};
 ghost use Rattle.depot_base.specs.declared.limits.TheConstants.{MOST_ENTRIES};
 ghost use Rattle.depot_base.specs.declared.record.Record.TheVariants.{Birth, OwnPut, OwnVoucher, Foreign, Conviction, Held};
 ghost use Rattle.depot_model.specs.Journal.{accepted, own, is_foreign};
 ghost use Rattle.depot_model.specs.Lawful.{IsLawful, MayFollow, MayVouch};
-ghost use Rattle.depot_model.specs.Own.{next_own};
+ghost use Rattle.depot_model.specs.Own.{next_with, write_of, changes_of};
 ghost use Rattle.depot_model.specs.RecordFaults.{IsAtPlace};
 ghost use Rattle.depot_model.specs.Texts.{hash_of_roster, id_of_update};
 ghost use Rattle.depot_store.specs.Holdings.{standing};
@@ -14,14 +15,14 @@ ghost use Rattle.depot_records.specs.declared.record_check.ReadError.TheVariants
 ghost use Rattle.depot_records.specs.ReadRecords.{IsChecked, IsReadAs, TakesNew, HasManyEntries, fault_of};
 
 use depot_base::{
-    Bytes, Check, DecodeError, Hash32, Key, Memory, NodeId, Proof, Record, Signed, Update, Value,
-    Voucher,
+    Bytes, Check, DecodeError, Hash32, Memory, NodeId, Proof, Record, Signed, Update, Value,
+    ValueList, Voucher, Write, Writes,
 };
 use depot_decide::{
     Decision, Next, PutError, decide_decoded, decide_short, decide_signed, has_leaf, is_foreign,
     is_fresh, next_own,
 };
-use depot_model::{RecordFault, Scheme, Taken};
+use depot_model::{RecordFault, Scheme, Taken, hash_of};
 use depot_outside::Disk;
 use depot_store::{Growth, Store};
 use depot_update::{decode_record, id_in_own_put, id_in_own_voucher};
@@ -97,7 +98,7 @@ fn check_item<D: Disk, S: Scheme>(
 {
     match item {
         Record::Birth { node, roster } => check_birth(alloc, store, node, roster),
-        Record::OwnPut { update, value } => check_put(alloc, store, update, value, text),
+        Record::OwnPut { update, values } => check_put(alloc, store, update, values, text),
         Record::OwnVoucher { voucher } => check_voucher(alloc, store, voucher, text),
         Record::Foreign { signed } => check_foreign(alloc, store, signed, text),
         Record::Conviction { proof } => check_conviction(alloc, store, proof, text),
@@ -130,68 +131,95 @@ fn is_own_birth<D: Disk, S: Scheme>(store: &Store<D, S>, node: NodeId, roster: &
     node == store.me() && roster == store.roster().hash()
 }
 
-/// An own update and its value, where a put would append just these.
+/// An own update and its values, where a put would append just these.
 fn check_put<D: Disk, S: Scheme>(
     alloc: Global,
     store: &Store<D, S>,
     update: Update,
-    value: Value,
+    values: ValueList,
     text: &[u8],
 ) -> Result<Growth, ReadError>
     requires runs { store.now.stopped ≡ false }
     requires lawful { IsLawful (standing S.verifies store.now) store.now.records }
-    requires place { IsAtPlace store.now.records (OwnPut update value) }
-    requires text { IsTextOf (OwnPut update value) text.now }
-    ensures { IsChecked (standing S.verifies store.now) store.now.records (OwnPut update value) result }
+    requires place { IsAtPlace store.now.records (OwnPut update values) }
+    requires text { IsTextOf (OwnPut update values) text.now }
+    ensures { IsChecked (standing S.verifies store.now) store.now.records (OwnPut update values) result }
 {
     let id = id_in_own_put(text);
-    let parents = parents_of_put(alloc, store, &update, &value, &id)?;
+    let parents = parents_of_put(alloc, store, &update, &values, &id)?;
     let text = Bytes::from_slice(alloc, text)?;
-    let item = Record::OwnPut { update, value };
+    let item = Record::OwnPut { update, values };
     let growth = Growth::of_statement(alloc, item, id, text, parents)?;
     Ok(growth)
 }
 
-/// The items of the parents of an own update with this id, where a put would append just this update and value. Nothing is encoded:
-/// the update is compared with the one that a put would make.
+/// The items of the parents of an own update with this id, where a put would append just this update and these values. Nothing is
+/// encoded: the values are compared with the writes, and the update with the one that a put of these writes would make.
 fn parents_of_put<D: Disk, S: Scheme>(
     alloc: Global,
     store: &Store<D, S>,
     update: &Update,
-    value: &Value,
+    values: &ValueList,
     id: &Hash32,
 ) -> Result<Vec<u32>, ReadError>
     requires runs { store.now.stopped ≡ false }
     requires lawful { IsLawful (standing S.verifies store.now) store.now.records }
-    requires place { IsAtPlace store.now.records (OwnPut update.now value.now) }
+    requires place { IsAtPlace store.now.records (OwnPut update.now values.now) }
     requires id { id.now ≡ id_of_update update.now }
-    ensures may { IfOk result (λ _. MayFollow (standing S.verifies store.now) store.now.records (OwnPut update.now value.now)) }
-    ensures refused { IfErr result (λ e. IsChecked (standing S.verifies store.now) store.now.records (OwnPut update.now value.now) (Err e)) }
+    requires lengths { map (λ v. length v) values.now ≡ sizes_of update.now.writes }
+    ensures may { IfOk result (λ _. MayFollow (standing S.verifies store.now) store.now.records (OwnPut update.now values.now)) }
+    ensures refused { IfErr result (λ e. IsChecked (standing S.verifies store.now) store.now.records (OwnPut update.now values.now) (Err e)) }
 {
     if !has_leaf(store, store.totals().own) {
         return Err(ReadError::Fault(RecordFault::NotNext));
     }
-    let next = next_put(alloc, store, update.key_written().copy()?, value)?;
-    if !update.is_same(&next.update) || !is_fresh(store.state().graph(), id) {
+    if !are_values_of(update.writes.as_slice(), values.as_slice()) {
+        return Err(ReadError::Fault(RecordFault::NotNext));
+    }
+    let next = next_put(alloc, store, update.writes.copy()?)?;
+    if !update.is_same(&next.update) {
+        return Err(ReadError::Fault(RecordFault::NotNext));
+    }
+    if !is_fresh(store.state().graph(), id) {
         return Err(ReadError::Fault(RecordFault::NotNext));
     }
     Ok(next.parents)
 }
 
-/// The next own update, which puts a value under a key. It is refused where it would have too many entries.
+/// Whether these values are those of the writes that are no deletions, in their order, as their hashes tell. The lengths agree.
+fn are_values_of(writes: &[Write], values: &[Value]) -> bool
+    requires { map (λ v. length v) values.now ≡ sizes_of writes.now }
+    ensures { IsTrue result ↔ (writes.now ≡ map write_of (changes_of writes.now values.now)) }
+{
+    let mut place = 0;
+    for write in writes {
+        let Some(name) = write.what.named() else {
+            continue;
+        };
+        let Some(value) = values.get(place) else {
+            unreachable!();
+        };
+        if hash_of(value.bytes()) != name.hash {
+            return false;
+        }
+        place += 1;
+    }
+    true
+}
+
+/// The next own update with these writes. It is refused where it would have too many entries.
 fn next_put<D: Disk, S: Scheme>(
     alloc: Global,
     store: &Store<D, S>,
-    key: Key,
-    value: &Value,
+    writes: Writes,
 ) -> Result<Next, ReadError>
     requires runs { store.now.stopped ≡ false }
     requires lawful { IsLawful (standing S.verifies store.now) store.now.records }
-    ensures next { IfOk result (λ next. next.update ≡ next_own store.now.me store.now.records key value.now) }
-    ensures narrow { IfOk result (λ _. length (next_own store.now.me store.now.records key value.now).deps ≤ MOST_ENTRIES) }
-    ensures wide { IfErr result (HasManyEntries (next_own store.now.me store.now.records key value.now)) }
+    ensures next { IfOk result (λ next. next.update ≡ next_with store.now.me store.now.records writes) }
+    ensures narrow { IfOk result (λ _. length (next_with store.now.me store.now.records writes).deps ≤ MOST_ENTRIES) }
+    ensures wide { IfErr result (HasManyEntries (next_with store.now.me store.now.records writes)) }
 {
-    match next_own(alloc, store, key, value) {
+    match next_own(alloc, store, writes) {
         Ok(next) => Ok(next),
         Err(PutError::Tips(_)) => Err(ReadError::Fault(RecordFault::NotNext)),
         // Memory is the one other answer.

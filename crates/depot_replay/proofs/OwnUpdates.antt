@@ -18,10 +18,9 @@ use Rattle.depot_laws.proofs.Taken.{new_is}
 use Rattle.depot_model.specs.Checks.{Setting}
 use Rattle.depot_model.specs.Journal.{accepted, accepted_by, own, own_by, update_in}
 use Rattle.depot_model.specs.Lawful.{IsLawful, MayFollow}
-use Rattle.depot_model.specs.Contents.{key_written}
 use Rattle.depot_world.specs.Run.{first_update, own_update}
 use Rattle.depot_base.proofs.GeneralLaws.{flat_push, parts_at}
-use Rattle.depot_laws.proofs.Counts.{next_writer}
+use Rattle.depot_laws.proofs.Nexts.{next_of}
 
 -- ---- which they are
 
@@ -45,7 +44,7 @@ of_statement me (statement.Voucher v) other = refl
 -- those of a record that may follow
 of_record : (here : Setting) (J : List Record) (r : Record) → MayFollow here J r → flat_map update_in (own_by r) ≡ filter (is_by here.me) (accepted_by r)
 of_record here J (Birth node roster) may = refl
-of_record here J (OwnPut u value) may = sym (passes (is_by here.me) u (eq-eqb u.writer here.me (ap (λ (x : Update). x.writer) may.next ∙ next_writer here.me J (key_written u) value)))
+of_record here J (OwnPut u values) may = sym (passes (is_by here.me) u (eq-eqb u.writer here.me (ap (λ (x : Update). x.writer) (next_of may))))
 of_record here J (OwnVoucher v) may = refl
 of_record here J (Foreign s) may = of_statement here.me s.statement (new_is here J s may.0).passes.other
 of_record here J (Conviction p) may = refl

@@ -1,5 +1,5 @@
 -- What an event of a seated node came to: it went as it goes, or a stop fell into it.
-use Rattle.std.proofs.Common.{◌≡◌, ℕ, ◌+◌, ◌-◌, ◌*◌, List, [], ◌++◌, append_assoc, length, length-append, take, drop, false, true≢false, Option, None, Some, Result, Ok, Err, IfOk, IsOk, refl, sym, ap, subst, ◌∙◌, arith}
+use Rattle.std.proofs.Common.{◌≡◌, ℕ, ◌*◌, List, [], ◌++◌, append_assoc, length, length-append, take, drop, false, true≢false, Option, None, Some, Result, Ok, Err, IfOk, IsOk, refl, sym, ap, subst, ◌∙◌, arith}
 use Rattle.std.proofs.Math.Seq.{drop-append_seam}
 use Rattle.std.proofs.lemmas.List.{append-nil, take-append-drop}
 use Rattle.depot_base.specs.Calls.{Call, made}

@@ -2,14 +2,15 @@
 use Rattle.std.proofs.Common.{◌≡◌, ◌↔◌, ℕ, ◌-◌, ◌*◌, List, [], ◌∷◌, ◌++◌, length, Option, Some, None, Result, Ok, Err, refl, sym, ap, subst, ◌∙◌, arith}
 use Rattle.std.specs.Prelude.{IsErrOf}
 use Rattle.std.proofs.lemmas.List.{append-nil}
-use Rattle.depot_base.specs.Sized.{IsKey, IsValue}
+use Rattle.depot_base.specs.declared.write.Change.{Change}
 use Rattle.depot_base.specs.declared.record.Record.{Record}
 use Rattle.depot_base.specs.declared.record.Record.TheVariants.{OwnPut}
 use Rattle.depot_model.specs.Bundle.{Signs}
+use Rattle.depot_model.specs.Changes.{AreChanges}
 use Rattle.depot_model.specs.Checks.{Setting}
 use Rattle.depot_model.specs.Lawful.{IsLawful}
 use Rattle.depot_model.specs.Limits.{Limit, limit_of_put}
-use Rattle.depot_model.specs.Own.{next_own}
+use Rattle.depot_model.specs.Own.{next_own, values_of}
 use Rattle.depot_model.specs.World.{Correct}
 use Rattle.depot_decide.specs.Putting.{Puts, put_records}
 use Rattle.depot_decide.specs.declared.put_answers.PutDone.{PutDone}
@@ -29,37 +30,37 @@ use Rattle.depot_replay.proofs.SeatCalls.{IsDoneOn}
 -- ---- the journal
 
 -- the journal where a put meets this limit, or none
-abbrev put_within : Setting → List Record → List ℕ → List ℕ → Option Limit → List Record
-put_within here J key value None = J ++ put_records here J key value
-put_within here J key value (Some limit) = J
+abbrev put_within : Setting → List Record → List Change → Option Limit → List Record
+put_within here J changes None = J ++ put_records here J changes
+put_within here J changes (Some limit) = J
 
 -- what a put makes of a journal
-abbrev pub put_longer : List ℕ → List ℕ → Setting → Signs → List Record → List Record
-put_longer key value here sign J = put_within here J key value (limit_of_put here J key value)
+abbrev pub put_longer : List Change → Setting → Signs → List Record → List Record
+put_longer changes here sign J = put_within here J changes (limit_of_put here J changes)
 
-within_appends : (here : Setting) (c : Correct) (key value : List ℕ) (o : Option Limit) → here.me ≡ c.node → limit_of_put here c.journal key value ≡ o → Appends (put_by here c key value) c.journal (put_within here c.journal key value o)
-within_appends here c key value None same is =
-    let d = deed_within here c key value None is in
-    let new : OwnPut (next_own c.node c.journal key value) value ∷ [] ≡ put_records here c.journal key value = ap (λ (n : ℕ). OwnPut (next_own n c.journal key value) value ∷ []) (sym same) in
+within_appends : (here : Setting) (c : Correct) (changes : List Change) (o : Option Limit) → here.me ≡ c.node → limit_of_put here c.journal changes ≡ o → Appends (put_by here c changes) c.journal (put_within here c.journal changes o)
+within_appends here c changes None same is =
+    let d = deed_within here c changes None is in
+    let new : OwnPut (next_own c.node c.journal changes) (values_of changes) ∷ [] ≡ put_records here c.journal changes = ap (λ (n : ℕ). OwnPut (next_own n c.journal changes) (values_of changes) ∷ []) (sym same) in
     record {
       journal = ap (λ (x : Deed). x.journal) d ∙ ap (λ (rs : List Record). c.journal ++ rs) new;
       calls = ap (λ (x : Deed). x.calls) d ∙ ap (λ (rs : List Record). 4 * (length (c.journal ++ rs) - length c.journal)) new;
     }
-within_appends here c key value (Some limit) same is =
-    let d = deed_within here c key value (Some limit) is in
+within_appends here c changes (Some limit) same is =
+    let d = deed_within here c changes (Some limit) is in
     let none : 0 ≡ 4 * (length c.journal - length c.journal) = omega arith in
     record { journal = ap (λ (x : Deed). x.journal) d; calls = ap (λ (x : Deed). x.calls) d ∙ none }
 
-pub put_appends : (key value : List ℕ) (here : Setting) (sign : Signs) (c : Correct) → here.me ≡ c.node → Appends (put_by here c key value) c.journal (put_longer key value here sign c.journal)
-put_appends key value here sign c same = within_appends here c key value (limit_of_put here c.journal key value) same refl
+pub put_appends : (changes : List Change) (here : Setting) (sign : Signs) (c : Correct) → here.me ≡ c.node → Appends (put_by here c changes) c.journal (put_longer changes here sign c.journal)
+put_appends changes here sign c same = within_appends here c changes (limit_of_put here c.journal changes) same refl
 
 -- ---- the call
 
-module _ (v : View) (s t : State) (K : List Record) (key value : List ℕ) (armed : v.armed ≡ armed_of s.next) (begun : IsBegunOn v.here s v.journal) where
-  none_put : (failed : Type 0) (limit : Limit) → (failed → ⊥) → limit_of_put v.here v.journal key value ≡ Some limit → K ≡ v.journal → (appends : List Record) → IsDoneOn s t v.journal K appends failed
-      → IsCalled v s t K (put_longer key value v.here v.sign v.journal) failed
+module _ (v : View) (s t : State) (K : List Record) (changes : List Change) (armed : v.armed ≡ armed_of s.next) (begun : IsBegunOn v.here s v.journal) where
+  none_put : (failed : Type 0) (limit : Limit) → (failed → ⊥) → limit_of_put v.here v.journal changes ≡ Some limit → K ≡ v.journal → (appends : List Record) → IsDoneOn s t v.journal K appends failed
+      → IsCalled v s t K (put_longer changes v.here v.sign v.journal) failed
   none_put failed limit well is same appends done =
-      let longer : put_longer key value v.here v.sign v.journal ≡ v.journal = ap (put_within v.here v.journal key value) is in
+      let longer : put_longer changes v.here v.sign v.journal ≡ v.journal = ap (put_within v.here v.journal changes) is in
       let nil : v.journal ≡ v.journal ++ [] = sym (append-nil v.journal) in
       record {
         armed = armed;
@@ -71,16 +72,16 @@ module _ (v : View) (s t : State) (K : List Record) (key value : List ℕ) (arme
         part = λ f. absurd (well f);
       }
 
-  one_put : (failed : Type 0) → IsKey key → IsValue value → limit_of_put v.here v.journal key value ≡ None → ((failed → ⊥) → K ≡ v.journal ++ put_records v.here v.journal key value) → IsDoneOn s t v.journal K (put_records v.here v.journal key value) failed
-      → IsCalled v s t K (put_longer key value v.here v.sign v.journal) failed
-  one_put failed is_key is_value is grown done =
-      let longer : put_longer key value v.here v.sign v.journal ≡ v.journal ++ put_records v.here v.journal key value = ap (put_within v.here v.journal key value) is in
+  one_put : (failed : Type 0) → AreChanges changes → limit_of_put v.here v.journal changes ≡ None → ((failed → ⊥) → K ≡ v.journal ++ put_records v.here v.journal changes) → IsDoneOn s t v.journal K (put_records v.here v.journal changes) failed
+      → IsCalled v s t K (put_longer changes v.here v.sign v.journal) failed
+  one_put failed are is grown done =
+      let longer : put_longer changes v.here v.sign v.journal ≡ v.journal ++ put_records v.here v.journal changes = ap (put_within v.here v.journal changes) is in
       record {
         armed = armed;
         begun = begun;
-        new = put_records v.here v.journal key value;
+        new = put_records v.here v.journal changes;
         grows = longer;
-        lawful = subst (IsLawful v.here) (sym longer) (put_lawful v.here v.journal key value begun.lawful begun.some is_key is_value is);
+        lawful = subst (IsLawful v.here) (sym longer) (put_lawful v.here v.journal changes begun.lawful begun.some are is);
         whole = λ well. (grown well ∙ sym longer, done.whole well _ (grown well));
         part = done.part;
       }
@@ -88,13 +89,13 @@ module _ (v : View) (s t : State) (K : List Record) (key value : List ℕ) (arme
   alike : (r : Result PutDone PutError) (printed : Option Printed) (appends : List Record) → (printed ≡ None) ↔ IsErrOf r refused.Disk → IsDoneOn s t v.journal K appends (IsErrOf r refused.Disk) → IsDoneOn s t v.journal K appends (printed ≡ None)
   alike r printed appends is done = record { whole = λ well grown same. done.whole (λ f. well (is.1 f)) grown same; part = λ f. done.part (is.0 f) }
 
-  pub put_called : (r : Result PutDone PutError) (printed : Option Printed) → IsKey key → IsValue value → Puts v.here v.journal key value r K → SettlesPut r → IsDoneOn s t v.journal K (put_records v.here v.journal key value) (IsErrOf r refused.Disk) → (printed ≡ None) ↔ IsErrOf r refused.Disk
-      → IsCalled v s t K (put_longer key value v.here v.sign v.journal) (printed ≡ None)
-  put_called (Ok done) printed is_key is_value puts settled calls is = one_put (printed ≡ None) is_key is_value puts.0 (λ well. puts.1.1) (alike (Ok done) printed _ is calls)
-  put_called (Err refused.Disk) printed is_key is_value puts settled calls is = one_put (printed ≡ None) is_key is_value puts.0 (λ well. absurd (well (is.1 refl))) (alike (Err refused.Disk) printed _ is calls)
-  put_called (Err refused.Memory) printed is_key is_value puts settled calls is = absurd settled
-  put_called (Err refused.Stopped) printed is_key is_value puts settled calls is = absurd settled
-  put_called (Err (refused.Spent n)) printed is_key is_value puts settled calls is = none_put (printed ≡ None) _ (λ f. let never = is.0 f in cc) puts.0 puts.1 _ (alike (Err (refused.Spent n)) printed _ is calls)
-  put_called (Err (refused.Tips n)) printed is_key is_value puts settled calls is = none_put (printed ≡ None) _ (λ f. let never = is.0 f in cc) puts.0 puts.1 _ (alike (Err (refused.Tips n)) printed _ is calls)
-  put_called (Err (refused.Collides h)) printed is_key is_value puts settled calls is = none_put (printed ≡ None) _ (λ f. let never = is.0 f in cc) puts.0 puts.1 _ (alike (Err (refused.Collides h)) printed _ is calls)
-  put_called (Err (refused.Full what)) printed is_key is_value puts settled calls is = none_put (printed ≡ None) _ (λ f. let never = is.0 f in cc) puts.0 puts.1 _ (alike (Err (refused.Full what)) printed _ is calls)
+  pub put_called : (r : Result PutDone PutError) (printed : Option Printed) → AreChanges changes → Puts v.here v.journal changes r K → SettlesPut r → IsDoneOn s t v.journal K (put_records v.here v.journal changes) (IsErrOf r refused.Disk) → (printed ≡ None) ↔ IsErrOf r refused.Disk
+      → IsCalled v s t K (put_longer changes v.here v.sign v.journal) (printed ≡ None)
+  put_called (Ok done) printed are puts settled calls is = one_put (printed ≡ None) are puts.0 (λ well. puts.1.1) (alike (Ok done) printed _ is calls)
+  put_called (Err refused.Disk) printed are puts settled calls is = one_put (printed ≡ None) are puts.0 (λ well. absurd (well (is.1 refl))) (alike (Err refused.Disk) printed _ is calls)
+  put_called (Err refused.Memory) printed are puts settled calls is = absurd settled
+  put_called (Err refused.Stopped) printed are puts settled calls is = absurd settled
+  put_called (Err (refused.Spent n)) printed are puts settled calls is = none_put (printed ≡ None) _ (λ f. let never = is.0 f in cc) puts.0 puts.1 _ (alike (Err (refused.Spent n)) printed _ is calls)
+  put_called (Err (refused.Tips n)) printed are puts settled calls is = none_put (printed ≡ None) _ (λ f. let never = is.0 f in cc) puts.0 puts.1 _ (alike (Err (refused.Tips n)) printed _ is calls)
+  put_called (Err (refused.Collides h)) printed are puts settled calls is = none_put (printed ≡ None) _ (λ f. let never = is.0 f in cc) puts.0 puts.1 _ (alike (Err (refused.Collides h)) printed _ is calls)
+  put_called (Err (refused.Full what)) printed are puts settled calls is = none_put (printed ≡ None) _ (λ f. let never = is.0 f in cc) puts.0 puts.1 _ (alike (Err (refused.Full what)) printed _ is calls)

@@ -1,7 +1,7 @@
 -- The events of a seated node that append: what the call on the node came to, and what the event did.
 use Rattle.std.proofs.Common.{◌≡◌, ◌↔◌, ℕ, false, List, ◌++◌, Option, None, Result, refl, subst, ◌∙◌}
 use Rattle.std.specs.Prelude.{IfOk, IsErrOf}
-use Rattle.depot_base.specs.Sized.{IsKey, IsValue}
+use Rattle.depot_base.specs.declared.write.Change.{Change}
 use Rattle.depot_base.specs.declared.key.RosterEntry.{RosterEntry}
 use Rattle.depot_base.specs.declared.record.Record.{Record}
 use Rattle.depot_gossip.specs.Bundling.{Bundles, journaled_for}
@@ -12,6 +12,7 @@ use Rattle.depot_feeds.specs.declared.feed_error.FeedError.TheVariants as feed_e
 use Rattle.depot_offers.specs.declared.bundle_stream.Bundled.{Bundled}
 use Rattle.depot_laws.specs.Streams.{AreBytes}
 use Rattle.depot_model.specs.Bundle.{Signs, bundle_answer}
+use Rattle.depot_model.specs.Changes.{AreChanges}
 use Rattle.depot_model.specs.Checks.{Setting}
 use Rattle.depot_model.specs.Feeding.{Feeding, feed_of}
 use Rattle.depot_model.specs.Roster.{Verifies}
@@ -49,18 +50,18 @@ seen_so here sign s J = record { here = here; sign = sign; journal = J; armed = 
 module _ (there here : Setting) (stands : there ≡ here) (given sign : Signs) (signs : given ≡ sign) (s t : State) (J K : List Record) (begun : IsBegunOn here s J) where
   -- ---- puts
 
-  pub put_seated : (key value : List ℕ) (r : Result PutDone PutError) (printed : Option Printed) → IsKey key → IsValue value → Puts there J key value r K → SettlesPut r → IsDoneOn s t J K (put_records there J key value) (IsErrOf r put_error.Disk) → (printed ≡ None) ↔ IsErrOf r put_error.Disk
-      → IsCalled (seen_so here sign s J) s t K (put_longer key value here sign J) (printed ≡ None)
-  put_seated key value r printed is_key is_value puts settled done is =
-      put_called (seen_so here sign s J) s t K key value refl begun r printed is_key is_value (subst (λ (h : Setting). Puts h J key value r K) stands puts) settled
-      (subst (λ (h : Setting). IsDoneOn s t J K (put_records h J key value) (IsErrOf r put_error.Disk)) stands done) is
+  pub put_seated : (changes : List Change) (r : Result PutDone PutError) (printed : Option Printed) → AreChanges changes → Puts there J changes r K → SettlesPut r → IsDoneOn s t J K (put_records there J changes) (IsErrOf r put_error.Disk) → (printed ≡ None) ↔ IsErrOf r put_error.Disk
+      → IsCalled (seen_so here sign s J) s t K (put_longer changes here sign J) (printed ≡ None)
+  put_seated changes r printed are puts settled done is =
+      put_called (seen_so here sign s J) s t K changes refl begun r printed are (subst (λ (h : Setting). Puts h J changes r K) stands puts) settled
+      (subst (λ (h : Setting). IsDoneOn s t J K (put_records h J changes) (IsErrOf r put_error.Disk)) stands done) is
 
-  pub put_turn : (key value : List ℕ) (r : Result PutDone PutError) (printed : Option Printed) (w : View) (lines bytes : List ℕ) → Puts there J key value r K
-      → ((h : Setting) (c : Correct) (k v : List ℕ) (then : List Record) → h.me ≡ c.node → Puts h c.journal k v r then → IsPrintOf printed (put_by h c k v)) → EndsAs (seen_so here sign s J) (put_longer key value here sign J) printed w lines bytes
-      → (stage : Stage) (x : Station) → IsSeated stage x (seen_so here sign s J) → CameTo stage (went x (put_by (stands_on stage x.correct.node) x.correct key value)) w lines bytes
-  put_turn key value r printed w lines bytes puts prints ends stage x seat =
-      ends stage x (put_by (stands_on stage x.correct.node) x.correct key value) seat (appends_there (put_longer key value) (λ h _ c. put_by h c key value) (put_appends key value) stage x (seen_so here sign s J) seat)
-      (prints (stands_on stage x.correct.node) x.correct key value K refl (subst (λ (l : List Record). Puts (stands_on stage x.correct.node) l key value r K) seat.journal (subst (λ (h : Setting). Puts h J key value r K) (stands ∙ seat.here) puts)))
+  pub put_turn : (changes : List Change) (r : Result PutDone PutError) (printed : Option Printed) (w : View) (lines bytes : List ℕ) → Puts there J changes r K
+      → ((h : Setting) (c : Correct) (cs : List Change) (then : List Record) → h.me ≡ c.node → Puts h c.journal cs r then → IsPrintOf printed (put_by h c cs)) → EndsAs (seen_so here sign s J) (put_longer changes here sign J) printed w lines bytes
+      → (stage : Stage) (x : Station) → IsSeated stage x (seen_so here sign s J) → CameTo stage (went x (put_by (stands_on stage x.correct.node) x.correct changes)) w lines bytes
+  put_turn changes r printed w lines bytes puts prints ends stage x seat =
+      ends stage x (put_by (stands_on stage x.correct.node) x.correct changes) seat (appends_there (put_longer changes) (λ h _ c. put_by h c changes) (put_appends changes) stage x (seen_so here sign s J) seat)
+      (prints (stands_on stage x.correct.node) x.correct changes K refl (subst (λ (l : List Record). Puts (stands_on stage x.correct.node) l changes r K) seat.journal (subst (λ (h : Setting). Puts h J changes r K) (stands ∙ seat.here) puts)))
 
   -- ---- bundles
 

@@ -22,11 +22,11 @@ ghost use Rattle.depot_replay.specs.PrintedRuns.{EndsAs};
 ghost use Rattle.depot_replay.specs.SeatFacts.{IsKeptOn-prop, is_node-prop, is_roster-prop, same_signs-prop, lawful_there};
 ghost use Rattle.depot_replay.specs.Seats.{IsBegunOn, IsCalled, IsKeptOn, IsSeatedAgain, WasCalled};
 
-use depot_base::{Bytes, Items, Key, Memory, NodeId, Update, Value};
+use depot_base::{Bytes, Changes, Items, Key, Memory, NodeId, Update};
 use depot_cast::Numbered;
 use depot_deeds::{
-    Printed, bundle_printed, counted_line, fed_printed, feed_all, have_sizes, hello_line,
-    put_printed, shown_line,
+    Printed, bundle_printed, counted_line, fed_printed, feed_all, hello_line, put_printed,
+    shown_line,
 };
 use depot_gossip::{bundle, hello};
 use depot_model::{Replica, Scheme, Signer};
@@ -259,10 +259,9 @@ impl<S: Scheme + Copy, G: Signer<Of = S> + Copy> Actor for Seat<S, G> {
         None
     }
 
-    fn put(self, key: Key, value: Value) -> Result<Told<Self>, Memory> {
+    fn put(self, changes: Changes) -> Result<Told<Self>, Memory> {
         let Seat { mut node, means } = self;
-        have_sizes(&key, &value);
-        let done = node.put(key, value);
+        let done = node.put_all(changes);
         let printed = put_printed(means.alloc, done);
         seated(node, means, printed)
     }

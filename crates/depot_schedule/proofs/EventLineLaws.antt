@@ -6,13 +6,16 @@ use Rattle.depot_schedule.specs.declared.event.Event.{Event}
 use Rattle.depot_schedule.specs.declared.schedule.Schedule.{Schedule}
 use Rattle.depot_schedule.specs.declared.verb.Verb.{Verb}
 use Rattle.depot_schedule.specs.declared.verb.Verb.TheVariants as verb
+use Rattle.depot_schedule.specs.declared.changes.Keys.TheVariants as keys
+use Rattle.depot_schedule.specs.declared.verb.Wanted.TheVariants as wanted
 use Rattle.depot_schedule.specs.declared.verb.TheConstants.{VERBS}
 use Rattle.depot_schedule.specs.Spelling.{is_word}
-use Rattle.depot_schedule.specs.EventLines.{node_of, key_of, value_of, label_of, source_of, second_of, size_of, seq_of, clock_of, prev_of, refs_of, history_of, kind_of, bytes_of, place_of, count_of, call_of, image_of, put, get, hello, bundle, give, restart, update, voucher, proof, judge, raw, cut, flip, join, stop, verb_of, line_of, name_of, verb_named}
+use Rattle.depot_schedule.specs.EventLines.{node_of, key_of, value_of, changes_in, label_of, source_of, second_of, size_of, seq_of, clock_of, prev_of, refs_of, history_of, kind_of, bytes_of, place_of, count_of, call_of, image_of, put, puts, get, hello, bundle, give, restart, update, updates, voucher, proof, hollow, judge, raw, cut, flip, join, stop, verb_of, line_of, name_of, verb_named}
 use Rattle.depot_schedule.specs.Schedules.{other, head_named}
 use Rattle.depot_schedule.proofs.LanguageLaws.{Lawful, LawfulLine, word_line, made_line, optional_line, counted_line, is_same, if_some}
-use Rattle.depot_schedule.proofs.HexWords.{key_lawful, value_lawful, raw_lawful}
-use Rattle.depot_schedule.proofs.VocabularyLaws.{correct_lawful, faulty_lawful, seq_lawful, clock_lawful, any_u32_lawful, piece_size_lawful, stop_call_lawful, image_lawful, new_label_lawful, made_label_lawful, signed_label_lawful, kind_lawful, history_lawful, references_lawful, prev_lawful, deps_lawful}
+use Rattle.depot_schedule.proofs.HexWords.{key_lawful, put_key_lawful, value_lawful, raw_lawful}
+use Rattle.depot_schedule.proofs.ChangeWords.{changes_lawful}
+use Rattle.depot_schedule.proofs.VocabularyLaws.{correct_lawful, faulty_lawful, seq_lawful, clock_lawful, any_u32_lawful, piece_size_lawful, stop_call_lawful, image_lawful, new_label_lawful, label_for_lawful, kind_lawful, history_lawful, references_for_lawful, prev_lawful, deps_lawful}
 
 -- ---- the name and the line of a kind of event
 
@@ -42,8 +45,15 @@ put_row : LawfulRow verb.Put
 unfolding verb_named put
 put_row = lawful_row verb.Put 3 3 _ refl refl refl (counted_line 3 3 _ _ (
     word_line _ node_of _ _ 2 2 correct_lawful (λ a e. refl) λ node.
-    word_line _ key_of _ _ 1 1 key_lawful (λ a e. refl) λ key.
+    word_line _ key_of _ _ 1 1 put_key_lawful (λ a e. refl) λ key.
     word_line _ value_of _ _ 0 0 value_lawful (λ a e. refl) λ value.
+    made_line _)) (λ e. refl)
+
+puts_row : LawfulRow verb.Puts
+unfolding verb_named puts
+puts_row = lawful_row verb.Puts 2 2 _ refl refl refl (counted_line 2 2 _ _ (
+    word_line _ node_of _ _ 1 1 correct_lawful (λ a e. refl) λ node.
+    word_line _ changes_in _ _ 0 0 (changes_lawful keys.Put) (λ a e. refl) λ changes.
     made_line _)) (λ e. refl)
 
 get_row : LawfulRow verb.Get
@@ -64,7 +74,7 @@ bundle_row : LawfulRow verb.Bundle
 unfolding verb_named bundle
 bundle_row = lawful_row verb.Bundle 3 3 _ refl refl refl (counted_line 3 3 _ _ (
     word_line _ node_of _ _ 2 2 correct_lawful (λ a e. refl) λ node.
-    word_line _ source_of _ _ 1 1 made_label_lawful (λ a e. refl) λ hello.
+    word_line _ source_of _ _ 1 1 (label_for_lawful wanted.Any) (λ a e. refl) λ hello.
     word_line _ label_of _ _ 0 0 new_label_lawful (λ a e. refl) λ label.
     made_line _)) (λ e. refl)
 
@@ -72,7 +82,7 @@ give_row : LawfulRow verb.Give
 unfolding verb_named give
 give_row = lawful_row verb.Give 2 3 _ refl refl refl (counted_line 2 3 _ _ (
     word_line _ node_of _ _ 1 2 correct_lawful (λ a e. refl) λ node.
-    word_line _ label_of _ _ 0 1 made_label_lawful (λ a e. refl) λ label.
+    word_line _ label_of _ _ 0 1 (label_for_lawful wanted.Any) (λ a e. refl) λ label.
     optional_line _ size_of _ piece_size_lawful (λ o. refl))) (λ e. refl)
 
 restart_row : LawfulRow verb.Restart
@@ -95,13 +105,26 @@ update_row = lawful_row verb.Update 9 9 _ refl refl refl (counted_line 9 9 _ _ (
     word_line _ history_of _ _ 0 0 history_lawful (λ a e. refl) λ history.
     made_line _)) (λ e. refl)
 
+updates_row : LawfulRow verb.Updates
+unfolding verb_named updates
+updates_row = lawful_row verb.Updates 8 8 _ refl refl refl (counted_line 8 8 _ _ (
+    word_line _ label_of _ _ 7 7 new_label_lawful (λ a e. refl) λ label.
+    word_line _ node_of _ _ 6 6 faulty_lawful (λ a e. refl) λ writer.
+    word_line _ seq_of _ _ 5 5 seq_lawful (λ a e. refl) λ seq.
+    word_line _ clock_of _ _ 4 4 clock_lawful (λ a e. refl) λ clock.
+    word_line _ prev_of _ _ 3 3 prev_lawful (λ a e. refl) λ prev.
+    word_line _ changes_in _ _ 2 2 (changes_lawful keys.Any) (λ a e. refl) λ changes.
+    word_line _ refs_of _ _ 1 1 deps_lawful (λ a e. refl) λ deps.
+    word_line _ history_of _ _ 0 0 history_lawful (λ a e. refl) λ history.
+    made_line _)) (λ e. refl)
+
 voucher_row : LawfulRow verb.Voucher
 unfolding verb_named voucher
 voucher_row = lawful_row verb.Voucher 4 4 _ refl refl refl (counted_line 4 4 _ _ (
     word_line _ label_of _ _ 3 3 new_label_lawful (λ a e. refl) λ label.
     word_line _ node_of _ _ 2 2 faulty_lawful (λ a e. refl) λ writer.
     word_line _ seq_of _ _ 1 1 seq_lawful (λ a e. refl) λ seq.
-    word_line _ refs_of _ _ 0 0 (references_lawful 256) (λ a e. refl) λ refs.
+    word_line _ refs_of _ _ 0 0 (references_for_lawful wanted.Vouched 256) (λ a e. refl) λ refs.
     made_line _)) (λ e. refl)
 
 proof_row : LawfulRow verb.Proof
@@ -109,14 +132,22 @@ unfolding verb_named proof
 proof_row = lawful_row verb.Proof 4 4 _ refl refl refl (counted_line 4 4 _ _ (
     word_line _ label_of _ _ 3 3 new_label_lawful (λ a e. refl) λ label.
     word_line _ kind_of _ _ 2 2 kind_lawful (λ a e. refl) λ kind.
-    word_line _ source_of _ _ 1 1 signed_label_lawful (λ a e. refl) λ first.
-    word_line _ second_of _ _ 0 0 signed_label_lawful (λ a e. refl) λ second.
+    word_line _ source_of _ _ 1 1 (label_for_lawful wanted.Signed) (λ a e. refl) λ first.
+    word_line _ second_of _ _ 0 0 (label_for_lawful wanted.Signed) (λ a e. refl) λ second.
+    made_line _)) (λ e. refl)
+
+hollow_row : LawfulRow verb.Hollow
+unfolding verb_named hollow
+hollow_row = lawful_row verb.Hollow 3 3 _ refl refl refl (counted_line 3 3 _ _ (
+    word_line _ label_of _ _ 2 2 new_label_lawful (λ a e. refl) λ label.
+    word_line _ source_of _ _ 1 1 (label_for_lawful wanted.Voucher) (λ a e. refl) λ voucher.
+    word_line _ second_of _ _ 0 0 (label_for_lawful wanted.Plain) (λ a e. refl) λ text.
     made_line _)) (λ e. refl)
 
 judge_row : LawfulRow verb.Judge
 unfolding verb_named judge
 judge_row = lawful_row verb.Judge 1 1 _ refl refl refl (counted_line 1 1 _ _ (
-    word_line _ label_of _ _ 0 0 made_label_lawful (λ a e. refl) λ label.
+    word_line _ label_of _ _ 0 0 (label_for_lawful wanted.Any) (λ a e. refl) λ label.
     made_line _)) (λ e. refl)
 
 raw_row : LawfulRow verb.Raw
@@ -130,7 +161,7 @@ cut_row : LawfulRow verb.Cut
 unfolding verb_named cut
 cut_row = lawful_row verb.Cut 4 4 _ refl refl refl (counted_line 4 4 _ _ (
     word_line _ label_of _ _ 3 3 new_label_lawful (λ a e. refl) λ label.
-    word_line _ source_of _ _ 2 2 made_label_lawful (λ a e. refl) λ source.
+    word_line _ source_of _ _ 2 2 (label_for_lawful wanted.Any) (λ a e. refl) λ source.
     word_line _ place_of _ _ 1 1 any_u32_lawful (λ a e. refl) λ start.
     word_line _ count_of _ _ 0 0 any_u32_lawful (λ a e. refl) λ count.
     made_line _)) (λ e. refl)
@@ -139,7 +170,7 @@ flip_row : LawfulRow verb.Flip
 unfolding verb_named flip
 flip_row = lawful_row verb.Flip 3 3 _ refl refl refl (counted_line 3 3 _ _ (
     word_line _ label_of _ _ 2 2 new_label_lawful (λ a e. refl) λ label.
-    word_line _ source_of _ _ 1 1 made_label_lawful (λ a e. refl) λ source.
+    word_line _ source_of _ _ 1 1 (label_for_lawful wanted.Any) (λ a e. refl) λ source.
     word_line _ place_of _ _ 0 0 any_u32_lawful (λ a e. refl) λ place.
     made_line _)) (λ e. refl)
 
@@ -147,8 +178,8 @@ join_row : LawfulRow verb.Join
 unfolding verb_named join
 join_row = lawful_row verb.Join 3 3 _ refl refl refl (counted_line 3 3 _ _ (
     word_line _ label_of _ _ 2 2 new_label_lawful (λ a e. refl) λ label.
-    word_line _ source_of _ _ 1 1 made_label_lawful (λ a e. refl) λ first.
-    word_line _ second_of _ _ 0 0 made_label_lawful (λ a e. refl) λ second.
+    word_line _ source_of _ _ 1 1 (label_for_lawful wanted.Any) (λ a e. refl) λ first.
+    word_line _ second_of _ _ 0 0 (label_for_lawful wanted.Any) (λ a e. refl) λ second.
     made_line _)) (λ e. refl)
 
 stop_row : LawfulRow verb.Stop
@@ -163,14 +194,17 @@ stop_row = lawful_row verb.Stop 3 3 _ refl refl refl (counted_line 3 3 _ _ (
 
 pub row_lawful : (v : Verb) → LawfulRow v
 row_lawful verb.Put = put_row
+row_lawful verb.Puts = puts_row
 row_lawful verb.Get = get_row
 row_lawful verb.Hello = hello_row
 row_lawful verb.Bundle = bundle_row
 row_lawful verb.Give = give_row
 row_lawful verb.Restart = restart_row
 row_lawful verb.Update = update_row
+row_lawful verb.Updates = updates_row
 row_lawful verb.Voucher = voucher_row
 row_lawful verb.Proof = proof_row
+row_lawful verb.Hollow = hollow_row
 row_lawful verb.Judge = judge_row
 row_lawful verb.Raw = raw_row
 row_lawful verb.Cut = cut_row

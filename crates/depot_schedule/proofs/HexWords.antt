@@ -10,7 +10,7 @@ use Rattle.hex.specs.declared.error.FromHexError.TheVariants.{OddLength}
 use Rattle.hex.proofs.HexLemmas.{decode_of-encode_lower, decode_pairs-ok, length-encode_with}
 use Rattle.depot_schedule.specs.declared.line_fault.LineFault.TheVariants as is
 use Rattle.depot_schedule.specs.Spelling.{is_word, is_word_byte, is_within, is_lower_digit, hex_word, sized}
-use Rattle.depot_schedule.specs.Vocabulary.{hex, key, value, raw_bytes, digest}
+use Rattle.depot_schedule.specs.Vocabulary.{hex, key, put_key, value, raw_bytes, digest}
 use Rattle.depot_schedule.proofs.LanguageLaws.{LawfulWord, bind_ok, or_fault_ok, or_empty_lawful, if_some, never}
 use Rattle.depot_schedule.proofs.Splitting.{all_weaker}
 
@@ -142,6 +142,9 @@ hex_lawful {C = C} test none = record {
 
 pub key_lawful : {C : Type 0} → LawfulWord (key {C = C})
 key_lawful = hex_lawful (is_within 1 255) refl
+
+pub put_key_lawful : {C : Type 0} → LawfulWord (put_key {C = C})
+put_key_lawful = key_lawful
 
 pub value_lawful : {C : Type 0} → LawfulWord (value {C = C})
 value_lawful {C = C} = or_empty_lawful (hex (is_within 1 65536)) (hex_lawful (is_within 1 65536) refl) (λ c fits. never fits.0) (λ c. (is.Hex, refl))

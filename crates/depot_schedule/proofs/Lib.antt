@@ -3,6 +3,7 @@ pub mod LanguageLaws
 pub mod NumberLaws
 pub mod HexWords
 pub mod VocabularyLaws
+pub mod ChangeWords
 pub mod EventLineLaws
 pub mod ScheduleLaws
 pub mod ParseLaws

@@ -8,7 +8,8 @@ use Rattle.hex.specs.Hex.{encode_lower, lower_digits}
 use Rattle.hex.proofs.HexLemmas.{length-encode_with}
 use Rattle.depot_base.specs.declared.limits.TheConstants.{MOST_PIECE, MOST_STOP_CALL}
 use Rattle.depot_base.specs.declared.proof.Kind.{Kind}
-use Rattle.depot_base.specs.declared.proof.Kind.TheVariants.{SameNumber, SamePrev, Backward}
+use Rattle.depot_base.specs.declared.proof.Kind.TheVariants.{SameNumber, SamePrev, Backward, NotUpdate}
+use Rattle.depot_base.specs.Shown.{IsPairKind}
 use Rattle.depot_model.specs.Lines.{name_of_kind}
 use Rattle.depot_schedule.specs.declared.line_fault.LineFault.{LineFault}
 use Rattle.depot_schedule.specs.declared.line_fault.LineFault.TheVariants as is
@@ -17,10 +18,12 @@ use Rattle.depot_schedule.specs.declared.event.Ref.TheVariants as ref
 use Rattle.depot_schedule.specs.declared.event.HistoryWord.{HistoryWord}
 use Rattle.depot_schedule.specs.declared.event.HistoryWord.TheVariants.{Right, Given}
 use Rattle.depot_schedule.specs.declared.schedule.Schedule.{Schedule}
+use Rattle.depot_schedule.specs.declared.verb.Wanted.{Wanted}
+use Rattle.depot_schedule.specs.declared.verb.Wanted.TheVariants as wanted
 use Rattle.depot_schedule.specs.Spelling.{is_word, is_word_byte, is_label, is_label_byte, is_letter, is_digit, is_within}
 use Rattle.depot_base.specs.Format.{◌>>=◌}
 use Rattle.depot_schedule.specs.Language.{split, join, Word, or_none, or_empty, FitAll, with_parts, read_parts, parts_of}
-use Rattle.depot_schedule.specs.Vocabulary.{id, correct, faulty, seq, clock, any_u32, piece_size, stop_call, image, digest, label, new_label, made_label, update_label, signed_label, is_correct, is_faulty, named_by, is_update, is_signed, kind_named, kind, history, FitsHistory, text_of_history, FitsRef, text_of_ref, ref_of, reference, references}
+use Rattle.depot_schedule.specs.Vocabulary.{id, correct, faulty, seq, clock, any_u32, piece_size, stop_call, image, digest, label, new_label, label_for, is_correct, is_faulty, named_by, meets, kind_named, kind, history, FitsHistory, text_of_history, FitsRef, text_of_ref, ref_of, reference_for, references_for, reference, references}
 use Rattle.depot_schedule.proofs.LanguageLaws.{LawfulWord, bind_ok, need_ok, if_some, or_fault_ok, is_same, such_that_lawful, or_none_lawful, or_empty_lawful, ok_is}
 use Rattle.depot_schedule.proofs.Splitting.{lacks, split_none, split_at, split_join, join_split, split_some, all_weaker, all_append, all_join}
 use Rattle.depot_schedule.proofs.NumberLaws.{number_or_lawful, number_lawful, plain_decimal, digits_of_decimal}
@@ -100,44 +103,40 @@ label_lawful {C = C} = record {
 pub new_label_lawful : LawfulWord new_label
 new_label_lawful = such_that_lawful label (λ s l. not (is_some (named_by s.events l))) is.Label label_lawful
 
-pub made_label_lawful : LawfulWord made_label
-made_label_lawful = such_that_lawful label (λ s l. is_some (named_by s.events l)) is.Label label_lawful
-
-pub update_label_lawful : LawfulWord update_label
-update_label_lawful = such_that_lawful label (λ s l. is_update (named_by s.events l)) is.Label label_lawful
-
-pub signed_label_lawful : LawfulWord signed_label
-signed_label_lawful = such_that_lawful label (λ s l. is_signed (named_by s.events l)) is.Label label_lawful
+pub label_for_lawful : (asked : Wanted) → LawfulWord (label_for asked)
+label_for_lawful asked = such_that_lawful label (λ s l. meets asked (named_by s.events l)) is.Label label_lawful
 
 -- ---- names
 
-kind_is : (t : List ℕ) (k : Kind) → kind_named t ≡ Some k → t ≡ name_of_kind k
+kind_is : (t : List ℕ) (k : Kind) → kind_named t ≡ Some k → IsPairKind k × (t ≡ name_of_kind k)
 kind_is t k e =
     elim (if_some (bytes_eq t (codes "SameNumber")) SameNumber _ k e) [
-      | inl a ↦ rw (← a.1) (is_same t _ a.0)
+      | inl a ↦ rw (← a.1) (tt, is_same t _ a.0)
       | inr a ↦ elim (if_some (bytes_eq t (codes "SamePrev")) SamePrev _ k a.1) [
-        | inl b ↦ rw (← b.1) (is_same t _ b.0)
+        | inl b ↦ rw (← b.1) (tt, is_same t _ b.0)
         | inr b ↦ elim (if_some (bytes_eq t (codes "Backward")) Backward None k b.1) [
-          | inl d ↦ rw (← d.1) (is_same t _ d.0)
+          | inl d ↦ rw (← d.1) (tt, is_same t _ d.0)
           | inr d ↦ absurd cc
         ]
       ]
     ]
 
-kind_again : {C : Type 0} (c : C) (k : Kind) → kind.read c (name_of_kind k) ≡ Ok k
-kind_again c SameNumber = refl
-kind_again c SamePrev = refl
-kind_again c Backward = refl
+kind_again : {C : Type 0} (c : C) (k : Kind) → IsPairKind k → kind.read c (name_of_kind k) ≡ Ok k
+kind_again c SameNumber fits = refl
+kind_again c SamePrev fits = refl
+kind_again c Backward fits = refl
+kind_again c NotUpdate fits = absurd fits
 
 kind_plain : (k : Kind) → is_word (name_of_kind k) ≡ true
 kind_plain SameNumber = refl
 kind_plain SamePrev = refl
 kind_plain Backward = refl
+kind_plain NotUpdate = refl
 
 pub kind_lawful : {C : Type 0} → LawfulWord (kind {C = C})
 kind_lawful {C = C} = record {
-  takes = λ c t k e. (tt, kind_is t k (or_fault_ok (kind_named t) is.Label k e));
-  again = λ c k fits. kind_again c k;
+  takes = λ c t k e. kind_is t k (or_fault_ok (kind_named t) is.Label k e);
+  again = kind_again;
   plain = λ c k fits. kind_plain k;
 }
 
@@ -174,48 +173,48 @@ history_lawful {C = C} = record {
 digits_lack : (c n : ℕ) → c < 48 → n < 10 ^ 19 → lacks c (decimal n) ≡ true
 digits_lack c n lt small = all_weaker is_digit (λ b. not (eqb b c)) (λ b e. above_is_no c b lt (leb-true _ _ (and_parts (leb 48 b) (leb b 57) e).0)) (decimal n) (digits_of_decimal n small)
 
-ref_takes : (s : Schedule) (t : List ℕ) (parts : List (List ℕ)) (r : Ref) → join 46 parts ≡ t → ref_of s parts ≡ Ok r → FitsRef s r × (t ≡ text_of_ref r)
-ref_takes s t [] r j e = absurd cc
-ref_takes s t (l ∷ []) r j e =
-    let b = bind_ok (update_label.read s l) (λ l. Ok (ref.Label l)) r e in
-    let k = update_label_lawful.takes s l b.0 b.1 in
-    subst (λ (x : Ref). FitsRef s x × (t ≡ text_of_ref x)) (ok_is (ref.Label b.0) r b.2) (k.0, sym j ∙ k.1)
-ref_takes s t (n ∷ q ∷ []) r j e =
+ref_takes : (asked : Wanted) (s : Schedule) (t : List ℕ) (parts : List (List ℕ)) (r : Ref) → join 46 parts ≡ t → ref_of asked s parts ≡ Ok r → FitsRef asked s r × (t ≡ text_of_ref r)
+ref_takes asked s t [] r j e = absurd cc
+ref_takes asked s t (l ∷ []) r j e =
+    let b = bind_ok ((label_for asked).read s l) (λ l. Ok (ref.Label l)) r e in
+    let k = (label_for_lawful asked).takes s l b.0 b.1 in
+    subst (λ (x : Ref). FitsRef asked s x × (t ≡ text_of_ref x)) (ok_is (ref.Label b.0) r b.2) (k.0, sym j ∙ k.1)
+ref_takes asked s t (n ∷ q ∷ []) r j e =
     let b = bind_ok (id.read s n) (λ n. seq.read s q >>= λ q. cond (is_correct s.members n) (Ok (ref.Own n q)) (Err is.Node)) r e in
     let d = bind_ok (seq.read s q) (λ q. cond (is_correct s.members b.0) (Ok (ref.Own b.0 q)) (Err is.Node)) r b.2 in
     let m = need_ok (is_correct s.members b.0) (Ok (ref.Own b.0 d.0)) is.Node r d.2 in
     let k = (id_lawful {C = Schedule}).takes s n b.0 b.1 in
     let l = seq_lawful.takes s q d.0 d.1 in
     let text : t ≡ decimal b.0 ++ (46 ∷ decimal d.0) = sym j ∙ ap (λ (x : List ℕ). x ++ (46 ∷ q)) k.1 ∙ ap (λ (x : List ℕ). decimal b.0 ++ (46 ∷ x)) l.1 in
-    subst (λ (x : Ref). FitsRef s x × (t ≡ text_of_ref x)) (ok_is (ref.Own b.0 d.0) r m.1) (((k.0, m.0), l.0), text)
-ref_takes s t (n ∷ q ∷ x ∷ xs) r j e = absurd cc
+    subst (λ (x : Ref). FitsRef asked s x × (t ≡ text_of_ref x)) (ok_is (ref.Own b.0 d.0) r m.1) (((k.0, m.0), l.0), text)
+ref_takes asked s t (n ∷ q ∷ x ∷ xs) r j e = absurd cc
 
-ref_again : (s : Schedule) (r : Ref) → FitsRef s r → reference.read s (text_of_ref r) ≡ Ok r
-ref_again s (ref.Label l) fits = rw (split_none 46 l (label_lacks 46 (omega arith) l fits.0), update_label_lawful.again s l fits) refl
-ref_again s (ref.Own n q) fits =
+ref_again : (asked : Wanted) (s : Schedule) (r : Ref) → FitsRef asked s r → (reference_for asked).read s (text_of_ref r) ≡ Ok r
+ref_again asked s (ref.Label l) fits = rw (split_none 46 l (label_lacks 46 (omega arith) l fits.0), (label_for_lawful asked).again s l fits) refl
+ref_again asked s (ref.Own n q) fits =
     let first : split 46 (decimal n ++ (46 ∷ decimal q)) ≡ decimal n ∷ split 46 (decimal q) = split_at 46 (decimal n) (decimal q) (digits_lack 46 n (omega arith) (omega (arith, fits.0.0.1))) in
     let second : split 46 (decimal q) ≡ decimal q ∷ [] = split_none 46 (decimal q) (digits_lack 46 q (omega arith) (omega (arith, fits.1.0.1))) in
     rw (first, second, (id_lawful {C = Schedule}).again s n fits.0.0, seq_lawful.again s q fits.1, fits.0.1) refl
 
-ref_plain : (s : Schedule) (r : Ref) → FitsRef s r → is_word (text_of_ref r) ≡ true
-ref_plain s (ref.Label l) fits = plain_label l fits.0
-ref_plain s (ref.Own n q) fits =
+ref_plain : (asked : Wanted) (s : Schedule) (r : Ref) → FitsRef asked s r → is_word (text_of_ref r) ≡ true
+ref_plain asked s (ref.Label l) fits = plain_label l fits.0
+ref_plain asked s (ref.Own n q) fits =
     let a = and_parts (ltb 0 (length (decimal n))) (list_all is_word_byte (decimal n)) (plain_decimal n (omega (arith, fits.0.0.1))) in
     let b = and_parts (ltb 0 (length (decimal q))) (list_all is_word_byte (decimal q)) (plain_decimal q (omega (arith, fits.1.0.1))) in
     let some : 0 < length (decimal n ++ (46 ∷ decimal q)) = omega (arith, Rattle.std.proofs.Common.length-append (decimal n) (46 ∷ decimal q)) in
     and_from _ _ (lt-ltb _ _ some) (all_append is_word_byte (decimal n) (46 ∷ decimal q) a.1 b.1)
 
 -- no comma stands in a reference
-ref_lacks : (s : Schedule) (r : Ref) → FitsRef s r → lacks 44 (text_of_ref r) ≡ true
-ref_lacks s (ref.Label l) fits = label_lacks 44 (omega arith) l fits.0
-ref_lacks s (ref.Own n q) fits =
+ref_lacks : (asked : Wanted) (s : Schedule) (r : Ref) → FitsRef asked s r → lacks 44 (text_of_ref r) ≡ true
+ref_lacks asked s (ref.Label l) fits = label_lacks 44 (omega arith) l fits.0
+ref_lacks asked s (ref.Own n q) fits =
     all_append (λ b. not (eqb b 44)) (decimal n) (46 ∷ decimal q) (digits_lack 44 n (omega arith) (omega (arith, fits.0.0.1))) (digits_lack 44 q (omega arith) (omega (arith, fits.1.0.1)))
 
-pub reference_lawful : LawfulWord reference
-reference_lawful = record {
-  takes = λ s t r e. ref_takes s t (split 46 t) r (join_split 46 t) e;
-  again = ref_again;
-  plain = ref_plain;
+pub reference_for_lawful : (asked : Wanted) → LawfulWord (reference_for asked)
+reference_for_lawful asked = record {
+  takes = λ s t r e. ref_takes asked s t (split 46 t) r (join_split 46 t) e;
+  again = ref_again asked;
+  plain = ref_plain asked;
 }
 
 -- ---- parts
@@ -281,11 +280,11 @@ parts_lawful {A = A} first l bare = record {
   plain = λ c list fits. parts_plain first l c list fits.0 fits.1;
 }
 
-pub references_lawful : (most : ℕ) → LawfulWord (references most)
-references_lawful most = such_that_lawful (parts_of reference) (λ s rs. leb (length rs) most) is.Label (parts_lawful reference reference_lawful ref_lacks)
+pub references_for_lawful : (asked : Wanted) (most : ℕ) → LawfulWord (references_for asked most)
+references_for_lawful asked most = such_that_lawful (parts_of (reference_for asked)) (λ s rs. leb (length rs) most) is.Label (parts_lawful (reference_for asked) (reference_for_lawful asked) (ref_lacks asked))
 
 pub prev_lawful : LawfulWord (or_none reference)
-prev_lawful = or_none_lawful reference reference_lawful (λ s. (is.Label, refl))
+prev_lawful = or_none_lawful reference (reference_for_lawful wanted.Update) (λ s. (is.Label, refl))
 
 pub deps_lawful : LawfulWord (or_empty (references 1024))
-deps_lawful = or_empty_lawful (references 1024) (references_lawful 1024) (λ s fits. omega (arith, fits.0.0)) (λ s. (is.Label, refl))
+deps_lawful = or_empty_lawful (references 1024) (references_for_lawful wanted.Update 1024) (λ s fits. omega (arith, fits.0.0)) (λ s. (is.Label, refl))

@@ -2,30 +2,35 @@
 use Rattle.std.specs.Prelude.{ℕ, List, [], Option, None, codes, find}
 use Rattle.std.specs.Str.{bytes_eq}
 use Rattle.depot_base.specs.declared.limits.TheConstants.{MOST_ENTRIES, MOST_IDS}
+use Rattle.depot_base.specs.Writes.{one_change}
+use Rattle.depot_base.specs.declared.write.Change.{Change}
 use Rattle.depot_base.specs.declared.proof.Kind.{Kind}
 use Rattle.depot_base.specs.declared.proof.Kind.TheVariants.{SameNumber}
 use Rattle.depot_schedule.specs.declared.event.Event.{Event}
-use Rattle.depot_schedule.specs.declared.event.Event.TheVariants.{Put, Get, Hello, Bundle, Give, Restart, Update, Voucher, Proof, Judge, Raw, Cut, Flip, Join, Stop}
+use Rattle.depot_schedule.specs.declared.event.Event.TheVariants.{Put, Puts, Get, Hello, Bundle, Give, Restart, Update, Updates, Voucher, Proof, Hollow, Judge, Raw, Cut, Flip, Join, Stop}
 use Rattle.depot_schedule.specs.declared.event.Ref.{Ref}
 use Rattle.depot_schedule.specs.declared.event.HistoryWord.{HistoryWord}
 use Rattle.depot_schedule.specs.declared.event.HistoryWord.TheVariants.{Right}
+use Rattle.depot_schedule.specs.declared.changes.Keys.TheVariants as keys
 use Rattle.depot_schedule.specs.declared.schedule.Schedule.{Schedule}
 use Rattle.depot_schedule.specs.declared.verb.Verb.{Verb}
 use Rattle.depot_schedule.specs.declared.verb.Verb.TheVariants as verb
 use Rattle.depot_schedule.specs.declared.verb.TheConstants.{VERBS}
 use Rattle.depot_schedule.specs.Language.{Words, word, made, optional, counted, or_none, or_empty}
-use Rattle.depot_schedule.specs.Vocabulary.{correct, faulty, seq, clock, any_u32, piece_size, stop_call, image, key, value, raw_bytes, new_label, made_label, signed_label, kind, history, reference, references}
+use Rattle.depot_schedule.specs.Vocabulary.{correct, faulty, seq, clock, any_u32, piece_size, stop_call, image, key, put_key, value, raw_bytes, new_label, made_label, signed_label, voucher_label, plain_label, kind, history, reference, references, vouched, changes}
 
 -- ---- the parts of events; where an event has no such part, any value serves
 
 abbrev pub node_of : Event → ℕ
 node_of (Put node _ _) = node
+node_of (Puts node _) = node
 node_of (Get node _) = node
 node_of (Hello node _) = node
 node_of (Bundle node _ _) = node
 node_of (Give node _ _) = node
 node_of (Restart node) = node
 node_of (Update _ writer _ _ _ _ _ _ _) = writer
+node_of (Updates _ writer _ _ _ _ _ _) = writer
 node_of (Voucher _ writer _ _) = writer
 node_of (Stop node _ _) = node
 node_of _ = 0
@@ -41,13 +46,23 @@ value_of (Put _ _ v) = v
 value_of (Update _ _ _ _ _ _ v _ _) = v
 value_of _ = []
 
+-- what an event writes: one change for one key and value
+abbrev pub changes_in : Event → List Change
+changes_in (Put _ k v) = one_change k v
+changes_in (Puts _ cs) = cs
+changes_in (Update _ _ _ _ _ k v _ _) = one_change k v
+changes_in (Updates _ _ _ _ _ cs _ _) = cs
+changes_in _ = []
+
 abbrev pub label_of : Event → List ℕ
 label_of (Hello _ label) = label
 label_of (Bundle _ _ label) = label
 label_of (Give _ label _) = label
 label_of (Update label _ _ _ _ _ _ _ _) = label
+label_of (Updates label _ _ _ _ _ _ _) = label
 label_of (Voucher label _ _ _) = label
 label_of (Proof label _ _ _) = label
+label_of (Hollow label _ _) = label
 label_of (Judge label) = label
 label_of (Raw label _) = label
 label_of (Cut label _ _ _) = label
@@ -59,6 +74,7 @@ label_of _ = []
 abbrev pub source_of : Event → List ℕ
 source_of (Bundle _ hello _) = hello
 source_of (Proof _ _ first _) = first
+source_of (Hollow _ voucher _) = voucher
 source_of (Cut _ source _ _) = source
 source_of (Flip _ source _) = source
 source_of (Join _ first _) = first
@@ -67,6 +83,7 @@ source_of _ = []
 -- the second of two such labels
 abbrev pub second_of : Event → List ℕ
 second_of (Proof _ _ _ second) = second
+second_of (Hollow _ _ text) = text
 second_of (Join _ _ second) = second
 second_of _ = []
 
@@ -76,24 +93,29 @@ size_of _ = None
 
 abbrev pub seq_of : Event → ℕ
 seq_of (Update _ _ n _ _ _ _ _ _) = n
+seq_of (Updates _ _ n _ _ _ _ _) = n
 seq_of (Voucher _ _ n _) = n
 seq_of _ = 0
 
 abbrev pub clock_of : Event → ℕ
 clock_of (Update _ _ _ time _ _ _ _ _) = time
+clock_of (Updates _ _ _ time _ _ _ _) = time
 clock_of _ = 0
 
 abbrev pub prev_of : Event → Option Ref
 prev_of (Update _ _ _ _ prev _ _ _ _) = prev
+prev_of (Updates _ _ _ _ prev _ _ _) = prev
 prev_of _ = None
 
 abbrev pub refs_of : Event → List Ref
 refs_of (Update _ _ _ _ _ _ _ deps _) = deps
+refs_of (Updates _ _ _ _ _ _ deps _) = deps
 refs_of (Voucher _ _ _ refs) = refs
 refs_of _ = []
 
 abbrev pub history_of : Event → HistoryWord
 history_of (Update _ _ _ _ _ _ _ _ h) = h
+history_of (Updates _ _ _ _ _ _ _ h) = h
 history_of _ = Right
 
 abbrev pub kind_of : Event → Kind
@@ -129,7 +151,11 @@ Line = Words Schedule Event
 
 -- `put N KEY VALUE`
 unfoldable pub put : Line
-put = counted 3 3 (word correct node_of λ node. word key key_of λ k. word value value_of λ v. made (Put node k v))
+put = counted 3 3 (word correct node_of λ node. word put_key key_of λ k. word value value_of λ v. made (Put node k v))
+
+-- `puts N WRITES`
+unfoldable pub puts : Line
+puts = counted 2 2 (word correct node_of λ node. word (changes keys.Put) changes_in λ cs. made (Puts node cs))
 
 -- `get N KEY`
 unfoldable pub get : Line
@@ -158,13 +184,24 @@ update = counted 9 9 (
     word key key_of λ k. word value value_of λ v. word (or_empty (references MOST_ENTRIES)) refs_of λ deps. word history history_of λ hash.
     made (Update label writer n time prev k v deps hash))
 
+-- `updates LABEL W SEQ CLOCK PREV WRITES DEPS HISTORY`
+unfoldable pub updates : Line
+updates = counted 8 8 (
+    word new_label label_of λ label. word faulty node_of λ writer. word seq seq_of λ n. word clock clock_of λ time. word (or_none reference) prev_of λ prev.
+    word (changes keys.Any) changes_in λ cs. word (or_empty (references MOST_ENTRIES)) refs_of λ deps. word history history_of λ hash.
+    made (Updates label writer n time prev cs deps hash))
+
 -- `voucher LABEL W SEQ REFS`
 unfoldable pub voucher : Line
-voucher = counted 4 4 (word new_label label_of λ label. word faulty node_of λ writer. word seq seq_of λ n. word (references MOST_IDS) refs_of λ refs. made (Voucher label writer n refs))
+voucher = counted 4 4 (word new_label label_of λ label. word faulty node_of λ writer. word seq seq_of λ n. word (vouched MOST_IDS) refs_of λ refs. made (Voucher label writer n refs))
 
 -- `proof LABEL KIND A B`
 unfoldable pub proof : Line
 proof = counted 4 4 (word new_label label_of λ label. word kind kind_of λ k. word signed_label source_of λ first. word signed_label second_of λ second. made (Proof label k first second))
+
+-- `hollow LABEL V T`
+unfoldable pub hollow : Line
+hollow = counted 3 3 (word new_label label_of λ label. word voucher_label source_of λ voucher. word plain_label second_of λ text. made (Hollow label voucher text))
 
 -- `judge LABEL`
 unfoldable pub judge : Line
@@ -194,14 +231,17 @@ stop = counted 3 3 (word correct node_of λ node. word stop_call call_of λ call
 
 abbrev pub verb_of : Event → Verb
 verb_of (Put _ _ _) = verb.Put
+verb_of (Puts _ _) = verb.Puts
 verb_of (Get _ _) = verb.Get
 verb_of (Hello _ _) = verb.Hello
 verb_of (Bundle _ _ _) = verb.Bundle
 verb_of (Give _ _ _) = verb.Give
 verb_of (Restart _) = verb.Restart
 verb_of (Update _ _ _ _ _ _ _ _ _) = verb.Update
+verb_of (Updates _ _ _ _ _ _ _ _) = verb.Updates
 verb_of (Voucher _ _ _ _) = verb.Voucher
 verb_of (Proof _ _ _ _) = verb.Proof
+verb_of (Hollow _ _ _) = verb.Hollow
 verb_of (Judge _) = verb.Judge
 verb_of (Raw _ _) = verb.Raw
 verb_of (Cut _ _ _ _) = verb.Cut
@@ -219,14 +259,17 @@ row name line = record { name = name; line = line }
 
 abbrev pub row_of : Verb → Row
 row_of verb.Put = row (codes "put") put
+row_of verb.Puts = row (codes "puts") puts
 row_of verb.Get = row (codes "get") get
 row_of verb.Hello = row (codes "hello") hello
 row_of verb.Bundle = row (codes "bundle") bundle
 row_of verb.Give = row (codes "give") give
 row_of verb.Restart = row (codes "restart") restart
 row_of verb.Update = row (codes "update") update
+row_of verb.Updates = row (codes "updates") updates
 row_of verb.Voucher = row (codes "voucher") voucher
 row_of verb.Proof = row (codes "proof") proof
+row_of verb.Hollow = row (codes "hollow") hollow
 row_of verb.Judge = row (codes "judge") judge
 row_of verb.Raw = row (codes "raw") raw
 row_of verb.Cut = row (codes "cut") cut

@@ -3,10 +3,13 @@ use Rattle.std.specs.Prelude.{◌≡◌, ℕ, ◌^◌, ◌≤◌, Bool, true, fa
 use Rattle.std.specs.List.{list_any}
 use Rattle.std.specs.Fmt.{decimal}
 use Rattle.std.specs.Str.{bytes_eq}
-use Rattle.depot_base.specs.declared.limits.TheConstants.{MOST_KEY, MOST_VALUE, MOST_PIECE, MOST_STOP_CALL}
+use Rattle.depot_base.specs.Parts.{is_below}
+use Rattle.depot_base.specs.Shown.{IsPairKind}
+use Rattle.depot_base.specs.declared.limits.TheConstants.{MOST_KEY, MOST_VALUE, MOST_WRITES, MOST_PIECE, MOST_STOP_CALL}
 use Rattle.hex.specs.Hex.{encode_lower, IsBytes}
 use Rattle.depot_base.specs.declared.proof.Kind.{Kind}
 use Rattle.depot_base.specs.declared.proof.Kind.TheVariants.{SameNumber, SamePrev, Backward}
+use Rattle.depot_base.specs.declared.write.Change.{Change}
 use Rattle.depot_model.specs.Lists.{when}
 use Rattle.depot_model.specs.Lines.{name_of_kind}
 use Rattle.depot_schedule.specs.declared.line_fault.LineFault.{LineFault}
@@ -19,11 +22,15 @@ use Rattle.depot_schedule.specs.declared.event.Ref.TheVariants as ref
 use Rattle.depot_schedule.specs.declared.event.HistoryWord.{HistoryWord}
 use Rattle.depot_schedule.specs.declared.event.HistoryWord.TheVariants.{Right, Given}
 use Rattle.depot_schedule.specs.declared.schedule.Schedule.{Schedule}
+use Rattle.depot_schedule.specs.declared.changes.Keys.{Keys}
+use Rattle.depot_schedule.specs.declared.changes.Keys.TheVariants as keys
 use Rattle.depot_schedule.specs.declared.verb.Made.{Made}
 use Rattle.depot_schedule.specs.declared.verb.Made.TheVariants as made
+use Rattle.depot_schedule.specs.declared.verb.Wanted.{Wanted}
+use Rattle.depot_schedule.specs.declared.verb.Wanted.TheVariants as wanted
 use Rattle.depot_schedule.specs.Spelling.{is_within, number_word, hex_word, sized, is_label}
 use Rattle.depot_base.specs.Format.{◌>>=◌}
-use Rattle.depot_schedule.specs.Language.{or_fault, split, Word, such_that, or_empty, parts_of}
+use Rattle.depot_schedule.specs.Language.{nothing, or_fault, split, FitsOption, Word, such_that, or_empty, parts_of}
 
 -- ---- what the schedule so far says of nodes and labels
 
@@ -42,19 +49,22 @@ is_faulty members node = list_any (λ m. m.node == node && not m.correct) member
 -- the label that an event makes, and what it makes it name
 abbrev pub label_made : Event → Option (List ℕ × Made)
 label_made (event.Put _ _ _) = None
+label_made (event.Puts _ _) = None
 label_made (event.Get _ _) = None
 label_made (event.Hello _ label) = Some (label, made.Bytes)
 label_made (event.Bundle _ _ label) = Some (label, made.Bytes)
 label_made (event.Give _ _ _) = None
 label_made (event.Restart _) = None
 label_made (event.Update label _ _ _ _ _ _ _ _) = Some (label, made.Update)
+label_made (event.Updates label _ _ _ _ _ _ _) = Some (label, made.Update)
 label_made (event.Voucher label _ _ _) = Some (label, made.Voucher)
 label_made (event.Proof label _ _ _) = Some (label, made.Bytes)
+label_made (event.Hollow label _ _) = Some (label, made.Bytes)
 label_made (event.Judge _) = None
-label_made (event.Raw label _) = Some (label, made.Bytes)
-label_made (event.Cut label _ _ _) = Some (label, made.Bytes)
-label_made (event.Flip label _ _) = Some (label, made.Bytes)
-label_made (event.Join label _ _) = Some (label, made.Bytes)
+label_made (event.Raw label _) = Some (label, made.Plain)
+label_made (event.Cut label _ _ _) = Some (label, made.Plain)
+label_made (event.Flip label _ _) = Some (label, made.Plain)
+label_made (event.Join label _ _) = Some (label, made.Plain)
 label_made (event.Stop _ _ _) = None
 
 -- what this label names, if it is that one
@@ -72,19 +82,34 @@ unfoldable pub named_by : List Event → List ℕ → Option Made
 named_by [] label = None
 named_by (e ∷ es) label = first_or (named_by es label) (if_named label (label_made e))
 
--- whether a label names an update
-abbrev pub is_update : Option Made → Bool
-is_update (Some made.Update) = true
-is_update (Some made.Voucher) = false
-is_update (Some made.Bytes) = false
-is_update None = false
+-- whether what a label names is of the kind that is asked for
+abbrev pub is_wanted : Wanted → Made → Bool
+is_wanted wanted.Any m = true
+is_wanted wanted.Update made.Update = true
+is_wanted wanted.Update made.Voucher = false
+is_wanted wanted.Update made.Plain = false
+is_wanted wanted.Update made.Bytes = false
+is_wanted wanted.Signed made.Update = true
+is_wanted wanted.Signed made.Voucher = true
+is_wanted wanted.Signed made.Plain = false
+is_wanted wanted.Signed made.Bytes = false
+is_wanted wanted.Voucher made.Update = false
+is_wanted wanted.Voucher made.Voucher = true
+is_wanted wanted.Voucher made.Plain = false
+is_wanted wanted.Voucher made.Bytes = false
+is_wanted wanted.Plain made.Update = false
+is_wanted wanted.Plain made.Voucher = false
+is_wanted wanted.Plain made.Plain = true
+is_wanted wanted.Plain made.Bytes = false
+is_wanted wanted.Vouched made.Update = true
+is_wanted wanted.Vouched made.Voucher = false
+is_wanted wanted.Vouched made.Plain = true
+is_wanted wanted.Vouched made.Bytes = false
 
--- whether a label names an update or a voucher
-abbrev pub is_signed : Option Made → Bool
-is_signed (Some made.Update) = true
-is_signed (Some made.Voucher) = true
-is_signed (Some made.Bytes) = false
-is_signed None = false
+-- whether a label that names this is what is asked for; one that wasn't made never is
+abbrev pub meets : Wanted → Option Made → Bool
+meets asked None = false
+meets asked (Some m) = is_wanted asked m
 
 -- ---- numbers
 
@@ -150,6 +175,10 @@ hex test = record {
 abbrev pub key : {C : Type 0} → Word C (List ℕ)
 key = hex (is_within 1 MOST_KEY)
 
+-- a key that a node may be asked to write
+abbrev pub put_key : {C : Type 0} → Word C (List ℕ)
+put_key = key
+
 -- a value: at most 65,536 bytes
 abbrev pub value : {C : Type 0} → Word C (List ℕ)
 value = or_empty (hex (is_within 1 MOST_VALUE))
@@ -175,31 +204,39 @@ label = record {
 abbrev pub new_label : Word Schedule (List ℕ)
 new_label = such_that label (λ s l. not (is_some (named_by s.events l))) is.Label
 
+-- a label that an event before made, and that is what is asked for
+abbrev pub label_for : Wanted → Word Schedule (List ℕ)
+label_for asked = such_that label (λ s l. meets asked (named_by s.events l)) is.Label
+
 -- a label that an event before made
 abbrev pub made_label : Word Schedule (List ℕ)
-made_label = such_that label (λ s l. is_some (named_by s.events l)) is.Label
+made_label = label_for wanted.Any
 
--- a label that an event before made for an update
-abbrev pub update_label : Word Schedule (List ℕ)
-update_label = such_that label (λ s l. is_update (named_by s.events l)) is.Label
-
--- a label that an event before made for an update or a voucher
+-- the label of an update or of a voucher
 abbrev pub signed_label : Word Schedule (List ℕ)
-signed_label = such_that label (λ s l. is_signed (named_by s.events l)) is.Label
+signed_label = label_for wanted.Signed
+
+-- the label of a voucher
+abbrev pub voucher_label : Word Schedule (List ℕ)
+voucher_label = label_for wanted.Voucher
+
+-- the label of plain bytes
+abbrev pub plain_label : Word Schedule (List ℕ)
+plain_label = label_for wanted.Plain
 
 -- ---- names
 
--- the kind of contradiction of this name
+-- the kind of contradiction of two statements that has this name
 abbrev pub kind_named : List ℕ → Option Kind
 kind_named word =
     if bytes_eq word (codes "SameNumber") then Some SameNumber else
     if bytes_eq word (codes "SamePrev") then Some SamePrev else
     if bytes_eq word (codes "Backward") then Some Backward else None
 
--- a kind of contradiction
+-- a kind of contradiction of two statements
 abbrev pub kind : {C : Type 0} → Word C Kind
 kind = record {
-  fits = λ c k. Unit {0};
+  fits = λ c k. IsPairKind k;
   text = name_of_kind;
   read = λ c word. or_fault (kind_named word) is.Label;
 }
@@ -222,9 +259,10 @@ history = record {
 
 -- ---- references
 
-abbrev pub FitsRef : Schedule → Ref → Type 0
-FitsRef s (ref.Label l) = update_label.fits s l
-FitsRef s (ref.Own node n) = correct.fits s node × seq.fits s n
+-- a label is what is asked for, an own update one of a correct node
+abbrev pub FitsRef : Wanted → Schedule → Ref → Type 0
+FitsRef asked s (ref.Label l) = (label_for asked).fits s l
+FitsRef asked s (ref.Own node n) = correct.fits s node × seq.fits s n
 
 -- a label as it is, and an own update as `NODE.SEQ`, with a dot (46)
 abbrev pub text_of_ref : Ref → List ℕ
@@ -232,28 +270,99 @@ text_of_ref (ref.Label l) = l
 text_of_ref (ref.Own node n) = decimal node ++ (46 ∷ decimal n)
 
 -- the reference that a word without a dot is
-abbrev pub label_ref : Schedule → List ℕ → Result Ref LineFault
-label_ref s word = update_label.read s word >>= λ l. Ok (ref.Label l)
+abbrev pub label_ref : Wanted → Schedule → List ℕ → Result Ref LineFault
+label_ref asked s word = (label_for asked).read s word >>= λ l. Ok (ref.Label l)
 
 -- the reference that the words round a dot are: both numbers are looked at before the node is
 abbrev pub own_ref : Schedule → List ℕ → List ℕ → Result Ref LineFault
 own_ref s node_word seq_word = id.read s node_word >>= λ node. seq.read s seq_word >>= λ n. if is_correct s.members node then Ok (ref.Own node n) else Err is.Node
 
 -- the reference that the parts between dots are
-abbrev pub ref_of : Schedule → List (List ℕ) → Result Ref LineFault
-ref_of s [] = Err is.Label
-ref_of s (l ∷ []) = label_ref s l
-ref_of s (node ∷ n ∷ []) = own_ref s node n
-ref_of s (node ∷ n ∷ more ∷ rest) = Err is.Number
+abbrev pub ref_of : Wanted → Schedule → List (List ℕ) → Result Ref LineFault
+ref_of asked s [] = Err is.Label
+ref_of asked s (l ∷ []) = label_ref asked s l
+ref_of asked s (node ∷ n ∷ []) = own_ref s node n
+ref_of asked s (node ∷ n ∷ more ∷ rest) = Err is.Number
 
--- what names an update: the label of an update, or an own update of a correct node
-abbrev pub reference : Word Schedule Ref
-reference = record {
-  fits = FitsRef;
+-- a label that is what is asked for, or an own update of a correct node
+abbrev pub reference_for : Wanted → Word Schedule Ref
+reference_for asked = record {
+  fits = FitsRef asked;
   text = text_of_ref;
-  read = λ s word. ref_of s (split 46 word);
+  read = λ s word. ref_of asked s (split 46 word);
 }
 
 -- one reference or more, and at most so many, as written
+abbrev pub references_for : Wanted → ℕ → Word Schedule (List Ref)
+references_for asked most = such_that (parts_of (reference_for asked)) (λ s refs. nat_le (length refs) most) is.Label
+
+-- what names an update
+abbrev pub reference : Word Schedule Ref
+reference = reference_for wanted.Update
+
+-- so of lists of references
 abbrev pub references : ℕ → Word Schedule (List Ref)
-references most = such_that (parts_of reference) (λ s refs. nat_le (length refs) most) is.Label
+references most = references_for wanted.Update most
+
+-- what names an update or plain bytes, as a voucher's references do
+abbrev pub vouched : ℕ → Word Schedule (List Ref)
+vouched most = references_for wanted.Vouched most
+
+-- ---- writes
+
+-- the keys that may stand here
+abbrev pub key_by : {C : Type 0} → Keys → Word C (List ℕ)
+key_by keys.Any = key
+key_by keys.Put = put_key
+
+abbrev pub FitsChange : Keys → Change → Type 0
+FitsChange by c = (key_by {C = Unit {0}} by).fits nothing c.key × FitsOption ((value {C = Unit {0}}).fits nothing) c.value
+
+-- what stands behind a key: `=` (61) and the value, or `!` (33) where it is deleted
+abbrev pub text_behind_key : Option (List ℕ) → List ℕ
+text_behind_key None = 33 ∷ []
+text_behind_key (Some v) = 61 ∷ (value {C = Unit {0}}).text v
+
+abbrev pub text_of_change : Change → List ℕ
+text_of_change c = encode_lower c.key ++ text_behind_key c.value
+
+-- the change that the words round an equals sign are
+abbrev pub put_of : Keys → List ℕ → List ℕ → Result Change LineFault
+put_of by key_word value_word = (key_by by).read nothing key_word >>= λ k. value.read nothing value_word >>= λ v. Ok (record { key = k; value = Some v })
+
+-- the deletion that the parts round an exclamation mark are: nothing stands behind it
+abbrev pub deletion_of : Keys → List (List ℕ) → Result Change LineFault
+deletion_of by [] = Err is.Hex
+deletion_of by (key_word ∷ []) = Err is.Hex
+deletion_of by (key_word ∷ [] ∷ []) = (key_by by).read nothing key_word >>= λ k. Ok (record { key = k; value = None })
+deletion_of by (key_word ∷ (b ∷ bs) ∷ []) = Err is.Hex
+deletion_of by (key_word ∷ behind ∷ more ∷ rest) = Err is.Hex
+
+-- the change that the parts between equals signs are
+abbrev pub change_of : Keys → List (List ℕ) → Result Change LineFault
+change_of by [] = Err is.Hex
+change_of by (word ∷ []) = deletion_of by (split 33 word)
+change_of by (key_word ∷ value_word ∷ []) = put_of by key_word value_word
+change_of by (key_word ∷ value_word ∷ more ∷ rest) = Err is.Hex
+
+-- a key and its value, as `KEY=VALUE`, or a deletion of a key, as `KEY!`
+abbrev pub change : {C : Type 0} → Keys → Word C Change
+change by = record {
+  fits = λ c. FitsChange by;
+  text = text_of_change;
+  read = λ c word. change_of by (split 61 word);
+}
+
+-- the keys rise strictly, the first of them above this one
+abbrev pub rise_behind : List ℕ → List Change → Bool
+rise_behind before [] = true
+rise_behind before (c ∷ cs) = is_below before c.key && rise_behind c.key cs
+
+-- the keys rise strictly
+abbrev pub keys_rise : List Change → Bool
+keys_rise [] = true
+keys_rise (c ∷ cs) = rise_behind c.key cs
+
+-- 1 to 16 changes, whose keys rise strictly
+abbrev pub changes : {C : Type 0} → Keys → Word C (List Change)
+changes by = such_that (parts_of (change by)) (λ c cs. nat_le (length cs) MOST_WRITES && keys_rise cs) is.Hex

@@ -77,19 +77,22 @@ fn label_made(event: &Event) -> Option<(&Label, Made)>
 {
     match event {
         Event::Put { .. } => None,
+        Event::Puts { .. } => None,
         Event::Get { .. } => None,
         Event::Hello { label, .. } => Some((label, Made::Bytes)),
         Event::Bundle { label, .. } => Some((label, Made::Bytes)),
         Event::Give { .. } => None,
         Event::Restart { .. } => None,
         Event::Update { label, .. } => Some((label, Made::Update)),
+        Event::Updates { label, .. } => Some((label, Made::Update)),
         Event::Voucher { label, .. } => Some((label, Made::Voucher)),
         Event::Proof { label, .. } => Some((label, Made::Bytes)),
+        Event::Hollow { label, .. } => Some((label, Made::Bytes)),
         Event::Judge { .. } => None,
-        Event::Raw { label, .. } => Some((label, Made::Bytes)),
-        Event::Cut { label, .. } => Some((label, Made::Bytes)),
-        Event::Flip { label, .. } => Some((label, Made::Bytes)),
-        Event::Join { label, .. } => Some((label, Made::Bytes)),
+        Event::Raw { label, .. } => Some((label, Made::Plain)),
+        Event::Cut { label, .. } => Some((label, Made::Plain)),
+        Event::Flip { label, .. } => Some((label, Made::Plain)),
+        Event::Join { label, .. } => Some((label, Made::Plain)),
         Event::Stop { .. } => None,
     }
 }

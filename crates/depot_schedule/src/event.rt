@@ -2,9 +2,9 @@
 
 use crate::Label;
 use crate::verb::Verb;
-use depot_base::{Bytes, Hash32, Key, Kind, NodeId, Sequence, Value};
+use depot_base::{Bytes, Changes, Hash32, Key, Kind, NodeId, Sequence, Value};
 
-/// What names an update.
+/// What names an update, or in a voucher bytes.
 #[derive(Debug, Drop)]
 pub enum Ref {
     /// The label of the event that made it.
@@ -38,6 +38,11 @@ pub enum Event {
         node: NodeId,
         key: Key,
         value: Value,
+    },
+    /// The node writes and deletes: 1 to 16 changes, rising strictly by key.
+    Puts {
+        node: NodeId,
+        changes: Changes,
     },
     /// The node reads the key.
     Get {
@@ -77,7 +82,18 @@ pub enum Event {
         deps: Refs,
         history: HistoryWord,
     },
-    /// The writer signs a voucher of number `seq` (below `2^height`) for 1 to 256 updates.
+    /// The same of an update of 1 to 16 changes, rising strictly by key.
+    Updates {
+        label: Label,
+        writer: NodeId,
+        seq: u32,
+        clock: u64,
+        prev: Option<Ref>,
+        changes: Changes,
+        deps: Refs,
+        history: HistoryWord,
+    },
+    /// The writer signs a voucher of number `seq` (below `2^height`) for 1 to 256 updates or labels of plain bytes.
     Voucher {
         label: Label,
         writer: NodeId,
@@ -90,6 +106,12 @@ pub enum Event {
         kind: Kind,
         first: Label,
         second: Label,
+    },
+    /// The bytes of the label become a proof that the voucher names plain bytes, those of `text`, which are no update's.
+    Hollow {
+        label: Label,
+        voucher: Label,
+        text: Label,
     },
     /// The bytes of the label are judged as a proof.
     Judge {
@@ -137,14 +159,17 @@ impl Event {
     {
         match self {
             Event::Put { .. } => Verb::Put,
+            Event::Puts { .. } => Verb::Puts,
             Event::Get { .. } => Verb::Get,
             Event::Hello { .. } => Verb::Hello,
             Event::Bundle { .. } => Verb::Bundle,
             Event::Give { .. } => Verb::Give,
             Event::Restart { .. } => Verb::Restart,
             Event::Update { .. } => Verb::Update,
+            Event::Updates { .. } => Verb::Updates,
             Event::Voucher { .. } => Verb::Voucher,
             Event::Proof { .. } => Verb::Proof,
+            Event::Hollow { .. } => Verb::Hollow,
             Event::Judge { .. } => Verb::Judge,
             Event::Raw { .. } => Verb::Raw,
             Event::Cut { .. } => Verb::Cut,

@@ -3,20 +3,21 @@ ghost use Rattle.std.specs.Prelude.{◌==◌, length, Ok, Err, if◌then◌else�
 ghost use Rattle.depot_schedule.specs.declared.line_fault.LineFault.TheVariants as is;
 ghost use Rattle.depot_schedule.specs.Language.{nothing, last};
 ghost use Rattle.depot_schedule.specs.Vocabulary.{piece_size};
-ghost use Rattle.depot_schedule.specs.EventLines.{put, get, hello, bundle, give, restart, update, voucher, proof, judge, raw, cut, flip, join, stop, line_of};
+ghost use Rattle.depot_schedule.specs.EventLines.{put, puts, get, hello, bundle, give, restart, update, updates, voucher, proof, hollow, judge, raw, cut, flip, join, stop, line_of};
 ghost use Rattle.depot_schedule.specs.Readers.{Gives, Counts};
 
+use crate::changes::{Keys, changes};
 use crate::draft::Draft;
 use crate::event::Event;
 use crate::line_fault::{LineError, LineFault};
 use crate::parts::Parts;
-use crate::references::{deps, prev, references};
-use crate::verb::Verb;
+use crate::references::{deps, prev, vouched};
+use crate::verb::{Verb, Wanted};
 use crate::vocabulary::{
-    any_u32, clock, correct, faulty, history, image, key, kind, made_label, new_label, number_of,
-    raw_bytes, seq, signed_label, stop_call, value,
+    any_u32, clock, correct, faulty, history, image, key, kind, label_for, new_label, number_of,
+    put_key, raw_bytes, seq, stop_call, value,
 };
-use depot_base::limits::{MOST_IDS, MOST_PIECE};
+use depot_base::limits::MOST_PIECE;
 use std::alloc::Global;
 
 /// The value that the words made, where none is left.
@@ -49,9 +50,20 @@ fn put(alloc: Global, words: &mut Parts<'_>, behind: &Draft) -> Result<Event, Li
 {
     counted(words, 3, 3)?;
     let node = correct(words, behind)?;
-    let key = key(alloc, words)?;
+    let key = put_key(alloc, words)?;
     let value = value(alloc, words)?;
     made(words, Event::Put { node, key, value })
+}
+
+/// `puts N WRITES`
+#[tactic(auto, unfolding(crate::specs::EventLines::puts))]
+fn puts(alloc: Global, words: &mut Parts<'_>, behind: &Draft) -> Result<Event, LineError>
+    ensures { Gives result (puts.read behind.now words.old) }
+{
+    counted(words, 2, 2)?;
+    let node = correct(words, behind)?;
+    let changes = changes(alloc, words, Keys::Put)?;
+    made(words, Event::Puts { node, changes })
 }
 
 /// `get N KEY`
@@ -83,7 +95,7 @@ fn bundle(alloc: Global, words: &mut Parts<'_>, behind: &Draft) -> Result<Event,
 {
     counted(words, 3, 3)?;
     let node = correct(words, behind)?;
-    let hello = made_label(alloc, words, behind)?;
+    let hello = label_for(alloc, words, behind, Wanted::Any)?;
     let label = new_label(alloc, words, behind)?;
     made(words, Event::Bundle { node, hello, label })
 }
@@ -110,7 +122,7 @@ fn give(alloc: Global, words: &mut Parts<'_>, behind: &Draft) -> Result<Event, L
 {
     counted(words, 2, 3)?;
     let node = correct(words, behind)?;
-    let label = made_label(alloc, words, behind)?;
+    let label = label_for(alloc, words, behind, Wanted::Any)?;
     let size = last_size(words)?;
     Ok(Event::Give { node, label, size })
 }
@@ -156,6 +168,35 @@ fn update(alloc: Global, words: &mut Parts<'_>, behind: &Draft) -> Result<Event,
     )
 }
 
+/// `updates LABEL W SEQ CLOCK PREV WRITES DEPS HISTORY`
+#[tactic(auto, unfolding(crate::specs::EventLines::updates))]
+fn updates(alloc: Global, words: &mut Parts<'_>, behind: &Draft) -> Result<Event, LineError>
+    ensures { Gives result (updates.read behind.now words.old) }
+{
+    counted(words, 8, 8)?;
+    let label = new_label(alloc, words, behind)?;
+    let writer = faulty(words, behind)?;
+    let seq = seq(words, behind)?;
+    let clock = clock(words)?;
+    let prev = prev(alloc, words, behind)?;
+    let changes = changes(alloc, words, Keys::Any)?;
+    let deps = deps(alloc, words, behind)?;
+    let history = history(alloc, words)?;
+    made(
+        words,
+        Event::Updates {
+            label,
+            writer,
+            seq,
+            clock,
+            prev,
+            changes,
+            deps,
+            history,
+        },
+    )
+}
+
 /// `voucher LABEL W SEQ REFS`
 #[tactic(auto, unfolding(crate::specs::EventLines::voucher))]
 fn voucher(alloc: Global, words: &mut Parts<'_>, behind: &Draft) -> Result<Event, LineError>
@@ -165,7 +206,7 @@ fn voucher(alloc: Global, words: &mut Parts<'_>, behind: &Draft) -> Result<Event
     let label = new_label(alloc, words, behind)?;
     let writer = faulty(words, behind)?;
     let seq = seq(words, behind)?;
-    let refs = references(alloc, words, behind, MOST_IDS as usize)?;
+    let refs = vouched(alloc, words, behind)?;
     made(
         words,
         Event::Voucher {
@@ -185,8 +226,8 @@ fn proof(alloc: Global, words: &mut Parts<'_>, behind: &Draft) -> Result<Event, 
     counted(words, 4, 4)?;
     let label = new_label(alloc, words, behind)?;
     let kind = kind(words)?;
-    let first = signed_label(alloc, words, behind)?;
-    let second = signed_label(alloc, words, behind)?;
+    let first = label_for(alloc, words, behind, Wanted::Signed)?;
+    let second = label_for(alloc, words, behind, Wanted::Signed)?;
     made(
         words,
         Event::Proof {
@@ -198,13 +239,32 @@ fn proof(alloc: Global, words: &mut Parts<'_>, behind: &Draft) -> Result<Event, 
     )
 }
 
+/// `hollow LABEL V T`
+#[tactic(auto, unfolding(crate::specs::EventLines::hollow))]
+fn hollow(alloc: Global, words: &mut Parts<'_>, behind: &Draft) -> Result<Event, LineError>
+    ensures { Gives result (hollow.read behind.now words.old) }
+{
+    counted(words, 3, 3)?;
+    let label = new_label(alloc, words, behind)?;
+    let voucher = label_for(alloc, words, behind, Wanted::Voucher)?;
+    let text = label_for(alloc, words, behind, Wanted::Plain)?;
+    made(
+        words,
+        Event::Hollow {
+            label,
+            voucher,
+            text,
+        },
+    )
+}
+
 /// `judge LABEL`
 #[tactic(auto, unfolding(crate::specs::EventLines::judge))]
 fn judge(alloc: Global, words: &mut Parts<'_>, behind: &Draft) -> Result<Event, LineError>
     ensures { Gives result (judge.read behind.now words.old) }
 {
     counted(words, 1, 1)?;
-    let label = made_label(alloc, words, behind)?;
+    let label = label_for(alloc, words, behind, Wanted::Any)?;
     made(words, Event::Judge { label })
 }
 
@@ -226,7 +286,7 @@ fn cut(alloc: Global, words: &mut Parts<'_>, behind: &Draft) -> Result<Event, Li
 {
     counted(words, 4, 4)?;
     let label = new_label(alloc, words, behind)?;
-    let source = made_label(alloc, words, behind)?;
+    let source = label_for(alloc, words, behind, Wanted::Any)?;
     let start = any_u32(words)?;
     let count = any_u32(words)?;
     made(
@@ -247,7 +307,7 @@ fn flip(alloc: Global, words: &mut Parts<'_>, behind: &Draft) -> Result<Event, L
 {
     counted(words, 3, 3)?;
     let label = new_label(alloc, words, behind)?;
-    let source = made_label(alloc, words, behind)?;
+    let source = label_for(alloc, words, behind, Wanted::Any)?;
     let place = any_u32(words)?;
     made(
         words,
@@ -266,8 +326,8 @@ fn join(alloc: Global, words: &mut Parts<'_>, behind: &Draft) -> Result<Event, L
 {
     counted(words, 3, 3)?;
     let label = new_label(alloc, words, behind)?;
-    let first = made_label(alloc, words, behind)?;
-    let second = made_label(alloc, words, behind)?;
+    let first = label_for(alloc, words, behind, Wanted::Any)?;
+    let second = label_for(alloc, words, behind, Wanted::Any)?;
     made(
         words,
         Event::Join {
@@ -301,14 +361,17 @@ pub fn event_of(
 {
     match verb {
         Verb::Put => put(alloc, words, behind),
+        Verb::Puts => puts(alloc, words, behind),
         Verb::Get => get(alloc, words, behind),
         Verb::Hello => hello(alloc, words, behind),
         Verb::Bundle => bundle(alloc, words, behind),
         Verb::Give => give(alloc, words, behind),
         Verb::Restart => restart(words, behind),
         Verb::Update => update(alloc, words, behind),
+        Verb::Updates => updates(alloc, words, behind),
         Verb::Voucher => voucher(alloc, words, behind),
         Verb::Proof => proof(alloc, words, behind),
+        Verb::Hollow => hollow(alloc, words, behind),
         Verb::Judge => judge(alloc, words, behind),
         Verb::Raw => raw(alloc, words, behind),
         Verb::Cut => cut(alloc, words, behind),

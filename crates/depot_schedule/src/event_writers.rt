@@ -3,15 +3,16 @@ ghost use Rattle.std.specs.Prelude.{◌≡◌, [], ◌∷◌, ◌++◌, OnOk};
 ghost use Rattle.std.specs.Fmt.{decimal};
 ghost use Rattle.hex.specs.Hex.{encode_lower};
 ghost use Rattle.depot_schedule.specs.Language.{text_if_any};
-ghost use Rattle.depot_schedule.specs.EventLines.{put, get, hello, bundle, give, restart, update, voucher, proof, judge, raw, cut, flip, join, stop, line_of, verb_of};
+ghost use Rattle.depot_schedule.specs.EventLines.{put, puts, get, hello, bundle, give, restart, update, updates, voucher, proof, hollow, judge, raw, cut, flip, join, stop, line_of, verb_of};
 ghost use Rattle.depot_schedule.specs.Readers.{behind_spaces};
 
+use crate::change_writers::writes;
 use crate::event::{Event, HistoryWord, Ref, Refs};
 use crate::label::Label;
 use crate::word_writers::{
     deps, hex, hex_or_dash, history, kind, label, node, number, prev, references,
 };
-use depot_base::{Bytes, Key, Kind, Memory, NodeId, Value};
+use depot_base::{Bytes, Change, Key, Kind, Memory, NodeId, Value};
 use std::alloc::Global;
 
 /// The label that a statement makes, its writer and its number.
@@ -46,6 +47,15 @@ fn put(alloc: Global, out: &mut Bytes, id: NodeId, key: &Key, value: &Value) -> 
 {
     node(alloc, out, id)?;
     write(alloc, out, key, value)
+}
+
+/// `puts N WRITES`
+#[tactic(auto, using(depot_base::proofs::Writing::texts), unfolding(crate::specs::EventLines::puts))]
+fn puts(alloc: Global, out: &mut Bytes, id: NodeId, changes: &[Change]) -> Result<(), Memory>
+    ensures { OnOk result (out.new ≡ out.old ++ behind_spaces (puts.text (Event.Puts id changes.now))) }
+{
+    node(alloc, out, id)?;
+    writes(alloc, out, changes)
 }
 
 /// `get N KEY`
@@ -134,6 +144,30 @@ fn update(
     history(alloc, out, past)
 }
 
+/// `updates LABEL W SEQ CLOCK PREV WRITES DEPS HISTORY`
+#[tactic(auto, using(depot_base::proofs::Writing::texts), unfolding(crate::specs::EventLines::updates))]
+fn updates(
+    alloc: Global,
+    out: &mut Bytes,
+    name: &Label,
+    writer: NodeId,
+    seq: u32,
+    clock: u64,
+    before: &Option<Ref>,
+    changes: &[Change],
+    refs: &Refs,
+    past: &HistoryWord,
+) -> Result<(), Memory>
+    ensures { OnOk result (out.new ≡ out.old ++ behind_spaces (updates.text (Event.Updates name.now writer seq clock before.now changes.now refs.now past.now))) }
+{
+    statement(alloc, out, name, writer, seq)?;
+    number(alloc, out, clock)?;
+    prev(alloc, out, before)?;
+    writes(alloc, out, changes)?;
+    deps(alloc, out, refs.as_slice())?;
+    history(alloc, out, past)
+}
+
 /// `voucher LABEL W SEQ REFS`
 #[tactic(auto, using(depot_base::proofs::Writing::texts), unfolding(crate::specs::EventLines::voucher))]
 fn voucher(
@@ -165,6 +199,16 @@ fn proof(
     kind(out, found)?;
     label(out, first)?;
     label(out, second)
+}
+
+/// `hollow LABEL V T`
+#[tactic(auto, using(depot_base::proofs::Writing::texts), unfolding(crate::specs::EventLines::hollow))]
+fn hollow(out: &mut Bytes, name: &Label, voucher: &Label, text: &Label) -> Result<(), Memory>
+    ensures { OnOk result (out.new ≡ out.old ++ behind_spaces (hollow.text (Event.Hollow name.now voucher.now text.now))) }
+{
+    label(out, name)?;
+    label(out, voucher)?;
+    label(out, text)
 }
 
 /// `judge LABEL`
@@ -244,6 +288,7 @@ pub fn words_of_event(alloc: Global, out: &mut Bytes, event: &Event) -> Result<(
 {
     match event {
         Event::Put { node, key, value } => put(alloc, out, *node, key, value),
+        Event::Puts { node, changes } => puts(alloc, out, *node, changes.as_slice()),
         Event::Get { node, key } => get(alloc, out, *node, key),
         Event::Hello { node, label } => hello(alloc, out, *node, label),
         Event::Bundle { node, hello, label } => bundle(alloc, out, *node, hello, label),
@@ -262,6 +307,21 @@ pub fn words_of_event(alloc: Global, out: &mut Bytes, event: &Event) -> Result<(
         } => update(
             alloc, out, label, *writer, *seq, *clock, prev, key, value, deps, history,
         ),
+        Event::Updates {
+            label,
+            writer,
+            seq,
+            clock,
+            prev,
+            changes,
+            deps,
+            history,
+        } => {
+            let changes = changes.as_slice();
+            updates(
+                alloc, out, label, *writer, *seq, *clock, prev, changes, deps, history,
+            )
+        }
         Event::Voucher {
             label,
             writer,
@@ -274,6 +334,11 @@ pub fn words_of_event(alloc: Global, out: &mut Bytes, event: &Event) -> Result<(
             first,
             second,
         } => proof(out, label, *kind, first, second),
+        Event::Hollow {
+            label,
+            voucher,
+            text,
+        } => hollow(out, label, voucher, text),
         Event::Judge { label } => judge(out, label),
         Event::Raw { label, bytes } => raw(alloc, out, label, bytes.as_slice()),
         Event::Cut {

@@ -9,13 +9,15 @@
 //! described so. A new kind of event is a variant of `Event` and of `Verb`, a line of the table with its law, and a reader and a
 //! writer with no proof file.
 //!
-//! `Parts` takes words and lines from a text; `spelling`, `vocabulary` and `references` read single words, `event_lines` the lines of
+//! `Parts` takes words and lines from a text; `spelling`, `vocabulary`, `references` and `changes` read single words, `event_lines` the lines of
 //! events, `header` those of the header, `line` any line behind the second, and `parse` whole texts. A `Draft` is the schedule so
-//! far. `word_writers`, `event_writers` and `print` write what these read. `lines` names what other texts of lines are built on.
+//! far. `word_writers`, `change_writers`, `event_writers` and `print` write what these read. `lines` names what other texts of lines are built on.
 //!
 //! Nothing here says what an event does.
 #![tactic(auto)]
 
+mod change_writers;
+mod changes;
 mod draft;
 mod event;
 mod event_lines;

@@ -20,12 +20,13 @@ pub enum LineFault {
     Fields,
     /// A number isn't in its form or range.
     Number,
-    /// A hexadecimal text isn't in its form, or of a wrong length.
+    /// A hexadecimal text isn't in its form, or of a wrong length; or writes aren't in their form, are too many, or their keys don't
+    /// rise.
     Hex,
     /// A number is that of no declared node of the kind that the event needs.
     Node,
-    /// A label isn't in its form, is made twice, isn't made before or isn't of the kind needed; a name is no kind of contradiction; an
-    /// image isn't 0, 1 or 2; or there are too many references. In a script the name of a file isn't in its form.
+    /// A label isn't in its form, is made twice, isn't made before or isn't of the kind needed; a name is no kind of contradiction of two
+    /// statements; an image isn't 0, 1 or 2; or there are too many references. In a script the name of a file isn't in its form.
     Label,
 }
 

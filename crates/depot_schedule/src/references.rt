@@ -1,8 +1,8 @@
-//! Reads references to updates, and lists of them.
+//! Reads references, and lists of them.
 ghost use Rattle.std.specs.Prelude.{◌≡◌, ◌++◌, [], ◌∷◌, Option, Some, None, Ok, IfOk};
-ghost use Rattle.depot_base.specs.declared.limits.TheConstants.{MOST_ENTRIES};
+ghost use Rattle.depot_base.specs.declared.limits.TheConstants.{MOST_ENTRIES, MOST_IDS};
 ghost use Rattle.depot_schedule.specs.Language.{next, rank_of, earlier, read_parts, split, or_none, or_empty};
-ghost use Rattle.depot_schedule.specs.Vocabulary.{label_ref, own_ref, reference, references};
+ghost use Rattle.depot_schedule.specs.Vocabulary.{label_ref, own_ref, reference, reference_for, references, references_for, vouched};
 ghost use Rattle.depot_schedule.specs.Readers.{Gives, Reads, gathered, first_fault, GathersMore};
 
 use crate::draft::Draft;
@@ -10,8 +10,9 @@ use crate::event::{Ref, Refs};
 use crate::line_fault::{LineError, LineFault};
 use crate::parts::Parts;
 use crate::spelling::is;
-use crate::vocabulary::{id_of, seq_of, update_label_of};
-use depot_base::limits::MOST_ENTRIES;
+use crate::verb::Wanted;
+use crate::vocabulary::{id_of, label_for_of, seq_of};
+use depot_base::limits::{MOST_ENTRIES, MOST_IDS};
 use depot_base::{Memory, Sequence};
 use std::alloc::Global;
 
@@ -28,23 +29,28 @@ fn own_ref(node_word: &[u8], seq_word: &[u8], behind: &Draft) -> Result<Ref, Lin
     }
 }
 
-/// The update that a word without a dot names.
-fn label_ref(alloc: Global, word: &[u8], behind: &Draft) -> Result<Ref, LineError>
-    ensures { Gives result (label_ref behind.now word.now) }
+/// What a word without a dot names.
+fn label_ref(alloc: Global, word: &[u8], behind: &Draft, wanted: Wanted) -> Result<Ref, LineError>
+    ensures { Gives result (label_ref wanted behind.now word.now) }
 {
-    Ok(Ref::Label(update_label_of(alloc, word, behind)?))
+    Ok(Ref::Label(label_for_of(alloc, word, behind, wanted)?))
 }
 
-/// The reference that a word is.
-fn reference_of(alloc: Global, word: &[u8], behind: &Draft) -> Result<Ref, LineError>
-    ensures { Gives result (reference.read behind.now word.now) }
+/// The reference that a word is: a label that is what is asked for, or an own update.
+fn reference_of(
+    alloc: Global,
+    word: &[u8],
+    behind: &Draft,
+    wanted: Wanted,
+) -> Result<Ref, LineError>
+    ensures { Gives result ((reference_for wanted).read behind.now word.now) }
 {
     let mut parts = Parts::new(word, b'.');
     let Some(first) = parts.next() else {
         return Err(LineError::In(LineFault::Label));
     };
     let Some(second) = parts.next() else {
-        return label_ref(alloc, first, behind);
+        return label_ref(alloc, first, behind, wanted);
     };
     if parts.is_done() {
         own_ref(first, second, behind)
@@ -113,10 +119,16 @@ impl Gathered {
     }
 
     /// One part of the word more.
-    fn with_part(self, alloc: Global, part: &[u8], behind: &Draft) -> Result<Gathered, Memory>
-        ensures { IfOk result (λ g. GathersMore self.fault self.refs (reference.read behind.now part.now) g.fault g.refs) }
+    fn with_part(
+        self,
+        alloc: Global,
+        part: &[u8],
+        behind: &Draft,
+        wanted: Wanted,
+    ) -> Result<Gathered, Memory>
+        ensures { IfOk result (λ g. GathersMore self.fault self.refs ((reference_for wanted).read behind.now part.now) g.fault g.refs) }
     {
-        match reference_of(alloc, part, behind) {
+        match reference_of(alloc, part, behind, wanted) {
             Ok(reference) => self.with_ref(reference),
             Err(LineError::Memory) => Err(Memory),
             Err(LineError::In(fault)) => Ok(self.with_fault(fault)),
@@ -135,8 +147,13 @@ impl Gathered {
 }
 
 /// The references between the commas of a word.
-fn all_references(alloc: Global, word: &[u8], behind: &Draft) -> Result<Refs, LineError>
-    ensures { Gives result (read_parts (reference.read behind.now) (split 44 word.now)) }
+fn all_references(
+    alloc: Global,
+    word: &[u8],
+    behind: &Draft,
+    wanted: Wanted,
+) -> Result<Refs, LineError>
+    ensures { Gives result (read_parts ((reference_for wanted).read behind.now) (split 44 word.now)) }
 {
     let mut gathered = Gathered {
         refs: Sequence::new(alloc),
@@ -144,16 +161,22 @@ fn all_references(alloc: Global, word: &[u8], behind: &Draft) -> Result<Refs, Li
     };
     let mut parts = Parts::new(word, b',');
     while let Some(part) = parts.next() {
-        gathered = gathered.with_part(alloc, part, behind)?;
+        gathered = gathered.with_part(alloc, part, behind, wanted)?;
     }
     gathered.end()
 }
 
 /// The references of a word, at most so many.
-fn references_of(alloc: Global, word: &[u8], behind: &Draft, most: usize) -> Result<Refs, LineError>
-    ensures { Gives result ((references most).read behind.now word.now) }
+fn references_of(
+    alloc: Global,
+    word: &[u8],
+    behind: &Draft,
+    wanted: Wanted,
+    most: usize,
+) -> Result<Refs, LineError>
+    ensures { Gives result ((references_for wanted most).read behind.now word.now) }
 {
-    let refs = all_references(alloc, word, behind)?;
+    let refs = all_references(alloc, word, behind, wanted)?;
     if refs.as_slice().len() <= most {
         Ok(refs)
     } else {
@@ -161,17 +184,12 @@ fn references_of(alloc: Global, word: &[u8], behind: &Draft, most: usize) -> Res
     }
 }
 
-/// The next word of a line, as one reference or more and at most so many.
-pub fn references(
-    alloc: Global,
-    words: &mut Parts<'_>,
-    behind: &Draft,
-    most: usize,
-) -> Result<Refs, LineError>
-    ensures { Reads result words.new (next ((references most).read behind.now) words.old) }
+/// The next word of a line, as what a voucher names: 1 to 256 updates or labels of plain bytes.
+pub fn vouched(alloc: Global, words: &mut Parts<'_>, behind: &Draft) -> Result<Refs, LineError>
+    ensures { Reads result words.new (next ((vouched MOST_IDS).read behind.now) words.old) }
 {
     let word = words.word()?;
-    references_of(alloc, word, behind, most)
+    references_of(alloc, word, behind, Wanted::Vouched, MOST_IDS as usize)
 }
 
 /// The next word of a line, as a reference or none.
@@ -182,7 +200,7 @@ pub fn prev(alloc: Global, words: &mut Parts<'_>, behind: &Draft) -> Result<Opti
     if is(word, "-") {
         return Ok(None);
     }
-    Ok(Some(reference_of(alloc, word, behind)?))
+    Ok(Some(reference_of(alloc, word, behind, Wanted::Update)?))
 }
 
 /// The next word of a line, as the references of an update: none or more, and at most 1,024.
@@ -193,5 +211,5 @@ pub fn deps(alloc: Global, words: &mut Parts<'_>, behind: &Draft) -> Result<Refs
     if is(word, "-") {
         return Ok(Sequence::new(alloc));
     }
-    references_of(alloc, word, behind, MOST_ENTRIES as usize)
+    references_of(alloc, word, behind, Wanted::Update, MOST_ENTRIES as usize)
 }

@@ -141,5 +141,6 @@ pub fn name_of_kind(kind: Kind) -> &'static str
         Kind::SameNumber => "SameNumber",
         Kind::SamePrev => "SamePrev",
         Kind::Backward => "Backward",
+        Kind::NotUpdate => "NotUpdate",
     }
 }

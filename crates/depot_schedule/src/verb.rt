@@ -9,6 +9,8 @@ use crate::spelling::is;
 pub enum Verb {
     /// `put N KEY VALUE`
     Put,
+    /// `puts N WRITES`
+    Puts,
     /// `get N KEY`
     Get,
     /// `hello N LABEL`
@@ -21,10 +23,14 @@ pub enum Verb {
     Restart,
     /// `update LABEL W SEQ CLOCK PREV KEY VALUE DEPS HISTORY`
     Update,
+    /// `updates LABEL W SEQ CLOCK PREV WRITES DEPS HISTORY`
+    Updates,
     /// `voucher LABEL W SEQ REFS`
     Voucher,
     /// `proof LABEL KIND A B`
     Proof,
+    /// `hollow LABEL V T`
+    Hollow,
     /// `judge LABEL`
     Judge,
     /// `raw LABEL HEX`
@@ -40,16 +46,19 @@ pub enum Verb {
 }
 
 /// Each kind of event once.
-pub const VERBS: [Verb; 15] = [
+pub const VERBS: [Verb; 18] = [
     Verb::Put,
+    Verb::Puts,
     Verb::Get,
     Verb::Hello,
     Verb::Bundle,
     Verb::Give,
     Verb::Restart,
     Verb::Update,
+    Verb::Updates,
     Verb::Voucher,
     Verb::Proof,
+    Verb::Hollow,
     Verb::Judge,
     Verb::Raw,
     Verb::Cut,
@@ -65,14 +74,17 @@ impl Verb {
     {
         match self {
             Verb::Put => "put",
+            Verb::Puts => "puts",
             Verb::Get => "get",
             Verb::Hello => "hello",
             Verb::Bundle => "bundle",
             Verb::Give => "give",
             Verb::Restart => "restart",
             Verb::Update => "update",
+            Verb::Updates => "updates",
             Verb::Voucher => "voucher",
             Verb::Proof => "proof",
+            Verb::Hollow => "hollow",
             Verb::Judge => "judge",
             Verb::Raw => "raw",
             Verb::Cut => "cut",
@@ -98,6 +110,80 @@ pub enum Made {
     Update,
     /// A signed voucher.
     Voucher,
-    /// Other bytes.
+    /// Bytes as they are: given, or cut, flipped or joined of others.
+    Plain,
+    /// The bytes of a hello, a bundle or a proof.
     Bytes,
+}
+
+/// What a word asks of a label that an event before made.
+#[derive(Clone, Copy, Debug, PartialEq, Eq)]
+pub enum Wanted {
+    /// That it was made.
+    Any,
+    /// That it names an update.
+    Update,
+    /// That it names an update or a voucher.
+    Signed,
+    /// That it names a voucher.
+    Voucher,
+    /// That it names plain bytes.
+    Plain,
+    /// That it names what a voucher may name: an update or plain bytes.
+    Vouched,
+}
+
+impl Wanted {
+    ghost use Rattle.std.specs.Prelude.{◌≡◌};
+    ghost use Rattle.depot_schedule.specs.Vocabulary.{is_wanted, meets};
+
+    /// Whether what a label names is of the kind that is asked for.
+    fn is_wanted(self, made: Made) -> bool
+        ensures { result ≡ is_wanted self made }
+    {
+        match made {
+            Made::Update => match self {
+                Wanted::Any => true,
+                Wanted::Update => true,
+                Wanted::Signed => true,
+                Wanted::Voucher => false,
+                Wanted::Plain => false,
+                Wanted::Vouched => true,
+            },
+            Made::Voucher => match self {
+                Wanted::Any => true,
+                Wanted::Update => false,
+                Wanted::Signed => true,
+                Wanted::Voucher => true,
+                Wanted::Plain => false,
+                Wanted::Vouched => false,
+            },
+            Made::Plain => match self {
+                Wanted::Any => true,
+                Wanted::Update => false,
+                Wanted::Signed => false,
+                Wanted::Voucher => false,
+                Wanted::Plain => true,
+                Wanted::Vouched => true,
+            },
+            Made::Bytes => match self {
+                Wanted::Any => true,
+                Wanted::Update => false,
+                Wanted::Signed => false,
+                Wanted::Voucher => false,
+                Wanted::Plain => false,
+                Wanted::Vouched => false,
+            },
+        }
+    }
+
+    /// Whether a label that names this is what is asked for; one that wasn't made never is.
+    pub fn meets(self, made: Option<Made>) -> bool
+        ensures { result ≡ meets self made }
+    {
+        match made {
+            None => false,
+            Some(made) => self.is_wanted(made),
+        }
+    }
 }

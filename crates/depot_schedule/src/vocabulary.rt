@@ -1,8 +1,9 @@
 //! Reads the next word of a line, each kind of word by a function of its own.
 ghost use Rattle.std.specs.Prelude.{◌≡◌, ◌≤◌, ◌<◌, ◌^◌, length, Option, Some, None, Ok, IfOk};
+ghost use Rattle.depot_base.specs.declared.limits.TheConstants.{GREATEST_HEIGHT};
 ghost use Rattle.depot_schedule.specs.Spelling.{is_within, number_word, is_label};
 ghost use Rattle.depot_schedule.specs.Language.{nothing, next};
-ghost use Rattle.depot_schedule.specs.Vocabulary.{number, id, correct, faulty, any_u32, seq, clock, stop_call, image, hex, key, value, raw_bytes, label, new_label, made_label, update_label, signed_label, is_update, is_signed, kind, history};
+ghost use Rattle.depot_schedule.specs.Vocabulary.{number, id, correct, faulty, any_u32, seq, clock, stop_call, image, hex, key, put_key, value, raw_bytes, label, new_label, label_for, kind, history};
 ghost use Rattle.depot_schedule.specs.Readers.{Gives, Reads};
 
 use crate::draft::Draft;
@@ -11,7 +12,7 @@ use crate::label::{Label, is_label};
 use crate::line_fault::{LineError, LineFault};
 use crate::parts::Parts;
 use crate::spelling::{has_length, hex_word, is, number_word};
-use crate::verb::Made;
+use crate::verb::Wanted;
 use depot_base::limits::{MOST_KEY, MOST_STOP_CALL, MOST_VALUE};
 use depot_base::{Bytes, Hash32, Key, Kind, NodeId, Value};
 use std::alloc::Global;
@@ -40,7 +41,7 @@ pub fn id_of(word: &[u8]) -> Result<NodeId, LineError>
 
 /// How many leaves a tree of this height has.
 fn leaves(height: u8) -> u32
-    requires { height ≤ 12 }
+    requires { height ≤ GREATEST_HEIGHT }
     ensures { result ≡ 2 ^ height }
 {
     2u32.pow(height as u32)
@@ -144,25 +145,54 @@ fn hex_of(alloc: Global, word: &[u8], low: usize, high: usize) -> Result<Bytes, 
     }
 }
 
-/// A key, of 1 to 255 bytes.
-pub fn key(alloc: Global, words: &mut Parts<'_>) -> Result<Key, LineError>
-    ensures { Reads result words.new (next (key.read nothing) words.old) }
+/// The key that a word is, of 1 to 255 bytes.
+pub fn key_of(alloc: Global, word: &[u8]) -> Result<Key, LineError>
+    ensures { Gives result (key.read nothing word.now) }
 {
-    let word = words.word()?;
     let bytes = hex_of(alloc, word, 1, MOST_KEY)?;
     Ok(Key::from_bytes(bytes))
 }
 
-/// A value, of at most 65,536 bytes.
-pub fn value(alloc: Global, words: &mut Parts<'_>) -> Result<Value, LineError>
-    ensures { Reads result words.new (next (value.read nothing) words.old) }
+/// The key that a word is, of those that a node may be asked to write.
+pub fn put_key_of(alloc: Global, word: &[u8]) -> Result<Key, LineError>
+    ensures { Gives result (put_key.read nothing word.now) }
 {
-    let word = words.word()?;
+    key_of(alloc, word)
+}
+
+/// The value that a word is, of at most 65,536 bytes.
+pub fn value_of(alloc: Global, word: &[u8]) -> Result<Value, LineError>
+    ensures { Gives result (value.read nothing word.now) }
+{
     if is(word, "-") {
         return Ok(Value::from_bytes(Bytes::new(alloc)));
     }
     let bytes = hex_of(alloc, word, 1, MOST_VALUE)?;
     Ok(Value::from_bytes(bytes))
+}
+
+/// A key.
+pub fn key(alloc: Global, words: &mut Parts<'_>) -> Result<Key, LineError>
+    ensures { Reads result words.new (next (key.read nothing) words.old) }
+{
+    let word = words.word()?;
+    key_of(alloc, word)
+}
+
+/// A key that a node may be asked to write.
+pub fn put_key(alloc: Global, words: &mut Parts<'_>) -> Result<Key, LineError>
+    ensures { Reads result words.new (next (put_key.read nothing) words.old) }
+{
+    let word = words.word()?;
+    put_key_of(alloc, word)
+}
+
+/// A value.
+pub fn value(alloc: Global, words: &mut Parts<'_>) -> Result<Value, LineError>
+    ensures { Reads result words.new (next (value.read nothing) words.old) }
+{
+    let word = words.word()?;
+    value_of(alloc, word)
 }
 
 /// Bytes as they are.
@@ -198,7 +228,7 @@ pub fn history(alloc: Global, words: &mut Parts<'_>) -> Result<HistoryWord, Line
     }
 }
 
-/// A kind of contradiction.
+/// A kind of contradiction of two statements.
 pub fn kind(words: &mut Parts<'_>) -> Result<Kind, LineError>
     ensures { Reads result words.new (next (kind.read nothing) words.old) }
 {
@@ -227,36 +257,17 @@ fn label_of(alloc: Global, word: &[u8]) -> Result<Label, LineError>
     }
 }
 
-/// Whether this is an update.
-fn is_update(made: Option<Made>) -> bool
-    ensures { result ≡ is_update made }
-{
-    match made {
-        Some(Made::Update) => true,
-        Some(Made::Voucher) => false,
-        Some(Made::Bytes) => false,
-        None => false,
-    }
-}
-
-/// Whether this is an update or a voucher.
-fn is_signed(made: Option<Made>) -> bool
-    ensures { result ≡ is_signed made }
-{
-    match made {
-        Some(Made::Update) => true,
-        Some(Made::Voucher) => true,
-        Some(Made::Bytes) => false,
-        None => false,
-    }
-}
-
-/// The label of an update that a word is.
-pub fn update_label_of(alloc: Global, word: &[u8], behind: &Draft) -> Result<Label, LineError>
-    ensures { Gives result (update_label.read behind.now word.now) }
+/// The label that a word is, which an event before made, and which is what is asked for.
+pub fn label_for_of(
+    alloc: Global,
+    word: &[u8],
+    behind: &Draft,
+    wanted: Wanted,
+) -> Result<Label, LineError>
+    ensures { Gives result ((label_for wanted).read behind.now word.now) }
 {
     let label = label_of(alloc, word)?;
-    if is_update(behind.named(label.bytes())) {
+    if wanted.meets(behind.named(label.bytes())) {
         Ok(label)
     } else {
         Err(LineError::In(LineFault::Label))
@@ -276,32 +287,15 @@ pub fn new_label(alloc: Global, words: &mut Parts<'_>, behind: &Draft) -> Result
     }
 }
 
-/// A label that an event before made.
-pub fn made_label(alloc: Global, words: &mut Parts<'_>, behind: &Draft) -> Result<Label, LineError>
-    ensures { Reads result words.new (next (made_label.read behind.now) words.old) }
-{
-    let word = words.word()?;
-    let label = label_of(alloc, word)?;
-    if behind.named(label.bytes()).is_some() {
-        Ok(label)
-    } else {
-        Err(LineError::In(LineFault::Label))
-    }
-}
-
-/// A label that an event before made for an update or a voucher.
-pub fn signed_label(
+/// A label that an event before made, and that is what is asked for.
+pub fn label_for(
     alloc: Global,
     words: &mut Parts<'_>,
     behind: &Draft,
+    wanted: Wanted,
 ) -> Result<Label, LineError>
-    ensures { Reads result words.new (next (signed_label.read behind.now) words.old) }
+    ensures { Reads result words.new (next ((label_for wanted).read behind.now) words.old) }
 {
     let word = words.word()?;
-    let label = label_of(alloc, word)?;
-    if is_signed(behind.named(label.bytes())) {
-        Ok(label)
-    } else {
-        Err(LineError::In(LineFault::Label))
-    }
+    label_for_of(alloc, word, behind, wanted)
 }

@@ -7,14 +7,16 @@ use Rattle.depot_schedule.specs.declared.line_fault.LineFault.TheVariants as is
 use Rattle.depot_schedule.specs.Spelling.{is_word, is_word_byte, is_within, is_name}
 use Rattle.depot_schedule.specs.Language.{nothing}
 use Rattle.depot_schedule.proofs.LanguageLaws.{LawfulWord, Lawful, need_ok, is_same, word_lawful, made_lawful, counted_lawful, ok_is}
-use Rattle.depot_schedule.proofs.HexWords.{key_lawful, value_lawful}
+use Rattle.depot_schedule.specs.declared.changes.Keys.TheVariants as keys
+use Rattle.depot_schedule.proofs.ChangeWords.{changes_lawful}
+use Rattle.depot_schedule.proofs.HexWords.{key_lawful, put_key_lawful, value_lawful}
 use Rattle.depot_schedule.proofs.EventLineLaws.{found_passes}
 use Rattle.depot_script.specs.declared.command.Command.{Command}
 use Rattle.depot_script.specs.declared.command_verb.Verb.{Verb}
 use Rattle.depot_script.specs.declared.command_verb.Verb.TheVariants as verb
 use Rattle.depot_script.specs.declared.command_verb.TheConstants.{VERBS}
 use Rattle.depot_script.specs.Names.{is_file_name, file_name}
-use Rattle.depot_script.specs.Commands.{key_of, value_of, file_of, hello_of, put, get, hello, bundle, take, verb_of, name_of, form_of, verb_named}
+use Rattle.depot_script.specs.Commands.{key_of, value_of, changes_in, file_of, hello_of, put, puts, get, hello, bundle, take, verb_of, name_of, form_of, verb_named}
 
 -- ---- names of files
 
@@ -39,8 +41,14 @@ file_name_lawful {C = C} = record {
 pub put_lawful : Lawful put
 unfolding put
 put_lawful = counted_lawful 2 2 _ (
-    word_lawful _ _ _ 1 1 key_lawful (λ c a e h. ap key_of h.1) λ key.
+    word_lawful _ _ _ 1 1 put_key_lawful (λ c a e h. ap key_of h.1) λ key.
     word_lawful _ _ _ 0 0 value_lawful (λ c a e h. ap value_of h) λ value.
+    made_lawful _)
+
+pub puts_lawful : Lawful puts
+unfolding puts
+puts_lawful = counted_lawful 1 1 _ (
+    word_lawful _ _ _ 0 0 (changes_lawful keys.Put) (λ c a e h. ap changes_in h) λ changes.
     made_lawful _)
 
 pub get_lawful : Lawful get
@@ -81,8 +89,9 @@ lawful_form : (v : Verb) → verb_named (name_of v) ≡ Some v → is_word (name
 lawful_form v again plain line is = record { again = again; plain = plain; line = line; is = is }
 
 pub form_lawful : (v : Verb) → LawfulForm v
-unfolding verb_named put get hello bundle take
+unfolding verb_named put puts get hello bundle take
 form_lawful verb.Put = lawful_form verb.Put refl refl put_lawful (λ c h. ap verb_of h.1.1)
+form_lawful verb.Puts = lawful_form verb.Puts refl refl puts_lawful (λ c h. ap verb_of h.1)
 form_lawful verb.Get = lawful_form verb.Get refl refl get_lawful (λ c h. ap verb_of h.1)
 form_lawful verb.Hello = lawful_form verb.Hello refl refl hello_lawful (λ c h. ap verb_of h.1)
 form_lawful verb.Bundle = lawful_form verb.Bundle refl refl bundle_lawful (λ c h. ap verb_of h.1.1)

@@ -1,10 +1,13 @@
 -- The lines of commands: one line of this table a kind of command.
 use Rattle.std.specs.Prelude.{ℕ, List, [], Option, codes, find}
 use Rattle.std.specs.Str.{bytes_eq}
+use Rattle.depot_base.specs.Writes.{one_change}
+use Rattle.depot_base.specs.declared.write.Change.{Change}
+use Rattle.depot_schedule.specs.declared.changes.Keys.TheVariants as keys
 use Rattle.depot_schedule.specs.Language.{Words, word, made, counted}
-use Rattle.depot_schedule.specs.Vocabulary.{key, value}
+use Rattle.depot_schedule.specs.Vocabulary.{key, put_key, value, changes}
 use Rattle.depot_script.specs.declared.command.Command.{Command}
-use Rattle.depot_script.specs.declared.command.Command.TheVariants.{Put, Get, Hello, Bundle, Take}
+use Rattle.depot_script.specs.declared.command.Command.TheVariants.{Put, Puts, Get, Hello, Bundle, Take}
 use Rattle.depot_script.specs.declared.command_verb.Verb.{Verb}
 use Rattle.depot_script.specs.declared.command_verb.Verb.TheVariants as verb
 use Rattle.depot_script.specs.declared.command_verb.TheConstants.{VERBS}
@@ -20,6 +23,12 @@ key_of _ = []
 abbrev pub value_of : Command → List ℕ
 value_of (Put _ v) = v
 value_of _ = []
+
+-- what a command writes: one change for one key and value
+abbrev pub changes_in : Command → List Change
+changes_in (Put k v) = one_change k v
+changes_in (Puts cs) = cs
+changes_in _ = []
 
 abbrev pub file_of : Command → List ℕ
 file_of (Hello file) = file
@@ -39,7 +48,11 @@ Form = Words (Unit {0}) Command
 
 -- `put KEY VALUE`
 unfoldable pub put : Form
-put = counted 2 2 (word key key_of λ k. word value value_of λ v. made (Put k v))
+put = counted 2 2 (word put_key key_of λ k. word value value_of λ v. made (Put k v))
+
+-- `puts WRITES`
+unfoldable pub puts : Form
+puts = counted 1 1 (word (changes keys.Put) changes_in λ cs. made (Puts cs))
 
 -- `get KEY`
 unfoldable pub get : Form
@@ -61,6 +74,7 @@ take = counted 1 1 (word file_name file_of λ file. made (Take file))
 
 abbrev pub verb_of : Command → Verb
 verb_of (Put _ _) = verb.Put
+verb_of (Puts _) = verb.Puts
 verb_of (Get _) = verb.Get
 verb_of (Hello _) = verb.Hello
 verb_of (Bundle _ _) = verb.Bundle
@@ -69,6 +83,7 @@ verb_of (Take _) = verb.Take
 -- the first word of the line of a command
 abbrev pub name_of : Verb → List ℕ
 name_of verb.Put = codes "put"
+name_of verb.Puts = codes "puts"
 name_of verb.Get = codes "get"
 name_of verb.Hello = codes "hello"
 name_of verb.Bundle = codes "bundle"
@@ -77,6 +92,7 @@ name_of verb.Take = codes "take"
 -- the words behind it
 abbrev pub form_of : Verb → Form
 form_of verb.Put = put
+form_of verb.Puts = puts
 form_of verb.Get = get
 form_of verb.Hello = hello
 form_of verb.Bundle = bundle

@@ -2,13 +2,15 @@
 
 use crate::FileName;
 use crate::command_verb::Verb;
-use depot_base::{Key, Value};
+use depot_base::{Changes, Key, Value};
 
 /// One command.
 #[derive(Debug, Drop)]
 pub enum Command {
     /// The node writes the value under the key.
     Put { key: Key, value: Value },
+    /// The node writes and deletes: 1 to 16 changes, rising strictly by key.
+    Puts { changes: Changes },
     /// The node reads the key.
     Get { key: Key },
     /// The node's hello becomes the file.
@@ -29,6 +31,7 @@ impl Command {
     {
         match self {
             Command::Put { .. } => Verb::Put,
+            Command::Puts { .. } => Verb::Puts,
             Command::Get { .. } => Verb::Get,
             Command::Hello { .. } => Verb::Hello,
             Command::Bundle { .. } => Verb::Bundle,

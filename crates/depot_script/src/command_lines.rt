@@ -2,12 +2,12 @@
 ghost use Rattle.depot_schedule.specs.Language.{nothing, next};
 ghost use Rattle.depot_schedule.specs.Readers.{Gives, Reads};
 ghost use Rattle.depot_script.specs.Names.{file_name};
-ghost use Rattle.depot_script.specs.Commands.{put, get, hello, bundle, take, form_of};
+ghost use Rattle.depot_script.specs.Commands.{put, puts, get, hello, bundle, take, form_of};
 
 use crate::command_verb::Verb;
 use crate::{Command, FileName};
 use depot_schedule::LineFault;
-use depot_schedule::lines::{LineError, Parts, counted, key, made, value};
+use depot_schedule::lines::{Keys, LineError, Parts, changes, counted, key, made, put_key, value};
 use std::alloc::Global;
 
 /// A name of a file.
@@ -27,9 +27,19 @@ fn put(alloc: Global, words: &mut Parts<'_>) -> Result<Command, LineError>
     ensures { Gives result (put.read nothing words.old) }
 {
     counted(words, 2, 2)?;
-    let key = key(alloc, words)?;
+    let key = put_key(alloc, words)?;
     let value = value(alloc, words)?;
     made(words, Command::Put { key, value })
+}
+
+/// `puts WRITES`
+#[tactic(auto, unfolding(crate::specs::Commands::puts))]
+fn puts(alloc: Global, words: &mut Parts<'_>) -> Result<Command, LineError>
+    ensures { Gives result (puts.read nothing words.old) }
+{
+    counted(words, 1, 1)?;
+    let changes = changes(alloc, words, Keys::Put)?;
+    made(words, Command::Puts { changes })
 }
 
 /// `get KEY`
@@ -79,6 +89,7 @@ pub fn command_of(alloc: Global, verb: Verb, words: &mut Parts<'_>) -> Result<Co
 {
     match verb {
         Verb::Put => put(alloc, words),
+        Verb::Puts => puts(alloc, words),
         Verb::Get => get(alloc, words),
         Verb::Hello => hello(alloc, words),
         Verb::Bundle => bundle(alloc, words),

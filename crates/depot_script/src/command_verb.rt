@@ -9,6 +9,8 @@ use depot_schedule::spelling::is;
 pub enum Verb {
     /// `put KEY VALUE`
     Put,
+    /// `puts WRITES`
+    Puts,
     /// `get KEY`
     Get,
     /// `hello FILE`
@@ -20,7 +22,14 @@ pub enum Verb {
 }
 
 /// Each kind of command once.
-pub const VERBS: [Verb; 5] = [Verb::Put, Verb::Get, Verb::Hello, Verb::Bundle, Verb::Take];
+pub const VERBS: [Verb; 6] = [
+    Verb::Put,
+    Verb::Puts,
+    Verb::Get,
+    Verb::Hello,
+    Verb::Bundle,
+    Verb::Take,
+];
 
 impl Verb {
     /// The first word of its line.
@@ -29,6 +38,7 @@ impl Verb {
     {
         match self {
             Verb::Put => "put",
+            Verb::Puts => "puts",
             Verb::Get => "get",
             Verb::Hello => "hello",
             Verb::Bundle => "bundle",

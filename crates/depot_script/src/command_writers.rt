@@ -1,11 +1,11 @@
 //! Writes the words behind the name of a command, each behind a space: one function a line of the table.
 ghost use Rattle.std.specs.Prelude.{◌≡◌, ◌++◌, OnOk};
 ghost use Rattle.depot_schedule.specs.Readers.{behind_spaces};
-ghost use Rattle.depot_script.specs.Commands.{put, get, hello, bundle, take, form_of, verb_of};
+ghost use Rattle.depot_script.specs.Commands.{put, puts, get, hello, bundle, take, form_of, verb_of};
 
 use crate::{Command, FileName};
-use depot_base::{Bytes, Key, Memory, Value};
-use depot_schedule::lines::{hex, word, write};
+use depot_base::{Bytes, Change, Key, Memory, Value};
+use depot_schedule::lines::{hex, word, write, writes};
 use std::alloc::Global;
 
 /// `put KEY VALUE`
@@ -14,6 +14,14 @@ fn put(alloc: Global, out: &mut Bytes, key: &Key, value: &Value) -> Result<(), M
     ensures { OnOk result (out.new ≡ out.old ++ behind_spaces (put.text (Command.Put key.now value.now))) }
 {
     write(alloc, out, key, value)
+}
+
+/// `puts WRITES`
+#[tactic(auto, using(depot_base::proofs::Writing::texts), unfolding(crate::specs::Commands::puts))]
+fn puts(alloc: Global, out: &mut Bytes, changes: &[Change]) -> Result<(), Memory>
+    ensures { OnOk result (out.new ≡ out.old ++ behind_spaces (puts.text (Command.Puts changes.now))) }
+{
+    writes(alloc, out, changes)
 }
 
 /// `get KEY`
@@ -55,6 +63,7 @@ pub fn words_of_command(alloc: Global, out: &mut Bytes, command: &Command) -> Re
 {
     match command {
         Command::Put { key, value } => put(alloc, out, key, value),
+        Command::Puts { changes } => puts(alloc, out, changes.as_slice()),
         Command::Get { key } => get(alloc, out, key),
         Command::Hello { file } => hello(out, file),
         Command::Bundle { hello, file } => bundle(out, hello, file),

@@ -1,12 +1,14 @@
 -- A command leaves a correct node a correct one.
 use Rattle.std.proofs.Common.{◌≡◌, ℕ, List, [], ◌∷◌, ◌++◌, Option, Some, None, refl, sym, ap, subst, ◌∙◌, inl, inr}
+use Rattle.depot_base.specs.Writes.{one_change}
 use Rattle.depot_base.specs.declared.record.Record.TheVariants.{OwnPut}
+use Rattle.depot_base.specs.declared.write.Change.{Change}
 use Rattle.depot_model.specs.Bundle.{Signs, BundleAnswer, bundled, bundle_answer}
 use Rattle.depot_model.specs.Checks.{Setting}
 use Rattle.depot_model.specs.Lawful.{IsLawful}
 use Rattle.depot_model.specs.Limits.{Limit, limit_of_put}
 use Rattle.depot_model.specs.Lists.{IsIn}
-use Rattle.depot_model.specs.Own.{next_own}
+use Rattle.depot_model.specs.Own.{next_own, values_of}
 use Rattle.depot_model.specs.Roster.{has_node}
 use Rattle.depot_model.specs.World.{Correct, Read, IsCorrect, IsRead, NeverFall}
 use Rattle.depot_model.proofs.FeedGrowth.{IsGrown}
@@ -24,12 +26,12 @@ use Rattle.depot_session.proofs.StepGrowth.{step_grows, step_stays}
 
 -- ---- what is read
 
-put_reads : (here : Setting) (c : Correct) (key value : List ℕ) → (put_by here c key value).reads ≡ c.reads
+put_reads : (here : Setting) (c : Correct) (changes : List Change) → (put_by here c changes).reads ≡ c.reads
 unfolding put_by
-put_reads here c key value = by_limit (limit_of_put here c.journal key value) where
+put_reads here c changes = by_limit (limit_of_put here c.journal changes) where
   by_limit : (o : Option Limit) → (elim o as (λ x. Deed) [
     | Some limit ↦ idle c (text_of_limit limit)
-    | None ↦ grown c (c.journal ++ OwnPut (next_own c.node c.journal key value) value ∷ []) (text_of_put (next_own c.node c.journal key value)) []
+    | None ↦ grown c (c.journal ++ OwnPut (next_own c.node c.journal changes) (values_of changes) ∷ []) (text_of_put (next_own c.node c.journal changes)) []
   ]).reads ≡ c.reads
   by_limit (Some limit) = refl
   by_limit None = refl
@@ -88,7 +90,11 @@ module _ (here : Setting) (sign : Signs) (s : Session) (correct : IsCorrect (wor
 
   put_step : (key value : List ℕ) → (step_of here sign s (command.Put key value)).session.correct.reads ≡ s.correct.reads
   unfolding step_of
-  put_step key value = put_reads here s.correct key value
+  put_step key value = put_reads here s.correct (one_change key value)
+
+  puts_step : (changes : List Change) → (step_of here sign s (command.Puts changes)).session.correct.reads ≡ s.correct.reads
+  unfolding step_of
+  puts_step changes = put_reads here s.correct changes
 
   hello_step : (file : List ℕ) → (step_of here sign s (command.Hello file)).session.correct.reads ≡ s.correct.reads
   unfolding step_of
@@ -115,6 +121,7 @@ module _ (here : Setting) (sign : Signs) (s : Session) (correct : IsCorrect (wor
   -- a correct node is one after any command, if its journal is lawful
   pub step_is_correct : (c : Command) → IsLawful here (step_of here sign s c).session.correct.journal → IsCorrect (world_at here) (step_of here sign s c).session.correct
   step_is_correct (command.Put key value) lawful = by_reads (command.Put key value) (put_step key value) lawful
+  step_is_correct (command.Puts changes) lawful = by_reads (command.Puts changes) (puts_step changes) lawful
   step_is_correct (command.Get key) lawful = get_step key
   step_is_correct (command.Hello file) lawful = by_reads (command.Hello file) (hello_step file) lawful
   step_is_correct (command.Bundle hello file) lawful = by_reads (command.Bundle hello file) (bundle_made hello file) lawful

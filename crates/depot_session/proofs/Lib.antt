@@ -6,6 +6,7 @@ pub mod StoredFiles
 pub mod ToldFaults
 pub mod Called
 pub mod Uncalled
+pub mod FittingScripts
 pub mod PutTurns
 pub mod GetTurns
 pub mod HelloTurns

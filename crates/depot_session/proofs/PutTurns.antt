@@ -3,7 +3,7 @@ use Rattle.std.proofs.Common.{◌≡◌, ◌<◌, ◌≤◌, ◌⊎◌, ℕ, Boo
 use Rattle.std.specs.Prelude.{IfErr, IsErrOf, is_err}
 use Rattle.std.specs.Result.{IsErrAnd}
 use Rattle.std.proofs.lemmas.List.{append-nil}
-use Rattle.depot_base.specs.Sized.{IsKey, IsValue}
+use Rattle.depot_base.specs.declared.write.Change.{Change}
 use Rattle.depot_base.specs.declared.record.Record.{Record}
 use Rattle.depot_base.specs.declared.record.Record.TheVariants.{OwnPut}
 use Rattle.depot_deeds.specs.declared.printed.Printed.{Printed}
@@ -14,10 +14,11 @@ use Rattle.depot_deeds.proofs.PutTexts.{deed_within, put_lawful}
 use Rattle.depot_feeds.specs.Lasting.{LastsIn}
 use Rattle.depot_feeds.proofs.LastingStreams.{all_of, cut_of, lasts_alike, lasts_longer, none_in, to_append, IsPart}
 use Rattle.depot_model.specs.Bundle.{Signs}
+use Rattle.depot_model.specs.Changes.{AreChanges}
 use Rattle.depot_model.specs.Checks.{Setting}
 use Rattle.depot_model.specs.Lawful.{IsLawful, is_empty}
 use Rattle.depot_model.specs.Limits.{Limit, limit_of_put}
-use Rattle.depot_model.specs.Own.{next_own}
+use Rattle.depot_model.specs.Own.{next_own, values_of}
 use Rattle.depot_model.specs.Replicas.{IsSameNode, KeepsDisk, StopsBy}
 use Rattle.depot_model.specs.Stops.{HasFront, Lasts}
 use Rattle.depot_model.specs.World.{Correct}
@@ -32,7 +33,7 @@ use Rattle.depot_script.specs.declared.command.Command.TheVariants as command
 use Rattle.depot_session.specs.declared.ending.Ending.{Ending}
 use Rattle.depot_session.specs.declared.ending.Ending.TheVariants as ending
 use Rattle.depot_session.specs.SessionRuns.{IsHandedOut, disk_line}
-use Rattle.depot_session.specs.Sessions.{Session, Step, ending_of_put, step_of}
+use Rattle.depot_session.specs.Sessions.{Session, IsPut, Step, ending_of_put, put_step, step_of}
 use Rattle.depot_session.specs.ScriptTelling.{IsFaultTold, IsUnchanged, Tells}
 use Rattle.depot_session.specs.Turns.{HasNoFault, IsAt, IsRunning, Keeps, LeftBy, Turns}
 use Rattle.depot_session.proofs.Called.{keeps_called, not_where_some}
@@ -46,9 +47,9 @@ use Rattle.depot_world.specs.ScheduleStops.{Deed}
 -- ---- the records
 
 -- the records that a put brings that meets this limit, or none
-abbrev pub put_more : Setting → List Record → List ℕ → List ℕ → Option Limit → List Record
-put_more here J key value None = put_records here J key value
-put_more here J key value (Some limit) = []
+abbrev pub put_more : Setting → List Record → List Change → Option Limit → List Record
+put_more here J changes None = put_records here J changes
+put_more here J changes (Some limit) = []
 
 -- how a put that the node answered so ends the run
 abbrev pub ends_of_put : Result PutDone PutError → Option Ending
@@ -67,40 +68,29 @@ ends_failed (Err e) failed settles f = refl
 
 -- ---- its step
 
--- a put of equal texts is the same command
-pub same_put : (c : Command) (k v key value : List ℕ) → c ≡ command.Put k v → key ≡ k → value ≡ v → c ≡ command.Put key value
-same_put c k v key value is same_key same_value = is ∙ ap (λ (x : List ℕ). command.Put x v) (sym same_key) ∙ ap (λ (x : List ℕ). command.Put key x) (sym same_value)
+-- its step is that of a put
+pub step_of_put : (here : Setting) (sign : Signs) (s : Session) (c : Command) (changes : List Change) → IsPut c changes → step_of here sign s c ≡ put_step here s c changes
+unfolding step_of
+step_of_put here sign s (command.Put key value) changes is = ap (put_step here s (command.Put key value)) (sym is)
+step_of_put here sign s (command.Puts asked) changes is = ap (put_step here s (command.Puts asked)) (sym is)
+step_of_put here sign s (command.Get key) changes is = absurd is
+step_of_put here sign s (command.Hello file) changes is = absurd is
+step_of_put here sign s (command.Bundle hello file) changes is = absurd is
+step_of_put here sign s (command.Take file) changes is = absurd is
 
 -- the journal after a put that meets this limit, or none
-put_journal : (here : Setting) (sign : Signs) (s : Session) (key value : List ℕ) (o : Option Limit) → here.me ≡ s.correct.node → limit_of_put here s.correct.journal key value ≡ o
-    → (step_of here sign s (command.Put key value)).session.correct.journal ≡ s.correct.journal ++ put_more here s.correct.journal key value o
-unfolding step_of
-put_journal here sign s key value None same is =
-    let d = deed_within here s.correct key value None is in
-    let new : OwnPut (next_own s.correct.node s.correct.journal key value) value ∷ [] ≡ put_records here s.correct.journal key value = ap (λ (n : ℕ). OwnPut (next_own n s.correct.journal key value) value ∷ []) (sym same) in
+put_journal : (here : Setting) (s : Session) (c : Command) (changes : List Change) (o : Option Limit) → here.me ≡ s.correct.node → limit_of_put here s.correct.journal changes ≡ o
+    → (put_step here s c changes).session.correct.journal ≡ s.correct.journal ++ put_more here s.correct.journal changes o
+put_journal here s c changes None same is =
+    let d = deed_within here s.correct changes None is in
+    let new : OwnPut (next_own s.correct.node s.correct.journal changes) (values_of changes) ∷ [] ≡ put_records here s.correct.journal changes = ap (λ (n : ℕ). OwnPut (next_own n s.correct.journal changes) (values_of changes) ∷ []) (sym same) in
     ap (λ (x : Deed). x.journal) d ∙ ap (λ (rs : List Record). s.correct.journal ++ rs) new
-put_journal here sign s key value (Some limit) same is = ap (λ (x : Deed). x.journal) (deed_within here s.correct key value (Some limit) is) ∙ sym (append-nil s.correct.journal)
-
--- what is printed of it
-put_text : (here : Setting) (sign : Signs) (s : Session) (key value line : List ℕ) → line ≡ lines_of_deed (put_by here s.correct key value)
-    → command_text (command.Put key value) line ≡ (step_of here sign s (command.Put key value)).text
-unfolding step_of
-put_text here sign s key value line is = ap (command_text (command.Put key value)) is
-
--- how it ends the run
-put_ends : (here : Setting) (sign : Signs) (s : Session) (key value : List ℕ) → (step_of here sign s (command.Put key value)).ending ≡ ending_of_put (limit_of_put here s.correct.journal key value)
-unfolding step_of
-put_ends here sign s key value = refl
-
--- it leaves the files
-put_files : (here : Setting) (sign : Signs) (s : Session) (key value name : List ℕ) → (step_of here sign s (command.Put key value)).session.files name ≡ s.files name
-unfolding step_of
-put_files here sign s key value name = refl
+put_journal here s c changes (Some limit) same is = ap (λ (x : Deed). x.journal) (deed_within here s.correct changes (Some limit) is) ∙ sym (append-nil s.correct.journal)
 
 -- ---- the call on the node
 
-module _ {N O : Type 0} (g : Ghosts N O) (old new : N) (key value : List ℕ) (done : Result PutDone PutError) (running : IsRunning g old) (puts : Puts (g.stands old) (g.records old) key value done (g.records new))
-    (lasts : Lasts g.tells g.stopped g.records g.moment g.left_since g.may_leave old new (put_records (g.stands old) (g.records old) key value))
+module _ {N O : Type 0} (g : Ghosts N O) (old new : N) (changes : List Change) (done : Result PutDone PutError) (running : IsRunning g old) (puts : Puts (g.stands old) (g.records old) changes done (g.records new))
+    (lasts : Lasts g.tells g.stopped g.records g.moment g.left_since g.may_leave old new (put_records (g.stands old) (g.records old) changes))
     (without : IfErr done (λ e. (e ≡ refused.Disk → ⊥) → Lasts g.tells g.stopped g.records g.moment g.left_since g.may_leave old new [])) where
   -- where the node stands
   abbrev here : Setting
@@ -112,22 +102,22 @@ module _ {N O : Type 0} (g : Ghosts N O) (old new : N) (key value : List ℕ) (d
 
   -- ---- the node, whatever came of it
 
-  module _ (lawful : IsLawful (g.stands old) (g.records old)) (some : is_empty (g.records old) ≡ false) (is_key : IsKey key) (is_value : IsValue value) where
+  module _ (lawful : IsLawful (g.stands old) (g.records old)) (some : is_empty (g.records old) ≡ false) (are : AreChanges changes) where
     -- the put was to append its records, and did, or a front of them
-    put_appends : (failed : Bool) → limit_of_put here J key value ≡ None → IsPart J (put_records here J key value) (g.records new) failed → LastsIn g.tells g.stopped g.records g.moment g.left_since g.may_leave here failed old new
+    put_appends : (failed : Bool) → limit_of_put here J changes ≡ None → IsPart J (put_records here J changes) (g.records new) failed → LastsIn g.tells g.stopped g.records g.moment g.left_since g.may_leave here failed old new
     put_appends failed none part = record {
-      appends = put_records here J key value;
-      is = to_append here J (put_records here J key value) (g.records new) failed (put_lawful here J key value lawful some is_key is_value none) part;
+      appends = put_records here J changes;
+      is = to_append here J (put_records here J changes) (g.records new) failed (put_lawful here J changes lawful some are none) part;
       lasts = lasts;
     }
 
     -- what a stop leaves, whatever the node answered
     put_lasts : (failed : Bool) → (IsErrOf done refused.Disk → failed ≡ true) → LastsIn g.tells g.stopped g.records g.moment g.left_since g.may_leave here failed old new
     put_lasts failed fails = by_answer done refl puts without where
-      by_answer : (r : Result PutDone PutError) → done ≡ r → Puts here J key value r (g.records new) → IfErr r (λ e. (e ≡ refused.Disk → ⊥) → Lasts g.tells g.stopped g.records g.moment g.left_since g.may_leave old new [])
+      by_answer : (r : Result PutDone PutError) → done ≡ r → Puts here J changes r (g.records new) → IfErr r (λ e. (e ≡ refused.Disk → ⊥) → Lasts g.tells g.stopped g.records g.moment g.left_since g.may_leave old new [])
           → LastsIn g.tells g.stopped g.records g.moment g.left_since g.may_leave here failed old new
-      by_answer (Ok d) is p idle = put_appends failed p.0 (all_of J (put_records here J key value) (g.records new) failed p.1.1)
-      by_answer (Err refused.Disk) is p idle = put_appends failed p.0 (subst (λ (b : Bool). IsPart J (put_records here J key value) (g.records new) b) (sym (fails is)) (cut_of J (put_records here J key value) (g.records new) p.1))
+      by_answer (Ok d) is p idle = put_appends failed p.0 (all_of J (put_records here J changes) (g.records new) failed p.1.1)
+      by_answer (Err refused.Disk) is p idle = put_appends failed p.0 (subst (λ (b : Bool). IsPart J (put_records here J changes) (g.records new) b) (sym (fails is)) (cut_of J (put_records here J changes) (g.records new) p.1))
       by_answer (Err refused.Memory) is p idle = none_in here failed old new lawful p (idle (λ e. cc))
       by_answer (Err refused.Stopped) is p idle = none_in here failed old new lawful p (idle (λ e. cc))
       by_answer (Err other) is p idle = none_in here failed old new lawful p.1 (idle (λ e. cc))
@@ -141,31 +131,31 @@ module _ {N O : Type 0} (g : Ghosts N O) (old new : N) (key value : List ℕ) (d
 
   -- the records that the put brings
   abbrev more : List Record
-  more = put_more here J key value (limit_of_put here J key value)
+  more = put_more here J changes (limit_of_put here J changes)
 
   -- all of its own where it meets no limit
-  whole : limit_of_put here J key value ≡ None → more ≡ put_records here J key value
-  whole none = ap (λ (o : Option Limit). put_more here J key value o) none
+  whole : limit_of_put here J changes ≡ None → more ≡ put_records here J changes
+  whole none = ap (λ (o : Option Limit). put_more here J changes o) none
 
   -- and else none
-  limited : (limit : Limit) → limit_of_put here J key value ≡ Some limit → more ≡ []
-  limited limit is = ap (λ (o : Option Limit). put_more here J key value o) is
+  limited : (limit : Limit) → limit_of_put here J changes ≡ Some limit → more ≡ []
+  limited limit is = ap (λ (o : Option Limit). put_more here J changes o) is
 
   -- a stop leaves a front of them
   lasts_more : Lasts g.tells g.stopped g.records g.moment g.left_since g.may_leave old new more
   lasts_more = by_answer done puts without where
-    by_answer : (r : Result PutDone PutError) → Puts here J key value r (g.records new) → IfErr r (λ e. (e ≡ refused.Disk → ⊥) → Lasts g.tells g.stopped g.records g.moment g.left_since g.may_leave old new []) → Lasts g.tells g.stopped g.records g.moment g.left_since g.may_leave old new more
-    by_answer (Ok d) p idle = lasts_alike old new (put_records here J key value) more (sym (whole p.0)) lasts
-    by_answer (Err refused.Disk) p idle = lasts_alike old new (put_records here J key value) more (sym (whole p.0)) lasts
+    by_answer : (r : Result PutDone PutError) → Puts here J changes r (g.records new) → IfErr r (λ e. (e ≡ refused.Disk → ⊥) → Lasts g.tells g.stopped g.records g.moment g.left_since g.may_leave old new []) → Lasts g.tells g.stopped g.records g.moment g.left_since g.may_leave old new more
+    by_answer (Ok d) p idle = lasts_alike old new (put_records here J changes) more (sym (whole p.0)) lasts
+    by_answer (Err refused.Disk) p idle = lasts_alike old new (put_records here J changes) more (sym (whole p.0)) lasts
     by_answer (Err other) p idle = lasts_longer old new [] more (idle (λ e. cc))
 
   -- where neither the disk failed nor memory was wanting, the journal has grown by what the put brings
   grown_by : SettlesPut done → (IsErrOf done refused.Disk → ⊥) → g.records new ≡ J ++ more
   grown_by = by_answer done puts where
-    none : (limit : Limit) → limit_of_put here J key value ≡ Some limit → g.records new ≡ J → g.records new ≡ J ++ more
+    none : (limit : Limit) → limit_of_put here J changes ≡ Some limit → g.records new ≡ J → g.records new ≡ J ++ more
     none limit is same = same ∙ sym (append-nil J) ∙ ap (λ (x : List Record). J ++ x) (sym (limited limit is))
 
-    by_answer : (r : Result PutDone PutError) → Puts here J key value r (g.records new) → SettlesPut r → (IsErrOf r refused.Disk → ⊥) → g.records new ≡ J ++ more
+    by_answer : (r : Result PutDone PutError) → Puts here J changes r (g.records new) → SettlesPut r → (IsErrOf r refused.Disk → ⊥) → g.records new ≡ J ++ more
     by_answer (Ok d) p settled well = p.1.1 ∙ ap (λ (x : List Record). J ++ x) (sym (whole p.0))
     by_answer (Err refused.Disk) p settled well = absurd (well refl)
     by_answer (Err refused.Memory) p settled well = absurd settled
@@ -173,69 +163,69 @@ module _ {N O : Type 0} (g : Ghosts N O) (old new : N) (key value : List ℕ) (d
     by_answer (Err other) p settled well = none _ p.0 p.1
 
   -- then the run ends where the put met a limit
-  ends_by : SettlesPut done → (IsErrOf done refused.Disk → ⊥) → ending_of_put (limit_of_put here J key value) ≡ ends_of_put done
+  ends_by : SettlesPut done → (IsErrOf done refused.Disk → ⊥) → ending_of_put (limit_of_put here J changes) ≡ ends_of_put done
   ends_by = by_answer done puts where
-    by_answer : (r : Result PutDone PutError) → Puts here J key value r (g.records new) → SettlesPut r → (IsErrOf r refused.Disk → ⊥) → ending_of_put (limit_of_put here J key value) ≡ ends_of_put r
+    by_answer : (r : Result PutDone PutError) → Puts here J changes r (g.records new) → SettlesPut r → (IsErrOf r refused.Disk → ⊥) → ending_of_put (limit_of_put here J changes) ≡ ends_of_put r
     by_answer (Ok d) p settled well = ap ending_of_put p.0
     by_answer (Err refused.Disk) p settled well = absurd (well refl)
     by_answer (Err refused.Memory) p settled well = absurd settled
     by_answer (Err refused.Stopped) p settled well = absurd settled
     by_answer (Err other) p settled well = ap ending_of_put p.0
 
-  module _ (counts_now : (v : N) (t : ℕ) (file : List ℕ) → t ≤ g.moment v → g.may_leave v file → g.left_since v t file) (c : Command) (is_put : c ≡ command.Put key value) (shelf : Shelves) (sink : Sinks) (s : Session) (unchanged : IsUnchanged shelf)
+  module _ (counts_now : (v : N) (t : ℕ) (file : List ℕ) → t ≤ g.moment v → g.may_leave v file → g.left_since v t file) (c : Command) (is_put : IsPut c changes) (shelf : Shelves) (sink : Sinks) (s : Session) (unchanged : IsUnchanged shelf)
       (at : IsAt (g.stands old) (g.records old) shelf.file s) where
     abbrev sign : Signs
     sign = g.signature_of old
 
     -- what it is to come to
     abbrev step : Step
-    step = step_of here sign s (command.Put key value)
+    step = put_step here s c changes
 
     -- the session and the node have one journal
-    same_limit : limit_of_put here s.correct.journal key value ≡ limit_of_put here J key value
-    same_limit = ap (λ (K : List Record). limit_of_put here K key value) at.journal
+    same_limit : limit_of_put here s.correct.journal changes ≡ limit_of_put here J changes
+    same_limit = ap (λ (K : List Record). limit_of_put here K changes) at.journal
 
     -- its step brings those records
     brings : step.session.correct.journal ≡ J ++ more
-    brings = put_journal here sign s key value (limit_of_put here J key value) (sym at.node) same_limit ∙ ap (λ (K : List Record). K ++ put_more here K key value (limit_of_put here J key value)) at.journal
+    brings = put_journal here s c changes (limit_of_put here J changes) (sym at.node) same_limit ∙ ap (λ (K : List Record). K ++ put_more here K changes (limit_of_put here J changes)) at.journal
 
     -- after it a stop leaves a front of them
     leaves : IsTrue (g.tells old) → (image : List ℕ) → g.may_leave new image → HasFront J more image
     leaves = leaves_front counts_now old new more running.runs lasts_more
 
     -- no file has changed
-    others : (name : List ℕ) → (shelf.file_after name ≡ shelf.file name) ⊎ IsHandedOut (LeftBy g old new) (command.Put key value) step name
+    others : (name : List ℕ) → (shelf.file_after name ≡ shelf.file name) ⊎ IsHandedOut (LeftBy g old new) c step name
     others name = inl (unchanged name)
 
-    -- of equal commands one turns out as the other
-    as_put : (r : Result (Unit {0}) Ending) → Turns g old new (command.Put key value) step shelf sink r → Turns g old new c (step_of here sign s c) shelf sink r
-    as_put r turns = subst (λ (x : Command). Turns g old new x (step_of here sign s x) shelf sink r) (sym is_put) turns
+    -- the command's step is that of the put
+    as_put : (r : Result (Unit {0}) Ending) → Turns g old new c step shelf sink r → Turns g old new c (step_of here sign s c) shelf sink r
+    as_put r turns = subst (λ (x : Step). Turns g old new c x shelf sink r) (sym (step_of_put here sign s c changes is_put)) turns
 
     -- no memory was found for what is printed of it
     pub put_without_memory : (r : Result (Unit {0}) Ending) → IsErrAnd r (λ e. e ≡ ending.Memory) → sink.after ≡ sink.before → Turns g old new c (step_of here sign s c) shelf sink r
-    put_without_memory r is same = as_put r (without_memory g old new (command.Put key value) step shelf sink more brings leaves others r is (nothing_written sink same))
+    put_without_memory r is same = as_put r (without_memory g old new c step shelf sink more brings leaves others r is (nothing_written sink same))
 
     -- the disk failed, and it was told, or not
     pub put_to_disk : (e : Ending) → g.faults old < g.faults new → IsFaultTold sink disk_line ending.Disk e → Turns g old new c (step_of here sign s c) shelf sink (Err e)
-    put_to_disk e rose fault = as_put (Err e) (disk_told g old new (command.Put key value) step shelf sink more brings leaves others e rose fault)
+    put_to_disk e rose fault = as_put (Err e) (disk_told g old new c step shelf sink more brings leaves others e rose fault)
 
     -- its lines were written, or not
     pub put_told : (ends : Option Ending) (r : Result (Unit {0}) Ending) (o : Option Printed) (p : Printed) → o ≡ Some p → (o ≡ None) ↔ IsErrOf done refused.Disk → SettlesPut done
-        → ((there : Setting) (k : Correct) (x y : List ℕ) (then : List Record) → there.me ≡ k.node → Puts there k.journal x y done then → IsPrintOf o (put_by there k x y)) → ends ≡ ends_of_put done → StopsBy (g.stopped old) (g.stopped new) (IsErrOf done refused.Stopped) (IsErrOf done refused.Disk)
+        → ((there : Setting) (k : Correct) (x : List Change) (then : List Record) → there.me ≡ k.node → Puts there k.journal x done then → IsPrintOf o (put_by there k x)) → ends ≡ ends_of_put done → StopsBy (g.stopped old) (g.stopped new) (IsErrOf done refused.Stopped) (IsErrOf done refused.Disk)
         → Tells sink (command_text c p.lines) ends r → Turns g old new c (step_of here sign s c) shelf sink r
     put_told ends r o p is stopped settled printed ends_so stops tells = as_put r so where
       well : IsErrOf done refused.Disk → ⊥
       well = not_where_some o p (IsErrOf done refused.Disk) is stopped.1
 
-      lines : p.lines ≡ lines_of_deed (put_by here s.correct key value)
-      lines = (subst (λ (x : Option Printed). IsPrintOf x (put_by here s.correct key value)) is (printed here s.correct key value (g.records new) (sym at.node) (subst (λ (K : List Record). Puts here K key value done (g.records new)) (sym at.journal) puts))).0
+      lines : p.lines ≡ lines_of_deed (put_by here s.correct changes)
+      lines = (subst (λ (x : Option Printed). IsPrintOf x (put_by here s.correct changes)) is (printed here s.correct changes (g.records new) (sym at.node) (subst (λ (K : List Record). Puts here K changes done (g.records new)) (sym at.journal) puts))).0
 
       tells_so : Tells sink step.text ends r
-      tells_so = subst (λ (text : List ℕ). Tells sink text ends r) (put_text here sign s key value p.lines lines) (subst (λ (x : Command). Tells sink (command_text x p.lines) ends r) is_put tells)
+      tells_so = subst (λ (text : List ℕ). Tells sink text ends r) (ap (command_text c) lines) tells
 
       ends_as : step.ending ≡ ends
-      ends_as = put_ends here sign s key value ∙ ap ending_of_put same_limit ∙ ends_by settled well ∙ sym ends_so
+      ends_as = ap ending_of_put same_limit ∙ ends_by settled well ∙ sym ends_so
 
-      so : Turns g old new (command.Put key value) step shelf sink r
-      so = told g old new (command.Put key value) step shelf sink more brings leaves others (runs_on _ _ _ _ stops running.runs well) (grown_by settled well ∙ sym brings)
-          (λ name. unchanged name ∙ at.same_files name ∙ sym (put_files here sign s key value name)) lasts.stable ends r ends_as tells_so
+      so : Turns g old new c step shelf sink r
+      so = told g old new c step shelf sink more brings leaves others (runs_on _ _ _ _ stops running.runs well) (grown_by settled well ∙ sym brings)
+          (λ name. unchanged name ∙ at.same_files name) lasts.stable ends r ends_as tells_so

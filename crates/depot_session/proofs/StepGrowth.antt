@@ -1,5 +1,6 @@
 -- Whatever a script makes a node do, its journal keeps its records, and the node stays who it is.
 use Rattle.std.proofs.Common.{◌≡◌, ℕ, List, [], ◌∷◌, Option, Some, None, refl}
+use Rattle.depot_base.specs.Writes.{one_change}
 use Rattle.depot_model.specs.Bundle.{Signs, BundleAnswer, bundled, bundle_answer}
 use Rattle.depot_model.specs.Checks.{Setting}
 use Rattle.depot_model.proofs.FeedGrowth.{IsGrown, grown_none, grown_twice}
@@ -19,7 +20,8 @@ bundle_step_grows s hello file d other g = g
 
 pub step_grows : (here : Setting) (sign : Signs) (s : Session) (c : Command) → IsGrown s.correct.journal (step_of here sign s c).session.correct.journal
 unfolding step_of
-step_grows here sign s (command.Put key value) = put_grows here s.correct key value
+step_grows here sign s (command.Put key value) = put_grows here s.correct (one_change key value)
+step_grows here sign s (command.Puts changes) = put_grows here s.correct changes
 step_grows here sign s (command.Get key) = get_grows s.correct key
 step_grows here sign s (command.Hello file) = hello_grows here s.correct
 step_grows here sign s (command.Bundle hello file) = by_file (s.files hello) where
@@ -38,6 +40,7 @@ bundle_step_stays s hello file d other = refl
 pub step_stays : (here : Setting) (sign : Signs) (s : Session) (c : Command) → (step_of here sign s c).session.correct.node ≡ s.correct.node
 unfolding step_of
 step_stays here sign s (command.Put key value) = refl
+step_stays here sign s (command.Puts changes) = refl
 step_stays here sign s (command.Get key) = refl
 step_stays here sign s (command.Hello file) = refl
 step_stays here sign s (command.Bundle hello file) = by_file (s.files hello) where

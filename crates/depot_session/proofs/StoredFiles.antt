@@ -6,7 +6,8 @@ use Rattle.depot_base.specs.declared.record.Record.{Record}
 use Rattle.std.proofs.lemmas.Slice.Eq.{bytes_eq-Decides}
 use Rattle.depot_model.specs.Stops.{HasFront, LeavesAll}
 use Rattle.depot_model.specs.declared.replica.Replica.{Ghosts}
-use Rattle.depot_outside.specs.Told.{Shelves, Sinks}
+use Rattle.depot_outside.specs.Told.{Shelves, Sinks, shelves}
+use Rattle.depot_outside.specs.declared.shelf.Shelf as shelf_of
 use Rattle.depot_script.specs.declared.command.Command.{Command}
 use Rattle.depot_session.specs.declared.ending.Ending.{Ending}
 use Rattle.depot_script.specs.declared.command.Command.TheVariants as command
@@ -56,9 +57,16 @@ stored_alike files others name bytes more same is other = by_name (bytes_eq othe
   by_name false = same other
 
 -- what was stored after a load was stored on the shelf from before
-pub stored_from : (mid_tells tells : Bool) (mid before after : Files) (mid_faults faults faults_after : ℕ) (sink : Sinks) (text name bytes : List ℕ) (r : Result (Unit {0}) Ending) → mid_tells ≡ tells → mid ≡ before → mid_faults ≡ faults
-    → Stores (record { tells = mid_tells; file = mid; file_after = after; faults_before = mid_faults; faults_after = faults_after }) sink text name bytes r → Stores (record { tells = tells; file = before; file_after = after; faults_before = faults; faults_after = faults_after }) sink text name bytes r
-stored_from mid_tells tells mid before after mid_faults faults faults_after sink text name bytes r same_tells same_file same_faults st =
-    subst (λ (x : ℕ). Stores (record { tells = tells; file = before; file_after = after; faults_before = x; faults_after = faults_after }) sink text name bytes r) same_faults
-    (subst (λ (x : Files). Stores (record { tells = tells; file = x; file_after = after; faults_before = mid_faults; faults_after = faults_after }) sink text name bytes r) same_file
-    (subst (λ (x : Bool). Stores (record { tells = x; file = mid; file_after = after; faults_before = mid_faults; faults_after = faults_after }) sink text name bytes r) same_tells st))
+pub stored_from : {F : Type 0} (g : shelf_of.Ghosts F) (old mid new : F) (sink : Sinks) (text name bytes : List ℕ) (r : Result (Unit {0}) Ending) → g.tells mid ≡ g.tells old → g.file mid ≡ g.file old → g.failed mid ≡ g.failed old → g.faults mid ≡ g.faults old
+    → Stores (shelves g mid new) sink text name bytes r → Stores (shelves g old new) sink text name bytes r
+stored_from g old mid new sink text name bytes r told same calm quiet st =
+    let alike : shelves g mid new ≡ shelves g old new = λ i. record {
+      tells = told i;
+      file = same i;
+      file_after = g.file new;
+      failed_before = calm i;
+      failed_after = g.failed new;
+      faults_before = quiet i;
+      faults_after = g.faults new;
+    } in
+    subst (λ (x : Shelves). Stores x sink text name bytes r) alike st

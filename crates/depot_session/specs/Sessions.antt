@@ -1,7 +1,9 @@
 -- What a script makes a node do, command by command: the lines, the journal, the files, and how the run ends.
 use Rattle.std.specs.Prelude.{◌≡◌, ◌⊎◌, ℕ, List, [], ◌∷◌, ◌++◌, take, Option, Some, None, codes, if◌then◌else◌}
 use Rattle.std.specs.Str.{bytes_eq}
+use Rattle.depot_base.specs.Writes.{one_change}
 use Rattle.depot_base.specs.declared.record.Record.{Record}
+use Rattle.depot_base.specs.declared.write.Change.{Change}
 use Rattle.depot_model.specs.Bundle.{Signs, BundleAnswer, bundled, bad_hello, other_roster, limited, bundle_answer}
 use Rattle.depot_model.specs.Checks.{Setting}
 use Rattle.depot_model.specs.Feeding.{Closing, ill_formed, out_of_room, feed_of}
@@ -48,6 +50,7 @@ pub record Step : Type 0 where
 -- how many of a command's words are printed: all but a value
 abbrev pub printed_count : Command → ℕ
 printed_count (command.Bundle hello file) = 3
+printed_count (command.Puts changes) = 1
 printed_count other = 2
 
 -- the lines of a command that a node carries out
@@ -130,8 +133,19 @@ abbrev pub take_from : Setting → Session → List ℕ → Option (List ℕ) �
 take_from here s file None = absent s file
 take_from here s file (Some bytes) = carried_out s (command.Take file) (give_by here s.correct bytes) (ending_of_take (feed_of here s.correct.journal bytes).closed)
 
+-- the command asks for these changes
+abbrev pub IsPut : Command → List Change → Type 0
+IsPut (command.Put key value) changes = changes ≡ one_change key value
+IsPut (command.Puts asked) changes = changes ≡ asked
+IsPut c changes = ⊥
+
+-- a put of these changes, which the command asks for
+abbrev pub put_step : Setting → Session → Command → List Change → Step
+put_step here s c changes = carried_out s c (put_by here s.correct changes) (ending_of_put (limit_of_put here s.correct.journal changes))
+
 unfoldable pub step_of : Setting → Signs → Session → Command → Step
-step_of here sign s (command.Put key value) = carried_out s (command.Put key value) (put_by here s.correct key value) (ending_of_put (limit_of_put here s.correct.journal key value))
+step_of here sign s (command.Put key value) = put_step here s (command.Put key value) (one_change key value)
+step_of here sign s (command.Puts changes) = put_step here s (command.Puts changes) changes
 step_of here sign s (command.Get key) = carried_out s (command.Get key) (get_by s.correct key) None
 step_of here sign s (command.Hello file) = carried_out_storing s (command.Hello file) (hello_by here s.correct) file
 step_of here sign s (command.Bundle hello file) = bundle_to here sign s hello file (s.files hello)

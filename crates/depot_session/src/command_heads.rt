@@ -21,12 +21,13 @@ pub fn head(alloc: Global, out: &mut Bytes, command: &Command) -> Result<(), Mem
 }
 
 /// Writes the words between the name and the arrow, each behind a space.
-#[tactic(auto, using(depot_base::proofs::Writing::texts), unfolding(depot_script::specs::Commands::put, depot_script::specs::Commands::get, depot_script::specs::Commands::hello, depot_script::specs::Commands::bundle, depot_script::specs::Commands::take))]
+#[tactic(auto, using(depot_base::proofs::Writing::texts), unfolding(depot_script::specs::Commands::put, depot_script::specs::Commands::puts, depot_script::specs::Commands::get, depot_script::specs::Commands::hello, depot_script::specs::Commands::bundle, depot_script::specs::Commands::take))]
 fn words(alloc: Global, out: &mut Bytes, command: &Command) -> Result<(), Memory>
     ensures { OnOk result (out.new ≡ out.old ++ behind_spaces (drop 1 (take (printed_count command.now) (command_words command.now)))) }
 {
     match command {
         Command::Put { key, .. } => hex(alloc, out, key.bytes()),
+        Command::Puts { .. } => Ok(()),
         Command::Get { key } => hex(alloc, out, key.bytes()),
         Command::Hello { file } => word(out, file.text().as_bytes()),
         Command::Bundle { hello, file } => {

@@ -1,13 +1,16 @@
 //! The commands of a script.
 ghost use Rattle.std.specs.Prelude.{◌≡◌, ◌↔◌, ◌++◌, ◌∷◌, [], ℕ, List, false, None, IfOk, IfErr, IsErrOf, IsTrue, is_ok};
+ghost use Rattle.depot_base.specs.Writes.{one_change};
 ghost use Rattle.depot_base.specs.declared.record.Record.{Record};
 ghost use Rattle.depot_model.specs.Bundle.{Signs, bundle_answer};
+ghost use Rattle.depot_model.specs.Changes.{AreChanges};
 ghost use Rattle.depot_model.specs.Checks.{Setting};
 ghost use Rattle.depot_model.specs.Feeding.{Feeding};
 ghost use Rattle.depot_outside.specs.Told.{Shelves, shelves, sinks};
 ghost use Rattle.depot_gossip.specs.Bundling.{Bundles};
 ghost use Rattle.depot_deeds.specs.Printing.{IsToldOf, SettlesBundle};
-ghost use Rattle.depot_session.specs.Sessions.{Session, loads_of, step_of};
+ghost use Rattle.depot_script.specs.Scripts.{FitsCommand};
+ghost use Rattle.depot_session.specs.Sessions.{Session, IsPut, loads_of, step_of};
 ghost use Rattle.depot_session.specs.Sessions as sessions;
 ghost use Rattle.depot_session.specs.ScriptTelling.{IsUnchanged, TellsShelf};
 ghost use Rattle.depot_session.specs.Turns.{IsAt, IsRunning, Keeps, Turns};
@@ -16,34 +19,29 @@ use crate::ending::Ending;
 use crate::local::Local;
 use crate::telling::{disk_failed, load, no_file, store_and_tell, tell};
 use depot_answers::Closing;
-use depot_base::{Key, Value};
-use depot_deeds::{
-    Fed, bundle_printed, fed_printed, feed_whole, have_sizes, hello_line, put_printed,
-};
+use depot_base::{Changes, Key, Memory, Value};
+use depot_deeds::{Fed, bundle_printed, fed_printed, feed_whole, hello_line, put_printed};
 use depot_gossip::{BundleError, Bundled, FeedError, bundle, hello};
 use depot_outside::{Shelf, Sink};
 use depot_script::{Command, FileName};
 use std::alloc::Global;
 
-/// Puts a value under a key, and tells of it.
+/// Puts these changes, for which the command asks, and tells of it.
 fn put<R: Local, K: Sink>(
     alloc: Global,
     node: &mut R,
     command: &Command,
-    key: &Key,
-    value: &Value,
+    changes: Changes,
     out: &mut K,
 ) -> Result<(), Ending>
-    requires command { command.now ≡ Command.Put key.now value.now }
+    requires command { IsPut command.now changes }
+    requires changes { AreChanges changes }
     requires running { IsRunning R.Replica node.old }
     ensures keeps { Keeps R.Replica node.old node.new (sinks K.Sink out.old out.new) result }
     ensures turns { (shelf : Shelves) (s : Session) → IsUnchanged shelf → IsAt (R.stands node.old) (R.records node.old) shelf.file s → Turns R.Replica node.old node.new command.now (step_of (R.stands node.old) (R.signature_of node.old) s command.now) shelf (sinks K.Sink out.old out.new) result }
     ensures same { K.tells out.new ≡ K.tells out.old }
 {
-    let key = key.copy()?;
-    let value = value.copy()?;
-    have_sizes(&key, &value);
-    let done = node.write(key, value);
+    let done = node.write(changes);
     let ends = match &done {
         Ok(_) => None,
         Err(_) => Some(Ending::Limit),
@@ -52,6 +50,52 @@ fn put<R: Local, K: Sink>(
         Some(printed) => tell(alloc, command, &printed.lines, ends, out),
         None => Err(disk_failed(out)),
     }
+}
+
+/// The one change that gives a key a value, both copied.
+fn one_change(alloc: Global, key: &Key, value: &Value) -> Result<Changes, Memory>
+    ensures { IfOk result (λ changes. changes ≡ one_change key.now value.now) }
+{
+    Changes::one(alloc, key.copy()?, value.copy()?)
+}
+
+/// Puts a value under a key, and tells of it.
+fn put_value<R: Local, K: Sink>(
+    alloc: Global,
+    node: &mut R,
+    command: &Command,
+    key: &Key,
+    value: &Value,
+    out: &mut K,
+) -> Result<(), Ending>
+    requires command { command.now ≡ Command.Put key.now value.now }
+    requires fits { FitsCommand command.now }
+    requires running { IsRunning R.Replica node.old }
+    ensures keeps { Keeps R.Replica node.old node.new (sinks K.Sink out.old out.new) result }
+    ensures turns { (shelf : Shelves) (s : Session) → IsUnchanged shelf → IsAt (R.stands node.old) (R.records node.old) shelf.file s → Turns R.Replica node.old node.new command.now (step_of (R.stands node.old) (R.signature_of node.old) s command.now) shelf (sinks K.Sink out.old out.new) result }
+    ensures same { K.tells out.new ≡ K.tells out.old }
+{
+    let changes = one_change(alloc, key, value)?;
+    put(alloc, node, command, changes, out)
+}
+
+/// Makes several changes at once, and tells of it.
+fn put_changes<R: Local, K: Sink>(
+    alloc: Global,
+    node: &mut R,
+    command: &Command,
+    changes: &Changes,
+    out: &mut K,
+) -> Result<(), Ending>
+    requires command { command.now ≡ Command.Puts changes.now }
+    requires fits { FitsCommand command.now }
+    requires running { IsRunning R.Replica node.old }
+    ensures keeps { Keeps R.Replica node.old node.new (sinks K.Sink out.old out.new) result }
+    ensures turns { (shelf : Shelves) (s : Session) → IsUnchanged shelf → IsAt (R.stands node.old) (R.records node.old) shelf.file s → Turns R.Replica node.old node.new command.now (step_of (R.stands node.old) (R.signature_of node.old) s command.now) shelf (sinks K.Sink out.old out.new) result }
+    ensures same { K.tells out.new ≡ K.tells out.old }
+{
+    let changes = changes.copy()?;
+    put(alloc, node, command, changes, out)
 }
 
 /// Reads a key, and tells what it reads.
@@ -200,7 +244,7 @@ fn take<R: Local, F: Shelf, K: Sink>(
     }
 }
 
-/// Carries out a command. Ok where the run goes on, and else how it ends.
+/// Carries out a command of a script. Ok where the run goes on, and else how it ends.
 pub fn carry_out<R: Local, F: Shelf, K: Sink>(
     alloc: Global,
     node: &mut R,
@@ -208,6 +252,7 @@ pub fn carry_out<R: Local, F: Shelf, K: Sink>(
     shelf: &mut F,
     out: &mut K,
 ) -> Result<(), Ending>
+    requires fits { FitsCommand command.now }
     requires running { IsRunning R.Replica node.old }
     ensures keeps { Keeps R.Replica node.old node.new (sinks K.Sink out.old out.new) result }
     ensures turns { (s : Session) → IsTrue (F.tells shelf.old) → IsAt (R.stands node.old) (R.records node.old) (F.file shelf.old) s → Turns R.Replica node.old node.new command.now (step_of (R.stands node.old) (R.signature_of node.old) s command.now) (shelves F.Shelf shelf.old shelf.new) (sinks K.Sink out.old out.new) result }
@@ -217,7 +262,8 @@ pub fn carry_out<R: Local, F: Shelf, K: Sink>(
     ensures shelf { TellsShelf (F.faults shelf.old) (F.faults shelf.new) result }
 {
     match command {
-        Command::Put { key, value } => put(alloc, node, command, key, value, out),
+        Command::Put { key, value } => put_value(alloc, node, command, key, value, out),
+        Command::Puts { changes } => put_changes(alloc, node, command, changes, out),
         Command::Get { key } => get(alloc, node, command, key, out),
         Command::Hello { file } => say_hello(alloc, node, command, file, shelf, out),
         Command::Bundle { hello, file } => {

@@ -1,13 +1,14 @@
 //! The node of a session.
 ghost use Rattle.std.specs.Prelude.{◌≡◌, ◌≢◌, [], false, IfOk, IfErr, IsErrOf};
 ghost use Rattle.depot_deeds.specs.Printing.{shown_text};
+ghost use Rattle.depot_model.specs.Changes.{AreChanges};
 ghost use Rattle.depot_model.specs.Replicas.{IsSameNode, StopsBy, KeepsDisk};
 ghost use Rattle.depot_model.specs.Stops.{Lasts};
 ghost use Rattle.depot_decide.specs.Putting.{Puts, put_records};
 ghost use Rattle.depot_world.specs.Deeds.{shown_of};
 ghost use Rattle.depot_world.specs.Transcript.{ended};
 
-use depot_base::{Bytes, Key, Memory, Value};
+use depot_base::{Bytes, Changes, Key, Memory};
 use depot_deeds::shown_line;
 use depot_model::{Peer, Scheme, Signer};
 use depot_node::{Node, PutDone, PutError};
@@ -16,13 +17,14 @@ use std::alloc::Global;
 
 /// A node that is at hand: it writes and reads, too.
 pub trait Local: Peer {
-    /// It puts a value under a key, as `depot_node::Node::put` says.
-    fn write(&mut self, key: Key, value: Value) -> Result<PutDone, PutError>
-        ensures puts { Puts (Self.stands self.old) (Self.records self.old) key value result (Self.records self.new) }
+    /// It makes these changes in one update, as `depot_node::Node::put_all` says.
+    fn write(&mut self, changes: Changes) -> Result<PutDone, PutError>
+        requires changes { AreChanges changes }
+        ensures puts { Puts (Self.stands self.old) (Self.records self.old) changes result (Self.records self.new) }
         ensures stays { IsSameNode (Self.stands self.old) (Self.stands self.new) (Self.key self.old) (Self.key self.new) (Self.signature_of self.old) (Self.signature_of self.new) }
         ensures stops { StopsBy (Self.stopped self.old) (Self.stopped self.new) (IsErrOf result PutError.Stopped) (IsErrOf result PutError.Disk) }
         ensures disk { KeepsDisk (Self.handle self.old) (Self.handle self.new) (Self.faults self.old) (Self.faults self.new) (Self.is_faultless self.old) (Self.is_faultless self.new) (IsErrOf result PutError.Disk) }
-        ensures lasts { Lasts Self.tells Self.stopped Self.records Self.moment Self.left_since Self.may_leave self.old self.new (put_records (Self.stands self.old) (Self.records self.old) key value) }
+        ensures lasts { Lasts Self.tells Self.stopped Self.records Self.moment Self.left_since Self.may_leave self.old self.new (put_records (Self.stands self.old) (Self.records self.old) changes) }
         ensures idle { IfErr result (λ e. e ≢ PutError.Disk → Lasts Self.tells Self.stopped Self.records Self.moment Self.left_since Self.may_leave self.old self.new []) };
 
     /// The line of a read: the latest writes of a key, each behind a space.
@@ -32,8 +34,8 @@ pub trait Local: Peer {
 }
 
 impl<D: Disk, S: Scheme, G: Signer<Of = S>> Local for Node<D, S, G> {
-    fn write(&mut self, key: Key, value: Value) -> Result<PutDone, PutError> {
-        self.put(key, value)
+    fn write(&mut self, changes: Changes) -> Result<PutDone, PutError> {
+        self.put_all(changes)
     }
 
     fn read(&self, alloc: Global, key: &Key) -> Result<Bytes, Memory> {

@@ -4,6 +4,7 @@ ghost use Rattle.depot_answers.specs.Answers.{numbered, spaced, text_of_record_f
 ghost use Rattle.depot_model.specs.Roster.{key_of};
 ghost use Rattle.depot_model.specs.Texts.{IsRoster};
 ghost use Rattle.depot_outside.specs.Told.{disks, loads, shelves, sinks};
+ghost use Rattle.depot_script.specs.Scripts.{IsScript};
 ghost use Rattle.depot_session.specs.SessionRuns.{AnswersScript, Begins, KeepsFile, LoadsFiles, Settles, ending_of_refusal, line_of_refusal};
 ghost use Rattle.depot_session.specs.ScriptTelling.{IsFaultTold, TellsShelf};
 ghost use Rattle.depot_session.specs.Turns.{ending_by};
@@ -126,6 +127,7 @@ fn run_over<D: Disk, F: Shelf, K: Sink, S: Scheme, G: Signer<Of = S>>(
     shelf: &mut F,
     out: &mut K,
 ) -> Ran<D>
+    requires script { IsScript script.now }
     ensures file { IsTrue (D.tells disk) → KeepsFile (record { verifies = S.verifies; me = me; listed = roster }) (disks D.Disk disk result.disk) }
     ensures stable { IsTrue (D.tells disk) → (result.ending ≡ Ending.Done) ⊎ (result.ending ≡ Ending.Limit) → Settles (record { verifies = S.verifies; me = me; listed = roster }) (disks D.Disk disk result.disk) }
     ensures untouched { (key_of roster me ≡ Some (G.key_of signer) → ⊥) → result.disk ≡ disk }
@@ -173,6 +175,8 @@ pub fn run<D: Disk, F: Shelf, K: Sink, S: Scheme, G: Signer<Of = S>>(
     shelf: &mut F,
     out: &mut K,
 ) -> Ending
+    // The script has a text: `parse_script` gives no other.
+    requires script { IsScript script.now }
     // What a stop at any moment of the run leaves on the disk it left before, or it is a lawful journal that begins with the one that was
     // there; where the script ended or met a limit, all that it leaves afterwards is one such journal.
     ensures file { IsTrue (D.tells disk.old) → KeepsFile (record { verifies = S.verifies; me = me; listed = roster }) (disks D.Disk disk.old disk.new) }

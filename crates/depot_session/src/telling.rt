@@ -86,6 +86,7 @@ pub fn load<F: Shelf>(shelf: &mut F, name: &FileName) -> Result<Option<Bytes>, M
     ensures tells { F.tells shelf.new ≡ F.tells shelf.old }
     ensures later { F.faults shelf.old ≤ F.faults shelf.new }
     ensures quiet { IfOk result (λ found. IfSome found (λ _. F.faults shelf.new ≡ F.faults shelf.old)) }
+    ensures calm { IfOk result (λ found. IfSome found (λ _. F.failed shelf.new ≡ F.failed shelf.old)) }
 {
     match shelf.load(name.text()) {
         Ok(found) => Ok(found),

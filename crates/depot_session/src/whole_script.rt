@@ -1,6 +1,8 @@
 //! A script, command by command.
 ghost use Rattle.std.specs.Prelude.{◌≡◌, IsTrue};
 ghost use Rattle.depot_outside.specs.Told.{loads, shelves, sinks};
+ghost use Rattle.depot_schedule.specs.Language.{FitAll};
+ghost use Rattle.depot_script.specs.Scripts.{FitsCommand};
 ghost use Rattle.depot_session.specs.SessionRuns.{LoadsFiles};
 ghost use Rattle.depot_session.specs.Sessions.{Session};
 ghost use Rattle.depot_session.specs.ScriptTelling.{TellsShelf};
@@ -13,7 +15,7 @@ use depot_outside::{Shelf, Sink};
 use depot_script::Command;
 use std::alloc::Global;
 
-/// Carries out the commands of a script, one after the other, up to the first that ends the run. Ok where none does.
+/// Carries out the commands of a script, each of which has a line, one after the other, up to the first that ends the run. Ok where none does.
 pub fn play<R: Local, F: Shelf, K: Sink>(
     alloc: Global,
     node: &mut R,
@@ -21,6 +23,7 @@ pub fn play<R: Local, F: Shelf, K: Sink>(
     shelf: &mut F,
     out: &mut K,
 ) -> Result<(), Ending>
+    requires fit { FitAll FitsCommand commands.now }
     requires running { IsRunning R.Replica node.old }
     ensures keeps { Keeps R.Replica node.old node.new (sinks K.Sink out.old out.new) result }
     ensures plays { (s : Session) → IsTrue (F.tells shelf.old) → IsAt (R.stands node.old) (R.records node.old) (F.file shelf.old) s → Plays R.Replica node.old node.new (R.stands node.old) (R.signature_of node.old) s commands.now (shelves F.Shelf shelf.old shelf.new) (sinks K.Sink out.old out.new) result }

@@ -30,10 +30,10 @@ IsPrinted stage run bytes answer = spaced answer ≡ (judged_with stage run (pro
 -- ---- what reading gives
 
 read_is : (bytes : List ℕ) (p : Proof) → IsTextOfProof (drop 5 bytes) p → proof_in bytes ≡ Ok p
-read_is bytes p text = ap (λ (t : List ℕ). whole proof (record { at = 0; rest = t })) text.is ∙ whole_again proof 103166 proof_lawful 0 p text.fits
+read_is bytes p text = ap (λ (t : List ℕ). whole proof (record { at = 0; rest = t })) text.is ∙ whole_again proof 121521 proof_lawful 0 p text.fits
 
 fault_is : (bytes : List ℕ) (at : ℕ) → FirstFault proof (drop 5 bytes) at → proof_in bytes ≡ Err at
-fault_is bytes at fault = whole_stops proof 103166 proof_lawful 0 (drop 5 bytes) at fault ∙ ap (λ (n : ℕ). Err n) (zero-add at)
+fault_is bytes at fault = whole_stops proof 121521 proof_lawful 0 (drop 5 bytes) at fault ∙ ap (λ (n : ℕ). Err n) (zero-add at)
 
 -- ---- what is printed
 

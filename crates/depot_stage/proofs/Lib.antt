@@ -3,3 +3,4 @@ pub mod JudgedLaws
 pub mod LabelTables
 pub mod SeenUpdates
 pub mod SignedLaws
+pub mod ValueFrames

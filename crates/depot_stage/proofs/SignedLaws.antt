@@ -1,14 +1,15 @@
 -- Statements that were just signed, and the halves of a proof, have texts.
-use Rattle.std.proofs.Common.{◌≡◌, ℕ, ◌≤◌, List, length, sym, ap, subst, ◌∙◌, arith}
-use Rattle.depot_base.specs.Format.{number, constant}
+use Rattle.std.proofs.Common.{◌≡◌, ℕ, ◌≤◌, List, length, sym, ap, subst, ◌∙◌}
+use Rattle.depot_base.specs.Shown.{IsPairKind}
 use Rattle.depot_base.specs.Statement.{seq_of}
 use Rattle.depot_base.specs.declared.proof.Kind.{Kind}
+use Rattle.depot_base.specs.declared.proof.Proof.TheVariants.{Hollow, Pair}
 use Rattle.depot_base.specs.declared.statement.Signed.{Signed}
 use Rattle.depot_base.specs.declared.statement.Statement.{Statement}
 use Rattle.depot_model.specs.Bundle.{Signs, signed_with}
-use Rattle.depot_model.specs.Texts.{proof, IsProof, IsSigned, IsStatement, kind_of_number, number_of_kind, text_of_statement}
+use Rattle.depot_model.specs.Texts.{IsProof, IsSigned, IsStatement, text_of_statement}
 use Rattle.depot_laws.proofs.Candidates.{signed_fits}
-use Rattle.depot_model.proofs.JudgementLaws.{kind_fits, kind_back}
+use Rattle.depot_model.proofs.JudgementLaws.{pair_fits, hollow_fits}
 
 -- ---- a statement, signed
 
@@ -28,13 +29,10 @@ parts_have_text sign s body given signature seq text same number signed fits sho
 
 -- ---- the halves of a proof
 
-one_fits : (constant 1).fits 1
-unfolding number
-one_fits = (omega arith, omega arith)
-
 -- whatever two signed statements are made the halves of, it has a text
-pub halves_have_text : (k : Kind) (a b first second : Signed) → first ≡ a → second ≡ b → IsSigned a → IsSigned b → IsProof (record { kind = k; first = first; second = second })
-unfolding proof
-halves_have_text k a b first second first_is second_is a_fits b_fits =
-    let back : record { kind = k; first = first; second = second } ≡ record { kind = kind_of_number (number_of_kind k); first = first; second = second } = ap (λ (k : Kind). record { kind = k; first = first; second = second }) (kind_back k) in
-    (one_fits, (kind_fits k, (rw first_is a_fits, (rw second_is b_fits, back))))
+pub halves_have_text : (k : Kind) (a b first second : Signed) → first ≡ a → second ≡ b → IsPairKind k → IsSigned a → IsSigned b → IsProof (Pair k first second)
+halves_have_text k a b first second first_is second_is pair a_fits b_fits = pair_fits k first second pair (rw first_is a_fits) (rw second_is b_fits)
+
+-- and so it has, whatever text a signed voucher is said to be hollow for
+pub hollow_has_text : (s voucher : Signed) (t text : List ℕ) → voucher ≡ s → text ≡ t → IsSigned s → length t ≤ 65536 → IsProof (Hollow voucher text)
+hollow_has_text s voucher t text voucher_is text_is fits short = hollow_fits voucher text (rw voucher_is fits) (rw text_is short)

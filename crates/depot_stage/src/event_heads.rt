@@ -24,20 +24,23 @@ pub fn event_head(alloc: Global, out: &mut Bytes, event: &Event) -> Result<(), M
 }
 
 /// Writes the words between the name and the arrow, each behind a space.
-#[tactic(auto, unfolding(depot_schedule::specs::EventLines::put, depot_schedule::specs::EventLines::get, depot_schedule::specs::EventLines::hello, depot_schedule::specs::EventLines::bundle, depot_schedule::specs::EventLines::give, depot_schedule::specs::EventLines::restart, depot_schedule::specs::EventLines::update, depot_schedule::specs::EventLines::voucher, depot_schedule::specs::EventLines::proof, depot_schedule::specs::EventLines::judge, depot_schedule::specs::EventLines::raw, depot_schedule::specs::EventLines::cut, depot_schedule::specs::EventLines::flip, depot_schedule::specs::EventLines::join, depot_schedule::specs::EventLines::stop))]
+#[tactic(auto, unfolding(depot_schedule::specs::EventLines::put, depot_schedule::specs::EventLines::puts, depot_schedule::specs::EventLines::get, depot_schedule::specs::EventLines::hello, depot_schedule::specs::EventLines::bundle, depot_schedule::specs::EventLines::give, depot_schedule::specs::EventLines::restart, depot_schedule::specs::EventLines::update, depot_schedule::specs::EventLines::updates, depot_schedule::specs::EventLines::voucher, depot_schedule::specs::EventLines::proof, depot_schedule::specs::EventLines::hollow, depot_schedule::specs::EventLines::judge, depot_schedule::specs::EventLines::raw, depot_schedule::specs::EventLines::cut, depot_schedule::specs::EventLines::flip, depot_schedule::specs::EventLines::join, depot_schedule::specs::EventLines::stop))]
 fn words(alloc: Global, out: &mut Bytes, event: &Event) -> Result<(), Memory>
     ensures { OnOk result (out.new ≡ out.old ++ behind_spaces (drop 1 (take (head_count event.now) (event_words event.now)))) }
 {
     match event {
         Event::Put { node, key, .. } => node_and_key(alloc, out, *node, key),
+        Event::Puts { node: id, .. } => node(alloc, out, *id),
         Event::Get { node, key } => node_and_key(alloc, out, *node, key),
         Event::Hello { node, label } => node_and_label(alloc, out, *node, label),
         Event::Bundle { node, hello, label } => node_and_labels(alloc, out, *node, hello, label),
         Event::Give { node, label, .. } => node_and_label(alloc, out, *node, label),
         Event::Restart { node: id } => node(alloc, out, *id),
         Event::Update { label: name, .. } => label(out, name),
+        Event::Updates { label: name, .. } => label(out, name),
         Event::Voucher { label: name, .. } => label(out, name),
         Event::Proof { label: name, .. } => label(out, name),
+        Event::Hollow { label: name, .. } => label(out, name),
         Event::Judge { label: name } => label(out, name),
         Event::Raw { label: name, .. } => label(out, name),
         Event::Cut { label: name, .. } => label(out, name),

@@ -3,7 +3,7 @@ ghost use Rattle.std.specs.Prelude.{◌≡◌, ◌++◌, ◌∷◌, List, [], If
 ghost use Rattle.depot_answers.specs.Answers.{spaced};
 ghost use Rattle.depot_model.specs.Journal.{update_in};
 ghost use Rattle.depot_world.specs.Run.{Made, first_update};
-ghost use Rattle.depot_stage.specs.Labels.{AreLabels, bytes_in, label_by, labels_with, named_in, signed_in};
+ghost use Rattle.depot_stage.specs.Labels.{AreLabels, bytes_in, label_by, labels_with, named_in, plain_in, signed_in};
 
 use crate::drafts::update_of;
 use crate::texts::Text;
@@ -12,11 +12,12 @@ use depot_schedule::{Event, Label};
 use std::alloc::Global;
 use std::collections::BTreeMap;
 
-/// What an event gave a label: its bytes, and the signed statement where it made one.
+/// What an event gave a label: its bytes, the signed statement where it made one, and whether they are plain bytes.
 #[derive(Drop)]
 pub struct Given {
     pub bytes: Bytes,
     pub signed: Option<Signed>,
+    pub plain: bool,
 }
 
 /// What each label names, in a map that keeps the labels in order. Who writes a schedule picks them, so none is hashed: a
@@ -69,18 +70,35 @@ impl Labels {
         update_of(self.signed(label)?)
     }
 
+    /// The bytes of a label, if it is plain. It takes no memory.
+    pub fn plain(&self, label: &Label) -> Option<&[u8]>
+        ensures { (labels : List Made) → AreLabels self.now.map.entries labels → option_copied result ≡ plain_in labels label.now }
+    {
+        let given = self.get(label.bytes())?;
+        match given.plain {
+            true => Some(given.bytes.as_slice()),
+            false => None,
+        }
+    }
+
     /// Gives a label what an event made, unless it names something already. The line that tells of it is answered, from the arrow on,
     /// with its LF.
     pub fn give(&mut self, label: &Label, text: Text) -> Result<Bytes, Memory>
         ensures lines { IfOk result (λ lines. lines ≡ spaced text.answer ++ 10 ∷ []) }
-        ensures labels { OnOk result ((labels : List Made) → AreLabels self.old.map.entries labels → AreLabels self.new.map.entries (labels ++ record { label = label.now; bytes = text.bytes; signed = text.signed } ∷ [])) }
+        ensures labels { OnOk result ((labels : List Made) → AreLabels self.old.map.entries labels → AreLabels self.new.map.entries (labels ++ record { label = label.now; bytes = text.bytes; signed = text.signed; plain = text.plain } ∷ [])) }
     {
         let Text {
             bytes,
             signed,
+            plain,
             answer,
         } = text;
-        self.put(label.bytes(), Given { bytes, signed })?;
+        let given = Given {
+            bytes,
+            signed,
+            plain,
+        };
+        self.put(label.bytes(), given)?;
         let mut lines = Bytes::from_slice(self.alloc, b" ")?;
         lines.push_all(answer.as_slice())?;
         lines.push_all(b"\n")?;
@@ -97,6 +115,7 @@ impl Labels {
                 Given {
                     bytes,
                     signed: None,
+                    plain: false,
                 },
             ),
             None => Ok(()),
@@ -105,7 +124,7 @@ impl Labels {
 
     /// Gives a label what an event made, unless it names something already.
     fn put(&mut self, label: &[u8], given: Given) -> Result<(), Memory>
-        ensures { OnOk result ((labels : List Made) → AreLabels self.old.map.entries labels → AreLabels self.new.map.entries (labels ++ record { label = label.now; bytes = given.bytes; signed = given.signed } ∷ [])) }
+        ensures { OnOk result ((labels : List Made) → AreLabels self.old.map.entries labels → AreLabels self.new.map.entries (labels ++ record { label = label.now; bytes = given.bytes; signed = given.signed; plain = given.plain } ∷ [])) }
     {
         if self.map.contains_key(label) {
             return Ok(());

@@ -18,8 +18,9 @@ mod scene;
 mod seen;
 mod signing;
 pub mod texts;
+mod value_frames;
 
-pub use drafts::{drafted, is_by};
+pub use drafts::{drafted, is_by, writes_of};
 pub use event_heads::event_head;
 pub use judging_events::judged;
 pub use label_table::Labels;

@@ -1,12 +1,15 @@
 //! Statements that are signed for faulty nodes, and the halves of a proof.
-ghost use Rattle.std.specs.Prelude.{◌≡◌, ◌++◌, ◌^◌, ◌<◌, IfOk, OnOk};
+ghost use Rattle.std.specs.Prelude.{◌≡◌, ◌++◌, ◌^◌, ◌<◌, ◌≤◌, length, IfOk, OnOk};
+ghost use Rattle.depot_base.specs.Shown.{IsPairKind};
 ghost use Rattle.depot_base.specs.Statement.{seq_of};
-ghost use Rattle.depot_model.specs.Bundle.{proof_frame, signed_with, statement_frame, value_frame};
+ghost use Rattle.depot_base.specs.declared.limits.TheConstants.{MOST_VALUE};
+ghost use Rattle.depot_base.specs.declared.proof.Proof.TheVariants.{Hollow, Pair};
+ghost use Rattle.depot_model.specs.Bundle.{proof_frame, signed_with, statement_frame};
 ghost use Rattle.depot_model.specs.Frames.{text_of_frame};
 ghost use Rattle.depot_model.specs.Texts.{IsProof, IsSigned, IsStatement};
 ghost use Rattle.depot_world.specs.FaultySigning.{proof_by};
 
-use depot_base::{Bytes, Kind, Memory, Proof, Signed, Statement, Value};
+use depot_base::{Bytes, Kind, Memory, Proof, Signed, Statement};
 use depot_frames::put_frame;
 use depot_model::Signer;
 use depot_update::{encode_proof, encode_signed, encode_statement};
@@ -39,13 +42,6 @@ pub fn put_signed(alloc: Global, out: &mut Bytes, signed: &Signed) -> Result<(),
     put_frame(out, 2, text.as_slice())
 }
 
-/// Writes the frame of a value. After Memory a front of it may have been written.
-pub fn put_value(out: &mut Bytes, value: &Value) -> Result<(), Memory>
-    ensures { OnOk result (out.new ≡ out.old ++ text_of_frame (value_frame value.now)) }
-{
-    put_frame(out, 3, value.bytes())
-}
-
 /// Writes the frame of a proof. After Memory a front of it may have been written.
 pub fn put_proof(alloc: Global, out: &mut Bytes, proof: &Proof) -> Result<(), Memory>
     requires { IsProof proof.now }
@@ -58,20 +54,24 @@ pub fn put_proof(alloc: Global, out: &mut Bytes, proof: &Proof) -> Result<(), Me
 /// Two signed statements as the halves of a proof of this kind.
 #[tactic(auto, using(crate::proofs::SignedLaws::halves_have_text))]
 fn proof_from(kind: Kind, first: &Signed, second: &Signed) -> Result<Proof, Memory>
+    requires kind { IsPairKind kind }
     requires first { IsSigned first.now }
     requires second { IsSigned second.now }
-    ensures made { IfOk result (λ p. p ≡ record { kind = kind; first = first.now; second = second.now }) }
+    ensures made { IfOk result (λ p. p ≡ Pair kind first.now second.now) }
     ensures fits { IfOk result IsProof }
 {
-    Ok(Proof {
+    let first = first.copy()?;
+    let second = second.copy()?;
+    Ok(Proof::Pair {
         kind,
-        first: first.copy()?,
-        second: second.copy()?,
+        first,
+        second,
     })
 }
 
 /// The same, the one with the smaller body first. Nothing is asked of whether they contradict each other.
 pub fn proof_of(kind: Kind, a: &Signed, b: &Signed) -> Result<Proof, Memory>
+    requires kind { IsPairKind kind }
     requires first { IsSigned a.now }
     requires second { IsSigned b.now }
     ensures made { IfOk result (λ p. p ≡ proof_by kind a.now b.now) }
@@ -82,4 +82,17 @@ pub fn proof_of(kind: Kind, a: &Signed, b: &Signed) -> Result<Proof, Memory>
     } else {
         proof_from(kind, a, b)
     }
+}
+
+/// A voucher and a text as a proof that the voucher is hollow. Nothing is asked of whether it is.
+#[tactic(auto, using(crate::proofs::SignedLaws::hollow_has_text))]
+pub fn hollow_of(alloc: Global, voucher: &Signed, text: &[u8]) -> Result<Proof, Memory>
+    requires voucher { IsSigned voucher.now }
+    requires short { length text.now ≤ MOST_VALUE }
+    ensures made { IfOk result (λ p. p ≡ Hollow voucher.now text.now) }
+    ensures fits { IfOk result IsProof }
+{
+    let voucher = voucher.copy()?;
+    let text = Bytes::from_slice(alloc, text)?;
+    Ok(Proof::Hollow { voucher, text })
 }

@@ -1,39 +1,47 @@
 //! What events that no node takes part in give their labels.
-ghost use Rattle.std.specs.Prelude.{◌≡◌, ◌^◌, ◌<◌, ◌++◌, None, IfOk, IfSome, codes, take, drop};
+ghost use Rattle.std.specs.Prelude.{◌≡◌, ◌^◌, ◌<◌, ◌≤◌, ◌++◌, length, IfOk, IfSome, codes, take, drop};
 ghost use Rattle.std.specs.Fmt.{decimal};
+ghost use Rattle.depot_base.specs.Shown.{IsPairKind};
+ghost use Rattle.depot_base.specs.declared.limits.TheConstants.{MOST_VALUE};
+ghost use Rattle.depot_base.specs.declared.proof.Kind.TheVariants.{NotUpdate};
+ghost use Rattle.depot_base.specs.declared.proof.Proof.TheVariants.{Hollow};
 ghost use Rattle.depot_base.specs.declared.statement.Statement.TheVariants as statement;
-ghost use Rattle.depot_model.specs.Bundle.{proof_frame};
-ghost use Rattle.depot_model.specs.Frames.{text_of_frame};
-ghost use Rattle.depot_model.specs.Lines.{name_of_kind};
-ghost use Rattle.depot_model.specs.Texts.{IsSigned, IsStatement, IsUpdate};
+ghost use Rattle.depot_model.specs.Own.{values_of};
+ghost use Rattle.depot_model.specs.Texts.{IsProof, IsSigned, IsStatement, IsUpdate};
 ghost use Rattle.depot_answers.specs.Answers.{numbered, spaced};
-ghost use Rattle.depot_world.specs.FaultySigning.{counted_bytes, flip_at, no_reference, proof_by, update_text, voucher_text};
+ghost use Rattle.depot_world.specs.FaultySigning.{counted_bytes, flip_at, no_reference, proof_by, proof_with, update_text, voucher_text};
 ghost use Rattle.depot_stage.specs.StageTexts.{IsText};
 
-use crate::signing::{proof_of, put_proof, put_signed, put_value, signed};
-use depot_base::{Bytes, Ids, Kind, Memory, NodeId, Signed, Statement, Update, Value, Voucher};
+use crate::signing::{hollow_of, proof_of, put_proof, put_signed, signed};
+use crate::value_frames::put_values;
+use depot_base::{
+    Bytes, Change, Ids, Kind, Memory, NodeId, Proof, Signed, Statement, Update, Voucher,
+};
 use depot_model::Signer;
 use depot_schedule::spelling::name_of_kind;
 use std::alloc::Global;
 
-/// What an event that no node takes part in gives its label, and what is printed behind the arrow without the space.
+/// What an event that no node takes part in gives its label, whether that is plain bytes, and what is printed behind the arrow without
+/// the space.
 #[derive(Drop)]
 pub struct Text {
     pub bytes: Bytes,
     pub signed: Option<Signed>,
+    pub plain: bool,
     pub answer: Bytes,
 }
 
-/// An update as its writer signs it: the frame of the signed statement and behind it that of the value.
+/// An update as its writer signs it: the frame of the signed statement, and behind it those of the values of these changes, each
+/// different value once.
 pub fn update<G: Signer>(
     alloc: Global,
     signer: &G,
     update: Update,
-    value: &Value,
+    changes: &[Change],
 ) -> Result<Text, Memory>
     requires fits { IsUpdate update }
     requires leaf { update.seq < 2 ^ (G.key_of signer.now).height }
-    ensures text { IfOk result (λ t. IsText t (update_text (G.signature_of signer.now) update value.now)) }
+    ensures text { IfOk result (λ t. IsText t (update_text (G.signature_of signer.now) update (values_of changes.now))) }
     ensures fits { IfOk result (λ t. IfSome t.signed IsSigned) }
     ensures update { IfOk result (λ t. IfSome t.signed (λ s. s.statement ≡ statement.Update update)) }
 {
@@ -41,10 +49,11 @@ pub fn update<G: Signer>(
     let signed = signed(alloc, signer, Statement::Update(update))?;
     let mut bytes = Bytes::new(alloc);
     put_signed(alloc, &mut bytes, &signed)?;
-    put_value(&mut bytes, value)?;
+    put_values(&mut bytes, changes)?;
     Ok(Text {
         bytes,
         signed: Some(signed),
+        plain: false,
         answer,
     })
 }
@@ -82,6 +91,7 @@ pub fn voucher<G: Signer>(
     Ok(Text {
         bytes,
         signed: Some(signed),
+        plain: false,
         answer,
     })
 }
@@ -98,29 +108,39 @@ fn numbers_and_count(alloc: Global, node: NodeId, seq: u32, count: usize) -> Res
 /// The frame of the proof that two signed statements make, the one with the smaller body first. Nothing is asked of whether they
 /// contradict each other.
 pub fn proof(alloc: Global, kind: Kind, a: &Signed, b: &Signed) -> Result<Text, Memory>
+    requires kind { IsPairKind kind }
     requires first { IsSigned a.now }
     requires second { IsSigned b.now }
-    ensures { IfOk result (λ t. IsText t (record { bytes = text_of_frame (proof_frame (proof_by kind a.now b.now)); signed = None; answer = name_of_kind kind })) }
+    ensures { IfOk result (λ t. IsText t (proof_with kind (proof_by kind a.now b.now))) }
 {
-    let bytes = proof_bytes(alloc, kind, a, b)?;
+    let proof = proof_of(kind, a, b)?;
+    framed(alloc, kind, &proof)
+}
+
+/// The frame of the proof that a voucher is hollow, for a text. Nothing is asked of whether it is.
+pub fn hollow(alloc: Global, voucher: &Signed, text: &[u8]) -> Result<Text, Memory>
+    requires voucher { IsSigned voucher.now }
+    requires short { length text.now ≤ MOST_VALUE }
+    ensures { IfOk result (λ t. IsText t (proof_with NotUpdate (Hollow voucher.now text.now))) }
+{
+    let proof = hollow_of(alloc, voucher, text)?;
+    framed(alloc, Kind::NotUpdate, &proof)
+}
+
+/// The frame of a proof, and the name of its kind.
+fn framed(alloc: Global, kind: Kind, proof: &Proof) -> Result<Text, Memory>
+    requires { IsProof proof.now }
+    ensures { IfOk result (λ t. IsText t (proof_with kind proof.now)) }
+{
+    let mut bytes = Bytes::new(alloc);
+    put_proof(alloc, &mut bytes, proof)?;
     let answer = Bytes::from_slice(alloc, name_of_kind(kind).as_bytes())?;
     Ok(Text {
         bytes,
         signed: None,
+        plain: false,
         answer,
     })
-}
-
-/// The bytes of that frame.
-fn proof_bytes(alloc: Global, kind: Kind, a: &Signed, b: &Signed) -> Result<Bytes, Memory>
-    requires first { IsSigned a.now }
-    requires second { IsSigned b.now }
-    ensures { IfOk result (λ bytes. bytes ≡ text_of_frame (proof_frame (proof_by kind a.now b.now))) }
-{
-    let proof = proof_of(kind, a, b)?;
-    let mut bytes = Bytes::new(alloc);
-    put_proof(alloc, &mut bytes, &proof)?;
-    Ok(bytes)
 }
 
 /// A reference names nothing: the label holds no bytes.
@@ -130,6 +150,7 @@ pub fn no_reference(alloc: Global) -> Result<Text, Memory>
     Ok(Text {
         bytes: Bytes::new(alloc),
         signed: None,
+        plain: false,
         answer: Bytes::from_slice(alloc, b"NoRef")?,
     })
 }
@@ -143,6 +164,7 @@ fn counted(alloc: Global, bytes: Bytes) -> Result<Text, Memory>
     Ok(Text {
         bytes,
         signed: None,
+        plain: true,
         answer: Bytes::from_vec(answer.into_bytes()),
     })
 }

@@ -1,4 +1,5 @@
 mod LackingValues
+mod OwnBodies
 mod StatementTexts
 mod CoveredItems
 mod BesidePlaces

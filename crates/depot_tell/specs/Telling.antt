@@ -1,9 +1,15 @@
--- Numbers that stand beside the accepted updates, and the leaf that an update is told as.
-use Rattle.std.specs.Prelude.{ℕ, List, [], ◌∷◌, Bool, unwrap_or, if◌then◌else◌}
+-- Numbers that stand beside the accepted updates, the leaf that an update is told as, and the hashes of values that aren't held.
+use Rattle.std.specs.Prelude.{◌≡◌, ℕ, ◌<◌, ◌^◌, List, [], ◌∷◌, Bool, unwrap_or, if◌then◌else◌}
+use Rattle.depot_base.specs.Statement.{seq_of}
+use Rattle.depot_base.specs.declared.key.PublicKey.{PublicKey}
+use Rattle.depot_base.specs.declared.statement.Statement.{Statement}
+use Rattle.depot_base.specs.declared.update.NamedValue.{NamedValue}
 use Rattle.depot_base.specs.declared.record.Record.{Record}
 use Rattle.depot_base.specs.declared.update.Update.{Update}
 use Rattle.depot_model.specs.Hello.{record_place}
-use Rattle.depot_model.specs.Texts.{id_of_update}
+use Rattle.depot_model.specs.Journal.{holds}
+use Rattle.depot_model.specs.Texts.{IsStatement, id_of_update, text_of_statement}
+use Rattle.depot_model.specs.Vouching.{put_rising}
 use Rattle.depot_tell.specs.declared.leaf_order.Leaf.{Leaf}
 
 -- the numbers that stand beside the updates that pass a test
@@ -15,3 +21,14 @@ beside test (u ∷ us) (n ∷ ns) = if test u then n ∷ beside test us ns else 
 -- an accepted update, with the place of its record
 abbrev pub leaf_in : List Record → Update → Leaf
 leaf_in J t = record { writer = t.writer; id = id_of_update t; place = unwrap_or (record_place J (id_of_update t)) 0 }
+
+-- these hashes in rising order, with those of the names whose values aren't held
+abbrev pub with_lacking : List Record → List NamedValue → List (List ℕ) → List (List ℕ)
+with_lacking J [] hashes = hashes
+with_lacking J (n ∷ ns) hashes = if holds J n.hash n.size then with_lacking J ns hashes else put_rising n.hash (with_lacking J ns hashes)
+
+-- The text is the body of this statement, and one of the key's leaves signs it.
+pub record IsLeafText (key : PublicKey) (s : Statement) (text : List ℕ) : Type 0 where
+  pub fits : IsStatement s
+  pub is : text ≡ text_of_statement s
+  pub leaf : seq_of s < 2 ^ key.height

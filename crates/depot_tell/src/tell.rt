@@ -1,11 +1,13 @@
 //! What a node tells of whom it knows convicted, and of the values that it lacks.
-ghost use Rattle.std.specs.Prelude.{◌≡◌, false, IfOk};
+ghost use Rattle.std.specs.Prelude.{◌≡◌, false, IfOk, OnOk};
+ghost use Rattle.depot_base.specs.Writes.{values_in};
 ghost use Rattle.depot_model.specs.Hello.{convicted_nodes, lacking, wanted_of};
 ghost use Rattle.depot_model.specs.Journal.{holds};
 ghost use Rattle.depot_store.specs.Holdings.{standing};
+ghost use Rattle.depot_tell.specs.Telling.{with_lacking};
 
 use depot_base::limits::MOST_WANTED;
-use depot_base::{Hash32, Ids, Memory, Nodes};
+use depot_base::{Hash32, Ids, Memory, Nodes, Write};
 use depot_model::{Past, Scheme};
 use depot_outside::Disk;
 use depot_store::Store;
@@ -41,7 +43,7 @@ pub fn wanted<D: Disk, S: Scheme>(alloc: Global, store: &Store<D, S>) -> Result<
     Ok(Ids::from_vec(first))
 }
 
-/// All these hashes, in rising order. It takes logarithmic time for each accepted update.
+/// All these hashes, in rising order. It takes logarithmic time for each value that an accepted update names.
 fn lacking<D: Disk, S: Scheme>(
     alloc: Global,
     store: &Store<D, S>,
@@ -53,12 +55,29 @@ fn lacking<D: Disk, S: Scheme>(
     let mut hashes = BTreeSet::new(alloc);
     for item in (0..graph.count()).rev() {
         let update = graph.update(item);
-        let named = update.value_named();
-        if !holds(store, &named.hash, named.size) {
-            hashes.insert(named.hash)?;
-        }
+        add_lacking(&mut hashes, store, update.writes.as_slice())?;
     }
     Ok(hashes)
+}
+
+/// Puts in those hashes of the values that writes name which aren't held in their length.
+fn add_lacking<D: Disk, S: Scheme>(
+    hashes: &mut BTreeSet<Hash32>,
+    store: &Store<D, S>,
+    writes: &[Write],
+) -> Result<(), Memory>
+    requires runs { store.now.stopped ≡ false }
+    ensures { OnOk result (hashes.new.keys ≡ with_lacking store.now.records (values_in writes.now) hashes.old.keys) }
+{
+    for i in (0..writes.len()).rev() {
+        let Some(name) = writes[i].what.named() else {
+            continue;
+        };
+        if !holds(store, &name.hash, name.size) {
+            hashes.insert(name.hash)?;
+        }
+    }
+    Ok(())
 }
 
 /// Whether a value of this hash and of so many bytes is held.

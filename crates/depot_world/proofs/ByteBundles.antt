@@ -24,8 +24,7 @@ use Rattle.depot_model.specs.Vouching.{own_vouchers, own_voucher_by, is_mine_vou
 use Rattle.depot_model.proofs.Members.{all_at, in_left, in_parts, from_map, from_filter, any_from}
 use Rattle.depot_laws.specs.Rejoin.{updates_of}
 use Rattle.depot_laws.proofs.Candidates.{behind_is}
-use Rattle.depot_laws.proofs.HeldValues.{held_is_brought, held_as_is}
-use Rattle.depot_laws.proofs.Exact.{value_with_is}
+use Rattle.depot_laws.proofs.HeldValues.{held_is_brought, value_with_is, held_as_is}
 use Rattle.depot_laws.proofs.Parcels.{candidates_for, sent_in_front, told_of_parcels}
 use Rattle.depot_laws.proofs.Splits.{given_by, flat_left, flat_gives}
 use Rattle.depot_laws.proofs.Worlds.{giver_in}
@@ -53,7 +52,7 @@ voucher_holds : (J : List Record) (v : Voucher) → AllHold J → IsIn v (own_vo
 voucher_holds J v hold on = read_holds own_voucher_by (λ (w : Voucher). OnlyBytes (text_of_statement (statement.Voucher w))) voucher_is J v hold on
 
 value_is : (r : Record) → HoldsBytes r → AllByRecursion OnlyBytes (value_by r)
-value_is (OwnPut u value) holds = (holds.1, tt)
+value_is (OwnPut u values) holds = holds.1
 value_is (Held value) holds = (holds, tt)
 value_is r holds = tt
 
@@ -72,7 +71,7 @@ one_signed s t only (inl same) = subst (λ (x : Signed). OnlyBytes (text_of_sign
 one_signed s t only (inr never) = absurd never
 
 signed_by_holds : (sign : Signs) (r : Record) (s : Signed) → SignsBytes sign → HoldsBytes r → IsIn s (signed_by sign r) → OnlyBytes (text_of_signed s)
-signed_by_holds sign (OwnPut u value) s signs holds on = one_signed s (signed_with sign (statement.Update u)) (only_signed_with sign (statement.Update u) signs (subst OnlyBytes (sym (update_statement u)) holds.0)) on
+signed_by_holds sign (OwnPut u values) s signs holds on = one_signed s (signed_with sign (statement.Update u)) (only_signed_with sign (statement.Update u) signs (subst OnlyBytes (sym (update_statement u)) holds.0)) on
 signed_by_holds sign (OwnVoucher v) s signs holds on = one_signed s (signed_with sign (statement.Voucher v)) (only_signed_with sign (statement.Voucher v) signs holds) on
 signed_by_holds sign (Foreign t) s signs holds on = one_signed s t holds on
 signed_by_holds sign (Birth node h) s signs holds never = absurd never

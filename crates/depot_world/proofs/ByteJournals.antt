@@ -7,6 +7,7 @@ use Rattle.depot_base.specs.declared.check.Check.{Check}
 use Rattle.depot_base.specs.declared.check.Check.TheVariants as check
 use Rattle.depot_base.specs.declared.update.Update.{Update}
 use Rattle.depot_base.specs.declared.proof.Kind.{Kind}
+use Rattle.depot_base.specs.declared.proof.Proof.TheVariants.{Pair}
 use Rattle.depot_base.specs.declared.record.Record.{Record}
 use Rattle.depot_base.specs.declared.record.Record.TheVariants.{Birth, OwnPut, OwnVoucher, Foreign, Conviction, Held}
 use Rattle.depot_base.specs.declared.statement.Statement.{Statement}
@@ -25,12 +26,12 @@ use Rattle.depot_laws.proofs.Splits.{given_by}
 use Rattle.depot_laws.proofs.Worlds.{giver_in}
 use Rattle.depot_base.proofs.GeneralLaws.{all_both}
 use Rattle.depot_world.proofs.OnlyBytes.{OnlyBytes}
-use Rattle.depot_world.proofs.ByteTexts.{only_proof, statement_in_signed, update_statement}
+use Rattle.depot_world.proofs.ByteTexts.{only_pair, statement_in_signed, update_statement}
 
 -- the texts in a record are bytes
 abbrev pub HoldsBytes : Record → Type 0
 HoldsBytes (Birth node roster) = Unit {0}
-HoldsBytes (OwnPut u value) = OnlyBytes (text_of_update u) × OnlyBytes value
+HoldsBytes (OwnPut u values) = OnlyBytes (text_of_update u) × AllByRecursion OnlyBytes values
 HoldsBytes (OwnVoucher v) = OnlyBytes (text_of_statement (statement.Voucher v))
 HoldsBytes (Foreign s) = OnlyBytes (text_of_signed s)
 HoldsBytes (Conviction p) = OnlyBytes (text_of_proof p)
@@ -61,7 +62,7 @@ update_is (statement.Update u) only = (subst OnlyBytes (update_statement u) only
 update_is (statement.Voucher v) only = tt
 
 accepted_is : (r : Record) → HoldsBytes r → AllByRecursion IsByteUpdate (accepted_by r)
-accepted_is (OwnPut u value) holds = (holds.0, tt)
+accepted_is (OwnPut u values) holds = (holds.0, tt)
 accepted_is (Foreign s) holds = update_is s.statement (statement_in_signed s holds)
 accepted_is r holds = tt
 
@@ -80,9 +81,9 @@ GivesBytes (given_value v) = OnlyBytes v
 proof_holds : (k : Kind) (a b : Signed) → OnlyBytes (text_of_signed a) → OnlyBytes (text_of_signed b) → OnlyBytes (text_of_proof (proof_of k a b))
 unfolding proof_of
 proof_holds k a b a_holds b_holds = by_order (is_below a.body b.body) where
-  by_order : (x : Bool) → OnlyBytes (text_of_proof (cond x (record { kind = k; first = a; second = b }) (record { kind = k; first = b; second = a })))
-  by_order true = only_proof (record { kind = k; first = a; second = b }) a_holds b_holds
-  by_order false = only_proof (record { kind = k; first = b; second = a }) b_holds a_holds
+  by_order : (x : Bool) → OnlyBytes (text_of_proof (cond x (Pair k a b) (Pair k b a)))
+  by_order true = only_pair k a b a_holds b_holds
+  by_order false = only_pair k b a b_holds a_holds
 
 due_holds : (J : List Record) (s : Signed) (o : Option (Signed × Kind)) → AllHold J → OnlyBytes (text_of_signed s) → ((by : Signed × Kind) → o ≡ Some by → IsIn by.0 (foreign J)) → AllHold (due J s o)
 unfolding due

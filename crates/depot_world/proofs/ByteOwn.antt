@@ -1,29 +1,35 @@
 -- What a node writes itself is made of bytes: its updates, its vouchers and its hellos.
-use Rattle.std.proofs.Common.{ℕ, suc, not, List, [], ◌∷◌, length, map, refl, subst, inl, inr}
-use Rattle.std.specs.List.{flat_map}
+use Rattle.std.proofs.Common.{ℕ, suc, not, List, [], ◌∷◌, Option, Some, None, length, map, refl, subst, inl, inr}
+use Rattle.std.specs.List.{AllByRecursion, flat_map}
+use Rattle.std.specs.Option.{option_map_or}
 use Rattle.std.specs.Prelude.{filter}
+use Rattle.sha2.specs.Sha256.{sha256}
 use Rattle.depot_base.specs.Zeros.{zeros}
 use Rattle.depot_base.specs.declared.update.Update.{Update}
 use Rattle.depot_base.specs.declared.update.Dep.{Dep}
+use Rattle.depot_base.specs.Writes.{value_in, value_in_change}
+use Rattle.depot_base.specs.declared.write.Change.{Change}
+use Rattle.depot_base.specs.declared.write.Wrote.TheVariants.{Put, Gone}
 use Rattle.depot_base.specs.declared.record.Record.{Record}
 use Rattle.depot_base.specs.declared.statement.Statement.{Statement}
 use Rattle.depot_base.specs.declared.statement.Statement.TheVariants as statement
 use Rattle.depot_model.specs.declared.hello.HelloLeaf.{HelloLeaf}
 use Rattle.depot_model.specs.Checks.{Setting}
-use Rattle.depot_model.specs.Contents.{NamedValue, values_named, value_named}
+use Rattle.depot_model.specs.Contents.{NamedValue, values_named}
 use Rattle.depot_model.specs.Hello.{hello_of, text_of_hello, lacking, named_leaf}
 use Rattle.depot_model.specs.History.{history_hash, history_text, leaves_of, by_id}
 use Rattle.depot_model.specs.Journal.{accepted, own, last_own, last_own_behind, holds}
 use Rattle.depot_model.specs.Lists.{IsIn}
-use Rattle.depot_model.specs.Own.{next_own, next_entries, entry_of}
+use Rattle.depot_model.specs.Own.{next_own, next_entries, entry_of, write_of, values_of}
 use Rattle.depot_model.specs.Texts.{text_of_update, text_of_roster, hash_of_roster, id_of_update}
 use Rattle.depot_model.specs.Vouching.{rising, groups_of, numbered, new_vouchers, records_of}
-use Rattle.depot_model.proofs.Members.{from_map, from_filter, from_take}
+use Rattle.depot_base.proofs.GeneralLaws.{all_both}
+use Rattle.depot_model.proofs.Members.{all_at, from_map, from_filter, from_take}
 use Rattle.depot_laws.proofs.Groups.{from_groups, from_rising}
 use Rattle.depot_laws.proofs.Splits.{given_by}
 use Rattle.depot_laws.proofs.Worlds.{giver_in}
 use Rattle.depot_world.proofs.OnlyBytes.{OnlyBytes, only_sha256, only_zeros}
-use Rattle.depot_world.proofs.ByteTexts.{only_id, only_update, only_voucher, only_hello, hash_in_update}
+use Rattle.depot_world.proofs.ByteTexts.{only_id, only_update, only_voucher, only_hello, AreByteNames, IsByteWrite, hashes_in_update}
 use Rattle.depot_world.proofs.ByteJournals.{AllHold, accepted_holds}
 
 -- ---- updates
@@ -41,12 +47,26 @@ pub only_history : (us : List Update) → OnlyBytes (history_hash us)
 unfolding history_hash
 only_history us = only_sha256 (history_text us)
 
-pub only_next_own : (me : ℕ) (J : List Record) (key value : List ℕ) → OnlyBytes key → OnlyBytes (text_of_update (next_own me J key value))
+-- what changes bring is bytes: their keys and their values
+abbrev pub IsByteChange : Change → Type 0
+IsByteChange c = OnlyBytes c.key × AllByRecursion OnlyBytes (value_in_change c)
+
+pub only_change_writes : (cs : List Change) → AllByRecursion IsByteChange cs → AllByRecursion IsByteWrite (map write_of cs)
+only_change_writes [] each = tt
+only_change_writes (c ∷ cs) each = ((each.0.0, by_value c.value), only_change_writes cs each.1) where
+  by_value : (o : Option (List ℕ)) → AreByteNames (value_in (option_map_or (λ v. Put (sha256 v) (length v)) o Gone))
+  by_value None = tt
+  by_value (Some v) = (only_sha256 v, tt)
+
+pub only_change_values : (cs : List Change) → AllByRecursion IsByteChange cs → AllByRecursion OnlyBytes (values_of cs)
+only_change_values [] each = tt
+only_change_values (c ∷ cs) each = all_both OnlyBytes (value_in_change c) (values_of cs) each.0.1 (only_change_values cs each.1)
+
+pub only_next_own : (me : ℕ) (J : List Record) (changes : List Change) → AllByRecursion IsByteChange changes → OnlyBytes (text_of_update (next_own me J changes))
 unfolding next_own
-only_next_own me J key value only = only_update (next_own me J key value) (record {
+only_next_own me J changes only = only_update (next_own me J changes) (record {
   prev = only_last_own zeros (own J) (only_zeros 32);
-  key = only;
-  value_hash = only_sha256 value;
+  writes = only_change_writes changes only;
   ids = only_entries (next_entries me (accepted J) (last_own J));
   history = only_history (accepted J);
 })
@@ -65,10 +85,9 @@ only_new_vouchers me J ids each = only_numbered me (length (own J)) (groups_of 2
 -- ---- hellos
 
 named_hash : (J : List Record) (n : NamedValue) → AllHold J → IsIn n (flat_map values_named (accepted J)) → OnlyBytes n.hash
-named_hash J n hold on = let g = given_by values_named n (accepted J) on in told g.by (hash_in_update g.by (accepted_holds J g.by hold (giver_in values_named n (accepted J) g))) g.given where
-  told : (u : Update) → OnlyBytes (value_named u).hash → IsIn n (values_named u) → OnlyBytes n.hash
-  told u only (inl same) = subst (λ (x : NamedValue). OnlyBytes x.hash) same only
-  told u only (inr never) = absurd never
+named_hash J n hold on =
+    let g = given_by values_named n (accepted J) on in
+    all_at (λ (x : NamedValue). OnlyBytes x.hash) (values_named g.by) n (hashes_in_update g.by (accepted_holds J g.by hold (giver_in values_named n (accepted J) g))) g.given
 
 only_lacking : (J : List Record) (h : List ℕ) → AllHold J → IsIn h (lacking J) → OnlyBytes h
 unfolding lacking

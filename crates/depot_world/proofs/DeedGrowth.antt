@@ -1,11 +1,12 @@
 -- Whatever a correct node does, its journal keeps its records.
 use Rattle.std.proofs.Common.{ℕ, List, [], ◌∷◌, ◌++◌, Option, Some, None, refl}
 use Rattle.depot_base.specs.declared.record.Record.TheVariants.{OwnPut}
+use Rattle.depot_base.specs.declared.write.Change.{Change}
 use Rattle.depot_model.specs.Bundle.{Signs, BundleAnswer, bundled, bad_hello, other_roster, limited, bundle_answer}
 use Rattle.depot_model.specs.Checks.{Setting}
 use Rattle.depot_model.specs.Feeding.{feeding_from}
 use Rattle.depot_model.specs.Limits.{Limit, limit_of_put}
-use Rattle.depot_model.specs.Own.{next_own}
+use Rattle.depot_model.specs.Own.{next_own, values_of}
 use Rattle.depot_model.specs.Vouching.{records_of}
 use Rattle.depot_model.specs.World.{Correct}
 use Rattle.depot_model.proofs.FeedGrowth.{IsGrown, grown_none, feed_grows}
@@ -13,15 +14,15 @@ use Rattle.depot_answers.specs.Answers.{text_of_limit, text_of_put}
 use Rattle.depot_world.specs.Deeds.{idle, grown, put_by, get_by, hello_by, bundle_with, bundle_by, give_by, restart_by}
 use Rattle.depot_world.specs.ScheduleStops.{Deed}
 
-pub put_grows : (here : Setting) (c : Correct) (key value : List ℕ) → IsGrown c.journal (put_by here c key value).journal
+pub put_grows : (here : Setting) (c : Correct) (changes : List Change) → IsGrown c.journal (put_by here c changes).journal
 unfolding put_by
-put_grows here c key value = by_limit (limit_of_put here c.journal key value) where
+put_grows here c changes = by_limit (limit_of_put here c.journal changes) where
   by_limit : (o : Option Limit) → IsGrown c.journal (elim o as (λ x. Deed) [
     | Some limit ↦ idle c (text_of_limit limit)
-    | None ↦ grown c (c.journal ++ OwnPut (next_own c.node c.journal key value) value ∷ []) (text_of_put (next_own c.node c.journal key value)) []
+    | None ↦ grown c (c.journal ++ OwnPut (next_own c.node c.journal changes) (values_of changes) ∷ []) (text_of_put (next_own c.node c.journal changes)) []
   ]).journal
   by_limit (Some limit) = grown_none c.journal
-  by_limit None = record { more = OwnPut (next_own c.node c.journal key value) value ∷ []; is = refl }
+  by_limit None = record { more = OwnPut (next_own c.node c.journal changes) (values_of changes) ∷ []; is = refl }
 
 pub get_grows : (c : Correct) (key : List ℕ) → IsGrown c.journal (get_by c key).journal
 unfolding get_by

@@ -1,27 +1,29 @@
 -- What the events of correct nodes do is as a world asks.
 use Rattle.std.proofs.Common.{◌≡◌, ℕ, ◌<◌, ◌≤◌, Bool, true, false, not, cond, List, [], ◌∷◌, ◌++◌, take, length, map, Option, Some, None, Result, Ok, Err, refl, sym, ap, subst, inl, inr, arith}
+use Rattle.std.specs.List.{AllByRecursion}
 use Rattle.std.specs.Str.{bytes_eq}
 use Rattle.std.proofs.Math.Seq.{take-length}
 use Rattle.depot_base.specs.Format.{whole}
-use Rattle.depot_base.specs.Sized.{IsKey, IsValue}
 use Rattle.depot_base.specs.declared.record.Record.{Record}
 use Rattle.depot_base.specs.declared.record.Record.TheVariants.{OwnPut}
 use Rattle.depot_base.specs.declared.update.Update.{Update}
+use Rattle.depot_base.specs.declared.write.Change.{Change}
 use Rattle.depot_model.specs.declared.hello.Hello.{Hello}
 use Rattle.depot_model.specs.Bundle.{Signs, Bundle, bundled, bad_hello, other_roster, sent_for, unvouched, bundle_of, bundled_within, answer_to_hello, bundle_answer}
+use Rattle.depot_model.specs.Changes.{AreChanges}
 use Rattle.depot_model.specs.Checks.{Setting}
 use Rattle.depot_model.specs.Feeding.{feeding_from, feed_of}
 use Rattle.depot_model.specs.Hello.{hello, hello_of, text_of_hello}
-use Rattle.depot_model.specs.Journal.{accepted}
+use Rattle.depot_model.specs.Journal.{accepted, seen_under}
 use Rattle.depot_model.specs.Lawful.{IsLawful, is_empty}
 use Rattle.depot_model.specs.Limits.{Limit, limit_of_own, limit_of_put}
 use Rattle.depot_model.specs.Lists.{IsIn}
 use Rattle.depot_model.specs.Order.{AreLatestIn}
-use Rattle.depot_model.specs.Own.{next_own}
+use Rattle.depot_model.specs.Own.{next_own, values_of}
 use Rattle.depot_model.specs.Roster.{has_node}
 use Rattle.depot_model.specs.Texts.{hash_of_roster}
 use Rattle.depot_model.specs.Vouching.{records_of, limit_of_vouchers}
-use Rattle.depot_model.specs.World.{Correct, Read, Shown, IsRead, NeverFall, value_under}
+use Rattle.depot_model.specs.World.{Correct, Read, Shown, IsRead, NeverFall}
 use Rattle.depot_model.proofs.LimitLaws.{unlimited_from}
 use Rattle.depot_model.proofs.Members.{from_map, in_pushed, all_push}
 use Rattle.depot_laws.proofs.Causes.{lawful_is_causal}
@@ -31,7 +33,7 @@ use Rattle.depot_laws.proofs.OwnTexts.{own_put_is_lawful}
 use Rattle.depot_answers.specs.Answers.{text_of_limit, text_of_put}
 use Rattle.depot_base.proofs.GeneralLaws.{all_both}
 use Rattle.depot_world.specs.Deeds.{idle, grown, put_by, shown_of, read_of, get_by, hello_by, bundle_with, bundle_by, fed_by, give_by, restart_by}
-use Rattle.depot_world.specs.ShownLatest.{latest_in}
+use Rattle.depot_model.specs.LatestList.{latest_in}
 use Rattle.depot_world.specs.ScheduleStops.{Deed}
 use Rattle.depot_world.specs.Suite.{Stage, stands_on}
 use Rattle.depot_world.proofs.OnlyBytes.{OnlyBytes, by_places}
@@ -39,7 +41,7 @@ use Rattle.depot_world.proofs.ByteBundles.{unvouched_are_foreign, bundle_voucher
 use Rattle.depot_model.proofs.FeedGrowth.{IsGrown, grown_none}
 use Rattle.depot_world.proofs.ByteFeeds.{feed_grows}
 use Rattle.depot_world.proofs.ByteJournals.{HoldsBytes, AllHold}
-use Rattle.depot_world.proofs.ByteOwn.{only_next_own, only_own_hello}
+use Rattle.depot_world.proofs.ByteOwn.{IsByteChange, only_change_values, only_next_own, only_own_hello}
 use Rattle.depot_world.proofs.ByteSignatures.{SignsBytes}
 use Rattle.depot_world.proofs.GoodNodes.{IsGoodNode, IsGoodDeed, read_grows}
 use Rattle.depot_world.proofs.LatestWrites.{latest_are_listed}
@@ -61,9 +63,9 @@ more_is_good stage c d g e same lawful holds only = record {
 
 -- ---- puts
 
-pub put_is_good : (stage : Stage) (c : Correct) (key value : List ℕ) → IsGoodNode stage c → IsKey key → IsValue value → OnlyBytes key → OnlyBytes value → IsGoodDeed stage c (put_by (stands_on stage c.node) c key value)
+pub put_is_good : (stage : Stage) (c : Correct) (changes : List Change) → IsGoodNode stage c → AreChanges changes → AllByRecursion IsByteChange changes → IsGoodDeed stage c (put_by (stands_on stage c.node) c changes)
 unfolding put_by limit_of_put
-put_is_good stage c key value g is_key is_value only_key only_value = by_limit (limit_of_own here J u new) refl where
+put_is_good stage c changes g are only = by_limit (limit_of_own here J u new) refl where
   here : Setting
   here = stands_on stage c.node
 
@@ -71,17 +73,17 @@ put_is_good stage c key value g is_key is_value only_key only_value = by_limit (
   J = c.journal
 
   u : Update
-  u = next_own c.node J key value
+  u = next_own c.node J changes
 
   new : List Record
-  new = OwnPut u value ∷ []
+  new = OwnPut u (values_of changes) ∷ []
 
   put_lawful : limit_of_own here J u new ≡ None → IsLawful here (J ++ new)
-  put_lawful is = let free = unlimited_from here J u new is in own_put_is_lawful here J u key value g.lawful g.begun is_key is_value refl free.fresh free.tips free.leaf free.room
+  put_lawful is = let free = unlimited_from here J u new is in own_put_is_lawful here J u changes g.lawful g.begun are refl free.fresh free.tips free.leaf free.room
 
   by_limit : (o : Option Limit) → limit_of_own here J u new ≡ o → IsGoodDeed stage c (elim o as (λ x. Deed) [ Some limit ↦ idle c (text_of_limit limit) | None ↦ grown c (J ++ new) (text_of_put u) [] ])
   by_limit (Some limit) is = same_is_good stage c 0 _ [] g tt
-  by_limit None is = more_is_good stage c (grown c (J ++ new) (text_of_put u) []) g (record { more = new; is = refl }) refl (put_lawful is) (all_both HoldsBytes J new g.holds ((only_next_own c.node J key value only_key, only_value), tt)) tt
+  by_limit None is = more_is_good stage c (grown c (J ++ new) (text_of_put u) []) g (record { more = new; is = refl }) refl (put_lawful is) (all_both HoldsBytes J new g.holds ((only_next_own c.node J changes only, only_change_values changes only), tt)) tt
 
 -- ---- reads
 
@@ -94,18 +96,18 @@ read_is here J key l some =
       within = omega arith;
       latest = subst (λ (K : List Record). AreLatestIn key (accepted K) (map (λ (s : Shown). s.update) (shown_of J key))) (sym whole_J)
           (subst (λ (vs : List Update). AreLatestIn key (accepted J) vs) (sym (updates_shown us)) (latest_are_listed key (accepted J) (lawful_is_causal here J l)));
-      values = λ s on. subst (λ (K : List Record). s.value ≡ value_under K key s.update) (sym whole_J) (told s (from_map (λ (u : Update). record { update = u; value = value_under J key u }) s us on));
+      values = λ s on. subst (λ (K : List Record). s.seen ≡ seen_under K key s.update) (sym whole_J) (told s (from_map (λ (u : Update). record { update = u; seen = seen_under J key u }) s us on));
     } where
       long : (K : List Record) → is_empty K ≡ false → 0 < length K
       long [] e = absurd cc
       long (r ∷ K) e = omega arith
 
-      updates_shown : (us : List Update) → map (λ (s : Shown). s.update) (map (λ (u : Update). record { update = u; value = value_under J key u }) us) ≡ us
+      updates_shown : (us : List Update) → map (λ (s : Shown). s.update) (map (λ (u : Update). record { update = u; seen = seen_under J key u }) us) ≡ us
       updates_shown [] = refl
       updates_shown (u ∷ us) = ap (λ (vs : List Update). u ∷ vs) (updates_shown us)
 
-      told : (s : Shown) → (u : Update) × (IsIn u (latest_in key (accepted J)) × (record { update = u; value = value_under J key u } ≡ s)) → s.value ≡ value_under J key s.update
-      told s t = subst (λ (x : Shown). x.value ≡ value_under J key x.update) t.1.1 refl
+      told : (s : Shown) → (u : Update) × (IsIn u (latest_in key (accepted J)) × (record { update = u; seen = seen_under J key u } ≡ s)) → s.seen ≡ seen_under J key s.update
+      told s t = subst (λ (x : Shown). x.seen ≡ seen_under J key x.update) t.1.1 refl
 
 -- a read that is made now falls behind none before it
 pub never_falls : (rs : List Read) (r : Read) → NeverFall rs → ((s : Read) → IsIn s rs → s.at ≤ r.at) → NeverFall (rs ++ r ∷ [])

@@ -1,28 +1,35 @@
 -- Each event of a schedule keeps a run that makes a world.
 use Rattle.std.proofs.Common.{◌≡◌, ℕ, List, [], ◌∷◌, ◌++◌, take, drop, Option, Some, None, Result, Ok, Err, codes, refl, subst, inl, inr}
+use Rattle.std.specs.List.{AllByRecursion}
+use Rattle.depot_base.specs.Writes.{one_change}
 use Rattle.depot_base.specs.declared.proof.Proof.{Proof}
 use Rattle.depot_base.specs.declared.update.Update.{Update}
+use Rattle.depot_base.specs.declared.write.Change.{Change}
 use Rattle.depot_base.proofs.Combined.{whole_takes}
 use Rattle.depot_model.specs.Bundle.{Signs}
 use Rattle.depot_model.specs.Judgement.{first_failed_point, verdict_of}
 use Rattle.depot_model.specs.Lines.{text_of_point, text_of_verdict}
+use Rattle.depot_model.specs.Own.{values_of}
 use Rattle.depot_model.specs.Texts.{IsProof, proof}
 use Rattle.depot_model.specs.declared.judgement.JudgeError.{JudgeError}
 use Rattle.depot_model.proofs.Members.{in_pushed}
 use Rattle.depot_model.proofs.TextLaws.{proof_lawful}
 use Rattle.depot_schedule.specs.declared.event.Event.{Event}
 use Rattle.depot_schedule.specs.declared.event.Event.TheVariants as event
+use Rattle.depot_schedule.specs.declared.event.HistoryWord.{HistoryWord}
+use Rattle.depot_schedule.specs.declared.event.Ref.{Ref}
 use Rattle.depot_answers.specs.Answers.{spaced}
 use Rattle.depot_world.specs.Deeds.{put_by, get_by, hello_by, bundle_by, give_by, restart_by}
 use Rattle.depot_world.specs.Run.{Station, Run, station_in, bytes_of, seen_with, with_station}
-use Rattle.depot_world.specs.FaultySigning.{counted_bytes, no_reference, update_text, updated, vouched_text, proof_text, proof_in, flip_at}
+use Rattle.depot_world.specs.FaultySigning.{counted_bytes, no_reference, update_text, updated, vouched_text, proof_text, hollow_text, proof_in, flip_at}
 use Rattle.depot_world.specs.ScheduleStops.{Deed}
 use Rattle.depot_world.specs.Suite.{Stage, stands_on, signs_on}
-use Rattle.depot_world.specs.Transcript.{Done, armed_at, done_by_update, judged_with, done}
+use Rattle.depot_world.specs.Transcript.{Done, armed_at, done_by_update, done_by_changes, judged_with, done}
 use Rattle.depot_world.proofs.OnlyBytes.{OnlyBytes, by_places, only_both, only_take, only_drop}
-use Rattle.depot_world.proofs.ByteLabels.{IsByteUpdate, bytes_hold, updated_holds, none_holds, counted_holds, update_text_holds, vouched_text_holds, proof_text_holds, flip_holds}
+use Rattle.depot_world.proofs.ByteLabels.{IsByteUpdate, bytes_hold, updated_holds, none_holds, counted_holds, update_text_holds, vouched_text_holds, proof_text_holds, hollow_text_holds, flip_holds}
+use Rattle.depot_world.proofs.ByteOwn.{only_change_values}
 use Rattle.depot_world.proofs.ByteSignatures.{SignsBytes}
-use Rattle.depot_world.proofs.EventFacts.{BringsBytes}
+use Rattle.depot_world.proofs.EventFacts.{AreByteChanges, IsByteHistory, BringsBytes}
 use Rattle.depot_world.proofs.GoodDeeds.{put_is_good, get_is_good, hello_is_good, bundle_is_good, give_is_good, restart_is_good}
 use Rattle.depot_world.proofs.GoodNodes.{IsGoodDeed}
 use Rattle.depot_world.proofs.GoodRuns.{IsGoodRun, IsJudged, found_is, station_keeps, text_keeps, seen_keeps, node_keeps}
@@ -39,10 +46,10 @@ armed_keeps stage run node call image g = by_station (station_in run.stations no
 
 -- ---- faulty updates, and the judge
 
-update_keeps : (stage : Stage) (sign : Signs) (run : Run) (label value : List ℕ) (o : Option Update) → IsGoodRun stage run → SignsBytes sign → OnlyBytes value → IsByteUpdate o → IsGoodRun stage (done_by_update sign run label value o).run
-update_keeps stage sign run label value None g signs value_only only = text_keeps stage run label no_reference g none_holds
-update_keeps stage sign run label value (Some u) g signs value_only only =
-    text_keeps stage (record run { seen = seen_with run.seen (u ∷ []) }) label (update_text sign u value) (seen_keeps stage run (seen_with run.seen (u ∷ [])) g) (update_text_holds sign u value signs only value_only)
+update_keeps : (stage : Stage) (sign : Signs) (run : Run) (label : List ℕ) (values : List (List ℕ)) (o : Option Update) → IsGoodRun stage run → SignsBytes sign → AllByRecursion OnlyBytes values → IsByteUpdate o → IsGoodRun stage (done_by_update sign run label values o).run
+update_keeps stage sign run label values None g signs values_only only = text_keeps stage run label no_reference g none_holds
+update_keeps stage sign run label values (Some u) g signs values_only only =
+    text_keeps stage (record run { seen = seen_with run.seen (u ∷ []) }) label (update_text sign u values) (seen_keeps stage run (seen_with run.seen (u ∷ [])) g) (update_text_holds sign u values signs only values_only)
 
 verdict_keeps : (stage : Stage) (run : Run) (p : Proof) → IsGoodRun stage run → IsJudged stage p → IsGoodRun stage (record run { judged = run.judged ++ p ∷ [] })
 verdict_keeps stage run p g is = record {
@@ -72,11 +79,20 @@ judge_keeps stage run label g =
 at_number : (stage : Stage) (s : Station) (node : ℕ) (deed : ℕ → Deed) → s.correct.node ≡ node → IsGoodDeed stage s.correct (deed s.correct.node) → IsGoodDeed stage s.correct (deed node)
 at_number stage s node deed same good = subst (λ (n : ℕ). IsGoodDeed stage s.correct (deed n)) same good
 
+-- a faulty update that writes what these changes say
+changes_keep : (stage : Stage) (run : Run) (label : List ℕ) (writer seq clock : ℕ) (prev : Option Ref) (changes : List Change) (deps : List Ref) (history : HistoryWord) → SignsBytes (signs_on stage writer) → AreByteChanges changes → IsByteHistory history → IsGoodRun stage run
+    → IsGoodRun stage (done_by_changes stage run label writer seq clock prev changes deps history).run
+changes_keep stage run label writer seq clock prev changes deps history signs only given g =
+    update_keeps stage (signs_on stage writer) run label (values_of changes) (updated (signs_on stage writer) run writer seq clock prev changes deps history) g signs (only_change_values changes only.bytes)
+    (updated_holds (signs_on stage writer) run writer seq clock prev changes deps history only.bytes given)
+
 -- each event, on a stage whose members sign bytes
 pub event_keeps : (stage : Stage) (run : Run) (e : Event) → ((node : ℕ) → SignsBytes (signs_on stage node)) → BringsBytes e → IsGoodRun stage run → IsGoodRun stage (done stage run e).run
 unfolding done
-event_keeps stage run (event.Put node key value) signs only g = node_keeps stage run node None (λ s. put_by (stands_on stage node) s.correct key value) g
-    (λ s same good. at_number stage s node (λ n. put_by (stands_on stage n) s.correct key value) same (put_is_good stage s.correct key value good only.0.sized only.1.sized only.0.only only.1.only))
+event_keeps stage run (event.Put node key value) signs only g = node_keeps stage run node None (λ s. put_by (stands_on stage node) s.correct (one_change key value)) g
+    (λ s same good. at_number stage s node (λ n. put_by (stands_on stage n) s.correct (one_change key value)) same (put_is_good stage s.correct (one_change key value) good only.are only.bytes))
+event_keeps stage run (event.Puts node changes) signs only g = node_keeps stage run node None (λ s. put_by (stands_on stage node) s.correct changes) g
+    (λ s same good. at_number stage s node (λ n. put_by (stands_on stage n) s.correct changes) same (put_is_good stage s.correct changes good only.are only.bytes))
 event_keeps stage run (event.Get node key) signs only g = node_keeps stage run node None (λ s. get_by s.correct key) g (λ s same good. get_is_good stage s.correct key good)
 event_keeps stage run (event.Hello node label) signs only g = node_keeps stage run node (Some label) (λ s. hello_by (stands_on stage node) s.correct) g
     (λ s same good. at_number stage s node (λ n. hello_by (stands_on stage n) s.correct) same (hello_is_good stage s.correct good))
@@ -86,10 +102,11 @@ event_keeps stage run (event.Give node label size) signs only g = node_keeps sta
     (λ s same good. at_number stage s node (λ n. give_by (stands_on stage n) s.correct (bytes_of run label)) same (give_is_good stage s.correct (bytes_of run label) good (bytes_hold run label g.labels)))
 event_keeps stage run (event.Restart node) signs only g = node_keeps stage run node None (λ s. restart_by s.correct) g (λ s same good. restart_is_good stage s.correct good)
 event_keeps stage run (event.Update label writer seq clock prev key value deps history) signs only g =
-    update_keeps stage (signs_on stage writer) run label value (updated (signs_on stage writer) run writer seq clock prev key value deps history) g (signs writer) only.1.0.only
-    (updated_holds (signs_on stage writer) run writer seq clock prev key value deps history only.0.only only.1.1)
+    changes_keep stage run label writer seq clock prev (one_change key value) deps history (signs writer) only.0 only.1 g
+event_keeps stage run (event.Updates label writer seq clock prev changes deps history) signs only g = changes_keep stage run label writer seq clock prev changes deps history (signs writer) only.0 only.1 g
 event_keeps stage run (event.Voucher label writer seq refs) signs only g = text_keeps stage run label (vouched_text (signs_on stage writer) run writer seq refs) g (vouched_text_holds (signs_on stage writer) run writer seq refs (signs writer))
 event_keeps stage run (event.Proof label kind first second) signs only g = text_keeps stage run label (proof_text run kind first second) g (proof_text_holds run kind first second g.labels)
+event_keeps stage run (event.Hollow label voucher plain) signs only g = text_keeps stage run label (hollow_text run voucher plain) g (hollow_text_holds run voucher plain g.labels)
 event_keeps stage run (event.Judge label) signs only g = judge_keeps stage run label g
 event_keeps stage run (event.Raw label bytes) signs only g = text_keeps stage run label (counted_bytes bytes) g (counted_holds bytes only)
 event_keeps stage run (event.Cut label source start count) signs only g =

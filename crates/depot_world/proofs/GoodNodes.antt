@@ -3,12 +3,12 @@ use Rattle.std.proofs.Common.{◌≡◌, ◌-◌, Bool, true, false, cond, leb, 
 use Rattle.std.proofs.lemmas.List.{take-append-drop, take-append-le}
 use Rattle.std.proofs.Math.Seq.{drop-append_seam}
 use Rattle.depot_base.specs.declared.record.Record.{Record}
-use Rattle.depot_model.specs.Journal.{accepted}
+use Rattle.depot_model.specs.Journal.{accepted, seen_under}
 use Rattle.depot_model.specs.Lawful.{IsLawful, is_empty}
 use Rattle.depot_model.specs.Lists.{IsIn}
 use Rattle.depot_model.specs.Order.{AreLatestIn}
 use Rattle.depot_model.specs.Roster.{has_node}
-use Rattle.depot_model.specs.World.{Correct, Read, Shown, IsRead, NeverFall, value_under}
+use Rattle.depot_model.specs.World.{Correct, Read, Shown, IsRead, NeverFall}
 use Rattle.depot_laws.proofs.Splits.{lawful_front}
 use Rattle.depot_laws.proofs.Tests.{all_left}
 use Rattle.depot_world.specs.Run.{Armed, Station}
@@ -50,7 +50,7 @@ read_grows J K r e is =
       begun = is.begun;
       within = omega (arith, is.within, ap length e.is, length-append J e.more);
       latest = subst (λ (x : List Record). AreLatestIn r.key (accepted x) (map (λ (s : Shown). s.update) r.answer)) (sym same) is.latest;
-      values = λ s on. subst (λ (x : List Record). s.value ≡ value_under x r.key s.update) (sym same) (is.values s on);
+      values = λ s on. subst (λ (x : List Record). s.seen ≡ seen_under x r.key s.update) (sym same) (is.values s on);
     }
 
 -- ---- stops

@@ -2,7 +2,6 @@
 use Rattle.std.proofs.Common.{◌≡◌, ℕ, Bool, true, false, eqb, cond, List, [], ◌∷◌, map, Option, Some, None, refl, sym, ap, subst, ◌∙◌, inl, inr, ◌⊎◌}
 use Rattle.std.proofs.lemmas.Bool.{eqb-true}
 use Rattle.depot_base.specs.declared.proof.Proof.{Proof}
-use Rattle.depot_base.specs.declared.statement.Signed.{Signed}
 use Rattle.depot_base.specs.declared.update.Update.{Update}
 use Rattle.depot_model.specs.Items.{AreDistinct}
 use Rattle.depot_model.specs.Judgement.{first_failed_point}
@@ -50,7 +49,8 @@ found_is (t ∷ ss) node s e = choice (eqb t.correct.node node) refl (found_is s
   choice true same rest is = let here : t ≡ s = cc in record { on = inl here; is = ap (λ (x : Station). x.correct.node) (sym here) ∙ eqb-true t.correct.node node same }
   choice false other rest is = let f = rest is in record { on = inr f.on; is = f.is }
 
-from_put_station : (s x : Station) (ss : List Station) → IsIn x (put_station s ss) → (s ≡ x) ⊎ IsIn x ss
+-- a station of the changed list is the new one or an old one
+pub from_put_station : (s x : Station) (ss : List Station) → IsIn x (put_station s ss) → (s ≡ x) ⊎ IsIn x ss
 unfolding put_station
 from_put_station s x [] never = absurd never
 from_put_station s x (t ∷ ss) on = choice (eqb t.correct.node s.correct.node) (from_put_station s x ss) on where
@@ -60,7 +60,8 @@ from_put_station s x (t ∷ ss) on = choice (eqb t.correct.node s.correct.node) 
   choice false rest (inl here) = inr (inl here)
   choice false rest (inr there) = elim (rest there) [ inl same ↦ inl same | inr old ↦ inr (inr old) ]
 
-same_numbers : (s : Station) (ss : List Station) → numbers_of (put_station s ss) ≡ numbers_of ss
+-- the changed list has the same nodes
+pub same_numbers : (s : Station) (ss : List Station) → numbers_of (put_station s ss) ≡ numbers_of ss
 unfolding put_station
 same_numbers s [] = refl
 same_numbers s (t ∷ ss) = choice (eqb t.correct.node s.correct.node) refl (same_numbers s ss) where
@@ -82,11 +83,11 @@ station_keeps stage run s g good = record {
 
 -- ---- labels
 
-pub label_keeps : (stage : Stage) (run : Run) (label bytes : List ℕ) (signed : Option Signed) → IsGoodRun stage run → OnlyBytes bytes → IsByteSigned signed → IsGoodRun stage (with_label run label bytes signed)
-label_keeps stage run label bytes signed g only signed_only = record {
+pub label_keeps : (stage : Stage) (run : Run) (new : Made) → IsGoodRun stage run → OnlyBytes new.bytes → IsByteSigned new.signed → IsGoodRun stage (with_label run new)
+label_keeps stage run new g only signed_only = record {
   distinct = g.distinct;
   stations = g.stations;
-  labels = λ m on. elim (in_pushed m run.labels (record { label = label; bytes = bytes; signed = signed }) on) [
+  labels = λ m on. elim (in_pushed m run.labels new on) [
     | inl old ↦ g.labels m old
     | inr now ↦ subst HoldsOnly now (record { bytes = only; signed = signed_only })
   ];
@@ -95,7 +96,7 @@ label_keeps stage run label bytes signed g only signed_only = record {
 
 -- an event that no node takes part in
 pub text_keeps : (stage : Stage) (run : Run) (label : List ℕ) (t : Text) → IsGoodRun stage run → IsByteText t → IsGoodRun stage (done_by_text run label t).run
-text_keeps stage run label t g only = label_keeps stage run label t.bytes t.signed g only.bytes only.signed
+text_keeps stage run label t g only = label_keeps stage run (record { label = label; bytes = t.bytes; signed = t.signed; plain = t.plain }) g only.bytes only.signed
 
 -- other updates that were seen
 pub seen_keeps : (stage : Stage) (run : Run) (seen : List Update) → IsGoodRun stage run → IsGoodRun stage (record run { seen = seen })
@@ -106,7 +107,7 @@ seen_keeps stage run seen g = record { distinct = g.distinct; stations = g.stati
 went_keeps : (stage : Stage) (run : Run) (label : Option (List ℕ)) (s : Station) (w : Went) → IsGoodRun stage run → IsGoodWent stage s w → IsGoodRun stage (done_by_node run label w).run
 unfolding with_station
 went_keeps stage run None s w g good = station_keeps stage run w.station g good.good
-went_keeps stage run (Some label) s w g good = label_keeps stage (with_station run w.station) label w.bytes None (station_keeps stage run w.station g good.good) good.bytes tt
+went_keeps stage run (Some label) s w g good = label_keeps stage (with_station run w.station) (record { label = label; bytes = w.bytes; signed = None; plain = false }) (station_keeps stage run w.station g good.good) good.bytes tt
 
 -- an event of a node that does what is good for that node
 pub node_keeps : (stage : Stage) (run : Run) (node : ℕ) (label : Option (List ℕ)) (deed : Station → Deed) → IsGoodRun stage run → ((s : Station) → s.correct.node ≡ node → IsGoodNode stage s.correct → IsGoodDeed stage s.correct (deed s)) → IsGoodRun stage (by_node run node label deed).run

@@ -2,14 +2,19 @@
 use Rattle.std.proofs.Common.{◌≡◌, ℕ, true, List, [], ◌∷◌, map, refl, sym, ap, subst}
 use Rattle.std.specs.Prelude.{filter}
 use Rattle.depot_model.specs.Causality.{IsForkJoinCausal, ConvictsNoCorrectNode}
+use Rattle.depot_base.specs.Statement.{writer_of}
+use Rattle.depot_base.specs.declared.proof.Kind.{Kind}
+use Rattle.depot_base.specs.declared.proof.Proof.TheVariants.{Pair}
+use Rattle.depot_base.specs.declared.statement.Signed.{Signed}
 use Rattle.depot_model.specs.Items.{AreDistinct}
+use Rattle.depot_model.specs.Lists.{IsIn}
 use Rattle.depot_model.specs.Roster.{has_node}
 use Rattle.depot_model.specs.Texts.{IsRoster}
-use Rattle.depot_model.specs.World.{Correct, IsCorrect, IsWorld, IsAuthentic, IsCollisionFree}
+use Rattle.depot_model.specs.World.{Correct, IsCorrect, IsWorld, IsAuthentic, IsCollisionFree, proofs_of}
 use Rattle.depot_model.proofs.Members.{from_map, from_filter}
 use Rattle.depot_laws.proofs.Births.{born as born_lawful}
 use Rattle.depot_laws.proofs.ForkJoin.{fork_join_causal}
-use Rattle.depot_laws.proofs.NoVerdicts.{convicts_none}
+use Rattle.depot_laws.proofs.NoVerdicts.{convicts_none, pairs_spare}
 use Rattle.depot_schedule.specs.declared.event.Event.{Event}
 use Rattle.depot_schedule.specs.declared.member.Member.{Member}
 use Rattle.depot_schedule.specs.declared.schedule.Schedule.{Schedule}
@@ -98,5 +103,8 @@ schedule_world_has_roster s is = stage_has_roster s is
 pub schedule_world_is_causal : (s : Schedule) → IsSchedule s → IsAuthentic (world_of s) → IsCollisionFree (world_of s) → IsForkJoinCausal (world_of s)
 schedule_world_is_causal s is authentic free = fork_join_causal (world_of s) (schedule_makes_world s is) authentic free
 
-pub schedule_world_convicts_none : (s : Schedule) → IsSchedule s → IsAuthentic (world_of s) → ConvictsNoCorrectNode (world_of s)
-schedule_world_convicts_none s is authentic = convicts_none (world_of s) (schedule_makes_world s is) authentic
+pub schedule_world_convicts_none : (s : Schedule) → IsSchedule s → IsAuthentic (world_of s) → IsCollisionFree (world_of s) → ConvictsNoCorrectNode (world_of s)
+schedule_world_convicts_none s is authentic free = convicts_none (world_of s) (schedule_makes_world s is) authentic free
+
+pub schedule_pairs_spare : (s : Schedule) (c : Correct) (kind : Kind) (first second : Signed) → IsSchedule s → IsAuthentic (world_of s) → IsIn c (world_of s).nodes → IsIn (Pair kind first second) (proofs_of (world_of s)) → writer_of first.statement ≡ c.node → ⊥
+schedule_pairs_spare s c kind first second is authentic c_on on named = pairs_spare (world_of s) (schedule_makes_world s is) authentic c kind first second c_on on named

@@ -26,8 +26,8 @@ use Rattle.depot_schedule.specs.declared.schedule.Schedule.{Schedule}
 use Rattle.depot_schedule.specs.EventLines.{put, get}
 use Rattle.depot_schedule.specs.Schedules.{IsSchedule}
 use Rattle.depot_world.specs.Deeds.{put_by, get_by}
-use Rattle.depot_world.specs.Insertion.{insert_by, order_by}
-use Rattle.depot_world.specs.ShownLatest.{latest_in}
+use Rattle.depot_model.specs.Insertion.{insert_by, order_by}
+use Rattle.depot_model.specs.LatestList.{latest_in}
 use Rattle.depot_world.specs.Run.{run_of, world_by, station_in, seen_with, put_station, with_station}
 use Rattle.depot_world.specs.ScheduleStops.{went}
 use Rattle.depot_world.specs.Suite.{suite_of, seed_of, stage_of}
@@ -110,4 +110,4 @@ pub is_causal : IsForkJoinCausal (world_of put_and_get)
 is_causal = schedule_world_is_causal put_and_get is_schedule authentic collision_free
 
 pub convicts_nobody : ConvictsNoCorrectNode (world_of put_and_get)
-convicts_nobody = schedule_world_convicts_none put_and_get is_schedule authentic
+convicts_nobody = schedule_world_convicts_none put_and_get is_schedule authentic collision_free

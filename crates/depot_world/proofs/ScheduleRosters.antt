@@ -11,7 +11,7 @@ use Rattle.depot_model.specs.Lists.{IsIn}
 use Rattle.depot_model.specs.Plain.{plain_root}
 use Rattle.depot_model.specs.Roster.{key_of, has_node}
 use Rattle.depot_model.specs.Texts.{roster, IsRoster}
-use Rattle.depot_model.specs.Winternitz.{node}
+use Rattle.depot_model.specs.Winternitz.{node, root_layer, root_height}
 use Rattle.depot_model.proofs.Members.{from_map, all_at, all_from, in_map}
 use Rattle.depot_model.proofs.RisingLists.{RisesByTest}
 use Rattle.depot_laws.proofs.RisingBytes.{rising_follow}
@@ -19,7 +19,7 @@ use Rattle.depot_schedule.specs.declared.member.Member.{Member}
 use Rattle.depot_schedule.specs.declared.schedule.Schedule.{Schedule}
 use Rattle.depot_schedule.specs.Schedules.{IsSchedule}
 use Rattle.depot_model.proofs.TreeNodes.{length-node}
-use Rattle.depot_world.specs.Insertion.{order_by}
+use Rattle.depot_model.specs.Insertion.{order_by}
 use Rattle.depot_world.specs.Suite.{Suite, suite_of, seed_of, entry_of, is_entry_before, roster_of, stage_of}
 use Rattle.depot_world.proofs.InsertionLaws.{IsOrderOf, AllDiffer, from_order, in_order, long_order, order_rises}
 use Rattle.depot_world.proofs.ScheduleMembers.{nodes_of, members_are, some_member}
@@ -33,7 +33,7 @@ long_plain seed = length-sha256 seed
 -- a root of either scheme has 32 bytes
 long_root : (winter : Bool) (seed : List ℕ) (height : ℕ) → length ((suite_of winter).root seed height) ≡ 32
 unfolding suite_of
-long_root true seed height = length-node seed height 0
+long_root true seed height = length-node (root_layer height) seed (root_height height) 0
 long_root false seed height = long_plain seed
 
 -- ---- the order of entries
@@ -62,7 +62,7 @@ differ_by_node suite height (m ∷ ms) distinct = (
   differ_by_node suite height ms distinct.1,
 )
 
-entry_fits : (winter : Bool) (height node root_node : ℕ) → 2 ≤ height → height ≤ 12 → 1 ≤ node → node ≤ 65535 → roster_entry.fits (record { node = node; key = record { root = (suite_of winter).root (seed_of root_node) height; height = height } })
+entry_fits : (winter : Bool) (height node root_node : ℕ) → 2 ≤ height → height ≤ 17 → 1 ≤ node → node ≤ 65535 → roster_entry.fits (record { node = node; key = record { root = (suite_of winter).root (seed_of root_node) height; height = height } })
 unfolding roster_entry number bytes_of
 entry_fits winter height node root_node low high node_low node_high = ((node_low, node_high), ((low, high), (long_root winter (seed_of root_node) height, refl)))
 

@@ -1,16 +1,21 @@
 -- What faulty nodes sign, what is made of signed statements, and the judge.
-use Rattle.std.specs.Prelude.{ℕ, ◌+◌, ◌-◌, ◌%◌, zero, suc, List, [], ◌∷◌, ◌++◌, length, map, drop, ◌==◌, Option, Some, None, option_map, option_and_then, Result, Ok, Err, codes, if◌then◌else◌}
-use Rattle.std.specs.List.{list_any}
+use Rattle.std.specs.Prelude.{ℕ, ◌+◌, ◌-◌, ◌%◌, zero, suc, List, [], ◌∷◌, ◌++◌, length, map, filter, drop, Bool, true, false, not, ◌==◌, nat_le, Option, Some, None, option_map, option_and_then, Result, Ok, Err, codes, if◌then◌else◌}
+use Rattle.std.specs.List.{list_any, flat_map}
 use Rattle.std.specs.Fmt.{decimal}
-use Rattle.sha2.specs.Sha256.{sha256}
+use Rattle.std.specs.Str.{bytes_eq}
+use Rattle.depot_base.specs.declared.limits.TheConstants.{MOST_VALUE}
 use Rattle.depot_base.specs.Format.{whole}
 use Rattle.depot_base.specs.Parts.{is_below}
 use Rattle.depot_base.specs.Zeros.{zeros}
 use Rattle.depot_base.specs.declared.proof.Kind.{Kind}
+use Rattle.depot_base.specs.declared.proof.Kind.TheVariants.{NotUpdate}
 use Rattle.depot_base.specs.declared.proof.Proof.{Proof}
+use Rattle.depot_base.specs.declared.proof.Proof.TheVariants.{Pair, Hollow}
 use Rattle.depot_base.specs.declared.statement.Signed.{Signed}
 use Rattle.depot_base.specs.declared.statement.Statement.TheVariants as statement
 use Rattle.depot_base.specs.declared.update.Update.{Update}
+use Rattle.depot_base.specs.declared.write.Change.{Change}
+use Rattle.depot_base.specs.declared.write.Write.{Write}
 use Rattle.depot_model.specs.declared.judgement.JudgeError.{JudgeError}
 use Rattle.depot_model.specs.declared.judgement.JudgeError.TheVariants as point
 use Rattle.depot_model.specs.Bundle.{Signs, signed_with, statement_frame, value_frame, proof_frame}
@@ -20,29 +25,31 @@ use Rattle.depot_model.specs.Judgement.{first_failed_point}
 use Rattle.depot_model.specs.Lines.{name_of_kind}
 use Rattle.depot_model.specs.Log.{firsts}
 use Rattle.depot_model.specs.Order.{past}
-use Rattle.depot_model.specs.Own.{entry_of}
+use Rattle.depot_model.specs.Own.{entry_of, write_of}
 use Rattle.depot_model.specs.Texts.{proof, id_of_update}
 use Rattle.depot_model.specs.Vouching.{rising}
 use Rattle.depot_schedule.specs.declared.event.HistoryWord.{HistoryWord}
 use Rattle.depot_schedule.specs.declared.event.HistoryWord.TheVariants as history
 use Rattle.depot_schedule.specs.declared.event.Ref.{Ref}
 use Rattle.depot_answers.specs.Answers.{spaced, numbered}
-use Rattle.depot_world.specs.Run.{Run, referred, signed_of}
+use Rattle.depot_world.specs.Run.{Run, bytes_of, referred, id_referred, signed_of}
 use Rattle.depot_world.specs.Suite.{Stage}
 
--- What an event that no node takes part in gives its label: bytes, the signed statement where it signs one, and what is printed.
+-- What an event that no node takes part in gives its label: bytes, the signed statement where it signs one, whether they are plain bytes,
+-- and what is printed.
 pub record Text : Type 0 where
   pub bytes : List ℕ
   pub signed : Option Signed
+  pub plain : Bool
   pub answer : List ℕ
 
 -- a reference names nothing: the label holds no bytes
 abbrev pub no_reference : Text
-no_reference = record { bytes = []; signed = None; answer = codes "NoRef" }
+no_reference = record { bytes = []; signed = None; plain = false; answer = codes "NoRef" }
 
--- bytes, and how many
+-- plain bytes, and how many
 abbrev pub counted_bytes : List ℕ → Text
-counted_bytes bytes = record { bytes = bytes; signed = None; answer = decimal (length bytes) ++ codes " bytes" }
+counted_bytes bytes = record { bytes = bytes; signed = None; plain = true; answer = decimal (length bytes) ++ codes " bytes" }
 
 -- ---- references
 
@@ -77,54 +84,74 @@ history_by seen history.Right u = history_hash (past u seen)
 history_by seen (history.Given h) u = h
 
 -- an update but for its history hash
-abbrev pub drafted : ℕ → ℕ → ℕ → List ℕ → List ℕ → List ℕ → List Update → Update
-drafted writer seq clock prev key value entries = record {
+abbrev pub drafted : ℕ → ℕ → ℕ → List ℕ → List Write → List Update → Update
+drafted writer seq clock prev writes entries = record {
   writer = writer;
   seq = seq;
   clock = clock;
   prev = prev;
-  key = key;
-  value_hash = sha256 value;
-  value_len = length value;
+  writes = writes;
   deps = map entry_of entries;
   history = [];
 }
 
--- an update as its writer signs it: the frames of the statement and of the value
-abbrev pub update_text : Signs → Update → List ℕ → Text
-update_text sign u value = record {
-  bytes = text_of_frame (statement_frame (signed_with sign (statement.Update u))) ++ text_of_frame (value_frame value);
+-- each different value once, where it stands first
+unfoldable pub each_once : List (List ℕ) → List (List ℕ)
+each_once [] = []
+each_once (v ∷ vs) = v ∷ filter (λ w. not (bytes_eq w v)) (each_once vs)
+
+-- the frames of values, one behind another, each different value once
+abbrev pub text_of_values : List (List ℕ) → List ℕ
+text_of_values values = flat_map (λ v. text_of_frame (value_frame v)) (each_once values)
+
+-- an update as its writer signs it: the frame of the statement, and those of the values of its writes, in their order
+abbrev pub update_text : Signs → Update → List (List ℕ) → Text
+update_text sign u values = record {
+  bytes = text_of_frame (statement_frame (signed_with sign (statement.Update u))) ++ text_of_values values;
   signed = Some (signed_with sign (statement.Update u));
+  plain = false;
   answer = decimal u.writer ++ codes "/" ++ decimal u.seq ++ codes "/" ++ decimal u.clock;
 }
 
--- an update that a faulty node signs, if its references name updates
-unfoldable pub updated : Signs → Run → ℕ → ℕ → ℕ → Option Ref → List ℕ → List ℕ → List Ref → HistoryWord → Option Update
-updated sign run writer seq clock prev key value deps history =
-    option_and_then (λ p. option_map (λ us. let u = drafted writer seq clock p key value us in with_history u (history_by run.seen history u)) (entries_of run writer deps)) (prev_of run prev)
+-- an update that a faulty node signs, if its references name updates: it writes what these changes say
+unfoldable pub updated : Signs → Run → ℕ → ℕ → ℕ → Option Ref → List Change → List Ref → HistoryWord → Option Update
+updated sign run writer seq clock prev changes deps history =
+    option_and_then (λ p. option_map (λ us. let u = drafted writer seq clock p (map write_of changes) us in with_history u (history_by run.seen history u)) (entries_of run writer deps)) (prev_of run prev)
 
 -- a voucher that a faulty node signs: the ids in rising order, each once
 abbrev pub voucher_text : Signs → ℕ → ℕ → List (List ℕ) → Text
 voucher_text sign node seq ids =
     let s = signed_with sign (statement.Voucher (record { node = node; seq = seq; ids = ids })) in
-    record { bytes = text_of_frame (statement_frame s); signed = Some s; answer = decimal node ++ codes "/" ++ decimal seq ++ spaced (numbered (codes "ids") (length ids)) }
+    record { bytes = text_of_frame (statement_frame s); signed = Some s; plain = false; answer = decimal node ++ codes "/" ++ decimal seq ++ spaced (numbered (codes "ids") (length ids)) }
 
+-- a voucher for what references name, if each names an update or plain bytes
 unfoldable pub vouched_text : Signs → Run → ℕ → ℕ → List Ref → Text
-vouched_text sign run node seq refs = elim (all_referred run refs) [
+vouched_text sign run node seq refs = elim (all_of (map (id_referred run) refs)) [
   | None ↦ no_reference
-  | Some us ↦ voucher_text sign node seq (rising (map id_of_update us))
+  | Some ids ↦ voucher_text sign node seq (rising ids)
 ]
 
 -- ---- proofs
 
 -- two signed statements as the halves of a proof: the smaller body first
 abbrev pub proof_by : Kind → Signed → Signed → Proof
-proof_by kind a b = if is_below b.body a.body then record { kind = kind; first = b; second = a } else record { kind = kind; first = a; second = b }
+proof_by kind a b = if is_below b.body a.body then Pair kind b a else Pair kind a b
+
+-- the frame of a proof of this kind
+abbrev pub proof_with : Kind → Proof → Text
+proof_with kind p = record { bytes = text_of_frame (proof_frame p); signed = None; plain = false; answer = name_of_kind kind }
 
 unfoldable pub proof_text : Run → Kind → List ℕ → List ℕ → Text
 proof_text run kind a b = elim (all_of (signed_of run a ∷ signed_of run b ∷ [])) [
-  | Some (s ∷ t ∷ []) ↦ record { bytes = text_of_frame (proof_frame (proof_by kind s t)); signed = None; answer = name_of_kind kind }
+  | Some (s ∷ t ∷ []) ↦ proof_with kind (proof_by kind s t)
   | others ↦ no_reference
+]
+
+-- a voucher and the bytes of a plain label as a proof that the voucher is hollow, if they aren't too many; whether it is, the judge says
+unfoldable pub hollow_text : Run → List ℕ → List ℕ → Text
+hollow_text run voucher plain = elim (signed_of run voucher) [
+  | None ↦ no_reference
+  | Some s ↦ if nat_le (length (bytes_of run plain)) MOST_VALUE then proof_with NotUpdate (Hollow s (bytes_of run plain)) else no_reference
 ]
 
 -- the proof whose frame these bytes are from the payload on, or where it goes wrong; what stands before, a tag and a length, is passed

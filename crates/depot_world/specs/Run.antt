@@ -1,19 +1,22 @@
 -- A run of a schedule as it stands between two events.
-use Rattle.std.specs.Prelude.{ℕ, ◌==◌, List, [], ◌∷◌, ◌++◌, map, filter, Option, Some, None, option_and_then, if◌then◌else◌}
+use Rattle.std.specs.Prelude.{ℕ, ◌==◌, List, [], ◌∷◌, ◌++◌, map, filter, Bool, Option, Some, None, option_map, option_and_then, if◌then◌else◌}
 use Rattle.std.specs.List.{flat_map}
 use Rattle.std.specs.Option.{option_map_or}
 use Rattle.std.specs.Str.{bytes_eq}
+use Rattle.sha2.specs.Sha256.{sha256}
 use Rattle.depot_base.specs.declared.update.Update.{Update}
 use Rattle.depot_base.specs.declared.statement.Signed.{Signed}
 use Rattle.depot_base.specs.declared.proof.Proof.{Proof}
 use Rattle.depot_base.specs.declared.record.Record.{Record}
 use Rattle.depot_base.specs.declared.record.Record.TheVariants.{Birth}
 use Rattle.depot_model.specs.Journal.{accepted, own, update_in, has_id}
+use Rattle.depot_model.specs.Lists.{when}
 use Rattle.depot_model.specs.Texts.{id_of_update, hash_of_roster}
 use Rattle.depot_model.specs.World.{World, Correct}
 use Rattle.depot_schedule.specs.declared.event.Ref.{Ref}
 use Rattle.depot_schedule.specs.declared.event.Ref.TheVariants as ref
 use Rattle.depot_schedule.specs.declared.member.Member.{Member}
+use Rattle.depot_schedule.specs.Vocabulary.{first_or}
 use Rattle.depot_world.specs.Suite.{Stage}
 
 -- ---- what a run keeps
@@ -28,12 +31,13 @@ pub record Station : Type 0 where
   pub correct : Correct
   pub armed : Option Armed
 
--- What an event made under a label: its bytes, and the signed statement where it made one. A label whose event was refused or
--- stopped holds no bytes.
+-- What an event made under a label: its bytes, the signed statement where it made one, and whether it is plain: made as bytes, by `raw`,
+-- `cut`, `flip` or `join`. A label whose event was refused or stopped holds no bytes; a plain one may hold none as well.
 pub record Made : Type 0 where
   pub label : List ℕ
   pub bytes : List ℕ
   pub signed : Option Signed
+  pub plain : Bool
 
 -- The nodes in the order of their lines, the labels, the proofs that were judged with a verdict, and the updates that a right history is
 -- computed over: those that events made and those that correct nodes accepted, each id once, in the order in which they came.
@@ -89,6 +93,19 @@ unfoldable pub referred : Run → Ref → Option Update
 referred run (ref.Label label) = option_and_then (λ s. first_update (update_in s.statement)) (signed_of run label)
 referred run (ref.Own node seq) = option_and_then (λ s. own_update s.correct.journal seq) (station_in run.stations node)
 
+-- the bytes of a plain label
+abbrev pub plain_bytes : Run → List ℕ → Option (List ℕ)
+plain_bytes run label = option_and_then (λ m. when m.plain m.bytes) (made_in run.labels label)
+
+-- the bytes that a reference names by a plain label
+abbrev pub plain_referred : Run → Ref → Option (List ℕ)
+plain_referred run (ref.Label label) = plain_bytes run label
+plain_referred run (ref.Own node seq) = None
+
+-- the id that a reference names for a voucher: SHA-256 of the bytes of a plain label, or the id of an update
+unfoldable pub id_referred : Run → Ref → Option (List ℕ)
+id_referred run r = first_or (option_map sha256 (plain_referred run r)) (option_map id_of_update (referred run r))
+
 -- ---- how a run goes on
 
 -- updates put behind those that were seen, but for those whose id was
@@ -97,8 +114,8 @@ seen_with seen [] = seen
 seen_with seen (u ∷ us) = seen_with (if has_id seen (id_of_update u) then seen else seen ++ u ∷ []) us
 
 -- one more label
-abbrev pub with_label : Run → List ℕ → List ℕ → Option Signed → Run
-with_label run label bytes signed = record run { labels = run.labels ++ record { label = label; bytes = bytes; signed = signed } ∷ [] }
+abbrev pub with_label : Run → Made → Run
+with_label run m = record run { labels = run.labels ++ m ∷ [] }
 
 -- a node's station in place of the one before
 unfoldable pub put_station : Station → List Station → List Station

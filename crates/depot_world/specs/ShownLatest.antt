@@ -1,22 +1,2 @@
--- The latest writes of a key as a list, in a list in which each parent stands before its children.
-use Rattle.std.specs.Prelude.{ℕ, List, filter, Bool, not, ◌&&◌}
-use Rattle.std.specs.List.{list_any}
-use Rattle.std.specs.Ordering.{is_lt}
-use Rattle.depot_base.specs.declared.update.Update.{Update}
-use Rattle.depot_model.specs.Contents.{writes}
-use Rattle.depot_model.specs.Journal.{has_id}
-use Rattle.depot_model.specs.Order.{past, listed}
-use Rattle.depot_model.specs.Texts.{id_of_update}
-use Rattle.depot_world.specs.Insertion.{order_by}
-
--- one update stands before another in the listed order
-abbrev pub is_listed_before : Update → Update → Bool
-is_listed_before t u = is_lt (listed t u)
-
--- an update that writes the key and that no write of it follows
-abbrev pub is_last : List ℕ → List Update → Update → Bool
-is_last key us u = writes key u && not (list_any (λ v. writes key v && has_id (past v us) (id_of_update u)) us)
-
--- the latest writes of a key, in the listed order
-unfoldable pub latest_in : List ℕ → List Update → List Update
-latest_in key us = order_by is_listed_before (filter (is_last key us) us)
+-- The latest writes of a key as a list: its definition stands in `depot_model`.
+pub use Rattle.depot_model.specs.LatestList.{is_listed_before, is_last, latest_in}

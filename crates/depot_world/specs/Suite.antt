@@ -10,7 +10,7 @@ use Rattle.depot_model.specs.Roster.{Verifies}
 use Rattle.depot_model.specs.Winternitz.{root_of, winternitz_signature, winternitz_verifies}
 use Rattle.depot_schedule.specs.declared.member.Member.{Member}
 use Rattle.depot_schedule.specs.declared.schedule.Schedule.{Schedule}
-use Rattle.depot_world.specs.Insertion.{order_by}
+use Rattle.depot_model.specs.Insertion.{order_by}
 
 -- What a scheme makes of a seed: how it verifies, the root of the key of a tree of this height, and the signature of a body by the
 -- leaf of a seq.

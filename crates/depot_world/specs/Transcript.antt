@@ -1,21 +1,26 @@
 -- What a schedule makes happen, event by event: the world and the transcript.
-use Rattle.std.specs.Prelude.{ℕ, List, [], ◌∷◌, ◌++◌, take, drop, Option, Some, None, Result, Ok, Err, codes}
+use Rattle.std.specs.Prelude.{ℕ, List, [], ◌∷◌, ◌++◌, take, drop, false, Option, Some, None, Result, Ok, Err, codes}
 use Rattle.std.specs.List.{flat_map}
+use Rattle.depot_base.specs.Writes.{one_change}
 use Rattle.depot_base.specs.declared.proof.Proof.{Proof}
 use Rattle.depot_base.specs.declared.update.Update.{Update}
+use Rattle.depot_base.specs.declared.write.Change.{Change}
 use Rattle.depot_model.specs.Bundle.{Signs}
 use Rattle.depot_model.specs.Judgement.{verdict_of}
 use Rattle.depot_model.specs.Lines.{text_of_point, text_of_verdict}
+use Rattle.depot_model.specs.Own.{values_of}
 use Rattle.depot_model.specs.World.{World}
 use Rattle.depot_schedule.specs.Language.{join}
 use Rattle.depot_schedule.specs.Schedules.{event_words}
 use Rattle.depot_schedule.specs.declared.event.Event.{Event}
 use Rattle.depot_schedule.specs.declared.event.Event.TheVariants as event
+use Rattle.depot_schedule.specs.declared.event.HistoryWord.{HistoryWord}
+use Rattle.depot_schedule.specs.declared.event.Ref.{Ref}
 use Rattle.depot_schedule.specs.declared.schedule.Schedule.{Schedule}
 use Rattle.depot_answers.specs.Answers.{spaced}
 use Rattle.depot_world.specs.Deeds.{put_by, get_by, hello_by, bundle_by, give_by, restart_by}
 use Rattle.depot_world.specs.Run.{Run, Station, run_of, world_by, station_in, bytes_of, seen_with, with_label, with_station}
-use Rattle.depot_world.specs.FaultySigning.{Text, no_reference, counted_bytes, updated, update_text, vouched_text, proof_text, proof_in, point_by, flip_at}
+use Rattle.depot_world.specs.FaultySigning.{Text, no_reference, counted_bytes, updated, update_text, vouched_text, proof_text, hollow_text, proof_in, point_by, flip_at}
 use Rattle.depot_world.specs.ScheduleStops.{Deed, Went, went}
 use Rattle.depot_world.specs.Suite.{Stage, stage_of, stands_on, signs_on}
 
@@ -30,7 +35,7 @@ pub record Done : Type 0 where
 -- what a node's event comes to, and the label that its bytes are given
 abbrev pub done_by_node : Run → Option (List ℕ) → Went → Done
 done_by_node run None w = record { answer = w.answer; behind = w.behind; run = with_station run w.station }
-done_by_node run (Some label) w = record { answer = w.answer; behind = w.behind; run = with_label (with_station run w.station) label w.bytes None }
+done_by_node run (Some label) w = record { answer = w.answer; behind = w.behind; run = with_label (with_station run w.station) (record { label = label; bytes = w.bytes; signed = None; plain = false }) }
 
 -- an event of a node, by what it does; nothing where there is no such node, which no schedule has
 unfoldable pub by_node : Run → ℕ → Option (List ℕ) → (Station → Deed) → Done
@@ -50,12 +55,17 @@ armed_at run node call image = elim (station_in run.stations node) [
 
 -- a label is given what an event made
 abbrev pub done_by_text : Run → List ℕ → Text → Done
-done_by_text run label t = record { answer = spaced t.answer; behind = []; run = with_label run label t.bytes t.signed }
+done_by_text run label t = record { answer = spaced t.answer; behind = []; run = with_label run (record { label = label; bytes = t.bytes; signed = t.signed; plain = t.plain }) }
 
 -- a faulty node's update, which is seen from now on
-abbrev pub done_by_update : Signs → Run → List ℕ → List ℕ → Option Update → Done
-done_by_update sign run label value None = done_by_text run label no_reference
-done_by_update sign run label value (Some u) = done_by_text (record run { seen = seen_with run.seen (u ∷ []) }) label (update_text sign u value)
+abbrev pub done_by_update : Signs → Run → List ℕ → List (List ℕ) → Option Update → Done
+done_by_update sign run label values None = done_by_text run label no_reference
+done_by_update sign run label values (Some u) = done_by_text (record run { seen = seen_with run.seen (u ∷ []) }) label (update_text sign u values)
+
+-- a faulty node's update that writes what these changes say
+abbrev pub done_by_changes : Stage → Run → List ℕ → ℕ → ℕ → ℕ → Option Ref → List Change → List Ref → HistoryWord → Done
+done_by_changes stage run label writer seq clock prev changes deps history =
+    done_by_update (signs_on stage writer) run label (values_of changes) (updated (signs_on stage writer) run writer seq clock prev changes deps history)
 
 -- a judge's answer: a point, or a verdict, whose proof was judged from now on
 abbrev pub judged_with : Stage → Run → Result Proof ℕ → Done
@@ -70,16 +80,19 @@ judged_with stage run read = elim (point_by stage read) [
 -- ---- one event
 
 unfoldable pub done : Stage → Run → Event → Done
-done stage run (event.Put node key value) = by_node run node None (λ s. put_by (stands_on stage node) s.correct key value)
+done stage run (event.Put node key value) = by_node run node None (λ s. put_by (stands_on stage node) s.correct (one_change key value))
+done stage run (event.Puts node changes) = by_node run node None (λ s. put_by (stands_on stage node) s.correct changes)
 done stage run (event.Get node key) = by_node run node None (λ s. get_by s.correct key)
 done stage run (event.Hello node label) = by_node run node (Some label) (λ s. hello_by (stands_on stage node) s.correct)
 done stage run (event.Bundle node hello label) = by_node run node (Some label) (λ s. bundle_by (stands_on stage node) (signs_on stage node) s.correct (bytes_of run hello))
 done stage run (event.Give node label size) = by_node run node None (λ s. give_by (stands_on stage node) s.correct (bytes_of run label))
 done stage run (event.Restart node) = by_node run node None (λ s. restart_by s.correct)
 done stage run (event.Update label writer seq clock prev key value deps history) =
-    done_by_update (signs_on stage writer) run label value (updated (signs_on stage writer) run writer seq clock prev key value deps history)
+    done_by_changes stage run label writer seq clock prev (one_change key value) deps history
+done stage run (event.Updates label writer seq clock prev changes deps history) = done_by_changes stage run label writer seq clock prev changes deps history
 done stage run (event.Voucher label writer seq refs) = done_by_text run label (vouched_text (signs_on stage writer) run writer seq refs)
 done stage run (event.Proof label kind first second) = done_by_text run label (proof_text run kind first second)
+done stage run (event.Hollow label voucher plain) = done_by_text run label (hollow_text run voucher plain)
 done stage run (event.Judge label) = judged_with stage run (proof_in (bytes_of run label))
 done stage run (event.Raw label bytes) = done_by_text run label (counted_bytes bytes)
 done stage run (event.Cut label source start count) = done_by_text run label (counted_bytes (take count (drop start (bytes_of run source))))

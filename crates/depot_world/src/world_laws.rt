@@ -1,13 +1,18 @@
 //! What holds of the worlds of schedules. Each law is a function that does nothing; its contract is the law.
-ghost use Rattle.std.specs.Prelude.{ℕ, List, []};
+ghost use Rattle.std.specs.Prelude.{◌≡◌, ℕ, List, []};
+ghost use Rattle.depot_base.specs.Statement.{writer_of};
+ghost use Rattle.depot_base.specs.declared.proof.Kind.{Kind};
+ghost use Rattle.depot_base.specs.declared.proof.Proof.TheVariants.{Pair};
+ghost use Rattle.depot_base.specs.declared.statement.Signed.{Signed};
 ghost use Rattle.depot_base.specs.declared.update.Update.{Update};
 ghost use Rattle.depot_model.specs.Causality.{IsForkJoinCausal, ConvictsNoCorrectNode};
+ghost use Rattle.depot_model.specs.Lists.{IsIn};
 ghost use Rattle.depot_model.specs.Order.{IsCausal, AreLatestIn};
 ghost use Rattle.depot_model.specs.Texts.{IsRoster};
-ghost use Rattle.depot_model.specs.World.{IsWorld, IsAuthentic, IsCollisionFree};
+ghost use Rattle.depot_model.specs.World.{Correct, IsWorld, IsAuthentic, IsCollisionFree, proofs_of};
 ghost use Rattle.depot_schedule.specs.Schedules.{IsSchedule};
 ghost use Rattle.depot_schedule.specs.declared.schedule.Schedule.{Schedule};
-ghost use Rattle.depot_world.specs.ShownLatest.{latest_in};
+ghost use Rattle.depot_model.specs.LatestList.{latest_in};
 ghost use Rattle.depot_world.specs.Transcript.{world_of};
 
 /// In a list of updates in which each parent stands before its children, the list `latest_in` of a key has the latest writes of
@@ -25,8 +30,10 @@ pub fn schedules_make_worlds()
 {}
 
 /// So what holds of worlds holds of a schedule's. While no correct node's signature was forged and no two hashed texts collide, it
-/// is fork-join causal. No conviction and no judged proof of it names a correct node, whether hashes collide or not.
+/// is fork-join causal, and no conviction and no judged proof of it names a correct node. For proofs of two statements that holds
+/// whether hashes collide or not.
 pub fn worlds_of_schedules_are_causal()
     ensures causal { (s : Schedule) → IsSchedule s → IsAuthentic (world_of s) → IsCollisionFree (world_of s) → IsForkJoinCausal (world_of s) }
-    ensures convicts { (s : Schedule) → IsSchedule s → IsAuthentic (world_of s) → ConvictsNoCorrectNode (world_of s) }
+    ensures convicts { (s : Schedule) → IsSchedule s → IsAuthentic (world_of s) → IsCollisionFree (world_of s) → ConvictsNoCorrectNode (world_of s) }
+    ensures pairs { (s : Schedule) (c : Correct) (kind : Kind) (first second : Signed) → IsSchedule s → IsAuthentic (world_of s) → IsIn c (world_of s).nodes → IsIn (Pair kind first second) (proofs_of (world_of s)) → writer_of first.statement ≡ c.node → ⊥ }
 {}

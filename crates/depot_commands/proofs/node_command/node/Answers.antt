@@ -31,7 +31,7 @@ returns-in-Ok-clause-results g c =
     let shelf = shelves g.F.Shelf c.args.shelf.now last in
     let there = rw c.text.ensures at (rw c.in-Ok-Some.field-0-is at c.in-Ok-Some.ensures.loaded) in
     let named = rw c.text.ensures at c.load.ensures.loads in
-    let same = same_shelves g.F.Shelf c.args.shelf.now mid last c.load.ensures.tells c.load.ensures.files there.1 in
+    let same = same_shelves g.F.Shelf c.args.shelf.now mid last c.load.ensures.tells c.load.ensures.files (rw c.in-Ok-Some.field-0-is at c.in-Ok-Some.ensures.calm) there.1 in
     let found = (rw c.as_slice.ensures at c.in-Ok.ensures).found c.in-Ok.roster refl in
     file_run c.in-Ok.roster c.args.words.now disk behind shelf (loads g.F.Shelf mid last) (loads g.F.Shelf c.args.shelf.now last) (sinks g.S.Sink c.args.out.now c.run_file.new.out) (c.run_file.new.disk ≡ c.args.disk.now) (g.F.Shelf.file last ≡ g.F.Shelf.file mid)
     (g.F.Shelf.file last ≡ g.F.Shelf.file c.args.shelf.now) c.run_file.result same named (refl {a = g.F.Shelf.loads last}) (λ u. u ∙ c.load.ensures.files) (λ told. record { bytes = c.in-Ok-Some.text; there = there.0 told; holds = record { fits = found.0; is = found.1 } }) c.run_file.ensures.runs

@@ -16,7 +16,7 @@ returns-in-Ok-Some-clause-runs g c =
     let shelf = shelves g.F.Shelf c.args.shelf.now last in
     let there = rw c.text.ensures at (rw c.in-Ok-Some.field-0-is at c.in-Ok-Some.ensures.loaded) in
     let named = rw c.text.ensures at c.load.ensures.loads in
-    let same = same_shelves g.F.Shelf c.args.shelf.now mid last c.load.ensures.tells c.load.ensures.files there.1 in
+    let same = same_shelves g.F.Shelf c.args.shelf.now mid last c.load.ensures.tells c.load.ensures.files (rw c.in-Ok-Some.field-0-is at c.in-Ok-Some.ensures.calm) there.1 in
     bytes_run c.args.roster c.args.words.now c.in-Ok-Some.bytes disk behind shelf (loads g.F.Shelf mid last) (loads g.F.Shelf c.args.shelf.now last) (sinks g.S.Sink c.args.out.now c.run_bytes.new.out) (c.run_bytes.new.disk ≡ c.args.disk.now) (g.F.Shelf.file last ≡ g.F.Shelf.file mid)
     (g.F.Shelf.file last ≡ g.F.Shelf.file c.args.shelf.now) c.run_bytes.result same named (refl {a = g.F.Shelf.loads last}) (λ u. u ∙ c.load.ensures.files) there.0 (rw c.as_slice.ensures at c.run_bytes.ensures.runs)
 

@@ -11,7 +11,8 @@ returns-in-Ok g c =
     let read = c.in-Ok.ensures.found in
     let laws = c.worlds_of_schedules_are_causal.ensures in
     let schedule = c.in-Ok.schedule in
-    replayed c.args.name.now c.args.bytes.now schedule (sinks g.S.Sink c.args.out.now c.play.new.out) c.play.result read (laws.causal schedule read.has) (laws.convicts schedule read.has) c.play.ensures
+    replayed c.args.name.now c.args.bytes.now schedule (sinks g.S.Sink c.args.out.now c.play.new.out) c.play.result read (laws.causal schedule read.has) (laws.convicts schedule read.has)
+    (λ authentic k kind a b. laws.pairs schedule k kind a b read.has authentic) c.play.ensures
 
 pub returns-in-Err-Line : goal.returns-in-Err-Line
 returns-in-Err-Line g c =

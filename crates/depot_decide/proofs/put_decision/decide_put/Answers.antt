@@ -1,24 +1,23 @@
-use Rattle.std.proofs.Common.{◌↔◌, List, ℕ, IsTrue, sym, subst, ◌∙◌}
+use Rattle.std.proofs.Common.{◌↔◌, IsTrue, sym, ◌∙◌}
 use Rattle.std.proofs.lemmas.Bool.{both_ways}
 use Rattle.std.proofs.lemmas.Result.{err_from_is_err_and}
-use Rattle.depot_base.specs.Sized.{IsKey, IsValue}
 use Rattle.depot_model.specs.Own.{IsFresh, leaf_count}
 use Rattle.depot_store.specs.Holdings.{standing}
-use Rattle.depot_decide.proofs.PutLaws.{spent, leaf_left, too_wide, IsMade, made_record_fits, made_text, collides, planned}
+use Rattle.depot_decide.proofs.PutLaws.{spent, leaf_left, next_is, too_wide, IsMade, made_record_fits, made_text, collides, planned}
 use Rattle.depot_decide.proofs.put_decision.decide_put.Given.{Over}
 use Rattle.depot_decide.proofs.put_decision.decide_put.Goals as goal
 use Rattle.depot_decide.proofs.put_decision.decide_put.Goals.{In_ok-next, After-is_fresh}
 
 -- what is known of the update
-made : (g : Over) (c : In_ok-next g) → IsMade (standing g.S.Scheme.verifies c.args.store.now) c.args.store.now.records c.in_ok-next.next.update c.args.key c.args.value
+made : (g : Over) (c : In_ok-next g) → IsMade (standing g.S.Scheme.verifies c.args.store.now) c.args.store.now.records c.in_ok-next.next.update c.args.changes c.in_ok-writes.field-0.values
 made g c = record {
   lawful = c.requires.lawful;
   some = c.requires.some;
-  key_fits = subst (λ (b : List ℕ). IsKey b) c.key.view_is c.key.invariant;
-  value_fits = subst (λ (b : List ℕ). IsValue b) c.value.view_is c.value.invariant;
+  good = record { some = c.requires.few.0; few = c.requires.few.1; each = c.in_ok-writes.ensures.sizes; rising = c.requires.rising };
   leaf = leaf_left c.args.store.now.records c.totals.result.now.own (leaf_count c.args.store.now.listed c.args.store.now.me) c.has_leaf.result c.totals.ensures.own c.has_leaf.ensures c.if-not-has_leaf.false;
-  next = c.in_ok-next.ensures.next;
+  next = next_is c.args.store.now.me c.args.store.now.records c.in_ok-next.next.update _ c.args.changes c.in_ok-next.ensures.next c.in_ok-writes.ensures.writes;
   narrow = c.in_ok-next.ensures.narrow;
+  held = c.in_ok-writes.ensures.values;
 }
 
 -- the test of its id
@@ -27,7 +26,7 @@ fresh g c = c.is_fresh.ensures c.args.store.now.records (c.state.ensures.state.a
 
 pub returns-then-not-has_leaf-clause-refused : goal.returns-then-not-has_leaf-clause-refused
 returns-then-not-has_leaf-clause-refused g c =
-    spent (standing g.S.Scheme.verifies c.args.store.now) c.args.store.now.records c.args.key c.args.value c.totals.result.now.own c.has_leaf.result c.totals.ensures.own c.has_leaf.ensures c.if-not-has_leaf.true
+    spent (standing g.S.Scheme.verifies c.args.store.now) c.args.store.now.records c.args.changes c.totals.result.now.own c.has_leaf.result c.totals.ensures.own c.has_leaf.ensures c.if-not-has_leaf.true
 
 pub encode_own_put-requires : goal.encode_own_put-requires
 encode_own_put-requires g c = made_record_fits (made g (goal.at.encode_own_put-requires g c).In_ok-next)
@@ -48,5 +47,5 @@ returns-clause-planned g c =
 pub returns-in_err-next-clause-refused : goal.returns-in_err-next-clause-refused
 returns-in_err-next-clause-refused g c =
     let leaf = leaf_left c.args.store.now.records c.totals.result.now.own (leaf_count c.args.store.now.listed c.args.store.now.me) c.has_leaf.result c.totals.ensures.own c.has_leaf.ensures c.if-not-has_leaf.false in
-    let p = err_from_is_err_and c.from_residual.result c.from_residual.ensures.1 in
-    rw (p.1, p.2) (too_wide (standing g.S.Scheme.verifies c.args.store.now) c.args.store.now.records c.args.key c.args.value c.in_err-next.field-0.0 leaf c.in_err-next.ensures.wide)
+    let p = err_from_is_err_and c.from_residual-in_err-next.result c.from_residual-in_err-next.ensures.1 in
+    rw (p.1, p.2) (too_wide (standing g.S.Scheme.verifies c.args.store.now) c.args.store.now.records _ c.args.changes c.in_err-next.field-0.0 leaf c.in_ok-writes.ensures.writes c.in_err-next.ensures.wide)

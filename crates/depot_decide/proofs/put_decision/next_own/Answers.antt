@@ -1,5 +1,4 @@
-use Rattle.std.proofs.Common.{length, refl, ap, arith, ◌∙◌}
-use Rattle.sha2.specs.Sha256.{sha256}
+use Rattle.std.proofs.Common.{ap, arith, ◌∙◌}
 use Rattle.depot_model.specs.Checks.{Setting}
 use Rattle.depot_graph.specs.Kept.{updates_in}
 use Rattle.depot_laws.proofs.Clocks.{clocks_within}
@@ -23,7 +22,7 @@ overflow_cast-result g c =
 
 pub returns-then-items-clause-wide : goal.returns-then-items-clause-wide
 returns-then-items-clause-wide g c = (
-  as_many_entries c.args.store.now.me c.args.store.now.records c.args.key c.args.value.now _ c.as_slice-items.result.now (items_are g (goal.at.returns-then-items-clause-wide g c).After-as_slice-items),
+  as_many_entries c.args.store.now.me c.args.store.now.records c.args.writes _ c.as_slice-items.result.now (items_are g (goal.at.returns-then-items-clause-wide g c).After-as_slice-items),
   c.if-items.true,
 )
 
@@ -34,8 +33,8 @@ overflow_add-result g c =
 
 pub returns-clause-next : goal.returns-clause-next
 returns-clause-next g c =
-    next_own_is c.args.store.now.me c.args.store.now.records c.args.key c.args.value.now _ c.as_slice-items.result.now c.totals-totals.result.now _ _ _ _ _ _ c.totals-totals.ensures (items_are g (goal.at.returns-clause-next g c).After-as_slice-items)
-    (c.me-2.ensures ∙ ap (λ (s : Setting). s.me) c.state-state.ensures.stands) refl (c.hash_of.ensures ∙ ap sha256 c.bytes.ensures.same) (ap length c.bytes-2.ensures.same) c.in_ok-deps.ensures c.in_ok-history.ensures
+    next_own_is c.args.store.now.me c.args.store.now.records c.args.writes _ c.as_slice-items.result.now c.totals-totals.result.now _ _ _ c.totals-totals.ensures (items_are g (goal.at.returns-clause-next g c).After-as_slice-items)
+    (c.me-2.ensures ∙ ap (λ (s : Setting). s.me) c.state-state.ensures.stands) c.in_ok-deps.ensures c.in_ok-history.ensures
 
 pub returns-clause-narrow : goal.returns-clause-narrow
 returns-clause-narrow g c =

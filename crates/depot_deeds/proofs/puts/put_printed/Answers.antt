@@ -5,7 +5,7 @@ use Rattle.depot_deeds.proofs.PutTexts.{limit_is_printed, limit_runs, limit_sett
 use Rattle.depot_deeds.proofs.puts.put_printed.Goals as goal
 
 pub returns-in_ok-done_line-in-Ok-clause-printed : goal.returns-in_ok-done_line-in-Ok-clause-printed
-returns-in_ok-done_line-in-Ok-clause-printed c = λ here k key value then same puts. rw c.new.ensures (put_is_printed here k key value c.in-Ok.done then _ same (rw c.in-Ok.is at puts) c.in_ok-done_line-in-Ok.ensures)
+returns-in_ok-done_line-in-Ok-clause-printed c = λ here k changes then same puts. rw c.new.ensures (put_is_printed here k changes c.in-Ok.done then _ same (rw c.in-Ok.is at puts) c.in_ok-done_line-in-Ok.ensures)
 
 pub returns-in_ok-push_all-in-Err : goal.returns-in_ok-push_all-in-Err
 returns-in_ok-push_all-in-Err c =
@@ -13,5 +13,5 @@ returns-in_ok-push_all-in-Err c =
     record {
       stopped = (λ never. (cc), λ disk. absurd (limit_runs c.in-Err.error (32 ∷ []) c.limit.new.line first (one_error _ _ _ c.in-Err.is disk)));
       settled = rw c.in-Err.is (limit_settles c.in-Err.error (32 ∷ []) c.limit.new.line first);
-      printed = λ here k key value then same puts. rw c.new-in-Err.ensures (limit_is_printed here k key value c.in-Err.error then c.limit.new.line c.push_all.new.self (rw c.in-Err.is at puts) first c.in_ok-push_all-in-Err.ensures.ok);
+      printed = λ here k changes then same puts. rw c.new-in-Err.ensures (limit_is_printed here k changes c.in-Err.error then c.limit.new.line c.push_all.new.self (rw c.in-Err.is at puts) first c.in_ok-push_all-in-Err.ensures.ok);
     }

@@ -5,10 +5,10 @@ use Rattle.depot_offers.proofs.FitLaws.{value_adds}
 use Rattle.depot_offers.proofs.ChoiceLaws.{wanted_is_short}
 use Rattle.depot_offers.proofs.choose.add_wanted_value.Goals as goal
 
-pub add-requires-clause-value : goal.add-requires-clause-value
-add-requires-clause-value g c =
+pub add-requires-clause-values : goal.add-requires-clause-values
+add-requires-clause-values g c =
     let short : length c.in-Some.value.now ≤ 65536 = wanted_is_short (g.R.Replica.stands c.args.node.now) (g.R.Replica.records c.args.node.now) c.args.hashes.now.keys c.args.hash.now c.in-Some.value.now (g.met.R.Replica.lawful c.args.node.now) c.in-Some.ensures in
-    omega (arith, short)
+    (omega (arith, short), tt)
 
 pub returns-in-Some : goal.returns-in-Some
 returns-in-Some g c = λ xs holds.

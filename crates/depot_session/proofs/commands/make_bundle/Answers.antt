@@ -70,6 +70,7 @@ returns-in-Some-2-clause-turns g c = λ s tells at.
     let sign = g.R.Replica.signature_of n in
     let loaded = rw c.in-Some.is at c.in_ok-text.ensures.loaded in
     let quiet = rw c.in-Some.is at c.in_ok-text.ensures.quiet in
+    let calm = rw c.in-Some.is at c.in_ok-text.ensures.calm in
     let settled = c.in_ok-bundle_printed.ensures.settled in
     let not = not_where_some _ _ _ c.in-Some-2.is c.in_ok-bundle_printed.ensures.stopped.1 in
     let bundles = rw c.requires.running.runs at c.bundle-made.ensures.bundles in
@@ -77,7 +78,7 @@ returns-in-Some-2-clause-turns g c = λ s tells at.
     let ends = c.ending_of_bundle-ends.ensures.ends here sign (g.R.Replica.records n) text (g.R.Replica.records m) settled not bundles in
     rw c.requires.command (bundle_told g.R.Replica (g.met.R.Replica.counts_now) n m s c.args.hello.now c.args.file.now text (shelves g.F.Shelf shelf last) at (◌∙◌ {a = g.F.Shelf.file c.args.shelf.now c.args.hello.now} (loaded tells) (ap (λ bytes. Some bytes) (sym c.as_slice.ensures))) c.requires.running.runs c.bundle-made.ensures.brings
     sink _ _ c.store_and_tell.result (runs_on _ _ _ _ c.bundle-made.ensures.stops c.requires.running.runs not) (bundled_whole here sign (g.R.Replica.records n) text c.bundle-made.result (g.R.Replica.records m) settled not bundles) (sym ends ∙ is_none _ c.if-is_none.ensures) print.0 print.1 tells
-    (stored_from (g.F.Shelf.tells mid) (g.F.Shelf.tells shelf) (g.F.Shelf.file mid) (g.F.Shelf.file shelf) (g.F.Shelf.file last) (g.F.Shelf.faults mid) (g.F.Shelf.faults shelf) (g.F.Shelf.faults last) sink _ c.args.file.now _ c.store_and_tell.result c.load.ensures.tells c.load.ensures.files quiet
+    (stored_from g.F.Shelf shelf mid last sink _ c.args.file.now _ c.store_and_tell.result c.load.ensures.tells c.load.ensures.files calm quiet
     (rw c.requires.command at c.store_and_tell.ensures.stores)))
 
 pub returns-clause-keeps : goal.returns-clause-keeps

@@ -1,6 +1,7 @@
 use Rattle.std.proofs.Common.{◌+◌, ◌∙◌, Err, sym}
 use Rattle.std.proofs.lemmas.List.{append-nil}
 use Rattle.std.proofs.lemmas.Result.{err_from_is_err_and}
+use Rattle.depot_session.proofs.FittingScripts.{fits_at}
 use Rattle.depot_session.proofs.PlayedScripts.{are_done_first, are_done_more, keeps_all, keeps_to_end, kept_on_first, kept_on_more, loads_more, plays_to, plays_to_end, tells_of_end, tells_of_stop}
 use Rattle.depot_session.proofs.whole_script.play.Goals as goal
 
@@ -12,7 +13,10 @@ loop-command-init g c = record {
 }
 
 pub carry_out-requires : goal.carry_out-requires
-carry_out-requires g c = record { running = c.loop-command.invariant.kept.running }
+carry_out-requires g c = record {
+  fits = fits_at c.args.commands.now c.loop-command.command-index c.command-item.result c.requires.fit c.loop-command-test.true c.command-item.is;
+  running = c.loop-command.invariant.kept.running;
+}
 
 pub returns-in_err-carry_out-clause-keeps : goal.returns-in_err-carry_out-clause-keeps
 returns-in_err-carry_out-clause-keeps g c =

@@ -15,7 +15,7 @@ returns-then-not-names_some g c = λ K h is. voucher_other (g.R.Replica.signatur
 pub put_frame-requires : goal.put_frame-requires
 put_frame-requires g c =
     let J = g.R.Replica.records c.args.node.now in
-    let short : length c.in_ok-text.text ≤ 51582 =
+    let short : length c.in_ok-text.text ≤ 55979 =
     told_is_short (g.R.Replica.stands c.args.node.now) (g.R.Replica.signature_of c.args.node.now) J (OwnVoucher c.args.voucher.now) c.in_ok-text.text (g.met.R.Replica.lawful c.args.node.now) (g.met.R.Replica.short c.args.node.now) (in_at J c.args.place (OwnVoucher c.args.voucher.now) c.requires.at) (c.in_ok-text.ensures (OwnVoucher c.args.voucher.now) c.requires.at) in
     omega (arith, short, ap length c.as_slice.ensures)
 

@@ -4,7 +4,7 @@ use Rattle.depot_schedule.specs.declared.event.Event.{Event}
 use Rattle.depot_world.specs.Transcript.{done}
 use Rattle.depot_stage.specs.Casting.{MayHappen}
 use Rattle.depot_plays.specs.Doing.{HasDone}
-use Rattle.depot_plays.proofs.EventFields.{stop_sizes}
+use Rattle.depot_plays.proofs.EventFields.{put_changes, stop_sizes}
 use Rattle.depot_plays.proofs.play.Play.lines.Goals as goal
 
 pub stop-requires-clause-call : goal.stop-requires-clause-call
@@ -31,3 +31,9 @@ pub returns-in-Stop : goal.returns-in-Stop
 unfolding done
 returns-in-Stop g c = IfOk-weaker c.stop.result _ _ (λ lines told stage run on at.
     subst (λ (e : Event). HasDone g.row.A.Denot g.A.Actor.view stage (done stage run e) lines c.stop.new.self) (sym c.in-Stop.is) (told stage run at)) c.stop.ensures
+
+pub deed-requires-clause-changes : goal.deed-requires-clause-changes
+deed-requires-clause-changes g c = put_changes c.requires.may.before c.args.event.now c.requires.may.fits
+
+pub deed-requires-in-Puts-clause-changes : goal.deed-requires-in-Puts-clause-changes
+deed-requires-in-Puts-clause-changes g c = put_changes c.requires.may.before c.args.event.now c.requires.may.fits

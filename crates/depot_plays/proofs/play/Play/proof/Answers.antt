@@ -14,10 +14,10 @@ returns-in_default-signed_of-clause-is g c = IfOk-weaker c.no_reference-in_defau
     subst (λ (x : signing.Text). IsText t x) (no_second run c.args.kind c.args.first.now c.args.second.now c.in-Some.one.now (c.in-Some.ensures stage run at) (c.in_default-signed_of.ensures stage run at)) made) c.no_reference-in_default-signed_of.ensures
 
 pub proof-requires-clause-first : goal.proof-requires-clause-first
-proof-requires-clause-first g c = let at = c.requires.at in signed_fits c.requires.run c.args.first.now c.in-Some.one.now at.remembered (c.in-Some.ensures c.requires.stage c.requires.run at)
+proof-requires-clause-first g c = let at = c.requires.played.at in signed_fits c.requires.played.run c.args.first.now c.in-Some.one.now at.remembered (c.in-Some.ensures c.requires.played.stage c.requires.played.run at)
 
 pub proof-requires-clause-second : goal.proof-requires-clause-second
-proof-requires-clause-second g c = let at = c.requires.at in signed_fits c.requires.run c.args.second.now c.in-Some-signed_of.other.now at.remembered (c.in-Some-signed_of.ensures c.requires.stage c.requires.run at)
+proof-requires-clause-second g c = let at = c.requires.played.at in signed_fits c.requires.played.run c.args.second.now c.in-Some-signed_of.other.now at.remembered (c.in-Some-signed_of.ensures c.requires.played.stage c.requires.played.run at)
 
 pub returns-clause-is : goal.returns-clause-is
 returns-clause-is g c = IfOk-weaker c.proof.result _ _ (λ t made stage run at.

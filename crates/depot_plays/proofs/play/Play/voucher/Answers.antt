@@ -5,7 +5,8 @@ use Rattle.depot_world.specs.FaultySigning as signing
 use Rattle.depot_world.specs.Suite.{signs_on}
 use Rattle.depot_cast.specs.Hands.{Hand}
 use Rattle.depot_stage.specs.StageTexts.{IsText}
-use Rattle.depot_plays.proofs.MadeTexts.{HasLeaf, voucher_has_leaf, vouched_is, unvouched_is}
+use Rattle.depot_plays.specs.Drafts.{HasLeaf}
+use Rattle.depot_plays.proofs.MadeTexts.{voucher_has_leaf, vouched_is, unvouched_is}
 use Rattle.depot_plays.proofs.play.Play.voucher.Given.{Over}
 use Rattle.depot_plays.proofs.play.Play.voucher.Goals as goal
 use Rattle.depot_plays.proofs.play.Play.voucher.Goals.{Start}

@@ -7,18 +7,18 @@ use Rattle.depot_replay.proofs.SeatTurns.{put_seated, put_turn, same_setting}
 use Rattle.depot_replay.proofs.seat.SeatActor.put.Goals as goal
 
 pub seated-requires-clause-signs : goal.seated-requires-clause-signs
-seated-requires-clause-signs g c = c.put-done.ensures.stays.signs ∙ same_signs _ _ c.args.self.signs
+seated-requires-clause-signs g c = c.put_all-done.ensures.stays.signs ∙ same_signs _ _ c.args.self.signs
 
 pub seated-requires-clause-called : goal.seated-requires-clause-called
 seated-requires-clause-called g c =
     let a = c.args.self in
     let n = a.node in
-    let m = c.put-done.new.self in
+    let m = c.put_all-done.new.self in
     let there = same_setting g.S.Scheme.verifies n.store.me a.means.me n.store.listed a.means.roster a.is_me a.is_listed in
     let begun = begun_there g.S.Scheme.verifies n.store.me a.means.me n.store.listed a.means.roster (state_of n.store.disk) n.store.records a.is_me a.is_listed n.lawful n.some a.kept in
-    let done = done_on n m (state_of n.store.disk) (state_of m.store.disk) _ (λ calls led. led) c.put-done.ensures.calls in
+    let done = done_on n m (state_of n.store.disk) (state_of m.store.disk) _ (λ calls led. led) c.put_all-done.ensures.calls in
     of_printed c.put_printed-printed.result _ (λ printed is.
-    let called = put_seated _ _ there _ _ (same_signs _ _ a.signs) (state_of n.store.disk) (state_of m.store.disk) n.store.records m.store.records begun c.args.key c.args.value c.put-done.result printed c.have_sizes.ensures.key c.have_sizes.ensures.value c.put-done.ensures.puts
+    let called = put_seated _ _ there _ _ (same_signs _ _ a.signs) (state_of n.store.disk) (state_of m.store.disk) n.store.records m.store.records begun c.args.changes c.put_all-done.result printed c.requires c.put_all-done.ensures.puts
     (IfOk-at_ok _ is c.put_printed-printed.ensures.settled) done (IfOk-at_ok _ is c.put_printed-printed.ensures.stopped) in
     record { view = _; before = _; longer = _; here_is = refl; called = called })
 
@@ -26,12 +26,12 @@ pub returns : goal.returns
 returns g c =
     let a = c.args.self in
     let n = a.node in
-    let m = c.put-done.new.self in
+    let m = c.put_all-done.new.self in
     let there = same_setting g.S.Scheme.verifies n.store.me a.means.me n.store.listed a.means.roster a.is_me a.is_listed in
     let begun = begun_there g.S.Scheme.verifies n.store.me a.means.me n.store.listed a.means.roster (state_of n.store.disk) n.store.records a.is_me a.is_listed n.lawful n.some a.kept in
-    let done = done_on n m (state_of n.store.disk) (state_of m.store.disk) _ (λ calls led. led) c.put-done.ensures.calls in
+    let done = done_on n m (state_of n.store.disk) (state_of m.store.disk) _ (λ calls led. led) c.put_all-done.ensures.calls in
     if_printed c.seated.result c.put_printed-printed.result _ _ (λ printed told is ends.
-    let called = put_seated _ _ there _ _ (same_signs _ _ a.signs) (state_of n.store.disk) (state_of m.store.disk) n.store.records m.store.records begun c.args.key c.args.value c.put-done.result printed c.have_sizes.ensures.key c.have_sizes.ensures.value c.put-done.ensures.puts
+    let called = put_seated _ _ there _ _ (same_signs _ _ a.signs) (state_of n.store.disk) (state_of m.store.disk) n.store.records m.store.records begun c.args.changes c.put_all-done.result printed c.requires c.put_all-done.ensures.puts
     (IfOk-at_ok _ is c.put_printed-printed.ensures.settled) done (IfOk-at_ok _ is c.put_printed-printed.ensures.stopped) in
-    put_turn _ _ there _ _ (same_signs _ _ a.signs) (state_of n.store.disk) (state_of m.store.disk) n.store.records m.store.records begun c.args.key c.args.value c.put-done.result printed _ _ _ c.put-done.ensures.puts (IfOk-at_ok _ is c.put_printed-printed.ensures.printed)
+    put_turn _ _ there _ _ (same_signs _ _ a.signs) (state_of n.store.disk) (state_of m.store.disk) n.store.records m.store.records begun c.args.changes c.put_all-done.result printed _ _ _ c.put_all-done.ensures.puts (IfOk-at_ok _ is c.put_printed-printed.ensures.printed)
     (ends _ _ _ refl refl called)) c.seated.ensures.printed c.seated.ensures.ends

@@ -1,0 +1,319 @@
+-- The reads of a node in the world of a schedule are those of its `get` events, and the judged proofs those with a verdict.
+use Rattle.std.proofs.Common.{◌≡◌, ℕ, ◌≤◌, Bool, true, false, eqb, cond, List, [], ◌∷◌, ◌++◌, append_assoc, map, Option, Some, None, Result, Ok, Err, refl, sym, ap, subst, ◌∙◌, inl, inr, codes}
+use Rattle.std.specs.Prelude.{filter}
+use Rattle.std.proofs.lemmas.Bool.{eqb-true, eq-eqb, cond-false}
+use Rattle.std.proofs.lemmas.List.{append-nil, map-append}
+use Rattle.depot_base.specs.Writes.{one_change}
+use Rattle.depot_base.specs.declared.proof.Proof.{Proof}
+use Rattle.depot_base.specs.declared.update.Update.{Update}
+use Rattle.depot_model.specs.Bundle.{Signs}
+use Rattle.depot_model.specs.Checks.{Setting}
+use Rattle.depot_model.specs.Items.{AreDistinct}
+use Rattle.depot_model.specs.Judgement.{first_failed_point, verdict_of}
+use Rattle.depot_model.specs.Lines.{text_of_point, text_of_verdict}
+use Rattle.depot_answers.specs.Answers.{spaced}
+use Rattle.depot_model.specs.Lists.{IsIn}
+use Rattle.depot_model.specs.World.{Correct, Read}
+use Rattle.depot_model.specs.declared.judgement.JudgeError.{JudgeError}
+use Rattle.depot_model.proofs.Members.{from_map, in_map, all_at}
+use Rattle.depot_schedule.specs.EventLines.{stop}
+use Rattle.depot_schedule.specs.Schedules.{FitsEvent, FitEvents, IsSchedule, with_event, before_events}
+use Rattle.depot_schedule.specs.declared.event.Event.{Event}
+use Rattle.depot_schedule.specs.declared.event.Event.TheVariants as event
+use Rattle.depot_schedule.specs.declared.member.Member.{Member}
+use Rattle.depot_schedule.specs.declared.schedule.Schedule.{Schedule}
+use Rattle.depot_examples_worlds.specs.Asked.{key_read, keys_read, verdict_on, verdicts_on}
+use Rattle.depot_world.specs.Deeds.{put_by, get_by, hello_by, bundle_by, give_by, restart_by}
+use Rattle.depot_world.specs.FaultySigning.{updated, proof_in}
+use Rattle.depot_world.specs.Run.{Run, Station, born, run_of, world_by, station_in, bytes_of, with_station}
+use Rattle.depot_world.specs.ScheduleStops.{Deed, went}
+use Rattle.depot_world.specs.Suite.{Stage, stage_of, stands_on, signs_on}
+use Rattle.depot_world.specs.Transcript.{Done, done_by_node, by_node, armed_at, done_by_update, judged_with, done, run_after, world_of}
+use Rattle.depot_world.proofs.GoodRuns.{numbers_of}
+use Rattle.depot_world.proofs.GoodWorlds.{schedule_makes_world}
+use Rattle.depot_examples_worlds.proofs.DeedReads.{put_reads, bundle_reads}
+use Rattle.depot_examples_worlds.proofs.StationReads.{keys_of, Waits, HasRead, no_keys, no_keys_either, Follows, stays, node_follows, stop_follows}
+
+-- ---- the reads of each event
+
+-- a deed that reads nothing
+silent : (s : Station) (reads : List Read) → reads ≡ s.correct.reads → map (λ (r : Read). r.key) reads ≡ keys_of s ++ []
+silent s reads same = ap (λ (rs : List Read). map (λ (r : Read). r.key) rs) same ∙ sym (append-nil (keys_of s))
+
+get_reads : (s : Station) (key : List ℕ) → map (λ (r : Read). r.key) (get_by s.correct key).reads ≡ keys_of s ++ key ∷ []
+unfolding get_by
+get_reads s key = map-append (λ (r : Read). r.key) s.correct.reads _
+
+get_calls : (s : Station) (key : List ℕ) → (get_by s.correct key).calls ≡ 0
+unfolding get_by
+get_calls s key = refl
+
+hello_silent : (here : Setting) (s : Station) → map (λ (r : Read). r.key) (hello_by here s.correct).reads ≡ keys_of s ++ []
+unfolding hello_by
+hello_silent here s = silent s _ refl
+
+give_silent : (here : Setting) (s : Station) (stream : List ℕ) → map (λ (r : Read). r.key) (give_by here s.correct stream).reads ≡ keys_of s ++ []
+unfolding give_by
+give_silent here s stream = silent s _ refl
+
+restart_silent : (s : Station) → map (λ (r : Read). r.key) (restart_by s.correct).reads ≡ keys_of s ++ []
+unfolding restart_by
+restart_silent s = silent s _ refl
+
+-- the node of an event, and 0 where no node takes part
+abbrev node_in : Event → ℕ
+node_in (event.Put node key value) = node
+node_in (event.Puts node changes) = node
+node_in (event.Get node key) = node
+node_in (event.Hello node label) = node
+node_in (event.Bundle node hello label) = node
+node_in (event.Give node label size) = node
+node_in (event.Restart node) = node
+node_in (event.Stop node call image) = node
+node_in other = 0
+
+-- the keys that an event reads, whoever reads them
+abbrev keys_in : Event → List (List ℕ)
+keys_in (event.Get node key) = key ∷ []
+keys_in other = []
+
+-- a stop waits for a call
+abbrev StopsLater : Event → Type 0
+StopsLater (event.Stop node call image) = 1 ≤ call
+StopsLater other = Unit {0}
+
+stop_is : (s : Schedule) (node call image : ℕ) → stop.fits s (event.Stop node call image) → 1 ≤ call
+unfolding stop
+stop_is s node call image (of_node, (of_call, (of_image, same))) = of_call.0
+
+stops_later : (s : Schedule) (e : Event) → FitsEvent s e → StopsLater e
+stops_later s (event.Put node k v) fits = tt
+stops_later s (event.Puts node cs) fits = tt
+stops_later s (event.Get node k) fits = tt
+stops_later s (event.Hello node label) fits = tt
+stops_later s (event.Bundle node hello label) fits = tt
+stops_later s (event.Give node label size) fits = tt
+stops_later s (event.Restart node) fits = tt
+stops_later s (event.Update label writer seq clock prev k v deps hash) fits = tt
+stops_later s (event.Updates label writer seq clock prev cs deps hash) fits = tt
+stops_later s (event.Voucher label writer seq refs) fits = tt
+stops_later s (event.Proof label kind first second) fits = tt
+stops_later s (event.Hollow label voucher plain) fits = tt
+stops_later s (event.Judge label) fits = tt
+stops_later s (event.Raw label bytes) fits = tt
+stops_later s (event.Cut label source start count) fits = tt
+stops_later s (event.Flip label source place) fits = tt
+stops_later s (event.Join label first second) fits = tt
+stops_later s (event.Stop node call image) fits = stop_is s node call image fits
+
+update_stays : (sign : Signs) (run : Run) (label : List ℕ) (values : List (List ℕ)) (o : Option Update) → run.stations ≡ (done_by_update sign run label values o).run.stations
+update_stays sign run label values None = refl
+update_stays sign run label values (Some u) = refl
+
+judge_stays : (stage : Stage) (run : Run) (read : Result Proof ℕ) → run.stations ≡ (judged_with stage run read).run.stations
+judge_stays stage run (Err at) = refl
+judge_stays stage run (Ok p) = by_point (first_failed_point stage.suite.verifies stage.listed p) where
+  by_point : (o : Option JudgeError)
+      → run.stations ≡ (elim o as (λ x. Done) [ Some f ↦ record { answer = spaced (text_of_point f); behind = []; run = run } | None ↦ record { answer = spaced (text_of_verdict (verdict_of p)); behind = []; run = record run { judged = run.judged ++ p ∷ [] } } ]).run.stations
+  by_point (Some f) = refl
+  by_point None = refl
+
+event_follows : (stage : Stage) (run : Run) (e : Event) → ((s : Station) → IsIn s run.stations → Waits s) → StopsLater e → Follows run (done stage run e).run (node_in e) (keys_in e)
+unfolding done
+event_follows stage run (event.Put node key value) all later = node_follows run node None (λ s. put_by (stands_on stage node) s.correct (one_change key value)) [] all (λ s. silent s _ (put_reads (stands_on stage node) s.correct (one_change key value))) (λ s. inl refl)
+event_follows stage run (event.Puts node changes) all later = node_follows run node None (λ s. put_by (stands_on stage node) s.correct changes) [] all (λ s. silent s _ (put_reads (stands_on stage node) s.correct changes)) (λ s. inl refl)
+event_follows stage run (event.Get node key) all later = node_follows run node None (λ s. get_by s.correct key) (key ∷ []) all (λ s. get_reads s key) (λ s. inr (get_calls s key))
+event_follows stage run (event.Hello node label) all later = node_follows run node (Some label) (λ s. hello_by (stands_on stage node) s.correct) [] all (λ s. hello_silent (stands_on stage node) s) (λ s. inl refl)
+event_follows stage run (event.Bundle node hello label) all later = node_follows run node (Some label) (λ s. bundle_by (stands_on stage node) (signs_on stage node) s.correct (bytes_of run hello)) [] all (λ s. silent s _ (bundle_reads (stands_on stage node) (signs_on stage node) s.correct (bytes_of run hello))) (λ s. inl refl)
+event_follows stage run (event.Give node label size) all later = node_follows run node None (λ s. give_by (stands_on stage node) s.correct (bytes_of run label)) [] all (λ s. give_silent (stands_on stage node) s (bytes_of run label)) (λ s. inl refl)
+event_follows stage run (event.Restart node) all later = node_follows run node None (λ s. restart_by s.correct) [] all (λ s. restart_silent s) (λ s. inl refl)
+event_follows stage run (event.Update label writer seq clock prev key value deps history) all later = stays run _ 0 (update_stays (signs_on stage writer) run label _ (updated (signs_on stage writer) run writer seq clock prev (one_change key value) deps history))
+event_follows stage run (event.Updates label writer seq clock prev changes deps history) all later = stays run _ 0 (update_stays (signs_on stage writer) run label _ (updated (signs_on stage writer) run writer seq clock prev changes deps history))
+event_follows stage run (event.Voucher label writer seq refs) all later = stays run _ 0 refl
+event_follows stage run (event.Proof label kind first second) all later = stays run _ 0 refl
+event_follows stage run (event.Hollow label voucher plain) all later = stays run _ 0 refl
+event_follows stage run (event.Judge label) all later = stays run _ 0 (judge_stays stage run (proof_in (bytes_of run label)))
+event_follows stage run (event.Raw label bytes) all later = stays run _ 0 refl
+event_follows stage run (event.Cut label source start count) all later = stays run _ 0 refl
+event_follows stage run (event.Flip label source place) all later = stays run _ 0 refl
+event_follows stage run (event.Join label first second) all later = stays run _ 0 refl
+event_follows stage run (event.Stop node call image) all later = stop_follows run node call image later
+
+-- ---- all events
+
+-- of the keys of an event those of this node
+none : (b : Bool) → cond b no_keys no_keys ≡ no_keys
+none b = sym (no_keys_either b)
+
+read_here : (node : ℕ) (e : Event) → cond (eqb (node_in e) node) (keys_in e) [] ≡ key_read node e
+read_here node (event.Put n k v) = none (eqb n node)
+read_here node (event.Puts n cs) = none (eqb n node)
+read_here node (event.Get n k) = refl
+read_here node (event.Hello n label) = none (eqb n node)
+read_here node (event.Bundle n hello label) = none (eqb n node)
+read_here node (event.Give n label size) = none (eqb n node)
+read_here node (event.Restart n) = none (eqb n node)
+read_here node (event.Update label writer seq clock prev k v deps hash) = none (eqb 0 node)
+read_here node (event.Updates label writer seq clock prev cs deps hash) = none (eqb 0 node)
+read_here node (event.Voucher label writer seq refs) = none (eqb 0 node)
+read_here node (event.Proof label kind first second) = none (eqb 0 node)
+read_here node (event.Hollow label voucher plain) = none (eqb 0 node)
+read_here node (event.Judge label) = none (eqb 0 node)
+read_here node (event.Raw label bytes) = none (eqb 0 node)
+read_here node (event.Cut label source start count) = none (eqb 0 node)
+read_here node (event.Flip label source place) = none (eqb 0 node)
+read_here node (event.Join label first second) = none (eqb 0 node)
+read_here node (event.Stop n call image) = none (eqb n node)
+
+record After (stage : Stage) (run : Run) (es : List Event) (node : ℕ) (keys : List (List ℕ)) : Type 0 where
+  pub numbers : numbers_of (run_after stage run es).stations ≡ numbers_of run.stations
+  pub reads : HasRead run.stations node keys → HasRead (run_after stage run es).stations node (keys ++ keys_read node es)
+
+events_follow : (stage : Stage) (s : Schedule) (run : Run) (es : List Event) (node : ℕ) (keys : List (List ℕ)) → FitEvents s es → ((x : Station) → IsIn x run.stations → Waits x) → After stage run es node keys
+unfolding run_after
+events_follow stage s run [] node keys fit all = record { numbers = refl; reads = λ has. record { station = has.station; at = has.at; are = has.are ∙ sym (append-nil keys) } }
+events_follow stage s run (e ∷ es) node keys fit all =
+    let f = event_follows stage run e all (stops_later s e fit.0) in
+    let rest = events_follow stage (with_event s e) (done stage run e).run es node (keys ++ key_read node e) fit.1 (f.waits all) in
+    record {
+      numbers = rest.numbers ∙ f.numbers;
+      reads = λ has.
+          let next = f.reads node keys has in
+          let at_end = rest.reads (record { station = next.station; at = next.at; are = next.are ∙ ap (λ (ks : List (List ℕ)). keys ++ ks) (read_here node e) }) in
+          record { station = at_end.station; at = at_end.at; are = at_end.are ∙ append_assoc keys (key_read node e) (keys_read node es) };
+    }
+
+-- ---- before the first event
+
+begin_unread : (stage : Stage) (ms : List Member) (node : ℕ) → IsIn node (numbers_of (map (λ (m : Member). born stage m.node) ms)) → HasRead (map (λ (m : Member). born stage m.node) ms) node []
+unfolding station_in
+begin_unread stage [] node never = absurd never
+begin_unread stage (m ∷ ms) node on = choice (eqb m.node node) refl (λ there. begin_unread stage ms node there) where
+  apart : false ≡ true → ⊥
+  apart e = cc
+
+  choice : (b : Bool) → eqb m.node node ≡ b → (IsIn node (numbers_of (map (λ (x : Member). born stage x.node) ms)) → HasRead (map (λ (x : Member). born stage x.node) ms) node []) → HasRead (map (λ (x : Member). born stage x.node) (m ∷ ms)) node []
+  choice true same rest = record { station = born stage m.node; at = rw same refl; are = refl }
+  choice false other rest = elim on [
+    | inl here ↦ absurd (apart (sym other ∙ eq-eqb m.node node here))
+    | inr there ↦ (let h = rest there in record { station = h.station; at = cond-false (eqb m.node node) (Some (born stage m.node)) _ other ∙ h.at; are = h.are })
+  ]
+
+-- no stop waits yet
+begin_waits : (stage : Stage) (ms : List Member) (x : Station) → IsIn x (map (λ (m : Member). born stage m.node) ms) → Waits x
+begin_waits stage ms x on a e = let m = from_map (λ (m : Member). born stage m.node) x ms on in absurd (none_waits m.0 m.1.1) where
+  none_waits : (m : Member) → born stage m.node ≡ x → ⊥
+  none_waits m same = let wrong : None ≡ Some a = ap (λ (y : Station). y.armed) same ∙ e in cc
+
+-- ---- the law
+
+-- in a list of stations of which no two have a number, each is found by its own
+found_by_number : (ss : List Station) (x : Station) → AreDistinct (numbers_of ss) → IsIn x ss → station_in ss x.correct.node ≡ Some x
+unfolding station_in
+found_by_number [] x distinct never = absurd never
+found_by_number (t ∷ ss) x distinct (inl here) = subst (λ (y : Station). cond (eqb t.correct.node y.correct.node) (Some t) (station_in ss y.correct.node) ≡ Some y) here (rw (eq-eqb t.correct.node t.correct.node refl) refl)
+found_by_number (t ∷ ss) x distinct (inr there) = cond-false (eqb t.correct.node x.correct.node) (Some t) _ (differs (eqb t.correct.node x.correct.node) refl) ∙ found_by_number ss x distinct.1 there where
+  differs : (b : Bool) → eqb t.correct.node x.correct.node ≡ b → eqb t.correct.node x.correct.node ≡ false
+  differs true same = absurd (all_at (λ (n : ℕ). n ≡ t.correct.node → ⊥) (numbers_of ss) x.correct.node distinct.0 (in_map (λ (y : Station). y.correct.node) x ss there) (sym (eqb-true t.correct.node x.correct.node same)))
+  differs false other = other
+
+same_nodes : (ss : List Station) → map (λ (c : Correct). c.node) (map (λ (s : Station). s.correct) ss) ≡ numbers_of ss
+same_nodes [] = refl
+same_nodes (s ∷ ss) = ap (λ (ns : List ℕ). s.correct.node ∷ ns) (same_nodes ss)
+
+-- what a run begins with, and what it comes to
+begin_all : (stage : Stage) (ms : List Member) (node : ℕ) → IsIn node (numbers_of (run_of stage ms).stations) → HasRead (run_of stage ms).stations node []
+unfolding run_of
+begin_all stage ms node on = begin_unread stage (filter (λ (m : Member). m.correct) ms) node on
+
+begin_still : (stage : Stage) (ms : List Member) (x : Station) → IsIn x (run_of stage ms).stations → Waits x
+unfolding run_of
+begin_still stage ms x on = begin_waits stage (filter (λ (m : Member). m.correct) ms) x on
+
+station_read : (stage : Stage) (s : Schedule) (x : Station) → IsSchedule s → AreDistinct (numbers_of (run_after stage (run_of stage s.members) s.events).stations) → IsIn x (run_after stage (run_of stage s.members) s.events).stations → keys_of x ≡ keys_read x.correct.node s.events
+station_read stage s x is distinct on =
+    let last = (run_after stage (run_of stage s.members) s.events).stations in
+    let a = events_follow stage (before_events s) (run_of stage s.members) s.events x.correct.node [] is.events (begin_still stage s.members) in
+    let known : IsIn x.correct.node (numbers_of (run_of stage s.members).stations) = subst (λ (ns : List ℕ). IsIn x.correct.node ns) a.numbers (in_map (λ (y : Station). y.correct.node) x last on) in
+    let has = a.reads (begin_all stage s.members x.correct.node known) in
+    let one : has.station ≡ x = some_is has.station (sym has.at ∙ found_by_number last x distinct on) in
+    ap keys_of (sym one) ∙ has.are
+  where
+    some_is : (t : Station) → Some t ≡ Some x → t ≡ x
+    some_is t e = cc
+
+-- the keys of a node's reads are those of its gets
+pub reads_are_gets : (s : Schedule) (c : Correct) → IsSchedule s → IsIn c (world_of s).nodes → map (λ (r : Read). r.key) c.reads ≡ keys_read c.node s.events
+unfolding world_of world_by
+reads_are_gets s c is on =
+    let last = (run_after (stage_of s) (run_of (stage_of s) s.members) s.events).stations in
+    let m = from_map (λ (x : Station). x.correct) c last on in
+    let distinct = subst AreDistinct (same_nodes last) (schedule_makes_world s is).distinct in
+    subst (λ (d : Correct). map (λ (r : Read). r.key) d.reads ≡ keys_read d.node s.events) m.1.1 (station_read (stage_of s) s m.0 is distinct m.1.0)
+
+-- ---- verdicts
+
+node_judged : (run : Run) (node : ℕ) (label : Option (List ℕ)) (deed : Station → Deed) → (by_node run node label deed).run.judged ≡ run.judged ++ []
+unfolding by_node with_station
+node_judged run node label deed = by_station (station_in run.stations node) where
+  by_label : (l : Option (List ℕ)) (s : Station) → (done_by_node run l (went s (deed s))).run.judged ≡ run.judged ++ []
+  by_label None s = sym (append-nil run.judged)
+  by_label (Some name) s = sym (append-nil run.judged)
+
+  by_station : (o : Option Station) → (elim o as (λ x. Done) [ None ↦ record { answer = []; behind = []; run = run } | Some s ↦ done_by_node run label (went s (deed s)) ]).run.judged ≡ run.judged ++ []
+  by_station None = sym (append-nil run.judged)
+  by_station (Some s) = by_label label s
+
+stop_judged : (run : Run) (node call image : ℕ) → (armed_at run node call image).run.judged ≡ run.judged ++ []
+unfolding armed_at with_station
+stop_judged run node call image = by_station (station_in run.stations node) where
+  by_station : (o : Option Station) → (elim o as (λ x. Done) [ None ↦ record { answer = []; behind = []; run = run } | Some s ↦ record { answer = codes " armed"; behind = []; run = with_station run (record { correct = s.correct; armed = Some (record { call = call; image = image }) }) } ]).run.judged ≡ run.judged ++ []
+  by_station None = sym (append-nil run.judged)
+  by_station (Some s) = sym (append-nil run.judged)
+
+update_judged : (sign : Signs) (run : Run) (label : List ℕ) (values : List (List ℕ)) (o : Option Update) → (done_by_update sign run label values o).run.judged ≡ run.judged ++ []
+update_judged sign run label values None = sym (append-nil run.judged)
+update_judged sign run label values (Some u) = sym (append-nil run.judged)
+
+judge_judged : (stage : Stage) (run : Run) (read : Result Proof ℕ) → (judged_with stage run read).run.judged ≡ run.judged ++ elim read [ Err at ↦ [] | Ok p ↦ elim (first_failed_point stage.suite.verifies stage.listed p) [ Some point ↦ [] | None ↦ p ∷ [] ] ]
+judge_judged stage run (Err at) = sym (append-nil run.judged)
+judge_judged stage run (Ok p) = by_point (first_failed_point stage.suite.verifies stage.listed p) where
+  by_point : (o : Option JudgeError)
+      → (elim o as (λ x. Done) [ Some f ↦ record { answer = spaced (text_of_point f); behind = []; run = run } | None ↦ record { answer = spaced (text_of_verdict (verdict_of p)); behind = []; run = record run { judged = run.judged ++ p ∷ [] } } ]).run.judged
+      ≡ run.judged ++ elim o as (λ x. List Proof) [ Some point ↦ [] | None ↦ p ∷ [] ]
+  by_point (Some f) = sym (append-nil run.judged)
+  by_point None = refl
+
+event_judges : (stage : Stage) (run : Run) (e : Event) → (done stage run e).run.judged ≡ run.judged ++ verdict_on stage run e
+unfolding done
+event_judges stage run (event.Put node key value) = node_judged run node None _
+event_judges stage run (event.Puts node changes) = node_judged run node None _
+event_judges stage run (event.Get node key) = node_judged run node None _
+event_judges stage run (event.Hello node label) = node_judged run node (Some label) _
+event_judges stage run (event.Bundle node hello label) = node_judged run node (Some label) _
+event_judges stage run (event.Give node label size) = node_judged run node None _
+event_judges stage run (event.Restart node) = node_judged run node None _
+event_judges stage run (event.Update label writer seq clock prev key value deps history) = update_judged (signs_on stage writer) run label _ (updated (signs_on stage writer) run writer seq clock prev (one_change key value) deps history)
+event_judges stage run (event.Updates label writer seq clock prev changes deps history) = update_judged (signs_on stage writer) run label _ (updated (signs_on stage writer) run writer seq clock prev changes deps history)
+event_judges stage run (event.Voucher label writer seq refs) = sym (append-nil run.judged)
+event_judges stage run (event.Proof label kind first second) = sym (append-nil run.judged)
+event_judges stage run (event.Hollow label voucher plain) = sym (append-nil run.judged)
+event_judges stage run (event.Judge label) = judge_judged stage run (proof_in (bytes_of run label))
+event_judges stage run (event.Raw label bytes) = sym (append-nil run.judged)
+event_judges stage run (event.Cut label source start count) = sym (append-nil run.judged)
+event_judges stage run (event.Flip label source place) = sym (append-nil run.judged)
+event_judges stage run (event.Join label first second) = sym (append-nil run.judged)
+event_judges stage run (event.Stop node call image) = stop_judged run node call image
+
+events_judge : (stage : Stage) (run : Run) (es : List Event) → (run_after stage run es).judged ≡ run.judged ++ verdicts_on stage run es
+unfolding run_after
+events_judge stage run [] = sym (append-nil run.judged)
+events_judge stage run (e ∷ es) =
+    events_judge stage (done stage run e).run es
+    ∙ ap (λ (ps : List Proof). ps ++ verdicts_on stage (done stage run e).run es) (event_judges stage run e)
+    ∙ append_assoc run.judged (verdict_on stage run e) (verdicts_on stage (done stage run e).run es)
+
+-- the judged proofs are those that events have verdicts on
+pub judged_are_verdicts : (s : Schedule) → (world_of s).judged ≡ verdicts_on (stage_of s) (run_of (stage_of s) s.members) s.events
+unfolding world_of world_by run_of
+judged_are_verdicts s = events_judge (stage_of s) (run_of (stage_of s) s.members) s.events

@@ -1,0 +1,5 @@
+use Rattle.depot_laws.proofs.Settled.{settled}
+use Rattle.depot_laws.proofs.receipts.settled_law.Goals as goal
+
+pub returns : goal.returns
+returns x W c h k world authentic genuine few c_on long many = settled W world c h k authentic genuine few c_on long many

@@ -1,0 +1,51 @@
+//! Receipts: what a node says by signature that it holds.
+ghost use Rattle.std.specs.Prelude.{◌≡◌, ℕ, List, [], ◌∷◌, ◌++◌, length, filter, not, true, false, Some, None, ◌≤◌, ◌<◌, ◌↔◌};
+ghost use Rattle.depot_base.specs.declared.key.RosterEntry.{RosterEntry};
+ghost use Rattle.depot_base.specs.declared.update.Update.{Update};
+ghost use Rattle.depot_base.specs.declared.voucher.Voucher.{Voucher};
+ghost use Rattle.depot_base.specs.declared.record.Record.{Record};
+ghost use Rattle.depot_base.specs.declared.record.Record.TheVariants.{OwnPut};
+ghost use Rattle.depot_model.specs.Lists.{IsIn};
+ghost use Rattle.depot_model.specs.Contents.{NamedValue};
+ghost use Rattle.depot_model.specs.Journal.{accepted, holds, held_as};
+ghost use Rattle.depot_model.specs.Checks.{Setting, Given, growth};
+ghost use Rattle.depot_model.specs.Vouching.{records_of};
+ghost use Rattle.depot_model.specs.Causality.{puts_of};
+ghost use Rattle.depot_model.specs.World.{Correct, World, IsWorld, IsAuthentic};
+ghost use Rattle.depot_model.specs.Contents.{keys_written};
+ghost use Rattle.depot_model.specs.Receipts.{receipt_key, receipt_of, gives_receipt, receipts, HoldsAllOf, AreReceiptsTrue, no_receipt, is_node};
+
+/// A key is that of a receipt for an id exactly where it is the 8 bytes and then the id, of 32 bytes.
+pub fn receipt_keys()
+    ensures { (key h : List ℕ) → (receipt_of key ≡ Some h ↔ ((key ≡ receipt_key h) × (length h ≡ 32))) }
+{}
+
+/// The receipts of a journal stay true in each front of it, so in what a stop leaves of it, and with whatever a node is given
+/// or vouches for behind it. With an own put behind it they stay true where each receipt that it gives is for what is held: so
+/// where it writes no key of a receipt, and where it writes only those for ids against which nothing speaks.
+pub fn receipts_stay_true()
+    ensures none { AreReceiptsTrue [] }
+    ensures front { (J more : List Record) → AreReceiptsTrue (J ++ more) → AreReceiptsTrue J }
+    ensures silent { (J new : List Record) → puts_of new ≡ [] → AreReceiptsTrue J → AreReceiptsTrue (J ++ new) }
+    ensures given { (here : Setting) (J : List Record) (x : Given) → AreReceiptsTrue J → AreReceiptsTrue (J ++ growth here J x) }
+    ensures vouched { (J : List Record) (vs : List Voucher) → AreReceiptsTrue J → AreReceiptsTrue (J ++ records_of vs) }
+    ensures put { (J : List Record) (u : Update) (values : List (List ℕ)) → ((h : List ℕ) → length h ≡ 32 → gives_receipt h u ≡ true → HoldsAllOf J h) → AreReceiptsTrue J → AreReceiptsTrue (J ++ OwnPut u values ∷ []) }
+    ensures plain { (J : List Record) (u : Update) (values : List (List ℕ)) → ((key : List ℕ) → IsIn key (keys_written u) → receipt_of key ≡ None) → AreReceiptsTrue J → AreReceiptsTrue (J ++ OwnPut u values ∷ []) }
+    ensures receipts { (J : List Record) (u : Update) (values : List (List ℕ)) (ids : List (List ℕ)) → no_receipt J ids ≡ None → ((key : List ℕ) → IsIn key (keys_written u) → (h : List ℕ) × (IsIn h ids × (key ≡ receipt_key h))) → AreReceiptsTrue J → AreReceiptsTrue (J ++ OwnPut u values ∷ []) }
+    ensures due { (J : List Record) (ids : List (List ℕ)) (h : List ℕ) → no_receipt J ids ≡ None → IsIn h ids → HoldsAllOf J h }
+{}
+
+/// What a receipt speaks of stands in every later journal: the update is accepted, and all its values are held. What a journal
+/// holds under a name it holds from then on, and it stays the same value.
+pub fn receipts_speak_of_held_values()
+    ensures speaks { (J : List Record) (u : Update) (h : List ℕ) → AreReceiptsTrue J → IsIn u (puts_of J) → length h ≡ 32 → gives_receipt h u ≡ true → HoldsAllOf J h }
+    ensures stays { (J more : List Record) (h : List ℕ) → HoldsAllOf J h → HoldsAllOf (J ++ more) h }
+    ensures same { (J more : List Record) (n : NamedValue) (v : List ℕ) → held_as J n ≡ Some v → held_as (J ++ more) n ≡ Some v }
+{}
+
+/// Let no correct node's signature be forged, and let each correct node's receipts be true. Where a correct node has receipts
+/// of more nodes than there are nodes of the roster that aren't correct, some correct node has accepted the update and holds
+/// all its values. Nothing is assumed of hashes.
+pub fn settled_law()
+    ensures { (W : World) (c : Correct) (h : List ℕ) (k : ℕ) → IsWorld W → IsAuthentic W → ((d : Correct) → IsIn d W.nodes → AreReceiptsTrue d.journal) → length (filter (λ e. not (is_node W e.node)) W.listed) < k → IsIn c W.nodes → length h ≡ 32 → k ≤ length (receipts c.journal h) → (d : Correct) × (IsIn d W.nodes × HoldsAllOf d.journal h) }
+{}

@@ -1,0 +1,317 @@
+#!/usr/bin/env python3
+"""Shows what a file of Depot holds, one line a fact: a journal, hello, stream, proof, roster or log.
+
+    python3 tools/look.py FILE                    the kind is found by reading; --kind KIND says it
+    python3 tools/look.py FILE --whole            hashes in full, in place of their first 16 digits
+    python3 tools/look.py JOURNAL --roster FILE   and how many statements the node has left
+    python3 tools/look.py HELLO --journal FILE    and which of its leaves the journal has
+    python3 tools/look.py FILE --proofs FOLDER    puts the proofs of a journal or a stream there, as files for `judge`
+
+It reads by docs/FORMATS.md, verifies no signature, and asks no program. Where a text isn't in its form, what stands
+before the fault is shown, then a line that says where and why, and the status is 2.
+"""
+
+import argparse
+import os
+import signal
+import sys
+
+import formats as f
+
+KINDS = ["roster", "hello", "journal", "proof", "stream", "log"]
+
+
+class Page:
+    """The lines about a file, as they are made."""
+
+    def __init__(self, whole=False):
+        self.lines, self.whole, self.fault = [], whole, None
+
+    def say(self, line):
+        self.lines.append(line)
+
+    def hash(self, digest):
+        return digest.hex() if self.whole else digest.hex()[:16]
+
+
+def writes_line(update, values, page):
+    """What an update writes: its values as text where they are held, else their hashes."""
+    parts = []
+    for write in update.writes:
+        if write.hash is None:
+            parts.append("%s deleted" % f.shown(write.key))
+        elif write.hash in values:
+            parts.append("%s = %s" % (f.shown(write.key), cut(f.shown(values[write.hash]))))
+        else:
+            parts.append("%s = ? (%d bytes, hash %s)" % (f.shown(write.key), write.length, page.hash(write.hash)))
+    return ", ".join(parts)
+
+
+def cut(text, most=60):
+    """The front of a long text."""
+    return text if len(text) <= most else text[:most] + ".. (%d characters)" % len(text)
+
+
+def bytes_line(what, data, page):
+    return "%s of %d bytes, hash %s: %s" % (what, len(data), page.hash(f.sha256(data)), cut(f.shown(data)))
+
+
+def parents_line(update, page):
+    prev = "none" if update.prev == f.NO_UPDATE else page.hash(update.prev)
+    entries = ["%d/%d %s" % (it.writer, it.clock, page.hash(it.id)) for it in update.entries]
+    return "prev %s, entries %s" % (prev, "; ".join(entries) or "none")
+
+
+def statement_lines(statement, values, page):
+    """A line of what a statement is, and one of each kind of thing that it names."""
+    if isinstance(statement, f.Voucher):
+        ids = " ".join(page.hash(it) for it in statement.ids)
+        return ["voucher %s for %d updates: %s" % (statement.name, len(statement.ids), ids)]
+    return [
+        "update %s, id %s" % (statement.name, page.hash(statement.id)),
+        "  writes %s" % writes_line(statement, values, page),
+        "  %s" % parents_line(statement, page),
+    ]
+
+
+def proof_line(proof, page):
+    if isinstance(proof, f.Hollow):
+        voucher = proof.voucher.statement
+        why = "its voucher %s, and a text of %d bytes that is no update" % (voucher.name, len(proof.text))
+    else:
+        why = "%s and %s" % (proof.first.statement.name, proof.second.statement.name)
+    return "proof against node %d, %s: %s" % (f.convicted_by(proof), proof.kind, why)
+
+
+# ---- a page a kind; each raises IllFormed where the file is of another kind
+
+
+def show_roster(data, page, options):
+    members = f.read_roster(data)
+    page.say("roster: %d members, hash %s" % (len(members), f.sha256(data).hex()))
+    for it in members:
+        page.say("member %d: %d statements (height %d), root %s" % (it.node, 2**it.height, it.height, it.root.hex()))
+
+
+def show_hello(data, page, options):
+    hello = f.read_hello(data)
+    page.say("hello of node %d, for the roster %s" % (hello.node, page.hash(hello.roster)))
+    page.say("convicted: %s" % (", ".join(map(str, hello.convicted)) or "none"))
+    records = journal_at(options.journal).records if options.journal else None
+    for leaf in hello.leaves:
+        writer, id = int.from_bytes(leaf[:2], "big"), leaf[2:]
+        page.say("leaf of writer %d: %s%s" % (writer, page.hash(id), had_by(records, writer, id)))
+    for value in hello.wanted:
+        page.say("wants the value %s" % page.hash(value))
+
+
+def had_by(records, writer, id):
+    """What is said of a leaf beside a journal. An own leaf that the journal lacks shows that it is an old copy."""
+    if not records:
+        return ""
+    if id in {it.id for it in f.updates_of(records)}:
+        return ", which the journal has"
+    is_own = isinstance(records[0].record, f.Birth) and records[0].record.node == writer
+    return ", which the journal lacks" + (": it is an old copy, never run it" if is_own else "")
+
+
+def journal_at(path):
+    with open(path, "rb") as file:
+        return f.read_journal(file.read())
+
+
+def show_journal(data, page, options):
+    """The records, and then what follows from them. Of a damaged journal the records before the damage are shown."""
+    placed = []
+    try:
+        for gate, end in f.spans_of(data):
+            placed.append(f.Placed(gate, end, f.read_record(data[gate + 5 : end], gate + 5)))
+    except f.IllFormed as fault:
+        page.fault = fault
+    end = placed[-1].end if placed else 0
+    if page.fault:
+        page.say("journal: %d whole records in %d bytes, and then damage" % (len(placed), end))
+    else:
+        told = "journal: %d records, %d bytes up to its closed gate, %d bytes behind it"
+        page.say(told % (len(placed), end + 1, max(0, len(data) - end - 1)))
+    values = f.values_of(placed)
+    for at, it in enumerate(placed):
+        for line in record_lines(it.record, values, page):
+            page.say("%d at %d: %s" % (at, it.gate, line))
+    show_sums(placed, values, page, options.roster)
+
+
+def record_lines(record, values, page):
+    if isinstance(record, f.Birth):
+        return ["birth of node %d, roster %s" % (record.node, page.hash(record.roster))]
+    if isinstance(record, f.Conviction):
+        return ["conviction by a " + proof_line(record.proof, page)]
+    if isinstance(record, f.Held):
+        return [bytes_line("value", record.value, page)]
+    statement, who = {
+        f.OwnPut: lambda: (record.update, "own "),
+        f.OwnVoucher: lambda: (record.voucher, "own "),
+        f.Foreign: lambda: (record.signed.statement, ""),
+    }[type(record)]()
+    lines = statement_lines(statement, values, page)
+    return [who + lines[0]] + lines[1:]
+
+
+def show_sums(placed, values, page, roster):
+    """What the records come to: statements, convictions, leaves and the latest writes of each key."""
+    own = sum(isinstance(it.record, (f.OwnPut, f.OwnVoucher)) for it in placed)
+    page.say("own statements: %d%s" % (own, left_of(placed, own, roster)))
+    convicted = sorted({f.convicted_by(it.record.proof) for it in placed if isinstance(it.record, f.Conviction)})
+    page.say("convicted: %s" % (", ".join(map(str, convicted)) or "none"))
+    updates = f.updates_of(placed)
+    for it in f.leaves_of(updates):
+        page.say("leaf of writer %d: %s, %s" % (it.writer, page.hash(it.id), it.name))
+    for key in sorted({write.key for it in updates for write in it.writes}):
+        latest = f.latest_writes(key, updates)
+        page.say("key %s: %s" % (f.shown(key), ", ".join(latest_line(key, it, values) for it in latest)))
+
+
+def latest_line(key, update, values):
+    write = next(it for it in update.writes if it.key == key)
+    if write.hash is None:
+        return update.name + "!"
+    return "%s=%s" % (update.name, cut(f.shown(values[write.hash])) if write.hash in values else "?")
+
+
+def left_of(placed, own, roster):
+    """How many statements are left to the node by its entry in the roster, if that is given."""
+    if roster is None or not placed:
+        return ""
+    with open(roster, "rb") as file:
+        data = file.read()
+    birth = placed[0].record
+    if f.sha256(data) != birth.roster:
+        return ", and the roster is another than the journal's"
+    heights = [it.height for it in f.read_roster(data) if it.node == birth.node]
+    return "".join(", %d of %d left" % (2**it - own, 2**it) for it in heights)
+
+
+def show_proof(data, page, options):
+    proof = f.read_proof(data)
+    page.say(proof_line(proof, page))
+    halves = [proof.voucher] if isinstance(proof, f.Hollow) else [proof.first, proof.second]
+    for half in halves:
+        for line in statement_lines(half.statement, {}, page):
+            page.say(line)
+    if isinstance(proof, f.Hollow):
+        page.say(bytes_line("text", proof.text, page))
+
+
+def show_stream(data, page, options):
+    """The frames of a stream. Its end is a fault where no frame stands."""
+    stream = f.read_stream(data)
+    page.say("stream: %d frames, %s" % (len(stream.frames), stream.ending))
+    values = {f.sha256(it.payload): it.payload for it in stream.frames if it.tag == f.VALUE}
+    for at, frame in enumerate(stream.frames):
+        for line in frame_lines(frame, values, page):
+            page.say("%d at %d: %s" % (at, frame.offset, line))
+
+
+def frame_lines(frame, values, page):
+    try:
+        if frame.tag == f.PROOF:
+            return [proof_line(f.read_proof(frame.payload), page)]
+        if frame.tag == f.STATEMENT:
+            return statement_lines(f.read_signed(frame.payload).statement, values, page)
+    except f.IllFormed as fault:
+        return ["a payload that isn't in its form, %s" % fault]
+    if frame.tag == f.VALUE:
+        return [bytes_line("value", frame.payload, page)]
+    return ["end: %s" % ("there is more" if frame.payload == b"\1" else "nothing was left")]
+
+
+def show_log(data, page, options):
+    updates = f.read_log(data)
+    page.say("log: %d updates" % len(updates))
+    for it in updates:
+        for line in statement_lines(it, {}, page):
+            page.say(line)
+
+
+SHOW = {
+    "roster": show_roster,
+    "hello": show_hello,
+    "journal": show_journal,
+    "proof": show_proof,
+    "stream": show_stream,
+    "log": show_log,
+}
+
+
+# A journal's first record is a birth, of 35 bytes.
+JOURNAL_HEAD = b"\1\0\0\0\43\1"
+WHOLE = [("roster", f.read_roster), ("hello", f.read_hello), ("proof", f.read_proof), ("log", f.read_log)]
+
+
+def kind_of(data):
+    """The kind of a file: a journal by its first bytes, what reads whole, or a stream that has a frame. Else None."""
+    if len(data) <= 1 or data.startswith(JOURNAL_HEAD):
+        return "journal"
+    for kind, read in WHOLE:
+        try:
+            read(data)
+            return kind
+        except f.IllFormed:
+            continue
+    return "stream" if f.read_stream(data).frames else None
+
+
+def look(data, options):
+    """The page of a file of the kind that is asked for, or found."""
+    page = Page(options.whole)
+    kind = options.kind or kind_of(data)
+    if kind is None:
+        page.fault = "it is no roster, hello, journal, proof, stream or log; with --kind KIND it is said where it fails"
+        return page
+    try:
+        SHOW[kind](data, page, options)
+    except f.IllFormed as fault:
+        page.fault = fault
+    return page
+
+
+def cut_out(data, folder):
+    """Puts each proof that stands in the file into the folder, and gives their names."""
+    os.makedirs(folder, exist_ok=True)
+    names = []
+    for text in f.proofs_in(data):
+        proof = f.read_proof(text)
+        name = os.path.join(folder, "node-%d-%s-%d" % (f.convicted_by(proof), proof.kind, len(names)))
+        with open(name, "wb") as out:
+            out.write(text)
+        names.append(name)
+    return names
+
+
+def main(words):
+    parser = argparse.ArgumentParser(description=__doc__, formatter_class=argparse.RawDescriptionHelpFormatter)
+    parser.add_argument("file", metavar="FILE")
+    parser.add_argument("--kind", choices=KINDS)
+    parser.add_argument("--whole", action="store_true")
+    parser.add_argument("--roster", metavar="FILE")
+    parser.add_argument("--journal", metavar="FILE")
+    parser.add_argument("--proofs", metavar="FOLDER")
+    options = parser.parse_args(words)
+    signal.signal(signal.SIGPIPE, signal.SIG_DFL)
+    with open(options.file, "rb") as file:
+        data = file.read()
+    if options.proofs:
+        names = cut_out(data, options.proofs)
+        print("\n".join(names) if names else "no proof stands in this file")
+        return 0
+    page = look(data, options)
+    for line in page.lines:
+        print(line)
+    if page.fault:
+        print("not in its form: %s" % page.fault)
+        return 2
+    return 0
+
+
+if __name__ == "__main__":
+    sys.exit(main(sys.argv[1:]))

@@ -1,0 +1,233 @@
+"""The tools that people call: a roster, a look into files, text both ways, and pictures."""
+
+import os
+import tempfile
+import unittest
+import xml.dom.minidom
+
+from cases import data_of, f, frame, journal, marked, path_of, run_tool, signed, update_body, voucher_body
+import story  # noqa: E402
+
+BRANCHED = path_of("acceptance", "node_convicts_a_fork", "after", "two", "depot.journal")
+STREAM = path_of("acceptance", "node_convicts_a_fork", "after", "B")
+PROOF = path_of("examples", "fork", "proof")
+SCHEDULE = path_of("examples", "fork.schedule")
+TRANSCRIPT = b"""update x -> 9/0/1
+update y -> 9/1/2
+give 1 x -> accepted 2 known 0 refused 0 bare
+give 2 y -> accepted 2 known 0 refused 0 bare
+get 1 6b -> 9/0/1=61
+get 2 6b -> 9/1/2=62
+hello 1 a -> convicted 0 leaves 1 wanted 0
+bundle 2 a b -> proofs 0 vouchers 1 updates 1 values 1 whole
+stop 1 -> armed
+give 1 b -> stopped records 5
+give 1 b -> accepted 2 known 1 refused 0 whole
+get 1 6b -> 9/0/1=61 9/1/2=62
+proof p -> SamePrev
+judge p -> 9 SamePrev
+put 1 6b -> 0/3
+get 1 6b -> 1/0/3=63
+"""
+
+
+class InARoom(unittest.TestCase):
+    def setUp(self):
+        room = tempfile.TemporaryDirectory()
+        self.addCleanup(room.cleanup)
+        self.room = room.name
+
+    def path(self, name):
+        return os.path.join(self.room, name)
+
+    def put(self, name, data):
+        with open(self.path(name), "wb") as file:
+            file.write(data)
+        return self.path(name)
+
+
+class Roster(InARoom):
+    def test_a_roster(self):
+        status, out, _ = run_tool("roster.py", self.path("R"), "2:17:" + "22" * 32, "1:2:" + "11" * 32)
+        with open(self.path("R"), "rb") as file:
+            text = file.read()
+        self.assertEqual(text, b"\1\4\0\2" + b"\0\1\2" + b"\x11" * 32 + b"\0\2\21" + b"\x22" * 32)
+        self.assertEqual((status, out.replace(" ", "").strip()), (0, f.sha256(text).hex()))
+        self.assertEqual(len(out.split()), 16)
+
+    def test_the_roster_of_a_case(self):
+        members = f.read_roster(data_of("examples", "fork", "roster"))
+        run_tool("roster.py", self.path("R"), *("%d:%d:%s" % (it.node, it.height, it.root.hex()) for it in members))
+        with open(self.path("R"), "rb") as file:
+            self.assertEqual(file.read(), data_of("examples", "fork", "roster"))
+
+    def test_refusals(self):
+        root = "11" * 32
+        bad = [[it + root] for it in ("0:2:", "65536:2:", "1:1:", "1:18:", "x:2:")] + [["1:2:11"], ["1:2:" + "AA" * 32]]
+        bad += [["1:2:" + root, "1:3:" + root], ["1:2"], [], ["%d:2:%s" % (it, root) for it in range(1, 258)]]
+        for words in bad:
+            self.assertEqual(run_tool("roster.py", self.path("R"), *words)[0], 1)
+            self.assertFalse(os.path.exists(self.path("R")))
+
+    def test_a_roster_that_stands(self):
+        self.put("R", b"as it was")
+        self.assertEqual(run_tool("roster.py", self.path("R"), "1:2:" + "11" * 32)[0], 3)
+
+
+class Look(InARoom):
+    def lines(self, *words):
+        status, out, _ = run_tool("look.py", *words)
+        return status, out.splitlines()
+
+    def test_a_journal(self):
+        status, lines = self.lines(BRANCHED)
+        self.assertEqual(status, 0)
+        self.assertEqual(lines[0], "journal: 5 records, 9350 bytes up to its closed gate, 0 bytes behind it")
+        for line in ["0 at 0: birth of node 2, roster 8ef0c1b65289d3d3",
+                     "1 at 40: conviction by a proof against node 9, SamePrev: 9/0/1 and 9/1/2",
+                     "2 at 4728: voucher 1/0 for 1 updates: 3b01cac0be5ba620",
+                     "3 at 6996:   writes \"k\" = \"x\"",
+                     "own statements: 0", "convicted: 9", "leaf of writer 9: 3b01cac0be5ba620, 9/0/1",
+                     "key \"k\": 9/0/1=\"x\""]:
+            self.assertIn(line, lines)
+
+    def test_what_is_left(self):
+        roster = path_of("acceptance", "node_convicts_a_fork", "data", "ROSTER")
+        self.assertIn("own statements: 0, 4 of 4 left", self.lines(BRANCHED, "--roster", roster)[1])
+        other = self.lines(BRANCHED, "--roster", path_of("examples", "fork", "roster"))[1]
+        self.assertIn("own statements: 0, and the roster is another than the journal's", other)
+
+    def test_a_damaged_journal(self):
+        damaged = self.put("J", data_of("acceptance", "node_over_a_long_last_record", "data", "depot.journal"))
+        status, lines = self.lines(damaged)
+        self.assertEqual((status, lines[0]), (2, "journal: 1 whole records in 40 bytes, and then damage"))
+        self.assertEqual(lines[-1], "not in its form: at 40: an open gate stands here, and no whole record follows")
+
+    def test_a_hello_beside_a_journal(self):
+        hello = path_of("acceptance", "node_convicts_a_fork", "after", "H")
+        leaf = "leaf of writer 9: 3b01cac0be5ba620"
+        self.assertIn(leaf + ", which the journal has", self.lines(hello, "--journal", BRANCHED)[1])
+        for node, said in [(1, "lacks"), (9, "lacks: it is an old copy, never run it")]:
+            other = self.put("J", journal(b"\1" + f.number(2, node) + bytes(32)))
+            self.assertIn(leaf + ", which the journal " + said, self.lines(hello, "--journal", other)[1])
+
+    def test_a_stream_and_its_proof(self):
+        self.assertEqual(self.lines(STREAM)[1][0], "stream: 5 frames, whole")
+        _, names = self.lines(STREAM, "--proofs", self.path("proofs"))
+        self.assertEqual(names, [os.path.join(self.path("proofs"), "node-9-SamePrev-0")])
+        with open(names[0], "rb") as file:
+            self.assertEqual(file.read(), f.read_stream(data_of(STREAM)).frames[0].payload)
+        _, names = self.lines(BRANCHED, "--proofs", self.path("again"))
+        with open(names[0], "rb") as file:
+            self.assertEqual(f.read_proof(file.read()).kind, "SamePrev")
+
+    def test_the_other_kinds(self):
+        self.assertEqual(self.lines(PROOF)[1][0], "proof against node 9, SamePrev: 9/0/1 and 9/1/2")
+        self.assertEqual(self.lines(path_of("examples", "fork", "joined.log"))[1][0], "log: 3 updates")
+        members = self.lines(path_of("examples", "fork", "roster"))[1][1:]
+        self.assertTrue(members[0].startswith("member 1: 4 statements (height 2)"))
+
+    def test_several_writes_and_a_hollow_proof(self):
+        body = update_body(b"\2" + marked(b"k", b"abc") + marked(b"l", None), version=2)
+        stream = self.put("S", frame(2, signed(body)) + frame(3, b"abc"))
+        self.assertIn("0 at 0:   writes \"k\" = \"abc\", \"l\" deleted", self.lines(stream)[1])
+        hollow = b"\1\4" + signed(voucher_body(f.sha256(b"x"))) + f.number(4, 1) + b"x"
+        told = "proof against node 9, NotUpdate: its voucher 9/0, and a text of 1 bytes that is no update"
+        self.assertEqual(self.lines(self.put("P", hollow))[1][0], told)
+
+    def test_no_kind(self):
+        self.assertEqual(self.lines(path_of("README.md"))[0], 2)
+        told = "not in its form: at 0: the version is 35, and may be 1 to 1"
+        self.assertEqual(self.lines("--kind", "hello", path_of("README.md"))[1], [told])
+
+
+class Text(unittest.TestCase):
+    def test_scripts(self):
+        notes = '# a note\n\nput "user:1" "\u00c4 x"\r\nput 6b -\nput "k" ""\nput "k" "a\\"\\\\\\n\\x00"\n'
+        notes += 'get "user:1"\ntake ../for-one\nputs "b"="2", "a"!, 6c=-\nbundle ../hello ../out\n'
+        status, out, _ = run_tool("text.py", "script", data=notes.encode())
+        self.assertEqual((status, out.splitlines()), (0, [
+            "put 757365723a31 c3842078", "put 6b -", "put 6b -", "put 6b 61225c0a00", "get 757365723a31",
+            "take ../for-one", "puts 61!,62=32,6c=-", "bundle ../hello ../out"]))
+
+    def test_bad_notes(self):
+        for line in ['put "k', 'put "k" "\\q"', 'puts "a"', 'puts "a"="b" "c"!', "puts =61"]:
+            status, _, why = run_tool("text.py", "script", data=line.encode() + b"\n")
+            self.assertEqual((status, "line 1" in why), (1, True), line)
+
+    def test_answers(self):
+        answers = "put 757365723a31 -> 0/1\nget 6b -> 1/0/1=616263 2/0/1! 3/0/1=? 4/0/1= 5/0/1=ff00\n"
+        answers += "get 1 6b -> 9/0/1=61\nget 6b ->\nputs -> 0/1\nhello h -> convicted 0 leaves 1 wanted 0\n"
+        answers += " refused 0 5 Missing\nshelf h\n"
+        status, out, _ = run_tool("text.py", "answers", data=answers.encode())
+        self.assertEqual((status, out.splitlines()), (0, [
+            'put "user:1" -> 0/1', 'get "k" -> 1/0/1="abc" 2/0/1! 3/0/1=? 4/0/1="" 5/0/1=ff00',
+            'get 1 "k" -> 9/0/1="a"', 'get "k" ->', "puts -> 0/1", "hello h -> convicted 0 leaves 1 wanted 0",
+            " refused 0 5 Missing", "shelf h"]))
+
+
+class Picture(InARoom):
+    def drawn(self, *words):
+        """The texts that a picture shows, and how many boxes and arrows it has."""
+        status, out, why = run_tool("picture.py", *words)
+        self.assertEqual((status, why), (0, ""))
+        svg = xml.dom.minidom.parseString(out)
+        texts = [it.firstChild.data for it in svg.getElementsByTagName("text") if it.firstChild]
+        return texts, len(svg.getElementsByTagName("g")), out.count("marker-end")
+
+    def test_a_journal_with_a_fork(self):
+        texts, boxes, arrows = self.drawn(BRANCHED)
+        self.assertEqual((boxes, arrows), (2, 0))
+        for said in ["the journal of node 2", "node 9 is convicted: SamePrev", "9/0/1", "9/1/2", "branch 2", "SamePrev",
+                     "vouched by 1", "known from a proof"]:
+            self.assertIn(said, texts)
+
+    def test_a_schedule(self):
+        texts, boxes, arrows = self.drawn("--schedule", SCHEDULE, self.put("T", TRANSCRIPT))
+        self.assertEqual((boxes, arrows), (3, 2))
+        for said in ["node 9 is convicted: SamePrev at 1", "1/0/3", '"k" = "c"', "at 1, 2", "SamePrev"]:
+            self.assertIn(said, texts)
+
+    def test_the_picture_of_the_tutorial(self):
+        self.assertIn(TRANSCRIPT, data_of("docs", "TUTORIAL.md"))
+        out = run_tool("picture.py", "--schedule", SCHEDULE, self.put("T", TRANSCRIPT))[1]
+        self.assertEqual(out.encode(), data_of("docs", "fork.svg"))
+
+    def schedules(self):
+        """The schedules of acceptance/ that are played to their end, and their transcripts."""
+        for name in sorted(os.listdir(path_of("acceptance"))):
+            schedule, told, status = (path_of("acceptance", name, it) for it in ("data/schedule", "stdout", "status"))
+            if os.path.exists(schedule) and os.path.getsize(schedule) < 20000 and not os.path.exists(status):
+                with self.subTest(name=name):
+                    yield schedule, told
+
+    def test_all_schedules_of_acceptance(self):
+        drawn = [self.drawn("--schedule", schedule, told) for schedule, told in self.schedules()]
+        self.assertGreater(len(drawn), 20)
+
+    def test_what_is_told_agrees_with_hellos(self):
+        """Of schedules without pieces of texts, and without stops, what a hello says is what the story has."""
+        hellos = 0
+        for schedule, told in self.schedules():
+            with open(schedule) as lines, open(told) as transcript:
+                lines, transcript = lines.read(), transcript.read()
+            if any("\n%s " % it in lines for it in ("raw", "cut", "flip", "stop")) or "a_convicted_voucher" in schedule:
+                continue
+            for telling, words, answer in story.told_events(lines, transcript):
+                if words[0] == "hello" and answer:
+                    node = telling.nodes[words[1]]
+                    found = (str(len(node.convicted)), str(len(telling.leaves(node))))
+                    self.assertEqual(found, (answer[1], answer[3]))
+                    hellos += 1
+        self.assertGreater(hellos, 5)
+
+    def test_the_last_ones(self):
+        self.assertEqual(self.drawn("--last", "1", BRANCHED)[1], 1)
+
+    def test_a_damaged_journal(self):
+        damaged = path_of("acceptance", "node_over_a_cut_record", "data", "depot.journal")
+        self.assertEqual(run_tool("picture.py", damaged)[0], 2)
+
+
+if __name__ == "__main__":
+    unittest.main()
