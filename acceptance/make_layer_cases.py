@@ -8,9 +8,9 @@ They are told as those of make_cases.py, make_node_cases.py and make_replays.py 
 
 from copy import deepcopy
 
-from make_cases import ZEROS, Signer, case, hollow, proof, roster, sha, signed, u, update, voucher
+from make_cases import ZEROS, Signer, case, frame, hollow, proof, roster, sha, signed, u, update, voucher
 from make_node_cases import TWO, Case, Node, script, seed, words
-from make_replays import JOIN, REFUSED, REFUSED_ONE, REJOIN, TOOK, TOOK_ONE, UNWANTED, play, refuse
+from make_replays import JOIN, REFUSED, REFUSED_ONE, REJOIN, TOOK, TOOK_ONE, UNWANTED, play, raw, refuse
 
 FORK_REJOINS = REJOIN + [
     ("give 1 b", "accepted 3 known 0 refused 0 whole"),
@@ -70,6 +70,49 @@ HIGHEST = [
 ]
 
 
+def border_with_stops():
+    """A node whose disk stops around the put of its 256th statement, the last of its first bottom tree, in calls that lose it and in one that
+    keeps it. Afterwards it signs that one and the next: a proof of both comes to nothing, but behind the points on signatures."""
+    one, two = (Signer(node, bytes(30) + u(2, node), 13) for node in (1, 2))
+    node = Node(one, roster(one.entry(), two.entry()))
+    for at in range(255):
+        last = node.put(b"k", u(2, at))
+    hello = b"\1\3" + u(2, 2) + sha(node.listed) + u(2, 0) + u(2, 1) + u(2, 1) + last.id + u(2, 0)
+    kept = node.put(b"k", b"b"), node.put(b"k", b"d")
+    stream = b"".join(made.frames() for made in kept)
+    length = len(kept[0].text)
+    second = 5 + length + 6 + 5
+    return [(f"put 1 6b {at:04x}", f"{at}/{at + 1}") for at in range(255)] + [
+        ("stop 1 2 1", "armed"),
+        ("put 1 6b 61", "stopped records 256"),
+        ("stop 1 3 0", "armed"),
+        ("put 1 6b 61", "stopped records 256"),
+        ("get 1 6b", "1/254/255=00fe"),
+        ("stop 1 3 1", "armed"),
+        ("put 1 6b 62", "stopped records 257"),
+        ("get 1 6b", "1/255/256=62"),
+        ("stop 1 4 2", "armed"),
+        ("put 1 6b 63", "stopped records 257"),
+        ("put 1 6b 64", "256/257"),
+        ("restart 1", "records 258"),
+        raw("h", hello),
+        ("bundle 1 h b", "proofs 0 vouchers 0 updates 2 values 2 whole"),
+        ("cut l b 0 100000", f"{len(stream) + 6} bytes"),
+        raw("g", frame(1, b"")[:5] + b"\1\1"),
+        (f"cut m b 5 {length}", f"{length} bytes"),
+        (f"cut n b {second} {len(kept[1].text)}", f"{len(kept[1].text)} bytes"),
+        ("join o g m", f"{7 + length} bytes"),
+        ("join p o n", f"{7 + 2 * length} bytes"),
+        ("judge p", "NotContradictory SameNumber"),
+        (f"flip q p {7 + length - 1}", f"{7 + 2 * length} bytes"),
+        ("judge q", "BadSignature first"),
+        (f"flip r p {7 + 2 * length - 1}", f"{7 + 2 * length} bytes"),
+        ("judge r", "BadSignature second"),
+        raw("s", stream),
+        ("give 1 s", "accepted 0 known 4 refused 0 bare"),
+    ]
+
+
 def over_the_border():
     """A node that stopped in the put of its 256th statement is started again, puts another one with that leaf, the last of its first
     bottom tree, in a further run one with the first of the next, and in a third signs both."""
@@ -127,6 +170,7 @@ def main():
     play("winternitz_of_two_layers_joins", layers("node 1", "node 2", "node 3"), JOIN)
     play("winternitz_of_two_layers_forks", layers("node 1", "node 2", "faulty 9"), FORK_REJOINS)
     play("signatures_over_a_bottom_tree", layers("node 1", "faulty 9"), BORDER)
+    play("stops_over_a_bottom_tree", layers("node 1", "node 2"), border_with_stops())
     play("the_greatest_height", layers("node 1", "faulty 9", height=17), HIGHEST)
     play("the_greatest_height_of_the_plain_scheme", ["depot schedule 1", "scheme plain 17", "node 1", "faulty 9"], HIGHEST)
     refuse("a_height_of_eighteen", ["depot schedule 1", "scheme plain 18", "node 1"], 2, "Number")
