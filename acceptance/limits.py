@@ -12,9 +12,11 @@ import tempfile
 
 from make_cases import HERE, ZEROS, frame
 from make_node_cases import JOURNAL, LISTED, words
-from make_replays import REFUSED_ONE, TOOK, branches, doubled, hello_of, members, raw, schedule, signed_update, signed_voucher, transcript
+from make_replays import REFUSED, REFUSED_ONE, TOOK, TOOK_ONE, branches, doubled, hello_of, members, raw, schedule, signed_update, signed_voucher, transcript
 
 DEPOT = os.path.join(HERE, "..", "depot")
+# The bytes of a frame of an update without entries, under a key of one byte.
+SHORT = 5 + 4 + 120 + 4 + 32
 WIDE = ["depot schedule 1", "scheme plain 12"]
 
 
@@ -111,6 +113,41 @@ def many_frames():
     ]
 
 
+def many_wanted():
+    """A hello wants 1,024 values, though more are lacking; a voucher has 256 ids; and a newcomer takes updates of others, however many they are."""
+    count = 1100
+    events = []
+    for seq in range(count):
+        prev = f"u{seq - 1}" if seq else "-"
+        events += [
+            (f"update u{seq} 9 {seq} {seq + 1} {prev} 6b {seq:04x} - right", f"9/{seq}/{seq + 1}"),
+            (f"cut c{seq} u{seq} 0 {SHORT}", f"{SHORT} bytes"),
+            (f"give 1 c{seq}", TOOK_ONE),
+        ]
+    return WIDE + ["node 1", "node 2", "faulty 9"], events + [
+        ("hello 1 a", "convicted 0 leaves 1 wanted 1024"),
+        ("hello 2 b", "convicted 0 leaves 0 wanted 0"),
+        ("bundle 1 b c", f"proofs 0 vouchers 5 updates {count} values 0 whole"),
+        ("give 2 c", f"accepted {5 + count} known 0 refused 0 whole"),
+        ("hello 2 d", "convicted 0 leaves 1 wanted 1024"),
+    ]
+
+
+def wide_proof():
+    """A frame has more than 65,536 bytes: a proof of two updates with 1,024 entries each, which is made, told and taken."""
+    count = 1024
+    named = ",".join(f"u{seq}" for seq in range(count))
+    return WIDE + ["node 1", "node 2", "faulty 7", "faulty 8", "faulty 9"], branches(count, "0/2", [
+        (f"update x 7 0 2 - 6b 62 {named} right", "7/0/2"),
+        (f"update y 7 0 2 - 6b 63 {named} right", "7/0/2"),
+        ("give 1 x", TOOK),
+        ("give 1 y", REFUSED, "refused 0 11 Forked SameNumber", "refused 1 14 Unwanted"),
+        ("hello 2 h", "convicted 0 leaves 0 wanted 0"),
+        ("bundle 1 h b", f"proofs 2 vouchers 5 updates {count + 2} values {count + 2} whole"),
+        ("give 2 b", f"accepted {2 + 5 + 2 * (count + 2)} known 0 refused 0 whole"),
+    ])
+
+
 def plays(name, header, events):
     with tempfile.TemporaryDirectory() as room:
         with open(os.path.join(room, "schedule"), "w") as out:
@@ -153,7 +190,7 @@ def is_damaged(name, write):
 
 
 def main():
-    results = [plays(case.__name__, *case()) for case in (long_values, many_branches, many_records, long_bundle, longest_put, many_frames)]
+    results = [plays(case.__name__, *case()) for case in (long_values, many_branches, many_records, long_bundle, longest_put, many_frames, many_wanted, wide_proof)]
     results += [is_damaged(write.__name__, write) for write in (too_many_records, too_many_bytes)]
     sys.exit(0 if all(results) else 1)
 

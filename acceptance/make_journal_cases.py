@@ -74,6 +74,7 @@ def main():
         start(name, "not lawful " + fault, journal(BIRTH, *records))
     whole = journal(BIRTH, own_put(PUT))
     start("a_long_first_record", "damaged 0", longer(journal(BIRTH), 0))
+    start("a_first_record_that_is_no_text", "not lawful 0 Ill 1", journal(b"\x01"))
     start("a_long_last_record", "damaged 40", longer(whole, 40))
 
     # Behind a closed first gate nothing stands: the birth is written there, and a closed gate behind it.

@@ -7,7 +7,7 @@ use crate::{Bytes, Memory, NodeId, Update, Voucher};
 /// What a node signs.
 #[derive(Debug, Drop)]
 pub enum Statement {
-    /// It wrote a key.
+    /// It wrote keys.
     Update(Update),
     /// It vouches for updates of others.
     Voucher(Voucher),

@@ -67,5 +67,5 @@ replay_ends shelf loads name bytes sink status loaded there ends =
     front ends
   where
     front : (text : List ℕ) → IsFrontOf (λ t. IsReplayed t bytes) text → Begins shelf loads (Some (asked.Replay name)) text
-    front text (inl none) = inl none
-    front text (inr (whole, (n, (is, told)))) = inr (whole, (n, (is, (loaded, replays shelf name bytes Done whole there told))))
+    front text (inl none) = (inr loaded, inl none)
+    front text (inr (whole, (n, (is, told)))) = (inr loaded, inr (whole, (n, (is, (loaded, replays shelf name bytes Done whole there told)))))

@@ -13,6 +13,7 @@ use Rattle.depot_script.specs.ScriptReading.{IsTextOf}
 use Rattle.depot_script.specs.declared.command.Command as line
 use Rattle.depot_session.specs.declared.ending.Ending.{Ending}
 use Rattle.depot_session.specs.declared.ending.Ending.TheVariants as ending
+use Rattle.depot_session.specs.ScriptTelling.{Asked}
 use Rattle.depot_session.specs.SessionRuns as runs
 use Rattle.depot_session.specs.Sessions.{answers_of, loads_of, session_from, shelf_line}
 use Rattle.depot_winter.specs.TreeSigning.{key_of_seed}
@@ -32,14 +33,15 @@ node_at listed id = record { verifies = winternitz_verifies; me = id; listed = l
 --
 -- Images: what a stop at any moment of the run leaves on the disk it left before, or it is a lawful journal that begins with the one that was
 -- there; where the script ended or met a limit, all that it leaves afterwards is one such journal. Lines, files and journal: over a lawful journal
--- of this node, or none, they are those of the definition, or the run is cut short. Else the node is refused for its key, its roster or its journal;
--- where the roster hasn't its key the disk isn't touched.
-pub record RunsScript (listed : List RosterEntry) (n : NodeWords) (commands : List line.Command) (disk : Disks) (shelf : Shelves) (sink : Sinks) (same_disk : Type 0) (ends : Ending) : Type 0 where
+-- of this node, or none, they are those of the definition, or the run is cut short; and behind the files of the first names the shelf was asked for
+-- those of the commands that were carried out, and for nothing of a later one. Else the node is refused for its key, its roster or its journal, and
+-- the shelf was asked for no more; where the roster hasn't its key the disk isn't touched.
+pub record RunsScript (listed : List RosterEntry) (n : NodeWords) (commands : List line.Command) (first : List (List ℕ)) (disk : Disks) (shelf : Shelves) (calls : Asked) (sink : Sinks) (same_disk : Type 0) (ends : Ending) : Type 0 where
   pub images : IsTrue disk.tells → runs.KeepsFile (node_at listed n.id) disk
   pub stable : IsTrue disk.tells → (ends ≡ ending.Done) ⊎ (ends ≡ ending.Limit) → runs.Settles (node_at listed n.id) disk
   pub untouched : (key_of listed n.id ≡ Some (key_of_seed n.seed n.height) → ⊥) → same_disk
-  pub begins : runs.Begins (node_at listed n.id) (key_of_seed n.seed n.height) disk shelf sink ends
-  pub answers : runs.AnswersScript (node_at listed n.id) (key_of_seed n.seed n.height) (winternitz_signature n.seed n.height) commands disk shelf sink ends
+  pub begins : runs.Begins (node_at listed n.id) (key_of_seed n.seed n.height) first disk shelf calls sink ends
+  pub answers : runs.AnswersScript (node_at listed n.id) (key_of_seed n.seed n.height) (winternitz_signature n.seed n.height) commands first disk shelf calls sink ends
   pub disk_failed : ends ≡ ending.Disk → disk.faults_before < disk.faults_after
   pub sink_failed : ends ≡ ending.Sink → sink.faults_before < sink.faults_after
 
@@ -48,7 +50,7 @@ abbrev pub LoadsFrom : List (List ℕ) → List line.Command → Loads → Type 
 LoadsFrom names commands loads = (k : ℕ) × HasLoaded loads (names ++ flat_map loads_of (take k commands))
 
 -- A script was run, and the run ended with this status.
-pub record RunsNode (n : NodeWords) (disk : Disks) (shelf : Shelves) (loads : Loads) (sink : Sinks) (same_disk : Type 0) (status : Status) : Type 0 where
+pub record RunsNode (n : NodeWords) (disk : Disks) (shelf : Shelves) (loads : Loads) (calls : Asked) (sink : Sinks) (same_disk : Type 0) (status : Status) : Type 0 where
   pub listed : List RosterEntry
   pub roster : WhereTold shelf (HasFile shelf n.roster (λ bytes. IsRosterText bytes listed))
   pub commands : List line.Command
@@ -56,14 +58,14 @@ pub record RunsNode (n : NodeWords) (disk : Disks) (shelf : Shelves) (loads : Lo
   pub loaded : LoadsFrom (n.roster ∷ n.script ∷ []) commands loads
   pub ends : Ending
   pub status_is : status ≡ status_of ends
-  pub runs : RunsScript listed n commands disk shelf sink same_disk ends
+  pub runs : RunsScript listed n commands (n.roster ∷ n.script ∷ []) disk shelf calls sink same_disk ends
 
 -- What the bytes of a script come to on a node of a roster: they are none, which is told, or memory ran out before the node was started, and
 -- nothing else has changed; or the script was run.
-abbrev pub RunsBytes : List RosterEntry → NodeWords → List ℕ → Disks → Shelves → Loads → Sinks → (same_disk same_files : Type 0) → Status → Type 0
-RunsBytes listed n bytes disk shelf loads sink same_disk same_files status =
+abbrev pub RunsBytes : List RosterEntry → NodeWords → List ℕ → Disks → Shelves → Loads → Asked → Sinks → (same_disk same_files : Type 0) → Status → Type 0
+RunsBytes listed n bytes disk shelf loads calls sink same_disk same_files status =
     ((same_disk × same_files) × (HasLoaded loads [] × Ends (λ answer text. (answer ≡ Input) × IsNoScript n.script text bytes) (λ text. text ≡ []) sink status)) ⊎
-    ((commands : List line.Command) × (IsTextOf bytes commands × (LoadsFrom [] commands loads × ((ends : Ending) × ((status ≡ status_of ends) × RunsScript listed n commands disk shelf sink same_disk ends)))))
+    ((commands : List line.Command) × (IsTextOf bytes commands × (LoadsFrom [] commands loads × ((ends : Ending) × ((status ≡ status_of ends) × RunsScript listed n commands [] disk shelf calls sink same_disk ends)))))
 
 -- What `node` answers where its script can't be had or is none.
 abbrev pub ScriptInputs : Shelves → Loads → List ℕ → Status → List ℕ → Type 0
@@ -72,17 +74,17 @@ ScriptInputs shelf loads script status text =
     (HasLoaded loads (script ∷ []) × ((status ≡ Input) × WhereTold shelf (HasFile shelf script (IsNoScript script text))))
 
 -- What the script of a name comes to on a node of a roster.
-abbrev pub RunsFile : List RosterEntry → NodeWords → Disks → Shelves → Loads → Sinks → (same_disk same_files : Type 0) → Status → Type 0
-RunsFile listed n disk shelf loads sink same_disk same_files status =
-    ((same_disk × same_files) × Ends (ScriptInputs shelf loads n.script) (λ text. text ≡ []) sink status) ⊎
-    ((commands : List line.Command) × (WhereTold shelf (HasFile shelf n.script (λ bytes. IsTextOf bytes commands)) × (LoadsFrom (n.script ∷ []) commands loads × ((ends : Ending) × ((status ≡ status_of ends) × RunsScript listed n commands disk shelf sink same_disk ends)))))
+abbrev pub RunsFile : List RosterEntry → NodeWords → Disks → Shelves → Loads → Asked → Sinks → (same_disk same_files : Type 0) → Status → Type 0
+RunsFile listed n disk shelf loads calls sink same_disk same_files status =
+    ((same_disk × same_files) × (HasLoaded loads (n.script ∷ []) × Ends (ScriptInputs shelf loads n.script) (λ text. text ≡ []) sink status)) ⊎
+    ((commands : List line.Command) × (WhereTold shelf (HasFile shelf n.script (λ bytes. IsTextOf bytes commands)) × (LoadsFrom (n.script ∷ []) commands loads × ((ends : Ending) × ((status ≡ status_of ends) × RunsScript listed n commands (n.script ∷ []) disk shelf calls sink same_disk ends)))))
 
--- What a command comes to. Every command but `node` leaves disk and files as they were, and so does `node` where its roster or its script
--- can't be had.
-abbrev pub Results : Disks → Shelves → Loads → Sinks → (same_disk same_files : Type 0) → Option Command → Status → Type 0
-Results disk shelf loads sink same_disk same_files (Some (asked.Node n)) status =
-    ((same_disk × same_files) × Ends (Answers shelf loads (Some (asked.Node n))) (Begins shelf loads (Some (asked.Node n))) sink status) ⊎ RunsNode n disk shelf loads sink same_disk status
-Results disk shelf loads sink same_disk same_files command status = (same_disk × same_files) × Ends (Answers shelf loads command) (Begins shelf loads command) sink status
+-- What a command comes to. Every command but `node` leaves disk and files as they were and stores nothing, and so does `node` where its roster or its
+-- script can't be had.
+abbrev pub Results : Disks → Shelves → Loads → Asked → Sinks → (same_disk same_files : Type 0) → Option Command → Status → Type 0
+Results disk shelf loads calls sink same_disk same_files (Some (asked.Node n)) status =
+    ((same_disk × same_files) × Ends (Answers shelf loads (Some (asked.Node n))) (Begins shelf loads (Some (asked.Node n))) sink status) ⊎ RunsNode n disk shelf loads calls sink same_disk status
+Results disk shelf loads calls sink same_disk same_files command status = (same_disk × same_files) × Ends (Answers shelf loads command) (Begins shelf loads command) sink status
 
 -- what a run of `node` comes to where nothing fails, over a lawful journal of this node, or none; Memory may stand in its place
 abbrev pub CompletesNode : Disks → Shelves → Option Command → Status → Type 0

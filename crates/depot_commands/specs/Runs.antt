@@ -210,10 +210,26 @@ Answers shelf loads (Some (asked.Node n)) status text = NodeInputs shelf loads n
 abbrev pub IsFrontOf : (List ℕ → Type 0) → List ℕ → Type 0
 IsFrontOf P text = (text ≡ []) ⊎ ((whole : List ℕ) × ((n : ℕ) × ((text ≡ take n whole) × P whole)))
 
--- what was written when memory ran out: nothing, or a front of the transcript that `replay` writes line by line
+-- no file was loaded, or that of the name
+abbrev pub LoadsAtMost : Loads → List ℕ → Type 0
+LoadsAtMost loads name = HasLoaded loads [] ⊎ HasLoaded loads (name ∷ [])
+
+-- the same of a roster; or it is one, and the file of the other name was loaded, too
+abbrev pub LoadsBehindRoster : Shelves → Loads → List ℕ → List ℕ → Type 0
+LoadsBehindRoster shelf loads roster other = LoadsAtMost loads roster ⊎ (HasLoaded loads (roster ∷ other ∷ []) × WhereTold shelf (HasRoster shelf roster))
+
+-- what had been loaded when memory ran out: the first of the files that the words name
+abbrev pub LoadsFirst : Shelves → Loads → Option Command → Type 0
+LoadsFirst shelf loads (Some (asked.Scan log key)) = LoadsAtMost loads log
+LoadsFirst shelf loads (Some (asked.Judge roster proof)) = LoadsBehindRoster shelf loads roster proof
+LoadsFirst shelf loads (Some (asked.Replay schedule)) = LoadsAtMost loads schedule
+LoadsFirst shelf loads (Some (asked.Node n)) = LoadsBehindRoster shelf loads n.roster n.script
+LoadsFirst shelf loads command = HasLoaded loads []
+
+-- what had been loaded and written when memory ran out: no text, or a front of the transcript that `replay` writes line by line
 abbrev pub Begins : Shelves → Loads → Option Command → List ℕ → Type 0
-Begins shelf loads (Some (asked.Replay schedule)) text = IsFrontOf (Answers shelf loads (Some (asked.Replay schedule)) Done) text
-Begins shelf loads command text = text ≡ []
+Begins shelf loads (Some (asked.Replay schedule)) text = LoadsAtMost loads schedule × IsFrontOf (Answers shelf loads (Some (asked.Replay schedule)) Done) text
+Begins shelf loads command text = LoadsFirst shelf loads command × (text ≡ [])
 
 -- ---- how a run ends
 

@@ -4,7 +4,7 @@ ghost use Rattle.depot_model.specs.Lines.{text_of_verdict, text_of_point, text_o
 ghost use Rattle.depot_model.specs.Judgement.{IsJudgementOf};
 ghost use Rattle.depot_model.specs.Winternitz.{winternitz_verifies};
 ghost use Rattle.depot_outside.specs.Told.{shelves, loads, HasLoaded};
-ghost use Rattle.depot_commands.specs.Runs.{EndsAtFault, Judges, JudgesProof, IsPoint, JudgementOf};
+ghost use Rattle.depot_commands.specs.Runs.{EndsAtFault, Judges, JudgesProof, IsPoint, JudgementOf, LoadsBehindRoster};
 
 use crate::load::load;
 use crate::outcome::Outcome;
@@ -85,6 +85,7 @@ fn judge_proof<F: Shelf>(
     ensures first_fault { IfOk result (λ o. EndsAtFault (shelves F.Shelf shelf.old shelf.new) o.status) }
     ensures loads { HasLoaded (loads F.Shelf shelf.old shelf.new) (name.now ∷ []) }
     ensures files { F.file shelf.new ≡ F.file shelf.old }
+    ensures stores { F.stores shelf.new ≡ F.stores shelf.old }
 {
     match load(shelf, name)? {
         Some(proof) => judge_bytes(alloc, roster, proof.as_slice()),
@@ -101,7 +102,9 @@ pub fn judge<F: Shelf>(
 ) -> Result<Outcome, Memory>
     ensures judges { IfOk result (λ o. Judges (shelves F.Shelf shelf.old shelf.new) (loads F.Shelf shelf.old shelf.new) roster.now proof.now o.status o.text) }
     ensures first_fault { IfOk result (λ o. EndsAtFault (shelves F.Shelf shelf.old shelf.new) o.status) }
+    ensures loads { LoadsBehindRoster (shelves F.Shelf shelf.old shelf.new) (loads F.Shelf shelf.old shelf.new) roster.now proof.now }
     ensures files { F.file shelf.new ≡ F.file shelf.old }
+    ensures stores { F.stores shelf.new ≡ F.stores shelf.old }
 {
     let Some(text) = load(shelf, roster)? else {
         return Outcome::no_file(alloc, roster);

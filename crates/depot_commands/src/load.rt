@@ -10,6 +10,7 @@ use depot_outside::{OutError, Shelf};
 pub fn load<F: Shelf>(shelf: &mut F, name: &str) -> Result<Option<Bytes>, Memory>
     ensures loaded { IfOk result (IsLoaded (shelves F.Shelf shelf.old shelf.new) name.now) }
     ensures loads { F.loads shelf.new ≡ F.loads shelf.old ++ name.now ∷ [] }
+    ensures stores { F.stores shelf.new ≡ F.stores shelf.old }
     ensures files { F.file shelf.new ≡ F.file shelf.old }
     ensures tells { F.tells shelf.new ≡ F.tells shelf.old }
     ensures calm { IfOk result (λ found. IfSome found (λ _. F.failed shelf.new ≡ F.failed shelf.old)) }

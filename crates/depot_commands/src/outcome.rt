@@ -1,5 +1,5 @@
 //! What a command came to, and how it is written.
-ghost use Rattle.std.specs.Prelude.{◌≡◌, ◌++◌, IfOk, codes, string_bytes};
+ghost use Rattle.std.specs.Prelude.{◌≡◌, ◌<◌, ◌++◌, IfOk, codes, string_bytes};
 ghost use Rattle.depot_outside.specs.Told.{sinks};
 ghost use Rattle.depot_answers.specs.Answers.{text_of_faulty_line};
 ghost use Rattle.depot_commands.specs.Runs.{Finishes};
@@ -66,7 +66,8 @@ impl Outcome {
 
 /// Writes the text that a command came to, where memory was found for it, and says how the run ended.
 pub fn finish<S: Sink>(found: Result<Outcome, Memory>, out: &mut S) -> Status
-    ensures { Finishes found (sinks S.Sink out.old out.new) result }
+    ensures finishes { Finishes found (sinks S.Sink out.old out.new) result }
+    ensures sink_fault { S.faults out.old < S.faults out.new → result ≡ Status.Sink }
 {
     let Ok(outcome) = found else {
         return Status::Memory;

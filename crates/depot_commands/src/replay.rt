@@ -1,5 +1,5 @@
 //! `replay SCHEDULE`: a schedule is played, and its transcript is printed line by line.
-ghost use Rattle.std.specs.Prelude.{◌≡◌, ◌⊎◌, Some};
+ghost use Rattle.std.specs.Prelude.{◌≡◌, ◌<◌, ◌⊎◌, Some};
 ghost use Rattle.depot_schedule.specs.Schedules.{IsSchedule};
 ghost use Rattle.depot_outside.specs.Told.{shelves, loads, sinks};
 ghost use Rattle.depot_commands.specs.Runs.{EndsAtFault, Answers, Begins, Ends, IsFrontOf, IsReplayed, ReplayOf, Plays};
@@ -18,7 +18,8 @@ use std::alloc::Global;
 /// Plays a schedule, writing its transcript line by line, and says how the run ended.
 fn play<S: Sink>(alloc: Global, schedule: &Schedule, out: &mut S) -> Status
     requires { IsSchedule schedule.now }
-    ensures { Plays schedule.now (sinks S.Sink out.old out.new) result }
+    ensures plays { Plays schedule.now (sinks S.Sink out.old out.new) result }
+    ensures sink_fault { S.faults out.old < S.faults out.new → result ≡ Status.Sink }
 {
     match depot_replay::replay(alloc, schedule, out) {
         Ok(()) => Status::Done,
@@ -30,7 +31,8 @@ fn play<S: Sink>(alloc: Global, schedule: &Schedule, out: &mut S) -> Status
 /// Plays the schedule of these bytes, or prints where they are none; `name` is the file's. What holds of the world that
 /// a transcript tells of is a law.
 fn replay_bytes<S: Sink>(alloc: Global, bytes: &[u8], name: &str, out: &mut S) -> Status
-    ensures { Ends (ReplayOf name.now bytes.now) (IsFrontOf (λ text. IsReplayed text bytes.now)) (sinks S.Sink out.old out.new) result }
+    ensures ends { Ends (ReplayOf name.now bytes.now) (IsFrontOf (λ text. IsReplayed text bytes.now)) (sinks S.Sink out.old out.new) result }
+    ensures sink_fault { S.faults out.old < S.faults out.new → result ≡ Status.Sink }
 {
     worlds_of_schedules_are_causal();
     match parse_schedule(alloc, bytes) {
@@ -47,7 +49,9 @@ fn replay_bytes<S: Sink>(alloc: Global, bytes: &[u8], name: &str, out: &mut S) -
 pub fn replay<F: Shelf, S: Sink>(alloc: Global, shelf: &mut F, name: &str, out: &mut S) -> Status
     ensures ends { Ends (Answers (shelves F.Shelf shelf.old shelf.new) (loads F.Shelf shelf.old shelf.new) (Some (Command.Replay name.now))) (Begins (shelves F.Shelf shelf.old shelf.new) (loads F.Shelf shelf.old shelf.new) (Some (Command.Replay name.now))) (sinks S.Sink out.old out.new) result }
     ensures first_fault { (result ≡ Status.Sink) ⊎ ((result ≡ Status.Memory) ⊎ EndsAtFault (shelves F.Shelf shelf.old shelf.new) result) }
+    ensures sink_fault { S.faults out.old < S.faults out.new → result ≡ Status.Sink }
     ensures files { F.file shelf.new ≡ F.file shelf.old }
+    ensures stores { F.stores shelf.new ≡ F.stores shelf.old }
 {
     match load(shelf, name) {
         Ok(Some(bytes)) => replay_bytes(alloc, bytes.as_slice(), name, out),

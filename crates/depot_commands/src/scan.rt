@@ -53,6 +53,7 @@ pub fn scan<F: Shelf>(
     ensures first_fault { IfOk result (λ o. EndsAtFault (shelves F.Shelf shelf.old shelf.new) o.status) }
     ensures loads { HasLoaded (loads F.Shelf shelf.old shelf.new) (name.now ∷ []) }
     ensures files { F.file shelf.new ≡ F.file shelf.old }
+    ensures stores { F.stores shelf.new ≡ F.stores shelf.old }
 {
     match load(shelf, name)? {
         Some(log) => scan_bytes(alloc, log.as_slice(), name, key),

@@ -1,7 +1,8 @@
 //! The top call.
-ghost use Rattle.std.specs.Prelude.{◌≡◌, ◌⊎◌, Some};
+ghost use Rattle.std.specs.Prelude.{◌≡◌, ◌<◌, ◌⊎◌, Some};
 ghost use Rattle.depot_commands.specs.Words.{command_of};
 ghost use Rattle.depot_outside.specs.Told.{disks, shelves, loads, sinks};
+ghost use Rattle.depot_session.specs.ScriptTelling.{asked};
 ghost use Rattle.depot_commands.specs.Nodes.{CompletesNode, IsWellDisk, Results};
 ghost use Rattle.depot_commands.specs.Runs.{EndsAtFault, IsWell, Completes};
 
@@ -27,8 +28,10 @@ fn run<F: Shelf, D: Disk, S: Sink>(
     disk: &mut D,
     out: &mut S,
 ) -> Status
-    ensures results { Results (disks D.Disk disk.old disk.new) (shelves F.Shelf shelf.old shelf.new) (loads F.Shelf shelf.old shelf.new) (sinks S.Sink out.old out.new) (disk.new ≡ disk.old) (F.file shelf.new ≡ F.file shelf.old) (Some command.now) result }
+    ensures results { Results (disks D.Disk disk.old disk.new) (shelves F.Shelf shelf.old shelf.new) (loads F.Shelf shelf.old shelf.new) (asked F.Shelf shelf.old shelf.new) (sinks S.Sink out.old out.new) (disk.new ≡ disk.old) ((F.file shelf.new ≡ F.file shelf.old) × (F.stores shelf.new ≡ F.stores shelf.old)) (Some command.now) result }
     ensures first_fault { (result ≡ Status.Sink) ⊎ ((result ≡ Status.Memory) ⊎ EndsAtFault (shelves F.Shelf shelf.old shelf.new) result) }
+    ensures sink_fault { S.faults out.old < S.faults out.new → result ≡ Status.Sink }
+    ensures disk_fault { D.faults disk.old < D.faults disk.new → (result ≡ Status.Disk) ⊎ ((result ≡ Status.Sink) ⊎ (result ≡ Status.Memory)) }
 {
     match command {
         Command::Scan(log, key) => finish(scan(alloc, shelf, log.text(), key), out),
@@ -57,10 +60,11 @@ pub fn depot<F: Shelf, D: Disk, S: Sink>(
     out: &mut S,
 ) -> Status
     // The run ends as its command answers, with the whole text written; or for want of memory, with nothing written, or
-    // with a front of the transcript that `replay` writes; or because the sink failed in this run, with a prefix of the
-    // text written. `node` runs its script over the disk, as its record says: images, lines and journal, runs cut short.
-    // Every other command leaves the disk and the shelf's files as they were.
-    ensures results { Results (disks D.Disk disk.old disk.new) (shelves F.Shelf shelf.old shelf.new) (loads F.Shelf shelf.old shelf.new) (sinks S.Sink out.old out.new) (disk.new ≡ disk.old) (F.file shelf.new ≡ F.file shelf.old) (command_of words.now) result }
+    // with a front of the transcript that `replay` writes, and no more loaded than the first of the files that its words
+    // name, a second one only behind a roster; or because the sink failed in this run, with a prefix of the text written.
+    // `node` runs its script over the disk, as its record says: images, lines and journal, what the shelf is asked for,
+    // runs cut short. Every other command leaves the disk and the shelf's files as they were, and stores nothing.
+    ensures results { Results (disks D.Disk disk.old disk.new) (shelves F.Shelf shelf.old shelf.new) (loads F.Shelf shelf.old shelf.new) (asked F.Shelf shelf.old shelf.new) (sinks S.Sink out.old out.new) (disk.new ≡ disk.old) ((F.file shelf.new ≡ F.file shelf.old) × (F.stores shelf.new ≡ F.stores shelf.old)) (command_of words.now) result }
 
     // Where no count of faults rises, each file is there and each is in its grammar, the command does what it says.
     ensures complete { IsWell (shelves F.Shelf shelf.old shelf.new) (sinks S.Sink out.old out.new) → Completes (shelves F.Shelf shelf.old shelf.new) (command_of words.now) result }
@@ -68,6 +72,10 @@ pub fn depot<F: Shelf, D: Disk, S: Sink>(
 
     // Where the shelf failed, nothing else is answered.
     ensures first_fault { (result ≡ Status.Sink) ⊎ ((result ≡ Status.Memory) ⊎ EndsAtFault (shelves F.Shelf shelf.old shelf.new) result) }
+
+    // Where the sink failed, nothing but Sink is answered, and where the disk failed, nothing but Disk, Sink or Memory.
+    ensures sink_fault { S.faults out.old < S.faults out.new → result ≡ Status.Sink }
+    ensures disk_fault { D.faults disk.old < D.faults disk.new → (result ≡ Status.Disk) ⊎ ((result ≡ Status.Sink) ⊎ (result ≡ Status.Memory)) }
 {
     match parse(alloc, words) {
         Ok(Some(command)) => run(alloc, &command, shelf, disk, out),

@@ -1,5 +1,5 @@
--- A stream that is fed to a node in pieces: what is told of it, and the calls that it makes on the disk.
-use Rattle.std.proofs.Common.{◌≡◌, ◌≢◌, ℕ, Bool, true, false, List, [], ◌++◌, append_assoc, is_some, Some, None, Result, Ok, Err, refl, sym, ap, subst, ◌∙◌, inl, inr}
+-- A stream that is fed to a node in pieces: what is told of it, what becomes of the disk, what a stop leaves, and the calls on the disk.
+use Rattle.std.proofs.Common.{◌≡◌, ◌≢◌, ◌≤◌, ℕ, Bool, true, false, List, [], ◌++◌, append_assoc, is_some, Some, None, Result, Ok, Err, refl, sym, ap, subst, ◌∙◌, inl, inr, arith}
 use Rattle.std.specs.Prelude.{IfErr, IfOk, IsErrOf}
 use Rattle.std.proofs.lemmas.List.{append-nil}
 use Rattle.depot_base.specs.Calls.{Made}
@@ -7,21 +7,23 @@ use Rattle.depot_base.specs.declared.check.Full.{Full}
 use Rattle.depot_base.specs.declared.record.Record.{Record}
 use Rattle.depot_answers.specs.declared.exchange_answers.Closing.TheVariants as closing
 use Rattle.depot_feeds.specs.Lasting.{CallsFed, LastsIn}
-use Rattle.depot_feeds.specs.NodeCalls.{says_stopped}
+use Rattle.depot_feeds.specs.NodeCalls.{says_disk, says_stopped}
 use Rattle.depot_feeds.specs.Pieces.{AreOf, Feeds, Stream, at_work, stream_of, told_of}
 use Rattle.depot_feeds.specs.declared.feed_error.FeedError.{FeedError}
 use Rattle.depot_feeds.specs.declared.feed_error.FeedError.TheVariants as error
 use Rattle.depot_feeds.proofs.FeedRecords.{chunk_brings}
+use Rattle.depot_feeds.proofs.LastingStreams.{joined_in}
 use Rattle.depot_model.proofs.FeedGrowth.{IsGrown}
 use Rattle.depot_feeds.proofs.PieceLaws.{IsUnderWay, at_work_again}
 use Rattle.depot_model.specs.Checks.{Setting}
 use Rattle.depot_model.specs.Feeding.{Feeding, ending_of, fed, report_of}
-use Rattle.depot_model.specs.Replicas.{StopsBy}
+use Rattle.depot_model.specs.Replicas.{KeepsDisk, StopsBy}
 use Rattle.depot_model.specs.Stops.{CallsDisk}
 use Rattle.depot_model.specs.declared.bundle.Report.{Report}
 use Rattle.depot_model.proofs.CallsOnDisk.{called_well, calls_alike, calls_joined, calls_longer}
 use Rattle.depot_model.proofs.FeedLaws.{fed_in_pieces}
-use Rattle.depot_deeds.specs.Printing.{IsToldOf}
+use Rattle.depot_deeds.specs.Printing.{IsToldOf, is_disk}
+use Rattle.depot_deeds.specs.declared.feeds.Fed.{Fed}
 
 -- ---- what is told
 
@@ -129,3 +131,44 @@ runs_on before true stopped failed s ran well = elim (s.left.0 refl) [ inl was �
 pub same_failure : {X : Type 0} (e : FeedError) (r : Result X FeedError) → IfOk r (λ _. e ≢ error.Disk) → IfErr r (λ d. d ≡ e) → (IsErrOf r error.Disk → IsErrOf {T = Unit {0}} (Err e) error.Disk) × (IsErrOf {T = Unit {0}} (Err e) error.Disk → IsErrOf r error.Disk)
 same_failure e (Ok x) ran same = (λ never. absurd cc, λ failed. let is : e ≡ error.Disk = cc in absurd (ran is))
 same_failure e (Err d) ran same = (λ failed. let is : e ≡ error.Disk = cc in ap Err is, λ failed. let is : d ≡ error.Disk = cc in ap Err is)
+
+-- it is said to be the disk's where the piece's is
+pub same_disk : (e : FeedError) (r : Result Fed FeedError) → IfOk r (λ _. e ≢ error.Disk) → IfErr r (λ d. d ≡ e) → says_disk {X = Unit {0}} (Err e) ≡ is_disk r
+same_disk e (Ok told) ran same = not_disk e ran where
+  not_disk : (x : FeedError) → x ≢ error.Disk → says_disk {X = Unit {0}} (Err x) ≡ false
+  not_disk error.Disk never = absurd (never refl)
+  not_disk error.Memory never = refl
+  not_disk error.Stopped never = refl
+  not_disk (error.Full what) never = refl
+  not_disk (error.IllFormed at) never = refl
+same_disk e (Err d) ran same = ap (λ (x : FeedError). says_disk {X = Unit {0}} (Err x)) (sym same) ∙ alike d where
+  alike : (x : FeedError) → says_disk {X = Unit {0}} (Err x) ≡ is_disk (Err x)
+  alike error.Disk = refl
+  alike error.Memory = refl
+  alike error.Stopped = refl
+  alike (error.Full what) = refl
+  alike (error.IllFormed at) = refl
+
+-- ---- the disk, and what a stop leaves
+
+-- a piece that went well keeps the disk, and then another one
+pub keeps_on : (d0 d1 d2 n0 n1 n2 : ℕ) (f0 f1 f2 failed : Type 0) → KeepsDisk d0 d1 n0 n1 f0 f1 ⊥ → KeepsDisk d1 d2 n1 n2 f1 f2 failed → KeepsDisk d0 d2 n0 n2 f0 f2 failed
+keeps_on d0 d1 d2 n0 n1 n2 f0 f1 f2 failed a b =
+    let still : n1 ≤ n0 = omega (arith, a.cause.only) in
+    record {
+      same = b.same ∙ a.same;
+      cause = record {
+        never_falls = omega (arith, a.cause.never_falls, b.cause.never_falls);
+        rose = λ e. omega (arith, a.cause.never_falls, b.cause.rose e);
+        only = λ lt. b.cause.only (omega (arith, lt, still));
+      };
+      calm = λ f. let p = a.calm f in let q = b.calm p.0 in (q.0, q.1 ∙ p.1);
+    }
+
+-- an error comes behind pieces that went well
+pub piece_lasts : {N : Type 0} {tells stopped : N → Bool} {records : N → List Record} {moment : N → ℕ} {left_since : N → ℕ → List ℕ → Type 0} {may_leave : N → List ℕ → Type 0}
+    → (e : FeedError) (r : Result Fed FeedError) → IfOk r (λ _. e ≢ error.Disk) → IfErr r (λ d. d ≡ e) → (here there : Setting) (old mid new : N) → there ≡ here → stopped old ≡ false → stopped mid ≡ false
+    → LastsIn tells stopped records moment left_since may_leave here false old mid → LastsIn tells stopped records moment left_since may_leave there (says_disk {X = Unit {0}} (Err e)) mid new
+    → LastsIn tells stopped records moment left_since may_leave here (is_disk r) old new
+piece_lasts {tells = tells} {stopped = stopped} {records = records} {moment = moment} {left_since = left_since} {may_leave = may_leave} e r ran same here there old mid new stays before runs one two =
+    subst (λ (failed : Bool). LastsIn tells stopped records moment left_since may_leave here failed old new) (same_disk e r ran same) (joined_in here there (says_disk {X = Unit {0}} (Err e)) old mid new stays before runs one two)

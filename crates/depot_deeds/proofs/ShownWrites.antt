@@ -22,11 +22,11 @@ use Rattle.depot_model.specs.World.{Shown}
 use Rattle.depot_model.proofs.Elements.{one_more}
 use Rattle.depot_model.proofs.LatestLaws.{one_latest_list}
 use Rattle.depot_model.proofs.Members.{in_last, in_left}
-use Rattle.depot_world.specs.Deeds.{shown_of}
-use Rattle.depot_world.specs.ShownLatest.{latest_in}
+use Rattle.depot_model.specs.ShownWrites.{shown_of}
+use Rattle.depot_model.specs.LatestList.{latest_in}
 use Rattle.depot_node.specs.ShownValues.{value_seen}
 use Rattle.depot_deeds.specs.Printing.{shown_text, shown_value}
-use Rattle.depot_world.proofs.LatestWrites.{latest_are_listed}
+use Rattle.depot_model.proofs.LatestWrites.{latest_are_listed}
 
 -- the writes that these updates are shown as
 abbrev pub shown_as : List Record → List ℕ → List Update → List Shown

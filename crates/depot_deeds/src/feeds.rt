@@ -21,6 +21,9 @@ use depot_gossip::{Feed, FeedError};
 use depot_model::{Refusal, Replica, Report};
 use std::alloc::Global;
 
+/// How many bytes each piece of a stream has that a node takes from a file.
+const TAKEN_PIECE: usize = 65_536;
+
 /// What became of a stream, and why its feed was closed, if it was.
 #[derive(Drop)]
 pub struct Fed {
@@ -58,6 +61,9 @@ pub fn feed_all<R: Replica>(
     ensures grown { IfOk result (λ _. R.records node.new ≡ (feed_of (R.stands node.old) (R.records node.old) stream.now).journal) }
     ensures runs { IfOk result (λ _. R.stopped node.new ≡ false) }
     ensures stays { IsSameNode (R.stands node.old) (R.stands node.new) (R.key node.old) (R.key node.new) (R.signature_of node.old) (R.signature_of node.new) }
+    ensures disk { KeepsDisk (R.handle node.old) (R.handle node.new) (R.faults node.old) (R.faults node.new) (R.is_faultless node.old) (R.is_faultless node.new) (IsErrOf result FeedError.Disk) }
+    ensures lasts { (IsTrue (R.tells node.old) → LeavesAll (R.records node.old) (R.stopped node.old) (R.may_leave node.old)) → LastsIn R.tells R.stopped R.records R.moment R.left_since R.may_leave (R.stands node.old) (is_disk result) node.old node.new }
+    ensures brings { (IsTrue (R.tells node.old) → LeavesAll (R.records node.old) (R.stopped node.old) (R.may_leave node.old)) → LastsFed R.tells R.stopped R.records R.moment R.left_since R.may_leave (R.stands node.old) (feeding_from (R.records node.old)) stream.now node.old node.new }
     ensures calls { CallsFed R.after R.reads R.stopped R.records (R.stands node.old) (feeding_from (R.records node.old)) stream.now node.old node.new (IsErrOf result FeedError.Disk) }
 {
     let Ok(mut feed) = Feed::new(alloc) else {
@@ -77,7 +83,7 @@ pub fn feed_all<R: Replica>(
     })
 }
 
-/// Feeds a whole stream to a node, until an error closes the feed. Memory and Disk alone are answered.
+/// Feeds a whole stream to a node, in pieces of 65,536 bytes, until an error closes the feed. Memory and Disk alone are answered.
 pub fn feed_whole<R: Replica>(alloc: Global, node: &mut R, stream: &[u8]) -> Result<Fed, FeedError>
     requires runs { R.stopped node.old ≡ false }
     requires stable { IsTrue (R.tells node.old) → LeavesAll (R.records node.old) (R.stopped node.old) (R.may_leave node.old) }
@@ -89,16 +95,7 @@ pub fn feed_whole<R: Replica>(alloc: Global, node: &mut R, stream: &[u8]) -> Res
     ensures lasts { LastsIn R.tells R.stopped R.records R.moment R.left_since R.may_leave (R.stands node.old) (is_disk result) node.old node.new }
     ensures brings { LastsFed R.tells R.stopped R.records R.moment R.left_since R.may_leave (R.stands node.old) (feeding_from (R.records node.old)) stream.now node.old node.new }
 {
-    let Ok(mut feed) = Feed::new(alloc) else {
-        return Err(FeedError::Memory);
-    };
-    match feed.piece(node, stream) {
-        Ok(()) => Ok(Fed {
-            report: feed.end(),
-            closing: None,
-        }),
-        Err(error) => closed(feed, error),
-    }
+    feed_all(alloc, node, stream, TAKEN_PIECE)
 }
 
 /// Adds the line of a refused frame.

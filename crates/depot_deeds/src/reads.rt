@@ -5,7 +5,7 @@ ghost use Rattle.depot_model.specs.Journal.{seen_under};
 ghost use Rattle.depot_answers.specs.Answers.{spaced, text_of_write};
 ghost use Rattle.depot_answers.specs.Sightings.{sighting_of};
 ghost use Rattle.depot_node.specs.ShownValues.{value_seen};
-ghost use Rattle.depot_world.specs.Deeds.{shown_of};
+ghost use Rattle.depot_model.specs.ShownWrites.{shown_of};
 ghost use Rattle.depot_world.specs.Transcript.{ended};
 ghost use Rattle.depot_deeds.specs.Printing.{shown_text, shown_value};
 

@@ -2,7 +2,7 @@ mod DeedReads
 mod StationReads
 mod ReadsTold
 mod SessionReads
-mod HollowTexts
 mod ReadsAndVerdicts
 mod SessionExamples
+mod ShelfExamples
 mod DamageExamples

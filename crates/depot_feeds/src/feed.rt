@@ -108,7 +108,7 @@ fn feed_piece<R: Replica>(
 }
 
 impl Feed {
-    /// A feed of which nothing came yet, with room for one frame: 131,077 bytes.
+    /// A feed of which nothing came yet. It asks at once for the memory that the longest frame takes.
     pub fn new(alloc: Global) -> Result<Feed, Memory>
         ensures { IfOk result (λ feed. feed ≡ no_stream) }
     {

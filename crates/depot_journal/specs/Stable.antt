@@ -2,7 +2,8 @@
 use Rattle.std.specs.Prelude.{◌≡◌, ◌≢◌, ◌≤◌, ℕ, List, [], ◌∷◌, ◌++◌, Bool, false, length}
 use Rattle.depot_base.specs.File.{IsFileOf}
 
--- The records of the file are these. Behind them stands nothing but, where the disk failed, what it failed on.
+-- The records of the file are these. Behind them stands nothing but, once the disk failed, maybe more, of which what holds at every
+-- moment of a call says which.
 pub record HasAllOf (bodies : List (List ℕ)) (stopped : Bool) (file : List ℕ) : Type 0 where
   pub more : List (List ℕ)
   pub has : IsFileOf file (bodies ++ more)

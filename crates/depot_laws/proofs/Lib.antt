@@ -98,3 +98,4 @@ pub mod FramesTold
 mod LateMeetings
 mod Apart
 mod ForkWorld
+pub mod HollowTexts

@@ -8,13 +8,13 @@ use Rattle.depot_model.specs.Roster.{Verifies}
 use Rattle.depot_model.specs.Checks.{Setting}
 use Rattle.depot_model.specs.Lawful.{IsLawful}
 use Rattle.depot_model.specs.Records.{IsRecord, text_of_record}
-use Rattle.depot_model.specs.RecordFaults.{IsFault}
+use Rattle.depot_model.specs.RecordFaults.{IsFault, AreTextsOf, HaveFaultAt}
 use Rattle.depot_model.specs.Lists.{IsIn}
 use Rattle.depot_model.specs.World.{Correct, World}
 use Rattle.depot_model.proofs.Members.{all_at, in_right}
 use Rattle.depot_laws.proofs.Splits.{lawful_texts}
 use Rattle.depot_model.specs.Audit.{Finding, yes_found, unlawful, answer_found, circle_found, unordered_found, unseen_found, wrong_found, split_found, named_found, finding_in}
-use Rattle.depot_model.specs.Traces.{Trace, ReadTrace, AreTextsOf, HaveFaultAt, IsRightRead, AreRightReads, last_length, at_node, traced_node, IsLawfulTrace, HasRightReads, IsFirstBad, by_node, FirstAt, AreNodesOf, AreTraced, IsFindingOf}
+use Rattle.depot_model.specs.Traces.{Trace, ReadTrace, IsRightRead, AreRightReads, last_length, at_node, traced_node, IsLawfulTrace, HasRightReads, IsFirstBad, by_node, FirstAt, AreNodesOf, AreTraced, IsFindingOf}
 use Rattle.depot_laws.proofs.FaultLaws.{one_record, no_fault, one_fault}
 
 -- ---- texts

@@ -18,8 +18,10 @@ use Rattle.depot_model.proofs.Members.{all_at, all_from, in_map, from_map}
 use Rattle.depot_laws.proofs.Splits.{lawful_front}
 use Rattle.depot_laws.proofs.Causes.{lawful_is_causal}
 use Rattle.depot_model.specs.LatestList.{latest_in}
-use Rattle.depot_model.specs.Traces.{Trace, ReadTrace, AreTextsOf, IsRightRead, AreRightReads, shown_of, at_node, traced_node, put_by_node, by_node, AreNodesOf, AreTraced}
+use Rattle.depot_model.specs.Traces.{Trace, ReadTrace, IsRightRead, AreRightReads, at_node, traced_node, put_by_node, by_node, AreNodesOf, AreTraced}
 use Rattle.depot_model.proofs.LatestWrites.{latest_are_listed}
+use Rattle.depot_model.specs.RecordFaults.{AreTextsOf}
+use Rattle.depot_model.specs.ShownWrites.{shown_of}
 
 -- ---- reads
 

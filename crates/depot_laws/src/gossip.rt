@@ -51,9 +51,10 @@ pub fn bundles_fit_a_stream()
     ensures { (here : Setting) (sign : Signs) (J : List Record) (h : Hello) → IsLawful here J → length (bundle_of here.me sign J h).frames ≤ MOST_FRAMES }
 {}
 
-/// Where a bundle doesn't say that there is more, each update that its sender had accepted is one that the reader has accepted or the bundle sends. Each parent of an update that it sends the reader has
-/// accepted, or the bundle sends it in front, whether it leaves something out or not. So what a bundle sends never waits for
-/// something else. No correct node's signature was forged, and no two hashed texts collide.
+/// Where a bundle doesn't say that there is more, each update that its sender had accepted is one that the reader has accepted or
+/// the bundle sends. Each parent of an update that it sends the reader has accepted, or the bundle sends it in front, whether it
+/// leaves something out or not. So what a bundle sends never waits for something else. No correct node's signature was forged,
+/// and no two hashed texts collide.
 pub fn bundles_are_closed()
     ensures left { (W : World) (a v : Correct) (sign : Signs) (P J : List Record) (u : Update) → IsWorld W → IsAuthentic W → IsCollisionFree W → Hears W a v P J → (bundle_at W a v sign P J).more ≡ false → IsIn u (accepted J) → IsIn u (accepted a.journal) ⊎ IsIn u (updates_of (sent_for sign J (hello_at W a P))) }
     ensures parents { (W : World) (a v : Correct) (sign : Signs) (P J : List Record) → IsWorld W → IsAuthentic W → IsCollisionFree W → Hears W a v P J → ComeInOrder a (updates_of (sent_for sign J (hello_at W a P))) }

@@ -49,4 +49,6 @@ pub use trimming::{
     contrary_statements_name, pruned_journals_answer_alike, superseded_updates_are_trimmed,
     trim_law, trimmed_updates_are_never_latest,
 };
-pub use verdicts::{convictions_are_verdicts, forks_and_steps_back_convict};
+pub use verdicts::{
+    convictions_are_verdicts, forks_and_steps_back_convict, hollow_proofs_are_for_no_update,
+};

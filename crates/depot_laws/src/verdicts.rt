@@ -1,7 +1,8 @@
 //! What convicts.
-ghost use Rattle.std.specs.Prelude.{◌≡◌, ℕ, List, false, ◌↔◌, Err};
+ghost use Rattle.std.specs.Prelude.{◌≡◌, ℕ, List, true, false, ◌↔◌, Err};
 ghost use Rattle.depot_base.specs.Statement.{writer_of};
 ghost use Rattle.depot_base.specs.declared.statement.Signed.{Signed};
+ghost use Rattle.depot_base.specs.declared.statement.Statement.{Statement};
 ghost use Rattle.depot_base.specs.declared.proof.Kind.{Kind};
 ghost use Rattle.depot_base.specs.declared.proof.Proof.{Proof};
 ghost use Rattle.depot_base.specs.declared.record.Record.{Record};
@@ -10,6 +11,8 @@ ghost use Rattle.depot_base.specs.declared.check.Check.TheVariants as check;
 ghost use Rattle.depot_model.specs.Journal.{is_convicted};
 ghost use Rattle.depot_model.specs.Checks.{Setting, given_statement, answer_to};
 ghost use Rattle.depot_model.specs.Lawful.{IsAllowed, IsLawful, is_empty};
+ghost use Rattle.depot_model.specs.Contradictions.{IsHollow, is_hollow};
+ghost use Rattle.depot_laws.specs.Streams.{AreBytes};
 ghost use Rattle.depot_laws.specs.Verdicts.{IsVerdict, ConvictsWriter};
 
 /// A conviction record is allowed behind a journal exactly where its proof has a text and a judge's verdict, the accused is
@@ -24,4 +27,10 @@ pub fn convictions_are_verdicts()
 pub fn forks_and_steps_back_convict()
     ensures forks { (here : Setting) (J : List Record) (s : Signed) (kept came : List ℕ) (kind : Kind) → IsLawful here J → answer_to here J (given_statement s) ≡ Err (check.Forked kept came kind) → is_convicted J (writer_of s.statement) ≡ false → ConvictsWriter here J s }
     ensures steps_back { (here : Setting) (J : List Record) (s : Signed) (h : List ℕ) → IsLawful here J → answer_to here J (given_statement s) ≡ Err (check.Backward h) → is_convicted J (writer_of s.statement) ≡ false → ConvictsWriter here J s }
+{}
+
+/// A statement and a text convict exactly where the statement is a voucher, one of its ids is SHA-256 of the text, and no update
+/// has this text, in either version.
+pub fn hollow_proofs_are_for_no_update()
+    ensures { (s : Statement) (text : List ℕ) → AreBytes text → (is_hollow s text ≡ true ↔ IsHollow s text) }
 {}

@@ -38,6 +38,7 @@ pub mod Stops
 pub mod RecordFaults
 pub mod Insertion
 pub mod LatestList
+pub mod ShownWrites
 pub mod ReadTests
 pub mod Receipts
 pub mod Checkpoints

@@ -17,7 +17,8 @@ pub record HasFront (J new : List Record) (file : List ℕ) : Type 0 where
   pub count : ℕ
   pub has : HasRecords (J ++ take count new) file
 
--- The records of the file are these. Behind them stands nothing but, where the disk failed, what it failed on.
+-- The records of the file are these. Behind them stands nothing but, once the disk failed, maybe more, of which what holds at every
+-- moment of a call says which.
 pub record HasAll (J : List Record) (stopped : Bool) (file : List ℕ) : Type 0 where
   pub more : List (List ℕ)
   pub has : IsFileOf file (map text_of_record J ++ more)

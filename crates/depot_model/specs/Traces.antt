@@ -7,14 +7,11 @@ use Rattle.depot_model.specs.declared.record_fault.RecordFault.{RecordFault}
 use Rattle.depot_model.specs.Texts.{id_of_update}
 use Rattle.depot_model.specs.Roster.{Verifies}
 use Rattle.depot_model.specs.Contents.{Sighting}
-use Rattle.depot_model.specs.Journal.{accepted, seen_under}
 use Rattle.depot_model.specs.Checks.{Setting}
-use Rattle.depot_model.specs.Lawful.{IsLawful}
-use Rattle.depot_model.specs.Records.{text_of_record}
-use Rattle.depot_model.specs.RecordFaults.{IsFault}
+use Rattle.depot_model.specs.RecordFaults.{AreTextsOf, HaveFaultAt}
 use Rattle.depot_model.specs.World.{Shown, Correct, World, IsWorld}
 use Rattle.depot_model.specs.Causality.{IsForkJoinCausal, ConvictsNoCorrectNode}
-use Rattle.depot_model.specs.LatestList.{latest_in}
+use Rattle.depot_model.specs.ShownWrites.{shown_of}
 use Rattle.depot_model.specs.Audit.{Finding, unlawful, answer_found, finding_in}
 
 -- ---- traces
@@ -36,28 +33,7 @@ pub record Trace : Type 0 where
   pub texts : List (List ℕ)
   pub reads : List ReadTrace
 
--- ---- records
-
--- these are the texts of a lawful journal
-pub record AreTextsOf (here : Setting) (J : List Record) (texts : List (List ℕ)) : Type 0 where
-  pub lawful : IsLawful here J
-  pub are : texts ≡ map text_of_record J
-
--- the texts before a place are those of a lawful journal, and this is wrong with the text there
-pub record HaveFaultAt (here : Setting) (texts : List (List ℕ)) (place : ℕ) (fault : RecordFault) : Type 0 where
-  pub before : List Record
-  pub text : List ℕ
-  pub after : List (List ℕ)
-  pub parts : texts ≡ map text_of_record before ++ text ∷ after
-  pub lawful : IsLawful here before
-  pub at : place ≡ length before
-  pub wrong : IsFault here before text fault
-
 -- ---- reads
-
--- the latest writes of a key in a journal, each with the value that is held
-abbrev pub shown_of : List Record → List ℕ → List Shown
-shown_of J key = map (λ u. record { update = u; seen = seen_under J key u }) (latest_in key (accepted J))
 
 abbrev pub answered : Shown → Answered
 answered s = record { id = id_of_update s.update; shown = s.seen }

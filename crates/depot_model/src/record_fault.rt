@@ -9,7 +9,7 @@ pub enum RecordFault {
     Ill(u32),
     /// A birth stands elsewhere than first, none stands first, or it is that of another node or roster.
     Birth,
-    /// It isn't the own update that is next, with its value: another one, of an id that isn't fresh, or past the leaves of the tree.
+    /// It isn't the own update that is next, with its values: another one, of an id that isn't fresh, or past the leaves of the tree.
     NotNext,
     /// An own voucher of another node or seq, past the leaves of the tree, or for an id that is no accepted update's of another node.
     OwnVoucher,

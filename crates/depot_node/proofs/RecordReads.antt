@@ -4,12 +4,11 @@ use Rattle.std.proofs.lemmas.List.{append-nil, map-append}
 use Rattle.depot_base.specs.declared.record.Record.{Record}
 use Rattle.depot_model.specs.Checks.{Setting}
 use Rattle.depot_model.specs.Lawful.{IsLawful}
-use Rattle.depot_model.specs.RecordFaults.{IsFault}
+use Rattle.depot_model.specs.RecordFaults.{IsFault, AreTextsOf}
 use Rattle.depot_model.specs.Records.{text_of_record}
 use Rattle.depot_model.specs.Roster.{Verifies}
 use Rattle.depot_laws.proofs.Splits.{lawful_none, lawful_push}
 use Rattle.depot_store.specs.Holdings.{Holding, standing, with_records}
-use Rattle.depot_node.specs.Starting.{AreTextsOf}
 use Rattle.depot_records.specs.ReadRecords.{IsReadFrom}
 use Rattle.depot_node.specs.StartReading.{IsReadOn, IsNextWrong, AreWrong}
 use Rattle.depot_node.specs.declared.start_error.StartError.{StartError}

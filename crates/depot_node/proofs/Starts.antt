@@ -9,8 +9,9 @@ use Rattle.depot_base.specs.declared.record.Record.{Record}
 use Rattle.depot_base.specs.declared.record.Record.TheVariants.{Birth}
 use Rattle.depot_model.specs.Checks.{Setting}
 use Rattle.depot_model.specs.Records.{IsRecord, text_of_record}
+use Rattle.depot_model.specs.RecordFaults.{AreTextsOf}
 use Rattle.depot_node.specs.StartReading.{AreOther, AreWrong, IsOtherBirth}
-use Rattle.depot_node.specs.Starting.{AreTextsOf, AreNotRead, AreOwn, BeginWithBirth, IsDiskFault, IsStartedFrom, LeavesBetween, LeavesFile, LeavesNew, started}
+use Rattle.depot_node.specs.Starting.{AreNotRead, AreOwn, BeginWithBirth, IsDiskFault, IsStartedFrom, LeavesBetween, LeavesFile, LeavesNew, started}
 use Rattle.depot_node.specs.declared.start_error.StartError.{StartError}
 use Rattle.depot_node.specs.declared.start_error.StartError.TheVariants as refused
 

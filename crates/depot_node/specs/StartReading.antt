@@ -3,11 +3,11 @@ use Rattle.std.specs.Prelude.{◌≡◌, ◌≢◌, ℕ, List, [], ◌∷◌, �
 use Rattle.depot_base.specs.declared.record.Record.{Record}
 use Rattle.depot_model.specs.Checks.{Setting}
 use Rattle.depot_model.specs.Lawful.{IsLawful}
-use Rattle.depot_model.specs.RecordFaults.{IsFault}
+use Rattle.depot_model.specs.RecordFaults.{IsFault, HaveFaultAt}
 use Rattle.depot_model.specs.Records.{text_of_record}
 use Rattle.depot_model.specs.Texts.{hash_of_roster}
 use Rattle.depot_store.specs.Holdings.{Holding, with_records}
-use Rattle.depot_node.specs.Starting.{HaveFaultAt, AreNotRead}
+use Rattle.depot_node.specs.Starting.{AreNotRead}
 use Rattle.depot_node.specs.declared.start_error.StartError.{StartError}
 use Rattle.depot_node.specs.declared.start_error.StartError.TheVariants as stopped
 

@@ -29,7 +29,7 @@ mod take;
 mod vouch;
 
 pub use depot_decide::{PutDone, PutError};
-pub use depot_model::{TakeError, Taken};
+pub use depot_model::{RecordFault, TakeError, Taken};
 pub use node::Node;
 pub use node_laws::lawful_files_start;
 pub use start_error::StartError;

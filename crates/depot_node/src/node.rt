@@ -27,6 +27,7 @@ use crate::put::{put, put_all};
 use crate::take::{take_proof, take_statement, take_value};
 use depot_base::{Changes, Hash32, Key, NodeId, Update, Value};
 use depot_decide::{PutDone, PutError};
+use depot_graph::Graph;
 use depot_model::{Past, Replica, Scheme, Signer, TakeError, Taken};
 use depot_outside::Disk;
 use depot_store::Store;
@@ -84,6 +85,14 @@ impl<D: Disk, S: Scheme, G: Signer<Of = S>> Node<D, S, G> {
         ensures idle { IfErr result (λ e. e ≢ PutError.Disk → Lasts ⟦<Node<D, S, G> as Replica>⟧.tells ⟦<Node<D, S, G> as Replica>⟧.stopped ⟦<Node<D, S, G> as Replica>⟧.records ⟦<Node<D, S, G> as Replica>⟧.moment ⟦<Node<D, S, G> as Replica>⟧.left_since ⟦<Node<D, S, G> as Replica>⟧.may_leave self.old self.new []) }
     {
         put_all(self.alloc, &mut self.store, changes)
+    }
+
+    /// The graph of the updates that it accepted, of a node that runs. It takes no memory.
+    pub fn graph(&self) -> &Graph
+        requires { ⟦<Node<D, S, G> as Replica>⟧.stopped self.now ≡ false }
+        ensures { ⟦<Graph as Past>⟧.updates result.now ≡ accepted (⟦<Node<D, S, G> as Replica>⟧.records self.now) }
+    {
+        self.store.state().graph()
     }
 
     /// How many updates it accepted. It takes no memory.

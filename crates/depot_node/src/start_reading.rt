@@ -8,8 +8,9 @@ ghost use Rattle.depot_model.specs.Replicas.{KeepsDisk};
 ghost use Rattle.depot_model.specs.Roster.{has_node};
 ghost use Rattle.depot_model.specs.Stops.{CallsDisk, Lasts, LeavesAll, calls_to_record};
 ghost use Rattle.depot_model.specs.Texts.{hash_of_roster};
+ghost use Rattle.depot_model.specs.RecordFaults.{AreTextsOf};
 ghost use Rattle.depot_store.specs.Holdings.{standing, IsWhole};
-ghost use Rattle.depot_node.specs.Starting.{AreTextsOf, AreOwn, AreNotRead, LeavesBetween, LeavesFile, LeavesNew, StartLeaves, birth_after, started};
+ghost use Rattle.depot_node.specs.Starting.{AreOwn, AreNotRead, LeavesBetween, LeavesFile, LeavesNew, StartLeaves, birth_after, started};
 ghost use Rattle.depot_node.specs.StartReading.{IsReadOn, IsNextWrong, AreWrong, IsOtherBirth, AreOther};
 
 use crate::start_error::StartError;

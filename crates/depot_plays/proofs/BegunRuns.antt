@@ -17,7 +17,7 @@ use Rattle.depot_schedule.specs.declared.member.Member.{Member}
 use Rattle.depot_schedule.specs.declared.schedule.Schedule.{Schedule}
 use Rattle.depot_world.specs.Run.{Station, born}
 use Rattle.depot_world.specs.Suite.{Suite, Stage, entry_of, is_entry_before, roster_of, stage_of, suite_of}
-use Rattle.depot_world.proofs.InsertionLaws.{from_order}
+use Rattle.depot_model.proofs.InsertionLaws.{from_order}
 use Rattle.depot_world.proofs.ScheduleRosters.{stage_has_members}
 use Rattle.depot_plays.specs.Acting.{AreSeated, IsSeated, View}
 use Rattle.depot_cast.specs.Hands.{AreSigners, Hand, hand_of, hands_of}

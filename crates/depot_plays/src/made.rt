@@ -88,7 +88,7 @@ impl<A: Actor> Play<A> {
         }
     }
 
-    /// A voucher that a faulty node signs, if its references name updates.
+    /// A voucher that a faulty node signs, if its references name updates or plain bytes.
     fn voucher<S: Scheme, G: Signer>(
         &self,
         scene: &Scene<'_, S, G>,

@@ -1,9 +1,12 @@
 -- What an event of a seated node came to: it went as it goes, or a stop fell into it.
-use Rattle.std.proofs.Common.{◌≡◌, ℕ, ◌*◌, List, [], ◌++◌, append_assoc, length, length-append, take, drop, false, true≢false, Option, None, Some, Result, Ok, Err, IfOk, IsOk, refl, sym, ap, subst, ◌∙◌, arith}
+use Rattle.std.proofs.Common.{◌≡◌, ℕ, ◌*◌, List, [], ◌++◌, append_assoc, length, length-append, take, drop, Bool, false, true≢false, Option, None, Some, Result, Ok, Err, IfOk, IsOk, refl, sym, ap, subst, ◌∙◌, arith}
 use Rattle.std.proofs.Math.Seq.{drop-append_seam}
+use Rattle.std.specs.Prelude.{◌↔◌, IsErrOf}
 use Rattle.std.proofs.lemmas.List.{append-nil, take-append-drop}
 use Rattle.depot_base.specs.Calls.{Call, made}
 use Rattle.depot_base.specs.declared.record.Record.{Record}
+use Rattle.depot_feeds.specs.declared.feed_error.FeedError.{FeedError}
+use Rattle.depot_feeds.specs.declared.feed_error.FeedError.TheVariants as error
 use Rattle.depot_laws.proofs.Splits.{lawful_front}
 use Rattle.depot_laws.proofs.Growing.{still_some}
 use Rattle.depot_model.specs.Bundle.{Signs}
@@ -19,8 +22,9 @@ use Rattle.depot_plays.specs.Acting.{CameTo, IsSeated, View}
 use Rattle.depot_replay.specs.Disks.{Stopped, armed_of}
 use Rattle.depot_replay.specs.PrintedRuns.{EndsAs}
 use Rattle.depot_replay.specs.SeatFacts.{lawful_there}
+use Rattle.depot_deeds.specs.declared.feeds.Fed.{Fed}
 use Rattle.depot_deeds.specs.declared.printed.Printed.{Printed}
-use Rattle.depot_deeds.specs.Printing.{lines_of_deed}
+use Rattle.depot_deeds.specs.Printing.{SettlesFeed, lines_of_deed}
 use Rattle.depot_replay.specs.Seats.{Appends, IsBegunOn, IsCalled, IsKeptOn, stopped_line}
 use Rattle.depot_replay.proofs.SeatLaws.{IsCut, IsToCome, calls_counted, cut_short, kept_after, went_cut, went_well}
 
@@ -36,6 +40,15 @@ if_printed (Err e) printed P Q so ok p = tt
 pub of_printed : {X E : Type 0} (printed : Result X E) (P : X → Type 0) → ((x : X) → printed ≡ Ok x → P x) → IfOk printed P
 of_printed (Ok x) P so = so x refl
 of_printed (Err e) P so = tt
+
+-- where something was printed of a stream the node runs
+pub fed_runs : (fed : Result Fed FeedError) (printed : Option Printed) (stopped : Bool) → IfOk fed (λ _. stopped ≡ false) → ((printed ≡ None) ↔ IsErrOf fed error.Disk) → SettlesFeed fed → (printed ≡ None → ⊥) → stopped ≡ false
+fed_runs (Ok told) printed stopped runs none settled some = runs
+fed_runs (Err error.Disk) printed stopped runs none settled some = absurd (some (none.1 refl))
+fed_runs (Err error.Memory) printed stopped runs none settled some = absurd settled
+fed_runs (Err error.Stopped) printed stopped runs none settled some = absurd settled
+fed_runs (Err (error.Full what)) printed stopped runs none settled some = absurd settled
+fed_runs (Err (error.IllFormed at)) printed stopped runs none settled some = absurd settled
 
 -- ---- the node after it
 

@@ -9,7 +9,8 @@ use Rattle.depot_base.specs.declared.record.Record.{Record}
 use Rattle.depot_model.specs.Checks.{Setting}
 use Rattle.depot_model.specs.Hello.{hello_of, text_of_hello}
 use Rattle.depot_outside.specs.Stopping.{State, Leads}
-use Rattle.depot_world.specs.Deeds.{get_by, hello_by, restart_by, shown_of}
+use Rattle.depot_model.specs.ShownWrites.{shown_of}
+use Rattle.depot_world.specs.Deeds.{get_by, hello_by, restart_by}
 use Rattle.depot_world.specs.Run.{Armed, Station}
 use Rattle.depot_world.specs.ScheduleStops.{Deed, left_of, standing_after, went}
 use Rattle.depot_world.specs.Suite.{Stage, stands_on}

@@ -1,5 +1,5 @@
 //! A correct node over a disk in memory.
-ghost use Rattle.std.specs.Prelude.{◌≡◌, ◌≢◌, ◌≤◌, [], ◌∷◌, ℕ, List, false, Some, None, Ok, IfOk, IfErr, IsOk, refl};
+ghost use Rattle.std.specs.Prelude.{◌≡◌, ◌≢◌, ◌≤◌, [], ◌∷◌, ℕ, List, false, Some, None, Ok, IfOk, IfErr, IfSome, IsOk, refl};
 ghost use Rattle.depot_base.specs.Calls.{FailsAmong, made};
 ghost use Rattle.depot_base.specs.declared.record.Record.{Record};
 ghost use Rattle.depot_base.specs.declared.record.Record.TheVariants.{Birth};
@@ -13,7 +13,7 @@ ghost use Rattle.depot_node.specs.Starting.{IsStartedFrom, calls_to_start_node};
 ghost use Rattle.depot_node.specs.declared.start_error.StartError.TheVariants as start_error;
 ghost use Rattle.depot_outside.specs.Stopping.{State, Leads, state_of};
 ghost use Rattle.depot_store.specs.Holdings.{standing};
-ghost use Rattle.depot_world.specs.Deeds.{shown_of};
+ghost use Rattle.depot_model.specs.ShownWrites.{shown_of};
 ghost use Rattle.depot_world.specs.Run.{own_update};
 ghost use Rattle.depot_world.specs.Transcript.{ended};
 ghost use Rattle.depot_plays.specs.Acting.{View};
@@ -109,9 +109,10 @@ impl<S: Scheme + Copy, G: Signer<Of = S> + Copy> Means<S, G> {
     }
 }
 
-/// How many bytes each piece of a stream has, at least one: all of it where no size is given.
+/// How many bytes each piece of a stream has, at least one: so many as are asked for, or all of it.
 fn piece_of(stream: &[u8], size: Option<u32>) -> usize
-    ensures { 1 ≤ result }
+    ensures some { 1 ≤ result }
+    ensures asked { IfSome size (λ n. 1 ≤ n → result ≡ n) }
 {
     match size {
         Some(size) => (size as usize).max(1),

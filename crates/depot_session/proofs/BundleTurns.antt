@@ -127,6 +127,10 @@ module _ {N O : Type 0} (g : Ghosts N O) (counts_now : (v : N) (t : ℕ) (image 
   text_is : made_step.text ≡ lines_of_command (command.Bundle hello file) deed
   text_is = ap (λ (x : Step). x.text) is ∙ step_text s hello file deed answer
 
+  -- where a bundle is made the run goes on
+  pub goes_on_made : ending_of_bundle answer ≡ None → made_step.ending ≡ None
+  goes_on_made goes = ap (λ (x : Step). x.ending) is ∙ step_ending s hello file deed answer ∙ goes
+
   -- what a stop leaves
   leaves : IsTrue (g.tells old) → (image : List ℕ) → g.may_leave new image → HasFront (g.records old) (journaled_for answer) image
   leaves = leaves_front counts_now old new (journaled_for answer) runs lasts

@@ -1,6 +1,8 @@
 -- A node that a command calls.
-use Rattle.std.proofs.Common.{◌≡◌, ◌<◌, ◌≤◌, ℕ, List, Bool, true, false, Option, Some, None, Result, Err, subst}
-use Rattle.std.specs.Prelude.{is_err}
+use Rattle.std.proofs.Common.{◌≡◌, ◌<◌, ◌≤◌, ℕ, List, Bool, true, false, Option, Some, None, Result, Err, sym, subst, inl, inr}
+use Rattle.std.proofs.Math.Nat.{eq-or-lt_of_le}
+use Rattle.std.specs.Prelude.{IsErrOf, is_err}
+use Rattle.depot_base.specs.Faults.{HasCause}
 use Rattle.std.specs.Result.{IsErrAnd}
 use Rattle.depot_feeds.specs.Lasting.{LastsIn}
 use Rattle.depot_model.specs.Replicas.{IsSameNode, KeepsDisk}
@@ -13,38 +15,48 @@ use Rattle.depot_session.specs.Turns.{HasNoFault, Keeps}
 use Rattle.depot_session.proofs.LeftJournals.{lasts_so}
 use Rattle.depot_session.proofs.ToldFaults.{HasCome, NamesFaults, disk_is_fault, memory_is_fault, names_fault, names_memory, ok_is_calm}
 
+-- a count didn't rise where nothing failed
+pub quiet_unless : (before now : ℕ) (failed : Type 0) → HasCause before now failed → (failed → ⊥) → now ≡ before
+quiet_unless before now failed cause not = elim (eq-or-lt_of_le cause.never_falls) [
+  | inl same ↦ sym same
+  | inr rose ↦ absurd (not (cause.only rose))
+]
+
 -- what it keeps of the node, where it made this call
 pub keeps_called : {N O : Type 0} (g : Ghosts N O) (old new : N) (sink : Sinks) (r : Result (Unit {0}) Ending) (failed : Type 0) → IsSameNode (g.stands old) (g.stands new) (g.key old) (g.key new) (g.signature_of old) (g.signature_of new)
     → KeepsDisk (g.handle old) (g.handle new) (g.faults old) (g.faults new) (g.is_faultless old) (g.is_faultless new) failed → LastsIn g.tells g.stopped g.records g.moment g.left_since g.may_leave (g.stands old) (is_err r) old new
-    → (HasNoFault r → g.stopped new ≡ false) → NamesFaults (g.faults old < g.faults new) sink r → Keeps g old new sink r
-keeps_called g old new sink r failed same disk lasts runs_on names = record {
+    → (HasNoFault r → g.stopped new ≡ false) → (HasNoFault r → failed → ⊥) → NamesFaults (g.faults old < g.faults new) sink r → Keeps g old new sink r
+keeps_called g old new sink r failed same disk lasts runs_on settles names = record {
   same = same;
   handle = disk.same;
   lasts = lasts;
   runs_on = runs_on;
   disk_later = disk.cause.never_falls;
+  disk_quiet = λ calm. quiet_unless (g.faults old) (g.faults new) failed disk.cause (settles calm);
   disk_failed = λ is. subst (HasCome (g.faults old < g.faults new) sink) is names.came;
   sink_later = names.later;
   sink_failed = λ is. subst (HasCome (g.faults old < g.faults new) sink) is names.came;
+  sink_only = names.only;
   no_refusal = λ is. subst (HasCome (g.faults old < g.faults new) sink) is names.came;
 }
 
 module _ {N O : Type 0} (g : Ghosts N O) (old new : N) (sink : Sinks) (failed : Type 0) (was : Bool) (same : IsSameNode (g.stands old) (g.stands new) (g.key old) (g.key new) (g.signature_of old) (g.signature_of new))
     (disk : KeepsDisk (g.handle old) (g.handle new) (g.faults old) (g.faults new) (g.is_faultless old) (g.is_faultless new) failed) (lasts : LastsIn g.tells g.stopped g.records g.moment g.left_since g.may_leave (g.stands old) was old new) where
   -- where no memory was found behind the call
-  pub keeps_without_memory : sink.faults_before ≤ sink.faults_after → (r : Result (Unit {0}) Ending) → IsErrAnd r (λ e. e ≡ ending.Memory) → Keeps g old new sink r
-  keeps_without_memory later r is =
+  pub keeps_without_memory : sink.faults_before ≤ sink.faults_after → (r : Result (Unit {0}) Ending) → IsErrAnd r (λ e. e ≡ ending.Memory) → (sink.faults_before < sink.faults_after → IsErrOf r ending.Sink) → Keeps g old new sink r
+  keeps_without_memory later r is only =
       let faulty = memory_is_fault r is in
-      keeps_called g old new sink r failed same disk (lasts_so (g.stands old) was (is_err r) old new (λ ok. absurd (faulty (ok_is_calm r ok))) lasts) (λ calm. absurd (faulty calm)) (names_memory (g.faults old < g.faults new) sink later r is)
+      keeps_called g old new sink r failed same disk (lasts_so (g.stands old) was (is_err r) old new (λ ok. absurd (faulty (ok_is_calm r ok))) lasts) (λ calm. absurd (faulty calm)) (λ calm. absurd (faulty calm)) (names_memory (g.faults old < g.faults new) sink later r is only)
 
   -- where the disk failed in it, and it was told, or not
-  pub keeps_to_disk : sink.faults_before ≤ sink.faults_after → (line : List ℕ) (e : Ending) → failed → IsFaultTold sink line ending.Disk e → Keeps g old new sink (Err e)
-  keeps_to_disk later line e f told =
-      keeps_called g old new sink (Err e) failed same disk (lasts_so (g.stands old) was true old new (λ ok. absurd cc) lasts) (λ calm. absurd (disk_is_fault sink line e told calm)) (names_fault (g.faults old < g.faults new) sink later line ending.Disk e (disk.cause.rose f) told)
+  pub keeps_to_disk : sink.faults_before ≤ sink.faults_after → (line : List ℕ) (e : Ending) → failed → IsFaultTold sink line ending.Disk e → (sink.faults_before < sink.faults_after → e ≡ ending.Sink) → Keeps g old new sink (Err e)
+  keeps_to_disk later line e f told only =
+      let faulty = disk_is_fault sink line e told in
+      keeps_called g old new sink (Err e) failed same disk (lasts_so (g.stands old) was true old new (λ ok. absurd cc) lasts) (λ calm. absurd (faulty calm)) (λ calm. absurd (faulty calm)) (names_fault (g.faults old < g.faults new) sink later line ending.Disk e (disk.cause.rose f) told only)
 
   -- where the node runs on
-  pub keeps_running : (r : Result (Unit {0}) Ending) → was ≡ false → g.stopped new ≡ false → NamesFaults (g.faults old < g.faults new) sink r → Keeps g old new sink r
-  keeps_running r well runs = keeps_called g old new sink r failed same disk (lasts_so (g.stands old) was (is_err r) old new (λ _. well) lasts) (λ _. runs)
+  pub keeps_running : (r : Result (Unit {0}) Ending) → was ≡ false → g.stopped new ≡ false → (failed → ⊥) → NamesFaults (g.faults old < g.faults new) sink r → Keeps g old new sink r
+  keeps_running r well runs not = keeps_called g old new sink r failed same disk (lasts_so (g.stands old) was (is_err r) old new (λ _. well) lasts) (λ _. runs) (λ _. not)
 
 -- the disk didn't fail where something is printed
 pub not_where_some : {X : Type 0} (o : Option X) (x : X) (failed : Type 0) → o ≡ Some x → (failed → o ≡ None) → failed → ⊥

@@ -14,7 +14,8 @@ use Rattle.depot_session.specs.ScriptTelling.{IsUnchanged, Tells}
 use Rattle.depot_session.specs.Turns.{IsAt, IsRunning, Turns}
 use Rattle.depot_session.proofs.Turning.{command_text}
 use Rattle.depot_session.proofs.Uncalled.{uncalled_told}
-use Rattle.depot_world.specs.Deeds.{get_by, shown_of}
+use Rattle.depot_model.specs.ShownWrites.{shown_of}
+use Rattle.depot_world.specs.Deeds.{get_by}
 use Rattle.depot_world.specs.Transcript.{ended}
 
 -- what it prints

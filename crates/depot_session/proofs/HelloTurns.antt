@@ -32,7 +32,8 @@ hello_files : (here : Setting) (sign : Signs) (s : Session) (J : List Record) (f
 unfolding step_of hello_by
 hello_files here sign s J file text files journal is same other = stored_alike s.files files file (text_of_hello (hello_of here s.correct.journal)) text (λ name. sym (same name)) (ap (λ (K : List Record). text_of_hello (hello_of here K)) journal ∙ sym is) other
 
-hello_goes_on : (here : Setting) (sign : Signs) (s : Session) (file : List ℕ) → (step_of here sign s (command.Hello file)).ending ≡ None
+-- the run goes on
+pub hello_goes_on : (here : Setting) (sign : Signs) (s : Session) (file : List ℕ) → (step_of here sign s (command.Hello file)).ending ≡ None
 unfolding step_of
 hello_goes_on here sign s file = refl
 

@@ -14,6 +14,7 @@ pub mod BundleTurns
 pub mod TakeTurns
 pub mod GoingOn
 pub mod CorrectSteps
+pub mod AskedShelves
 pub mod PlayedScripts
 pub mod RunImages
 pub mod RunEnds

@@ -1,9 +1,9 @@
 -- A script that is played, command by command.
-use Rattle.std.proofs.Common.{◌≡◌, ◌≤◌, ◌<◌, ℕ, suc, ◌+◌, Bool, false, IsTrue, List, [], ◌∷◌, ◌++◌, append_assoc, length, get_or, take, drop, take-append-drop, drop-cons, Some, None, Result, Ok, Err, refl, sym, ap, subst, ◌∙◌, arith, inl, inr}
-use Rattle.std.specs.Prelude.{is_err}
-use Rattle.std.proofs.lemmas.List.{append-nil, take_all}
-use Rattle.std.proofs.lemmas.List.Concat.{flat_map-append}
+use Rattle.std.proofs.Common.{◌≡◌, ◌≤◌, ◌<◌, ◌⊎◌, ℕ, suc, ◌+◌, Bool, false, IsTrue, List, [], ◌∷◌, ◌++◌, append_assoc, length, get_or, take, drop, take-append-drop, drop-cons, Some, None, Result, Ok, Err, refl, sym, ap, subst, ◌∙◌, arith, inl, inr}
+use Rattle.std.proofs.Math.Nat.{eq-or-lt_of_le}
+use Rattle.std.specs.Prelude.{IfSome, is_err}
 use Rattle.std.specs.List.{flat_map}
+use Rattle.std.proofs.lemmas.List.{append-nil, take_all}
 use Rattle.depot_base.specs.declared.record.Record.{Record}
 use Rattle.depot_feeds.specs.Lasting.{LastsIn}
 use Rattle.depot_feeds.proofs.LastingStreams.{front_longer, joined_in, nothing_in}
@@ -20,29 +20,32 @@ use Rattle.depot_outside.specs.declared.sink.Sink as sink_of
 use Rattle.depot_script.specs.declared.command.Command.{Command}
 use Rattle.depot_session.specs.declared.ending.Ending.{Ending}
 use Rattle.depot_session.specs.declared.ending.Ending.TheVariants as ending
-use Rattle.depot_session.specs.Sessions.{Answers, Session, answers_of, loads_of, step_of}
-use Rattle.depot_session.specs.SessionRuns.{IsCutBy, IsLast, IsToBeWritten, Pending, pending_for, world_at}
-use Rattle.depot_session.specs.ScriptTelling.{TellsShelf}
+use Rattle.depot_session.specs.Sessions.{Answers, Session, answers_of, loads_of, step_of, stores_of}
+use Rattle.depot_session.specs.SessionRuns.{AsksShort, FailsFor, IsCutBy, IsLast, IsToBeWritten, Pending, pending_for, world_at}
+use Rattle.depot_session.specs.ScriptTelling.{Asked, TellsShelf, asked}
 use Rattle.depot_session.specs.Turns.{IsAt, IsBroken, IsPlayed, IsPlayedInPart, IsRunning, Keeps, LeftBy, Plays, Steps, Turns}
+use Rattle.depot_session.proofs.AskedShelves.{behind_first, ended_so, more_or_none, one_more}
 use Rattle.depot_session.proofs.CorrectSteps.{step_is_correct}
 use Rattle.depot_session.proofs.StepGrowth.{step_stays}
+use Rattle.depot_session.proofs.ToldFaults.{none_by_sink}
 use Rattle.depot_session.proofs.GoingOn.{GoOn, all_done, ended_answers, go_on_more, more_answers, script_grows}
 use Rattle.depot_session.proofs.Uncalled.{leaves_all}
 use Rattle.depot_base.proofs.GeneralLaws.{take_next}
 
 -- ---- what holds between two commands
 
--- The node is who it was and runs, a stop leaves what it was to leave, no fault of the shelf came, and what the shelf and the sink tell they tell.
+-- The node is who it was and runs, a stop leaves what it was to leave, nothing has failed, and what the shelf and the sink tell they tell.
 pub record IsKeptOn {N O F K : Type 0} (g : Ghosts N O) (f : shelf_of.Ghosts F) (k : sink_of.Ghosts K) (first now : N) (shelf_first shelf_now : F) (out_first out_now : K) : Type 0 where
   pub same : IsSameNode (g.stands first) (g.stands now) (g.key first) (g.key now) (g.signature_of first) (g.signature_of now)
   pub handle : g.handle now ≡ g.handle first
   pub running : IsRunning g now
   pub lasts : LastsIn g.tells g.stopped g.records g.moment g.left_since g.may_leave (g.stands first) false first now
-  pub disk_later : g.faults first ≤ g.faults now
-  pub sink_later : k.faults out_first ≤ k.faults out_now
+  pub disk_quiet : g.faults now ≡ g.faults first
+  pub sink_quiet : k.faults out_now ≡ k.faults out_first
   pub same_sink : k.tells out_now ≡ k.tells out_first
   pub same_shelf : f.tells shelf_now ≡ f.tells shelf_first
   pub quiet : f.faults shelf_now ≡ f.faults shelf_first
+  pub calm : f.failed shelf_now ≡ f.failed shelf_first
 
 -- These commands were carried out and went on, and the session after them is where the node and the shelf stand.
 pub record AreDone {N O : Type 0} (g : Ghosts N O) (now : N) (here : Setting) (sign : Signs) (s : Session) (done : List Command) (shelf : Shelves) (sink : Sinks) : Type 0 where
@@ -95,36 +98,56 @@ module _ {N O F K : Type 0} (g : Ghosts N O) (f : shelf_of.Ghosts F) (k : sink_o
     handle = keeps.handle ∙ kept.handle;
     lasts = joined_in (g.stands first) (g.stands mid) (is_err r) first mid new kept.same.stands ran.runs kept.running.runs kept.lasts keeps.lasts;
     runs_on = keeps.runs_on;
-    disk_later = omega (arith, kept.disk_later, keeps.disk_later);
-    disk_failed = λ failed. let rose = keeps.disk_failed failed in omega (arith, kept.disk_later, rose);
-    sink_later = omega (arith, kept.sink_later, keeps.sink_later);
-    sink_failed = λ failed. let rose = keeps.sink_failed failed in omega (arith, kept.sink_later, rose);
+    disk_later = omega (arith, kept.disk_quiet, keeps.disk_later);
+    disk_quiet = λ calm. keeps.disk_quiet calm ∙ kept.disk_quiet;
+    disk_failed = λ failed. let rose = keeps.disk_failed failed in omega (arith, kept.disk_quiet, rose);
+    sink_later = omega (arith, kept.sink_quiet, keeps.sink_later);
+    sink_failed = λ failed. let rose = keeps.sink_failed failed in omega (arith, kept.sink_quiet, rose);
+    sink_only = λ rose. keeps.sink_only (omega (arith, kept.sink_quiet, rose));
     no_refusal = keeps.no_refusal;
   }
 
   -- between this command and the next
   pub kept_on_more : IsRunning g first → IsKeptOn g f k first mid shelf_first shelf_mid out_first out_mid → Keeps g mid new (sinks k out_mid out_new) (Ok tt) → k.tells out_new ≡ k.tells out_mid → f.tells shelf_new ≡ f.tells shelf_mid → f.faults shelf_new ≡ f.faults shelf_mid
-      → IsKeptOn g f k first new shelf_first shelf_new out_first out_new
-  kept_on_more ran kept keeps same_sink same_shelf quiet =
+      → f.failed shelf_new ≡ f.failed shelf_mid → IsKeptOn g f k first new shelf_first shelf_new out_first out_new
+  kept_on_more ran kept keeps same_sink same_shelf quiet calm =
       let all = keeps_all (Ok tt) ran kept keeps in
       record {
         same = all.same;
         handle = all.handle;
         running = record { runs = all.runs_on tt; stable = λ t. subst (λ (x : Bool). LeavesAll (g.records new) x (g.may_leave new)) (all.runs_on tt) (all.lasts.lasts.stable (subst (λ (x : Bool). IsTrue x) all.lasts.lasts.told t)) };
         lasts = all.lasts;
-        disk_later = all.disk_later;
-        sink_later = all.sink_later;
+        disk_quiet = all.disk_quiet tt;
+        sink_quiet = elim (eq-or-lt_of_le all.sink_later) [
+          | inl same ↦ sym same
+          | inr rose ↦ none_by_sink _ (all.sink_only rose)
+        ];
         same_sink = same_sink ∙ kept.same_sink;
         same_shelf = same_shelf ∙ kept.same_shelf;
         quiet = quiet ∙ kept.quiet;
+        calm = calm ∙ kept.calm;
       }
 
-  -- a command as it goes where the node stood at first
-  abbrev pub TurnsAt : Command → Result (Unit {0}) Ending → Setting → Signs → Type 0
-  TurnsAt c r here sign = (s : Session) → IsTrue (f.tells shelf_mid) → IsAt here (g.records mid) (f.file shelf_mid) s → Turns g mid new c (step_of here sign s c) (shelves f shelf_mid shelf_new) (sinks k out_mid out_new) r
+  -- a name on which the shelf failed, which hadn't failed before, is the only one of the whole run
+  fails_so : (c : Command) → f.faults shelf_mid ≡ f.faults shelf_first → f.failed shelf_mid ≡ f.failed shelf_first → (name : List ℕ) → FailsFor c (shelves f shelf_mid shelf_new) name → FailsFor c (shelves f shelf_first shelf_new) name
+  fails_so c quiet calm name fails =
+      let rose = fails.1.rose in
+      (fails.0, record { rose = omega (arith, quiet, rose); only = fails.1.only ∙ ap (λ (x : List (List ℕ)). x ++ name ∷ []) calm })
 
-  from_first : (c : Command) (r : Result (Unit {0}) Ending) → IsKeptOn g f k first mid shelf_first shelf_mid out_first out_mid → TurnsAt c r (g.stands mid) (g.signature_of mid) → TurnsAt c r (g.stands first) (g.signature_of first)
-  from_first c r kept turns = subst (λ (x : Signs). TurnsAt c r (g.stands first) x) kept.same.signs (subst (λ (x : Setting). TurnsAt c r x (g.signature_of mid)) kept.same.stands turns)
+  -- what holds of each session where the node stood at first
+  abbrev pub HoldsAt : (Setting → Signs → Session → Type 0) → Setting → Signs → Type 0
+  HoldsAt P here sign = (s : Session) → IsTrue (f.tells shelf_mid) → IsAt here (g.records mid) (f.file shelf_mid) s → P here sign s
+
+  -- a command as it goes there
+  abbrev pub TurnsAt : Command → Result (Unit {0}) Ending → Setting → Signs → Type 0
+  TurnsAt c r = HoldsAt (λ here sign s. Turns g mid new c (step_of here sign s c) (shelves f shelf_mid shelf_new) (sinks k out_mid out_new) r)
+
+  -- one that ends the run by what it comes to stores nothing
+  abbrev pub UnstoredAt : Command → Setting → Signs → Type 0
+  UnstoredAt c = HoldsAt (λ here sign s. IfSome (step_of here sign s c).ending (λ e. f.stores shelf_new ≡ f.stores shelf_mid))
+
+  from_first : (P : Setting → Signs → Session → Type 0) → IsKeptOn g f k first mid shelf_first shelf_mid out_first out_mid → HoldsAt P (g.stands mid) (g.signature_of mid) → HoldsAt P (g.stands first) (g.signature_of first)
+  from_first P kept holds = subst (λ (x : Signs). HoldsAt P (g.stands first) x) kept.same.signs (subst (λ (x : Setting). HoldsAt P x (g.signature_of mid)) kept.same.stands holds)
 
   module _ (s : Session) (done : List Command) (c : Command) (kept : IsKeptOn g f k first mid shelf_first shelf_mid out_first out_mid) (are : AreDone g mid (g.stands first) (g.signature_of first) s done (shelves f shelf_first shelf_mid) (sinks k out_first out_mid)) where
     -- a command that went as its step says leaves a correct node
@@ -170,50 +193,77 @@ module _ {N O F K : Type 0} (g : Ghosts N O) (f : shelf_of.Ghosts F) (k : sink_o
           correct = correct_on stays steps.journal;
         })
 
+    -- what was asked of the shelf
+    abbrev calls : Asked
+    calls = asked f shelf_first shelf_new
+
     -- the command was cut short
-    broken : (rest : List Command) (e : Ending) → IsBroken g mid new c (step_of (g.stands first) (g.signature_of first) (answers_of (g.stands first) (g.signature_of first) s done).session c) (shelves f shelf_mid shelf_new) (sinks k out_mid out_new) e
-        → IsPlayedInPart g first new (g.stands first) (g.signature_of first) s (done ++ c ∷ rest) (shelves f shelf_first shelf_new) (sinks k out_first out_new) e
-    broken rest e b =
+    broken : (rest : List Command) (e : Ending) → AsksShort done (c ∷ rest) [] calls → IsBroken g mid new c (step_of (g.stands first) (g.signature_of first) (answers_of (g.stands first) (g.signature_of first) s done).session c) (shelves f shelf_mid shelf_new) (sinks k out_mid out_new) e
+        → (part : IsPlayedInPart g first new (g.stands first) (g.signature_of first) s (done ++ c ∷ rest) (shelves f shelf_first shelf_new) (sinks k out_first out_new) e) × AsksShort part.done part.rest [] calls
+    broken rest e asks b =
         let here = g.stands first in
         let sign = g.signature_of first in
         let was = answers_of here sign s done in
         let step = step_of here sign was.session c in
-        let grown = script_grows here sign s done c rest are.go_on in
-        record {
-          cut = cut_so (g.faults mid < g.faults new) (g.faults first < g.faults new) (shelves f shelf_mid shelf_new) (shelves f shelf_first shelf_new) (sinks k out_mid out_new) (sinks k out_first out_new) e
-              (λ rose. omega (arith, kept.disk_later, rose)) (λ rose. omega (arith, kept.quiet, rose)) (λ rose. omega (arith, kept.sink_later, rose)) b.cut;
-          done = done;
-          rest = c ∷ rest;
-          parts = refl;
-          went_on = all_done here sign s done are.go_on;
-          last = b.last;
-          correct = are.correct;
-          last_is = last_so (pending_for c step (LeftBy g mid new) (g.faults mid < g.faults new) (shelves f shelf_mid shelf_new)) (pending_for c step (LeftBy g first new) (g.faults first < g.faults new) (shelves f shelf_first shelf_new)) (λ name named. named) refl
-              (λ stands. record { journal = λ image left. stands.journal image (left_then image left); files = stands.files }) (λ rose. omega (arith, kept.disk_later, rose)) (λ rose. omega (arith, kept.quiet, rose)) e b.last b.last_is;
-          wrote = text_behind (k.tells out_first) (k.tells out_mid) (k.written out_first) (k.written out_mid) (k.written out_new) was.text b.last kept.same_sink are.wrote b.wrote;
-          more = b.more ++ grown.more;
-          brings = grown.is ∙ ap (λ (x : List Record). x ++ grown.more) (b.brings ∙ ap (λ (x : List Record). x ++ b.more) (sym are.at.journal)) ∙ append_assoc was.session.correct.journal b.more grown.more;
-          leaves = λ t image left. front_longer was.session.correct.journal b.more grown.more image (subst (λ (J : List Record). HasFront J b.more image) (sym are.at.journal) (b.leaves (subst (λ (x : Bool). IsTrue x) (sym kept.lasts.lasts.told) t) image left));
-          files = λ name. elim (b.files name) [
-            | inl same ↦ inl (same ∙ are.at.same_files name)
-            | inr handed ↦ inr (record { stores = handed.stores; goes_on = handed.goes_on; journal = λ image left. handed.journal image (left_then image left) })
-          ];
-        }
+        let grown = script_grows here sign s done c [] are.go_on in (
+          record {
+            cut = cut_so (g.faults mid < g.faults new) (g.faults first < g.faults new) (shelves f shelf_mid shelf_new) (shelves f shelf_first shelf_new) (sinks k out_mid out_new) (sinks k out_first out_new) e
+                (λ rose. omega (arith, kept.disk_quiet, rose)) (λ rose. omega (arith, kept.quiet, rose)) (λ rose. omega (arith, kept.sink_quiet, rose)) b.cut;
+            done = done;
+            rest = c ∷ rest;
+            parts = refl;
+            went_on = all_done here sign s done are.go_on;
+            last = b.last;
+            correct = are.correct;
+            last_is = last_so (pending_for c step (LeftBy g mid new) (g.faults mid < g.faults new) (shelves f shelf_mid shelf_new)) (pending_for c step (LeftBy g first new) (g.faults first < g.faults new) (shelves f shelf_first shelf_new)) (fails_so c kept.quiet kept.calm) refl
+                (λ stands. record { journal = λ image left. stands.journal image (left_then image left); files = stands.files }) (λ rose. omega (arith, kept.disk_quiet, rose)) (λ rose. omega (arith, kept.quiet, rose)) e b.last b.last_is;
+            wrote = text_behind (k.tells out_first) (k.tells out_mid) (k.written out_first) (k.written out_mid) (k.written out_new) was.text b.last kept.same_sink are.wrote b.wrote;
+            more = b.more ++ grown.more;
+            brings = grown.is ∙ ap (λ (x : List Record). x ++ grown.more) (b.brings ∙ ap (λ (x : List Record). x ++ b.more) (sym are.at.journal)) ∙ append_assoc was.session.correct.journal b.more grown.more;
+            leaves = λ t image left. front_longer was.session.correct.journal b.more grown.more image (subst (λ (J : List Record). HasFront J b.more image) (sym are.at.journal) (b.leaves (subst (λ (x : Bool). IsTrue x) (sym kept.lasts.lasts.told) t) image left));
+            files = λ name. elim (b.files name) [
+              | inl same ↦ inl (same ∙ are.at.same_files name)
+              | inr handed ↦ inr (record { stores = handed.stores; goes_on = handed.goes_on; journal = λ image left. handed.journal image (left_then image left) })
+            ];
+          },
+          asks,
+        )
       where
         left_then : (image : List ℕ) → LeftBy g first new image → LeftBy g mid new image
         left_then image left = (subst (λ (x : Bool). IsTrue x) (sym kept.lasts.lasts.told) left.0, left.1)
 
-    stopped_at : (rest : List Command) (e : Ending) → g.stands new ≡ g.stands mid → Turns g mid new c (step_of (g.stands first) (g.signature_of first) (answers_of (g.stands first) (g.signature_of first) s done).session c) (shelves f shelf_mid shelf_new) (sinks k out_mid out_new) (Err e)
-        → Plays g first new (g.stands first) (g.signature_of first) s (done ++ c ∷ rest) (shelves f shelf_first shelf_new) (sinks k out_first out_new) (Err e)
-    stopped_at rest e stays (inl t) = inl (ended rest e stays t.0 t.1)
-    stopped_at rest e stays (inr b) = inr (broken rest e b)
+    stopped_at : (rest : List Command) (e : Ending) → g.stands new ≡ g.stands mid → calls.loads_after ≡ calls.loads_before ++ flat_map loads_of (done ++ c ∷ [])
+        → (calls.stores_after ≡ calls.stores_before ++ flat_map stores_of done) ⊎ (calls.stores_after ≡ calls.stores_before ++ flat_map stores_of (done ++ c ∷ []))
+        → IfSome (step_of (g.stands first) (g.signature_of first) (answers_of (g.stands first) (g.signature_of first) s done).session c).ending (λ x. calls.stores_after ≡ calls.stores_before ++ flat_map stores_of done)
+        → Turns g mid new c (step_of (g.stands first) (g.signature_of first) (answers_of (g.stands first) (g.signature_of first) s done).session c) (shelves f shelf_mid shelf_new) (sinks k out_mid out_new) (Err e)
+        → Plays g first new (g.stands first) (g.signature_of first) s (done ++ c ∷ rest) (shelves f shelf_first shelf_new) calls (sinks k out_first out_new) (Err e)
+    stopped_at rest e stays loads stores unstored (inl t) =
+        let here = g.stands first in
+        let sign = g.signature_of first in
+        inl (
+          ended rest e stays t.0 t.1,
+          record {
+            done = done;
+            rest = c ∷ rest;
+            parts = refl;
+            went_on = all_done here sign s done are.go_on;
+            over = inr (e, t.0);
+            loads = loads;
+            stores = ended_so (calls.stores_after ≡ calls.stores_before ++ flat_map stores_of done) (step_of here sign (answers_of here sign s done).session c).ending e t.0 unstored;
+          },
+        )
+    stopped_at rest e stays loads stores unstored (inr b) = inr (broken rest e (record { loads = inr loads; stores = stores }) b)
 
   module _ (s : Session) (cs : List Command) (i : ℕ) (c : Command) (within : i < length cs) (is : c ≡ get_or cs i c) (kept : IsKeptOn g f k first mid shelf_first shelf_mid out_first out_mid) (told : IsTrue (f.tells shelf_first))
       (are : AreDone g mid (g.stands first) (g.signature_of first) s (take i cs) (shelves f shelf_first shelf_mid) (sinks k out_first out_mid)) (stays : g.stands new ≡ g.stands mid) where
+    -- what holds where the next command begins
+    at_next : (P : Setting → Signs → Session → Type 0) → HoldsAt P (g.stands mid) (g.signature_of mid) → P (g.stands first) (g.signature_of first) (answers_of (g.stands first) (g.signature_of first) s (take i cs)).session
+    at_next P holds = from_first P kept holds (answers_of (g.stands first) (g.signature_of first) s (take i cs)).session (subst (λ (x : Bool). IsTrue x) (sym kept.same_shelf) told) are.at
+
     -- what the next command comes to
     next_turns : (r : Result (Unit {0}) Ending) → TurnsAt c r (g.stands mid) (g.signature_of mid)
         → Turns g mid new c (step_of (g.stands first) (g.signature_of first) (answers_of (g.stands first) (g.signature_of first) s (take i cs)).session c) (shelves f shelf_mid shelf_new) (sinks k out_mid out_new) r
-    next_turns r turns = from_first c r kept turns (answers_of (g.stands first) (g.signature_of first) s (take i cs)).session (subst (λ (x : Bool). IsTrue x) (sym kept.same_shelf) told) are.at
+    next_turns r turns = at_next (λ here sign t. Turns g mid new c (step_of here sign t c) (shelves f shelf_mid shelf_new) (sinks k out_mid out_new) r) turns
 
     -- the next command is done
     pub are_done_more : TurnsAt c (Ok tt) (g.stands mid) (g.signature_of mid) → AreDone g new (g.stands first) (g.signature_of first) s (take (i + 1) cs) (shelves f shelf_first shelf_new) (sinks k out_first out_new)
@@ -222,10 +272,16 @@ module _ {N O F K : Type 0} (g : Ghosts N O) (f : shelf_of.Ghosts F) (k : sink_o
         subst (λ (done : List Command). AreDone g new (g.stands first) (g.signature_of first) s done (shelves f shelf_first shelf_new) (sinks k out_first out_new)) (sym (take_next cs i c within is)) (done_more s (take i cs) c kept are stays t.0 t.1)
 
     -- the next command ends the run or is cut short
-    pub plays_to : (e : Ending) → TurnsAt c (Err e) (g.stands mid) (g.signature_of mid) → Plays g first new (g.stands first) (g.signature_of first) s cs (shelves f shelf_first shelf_new) (sinks k out_first out_new) (Err e)
-    plays_to e turns =
-        subst (λ (all : List Command). Plays g first new (g.stands first) (g.signature_of first) s all (shelves f shelf_first shelf_new) (sinks k out_first out_new) (Err e)) (sym (command_between cs i c within is))
-        (stopped_at s (take i cs) c kept are (drop (suc i) cs) e stays (next_turns (Err e) turns))
+    pub plays_to : (e : Ending) → f.loads shelf_mid ≡ f.loads shelf_first ++ flat_map loads_of (take i cs) → f.stores shelf_mid ≡ f.stores shelf_first ++ flat_map stores_of (take i cs) → f.loads shelf_new ≡ f.loads shelf_mid ++ loads_of c
+        → (f.stores shelf_new ≡ f.stores shelf_mid) ⊎ (f.stores shelf_new ≡ f.stores shelf_mid ++ stores_of c) → UnstoredAt c (g.stands mid) (g.signature_of mid) → TurnsAt c (Err e) (g.stands mid) (g.signature_of mid)
+        → Plays g first new (g.stands first) (g.signature_of first) s cs (shelves f shelf_first shelf_new) (asked f shelf_first shelf_new) (sinks k out_first out_new) (Err e)
+    plays_to e loaded stored loads stores unstored turns =
+        let here = g.stands first in
+        let sign = g.signature_of first in
+        let t = (answers_of here sign s (take i cs)).session in
+        subst (λ (all : List Command). Plays g first new here sign s all (shelves f shelf_first shelf_new) (asked f shelf_first shelf_new) (sinks k out_first out_new) (Err e)) (sym (command_between cs i c within is))
+        (stopped_at s (take i cs) c kept are (drop (suc i) cs) e stays (one_more loads_of (take i cs) c (f.loads shelf_first) (f.loads shelf_mid) (f.loads shelf_new) loaded loads) (more_or_none stores_of (take i cs) c (f.stores shelf_first) (f.stores shelf_mid) (f.stores shelf_new) stored stores)
+        (behind_first (step_of here sign t c).ending (f.stores shelf_first) (f.stores shelf_mid) (f.stores shelf_new) (flat_map stores_of (take i cs)) stored (at_next (λ h x u. IfSome (step_of h x u c).ending (λ e. f.stores shelf_new ≡ f.stores shelf_mid)) unstored)) (next_turns (Err e) turns))
 
 -- ---- before the first command, and behind the last
 
@@ -237,11 +293,12 @@ module _ {N O F K : Type 0} (g : Ghosts N O) (f : shelf_of.Ghosts F) (k : sink_o
     handle = refl;
     running = running;
     lasts = nothing_in only_now (g.stands v) false v lawful (leaves_all g v running);
-    disk_later = omega arith;
-    sink_later = omega arith;
+    disk_quiet = refl;
+    sink_quiet = refl;
     same_sink = refl;
     same_shelf = refl;
     quiet = refl;
+    calm = refl;
   }
 
   pub are_done_first : (v : N) (shelf : F) (out : K) (s : Session) → IsAt (g.stands v) (g.records v) (f.file shelf) s → AreDone g v (g.stands v) (g.signature_of v) s [] (shelves f shelf shelf) (sinks k out out)
@@ -255,39 +312,46 @@ module _ {N O F K : Type 0} (g : Ghosts N O) (f : shelf_of.Ghosts F) (k : sink_o
     handle = kept.handle;
     lasts = kept.lasts;
     runs_on = λ _. kept.running.runs;
-    disk_later = kept.disk_later;
+    disk_later = omega (arith, kept.disk_quiet);
+    disk_quiet = λ _. kept.disk_quiet;
     disk_failed = λ e. cc;
-    sink_later = kept.sink_later;
+    sink_later = omega (arith, kept.sink_quiet);
     sink_failed = λ e. cc;
+    sink_only = λ rose. absurd (omega (arith, kept.sink_quiet, rose));
     no_refusal = λ e. cc;
   }
 
   pub plays_to_end : (first now : N) (shelf_first shelf_now : F) (out_first out_now : K) (s : Session) (cs : List Command) (i : ℕ) → length cs ≤ i → IsKeptOn g f k first now shelf_first shelf_now out_first out_now
       → AreDone g now (g.stands first) (g.signature_of first) s (take i cs) (shelves f shelf_first shelf_now) (sinks k out_first out_now)
-      → Plays g first now (g.stands first) (g.signature_of first) s cs (shelves f shelf_first shelf_now) (sinks k out_first out_now) (Ok tt)
-  plays_to_end first now shelf_first shelf_now out_first out_now s cs i long kept are =
+      → f.loads shelf_now ≡ f.loads shelf_first ++ flat_map loads_of (take i cs) → f.stores shelf_now ≡ f.stores shelf_first ++ flat_map stores_of (take i cs)
+      → Plays g first now (g.stands first) (g.signature_of first) s cs (shelves f shelf_first shelf_now) (asked f shelf_first shelf_now) (sinks k out_first out_now) (Ok tt)
+  plays_to_end first now shelf_first shelf_now out_first out_now s cs i long kept are loads stores =
       let here = g.stands first in
       let sign = g.signature_of first in
       let a = subst (λ (done : List Command). AreDone g now here sign s done (shelves f shelf_first shelf_now) (sinks k out_first out_now)) (take_all i cs long) are in
-      inl (record { ending_is = sym (all_done here sign s cs a.go_on); runs = kept.running.runs; journal = sym a.at.journal; files = a.at.same_files; wrote = a.wrote; correct = a.correct })
+      inl (
+        record { ending_is = sym (all_done here sign s cs a.go_on); runs = kept.running.runs; journal = sym a.at.journal; files = a.at.same_files; wrote = a.wrote; correct = a.correct },
+        record {
+          done = cs;
+          rest = [];
+          parts = sym (append-nil cs);
+          went_on = all_done here sign s cs a.go_on;
+          over = inl refl;
+          loads = loads ∙ ap (λ (x : List Command). f.loads shelf_first ++ flat_map loads_of x) (take_all i cs long ∙ sym (append-nil cs));
+          stores = stores ∙ ap (λ (x : List Command). f.stores shelf_first ++ flat_map stores_of x) (take_all i cs long);
+        },
+      )
 
 -- ---- the shelf
 
 -- it was quiet before a command
-pub tells_of_stop : (first mid new : ℕ) (r : Result (Unit {0}) Ending) → mid ≡ first → TellsShelf mid new r → TellsShelf first new r
-tells_of_stop first mid new r quiet t = subst (λ (n : ℕ). TellsShelf n new r) quiet t
+pub tells_of_stop : (first mid new : ℕ) (failed_first failed_mid failed_new : List (List ℕ)) (r : Result (Unit {0}) Ending) → mid ≡ first → failed_mid ≡ failed_first → TellsShelf mid new failed_mid failed_new r → TellsShelf first new failed_first failed_new r
+tells_of_stop first mid new failed_first failed_mid failed_new r quiet calm t = record {
+  never_falls = subst (λ (n : ℕ). n ≤ new) quiet t.never_falls;
+  quiet = λ goes. t.quiet goes ∙ quiet;
+  calm = λ goes. t.calm goes ∙ calm;
+}
 
 -- it was quiet all the time
-pub tells_of_end : (first now : ℕ) → now ≡ first → TellsShelf first now (Ok tt)
-tells_of_end first now quiet = record { never_falls = omega (arith, quiet); quiet = λ _. quiet }
-
--- ---- the files that are loaded
-
--- what so many commands and one more load
-one_more_loads : (cs : List Command) (i : ℕ) (c : Command) → i < length cs → c ≡ get_or cs i c → flat_map loads_of (take (i + 1) cs) ≡ flat_map loads_of (take i cs) ++ loads_of c
-one_more_loads cs i c within is = ap (flat_map loads_of) (take_next cs i c within is) ∙ flat_map-append loads_of (take i cs) (c ∷ []) ∙ ap (λ (x : List (List ℕ)). flat_map loads_of (take i cs) ++ x) (append-nil (loads_of c))
-
--- the next command loads its files
-pub loads_more : (cs : List Command) (i : ℕ) (c : Command) (first mid new : List (List ℕ)) → i < length cs → c ≡ get_or cs i c → mid ≡ first ++ flat_map loads_of (take i cs) → new ≡ mid ++ loads_of c → new ≡ first ++ flat_map loads_of (take (i + 1) cs)
-loads_more cs i c first mid new within is before more =
-    more ∙ ap (λ (x : List (List ℕ)). x ++ loads_of c) before ∙ append_assoc first (flat_map loads_of (take i cs)) (loads_of c) ∙ ap (λ (x : List (List ℕ)). first ++ x) (sym (one_more_loads cs i c within is))
+pub tells_of_end : (first now : ℕ) (failed_first failed_now : List (List ℕ)) → now ≡ first → failed_now ≡ failed_first → TellsShelf first now failed_first failed_now (Ok tt)
+tells_of_end first now failed_first failed_now quiet calm = record { never_falls = omega (arith, quiet); quiet = λ _. quiet; calm = λ _. calm }

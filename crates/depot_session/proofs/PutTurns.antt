@@ -125,7 +125,7 @@ module _ {N O : Type 0} (g : Ghosts N O) (old new : N) (changes : List Change) (
     -- what the put leaves of the node
     pub put_keeps : (sink : Sinks) (r : Result (Unit {0}) Ending) → IsSameNode (g.stands old) (g.stands new) (g.key old) (g.key new) (g.signature_of old) (g.signature_of new) → StopsBy (g.stopped old) (g.stopped new) (IsErrOf done refused.Stopped) (IsErrOf done refused.Disk)
         → KeepsDisk (g.handle old) (g.handle new) (g.faults old) (g.faults new) (g.is_faultless old) (g.is_faultless new) (IsErrOf done refused.Disk) → (HasNoFault r → IsErrOf done refused.Disk → ⊥) → NamesFaults (g.faults old < g.faults new) sink r → Keeps g old new sink r
-    put_keeps sink r stays stops disk settles = keeps_called g old new sink r (IsErrOf done refused.Disk) stays disk (put_lasts (is_err r) (ends_failed r (IsErrOf done refused.Disk) settles)) (λ calm. runs_on _ _ _ _ stops running.runs (settles calm))
+    put_keeps sink r stays stops disk settles = keeps_called g old new sink r (IsErrOf done refused.Disk) stays disk (put_lasts (is_err r) (ends_failed r (IsErrOf done refused.Disk) settles)) (λ calm. runs_on _ _ _ _ stops running.runs (settles calm)) settles
 
   -- ---- what it came to
 

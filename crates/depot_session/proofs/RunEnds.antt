@@ -20,9 +20,9 @@ use Rattle.depot_script.specs.declared.command.Command.{Command}
 use Rattle.depot_world.proofs.GoodNodes.{read_grows}
 use Rattle.depot_session.specs.declared.ending.Ending.{Ending}
 use Rattle.depot_session.specs.declared.ending.Ending.TheVariants as ending
-use Rattle.depot_session.specs.SessionRuns.{Answered, AreReadsOf, GoesShort, GoesWhole, HasFailed, IsCutBy, IsLast, IsNextHandedOut, LeavesFront, Pending, disk_line, ending_of_refusal, line_of_refusal, pending_in, world_at}
+use Rattle.depot_session.specs.SessionRuns.{Answered, AreReadsOf, AsksShort, GoesShort, GoesWhole, HasFailed, IsCutBy, IsLast, IsNextHandedOut, LeavesFront, Pending, disk_line, ending_of_refusal, first_of, line_of_refusal, pending_in, world_at}
 use Rattle.depot_session.specs.Sessions.{Files, Session, answers_of, session_from}
-use Rattle.depot_session.specs.ScriptTelling.{IsFaultTold, IsUnchanged, IsUnwritten}
+use Rattle.depot_session.specs.ScriptTelling.{Asked, IsFaultTold, IsUnchanged, IsUnwritten}
 use Rattle.depot_session.specs.Turns.{HasNoFault, IsPlayed, IsPlayedInPart, LeftBy, Plays, ending_by}
 use Rattle.depot_session.proofs.LeftJournals.{all_there}
 use Rattle.depot_session.proofs.PlayedScripts.{cut_so, last_so}
@@ -34,7 +34,7 @@ use Rattle.depot_session.proofs.UnwrittenTexts.{front_written, of_unwritten}
 
 module _ (here : Setting) (sign : Signs) (J : List Record) (reads : List Read) (commands : List Command) (disk : Disks) (shelf : Shelves) (sink : Sinks) (has : HasRecords J disk.file)
     (images : (image : List ℕ) → disk.may_leave_after image → disk.may_leave image ⊎ (IsFileOf disk.file [] × HasFront [] (birth_after here []) image)) (reads_as : disk.may_leave_after disk.file_after)
-    (longer : (a b : List Record) (image : List ℕ) → HasFront [] a image → HasFront [] (a ++ b) image) (same_files : IsUnchanged shelf) (correct : IsCorrect (world_at here) (session_from here J reads shelf.file).correct) where
+    (longer : (a b : List Record) (image : List ℕ) → HasFront [] a image → HasFront [] (a ++ b) image) (same_files : IsUnchanged shelf) (correct : IsCorrect (world_at here) (session_from here J reads shelf.file).correct) (first_files : List (List ℕ)) (calls : Asked) (asks : AsksShort [] commands first_files calls) where
   abbrev s : Session
   s = session_from here J reads shelf.file
 
@@ -49,35 +49,37 @@ module _ (here : Setting) (sign : Signs) (J : List Record) (reads : List Read) (
 
   -- the run was cut short
   abbrev IsShort : Ending → Type 0
-  IsShort e = GoesShort here sign J s commands disk shelf sink e
+  IsShort e = (short : GoesShort here sign J s commands disk shelf sink e) × AsksShort short.done short.rest first_files calls
 
   -- what a start leaves, the run leaves
-  front_at_start : (image : List ℕ) → disk.may_leave image ⊎ (IsFileOf disk.file [] × HasFront [] (birth_after here []) image) → LeavesFront [] disk.may_leave J (birth_after here J ++ (answers_grow here sign s commands).more) image
+  front_at_start : (image : List ℕ) → disk.may_leave image ⊎ (IsFileOf disk.file [] × HasFront [] (birth_after here []) image) → LeavesFront [] disk.may_leave J (birth_after here J ++ (answers_grow here sign s (first_of commands)).more) image
   front_at_start image (inl was) = inl was
-  front_at_start image (inr p) = inr (birth_front here J (answers_grow here sign s commands).more disk.file image has p.0 p.1 (λ a b. longer a b image))
+  front_at_start image (inr p) = inr (birth_front here J (answers_grow here sign s (first_of commands)).more disk.file image has p.0 p.1 (λ a b. longer a b image))
 
   cut_at_start : (e : Ending) (last : List ℕ) → IsCutBy (HasFailed disk) shelf sink e → IsLast first e last → Wrote sink last → IsShort e
   unfolding answers_of
   cut_at_start e last cut last_is wrote =
-      let g = answers_grow here sign s commands in
-      record {
-        cut = cut;
-        done = [];
-        rest = commands;
-        parts = refl;
-        went_on = refl;
-        correct = correct;
-        last = last;
-        last_is = last_is;
-        wrote = wrote;
-        kept = J;
-        kept_is = inr (refl, refl);
-        more = birth_after here J ++ g.more;
-        brings = g.is ∙ append_assoc J (birth_after here J) g.more;
-        leaves = λ image left. front_at_start image (images image left);
-        reads = front_at_start disk.file_after (images disk.file_after reads_as);
-        files = λ name. inl (same_files name);
-      }
+      let g = answers_grow here sign s (first_of commands) in (
+        record {
+          cut = cut;
+          done = [];
+          rest = commands;
+          parts = refl;
+          went_on = refl;
+          correct = correct;
+          last = last;
+          last_is = last_is;
+          wrote = wrote;
+          kept = J;
+          kept_is = inr (refl, refl);
+          more = birth_after here J ++ g.more;
+          brings = g.is ∙ append_assoc J (birth_after here J) g.more;
+          leaves = λ image left. front_at_start image (images image left);
+          reads = front_at_start disk.file_after (images disk.file_after reads_as);
+          files = λ name. inl (same_files name);
+        },
+        asks,
+      )
 
   -- a line wasn't written of which each front may stand at last
   unwritten_at_start : (line : List ℕ) → ((n : ℕ) → IsLast first ending.Sink (take n line)) → (e : Ending) → IsUnwritten sink line e → IsShort e
@@ -93,7 +95,7 @@ module _ (here : Setting) (sign : Signs) (J : List Record) (reads : List Read) (
   none_of zero = refl
   none_of (suc n) = refl
 
-  pub not_started : (error : StartError) (e : Ending) → (LeavesFile error → ⊥) → (error ≡ refused.Disk → HasFailed disk) → IsFaultTold sink (line_of_refusal error) (ending_of_refusal error) e → GoesShort here sign J (session_from here J reads shelf.file) commands disk shelf sink e
+  pub not_started : (error : StartError) (e : Ending) → (LeavesFile error → ⊥) → (error ≡ refused.Disk → HasFailed disk) → IsFaultTold sink (line_of_refusal error) (ending_of_refusal error) e → (short : GoesShort here sign J (session_from here J reads shelf.file) commands disk shelf sink e) × AsksShort short.done short.rest first_files calls
   not_started refused.Memory e fault failed = told_at_start [] ending.Memory e tt refl (λ n. inl (none_of n))
   not_started refused.Disk e fault failed = told_at_start disk_line ending.Disk e (failed refl) refl (λ n. inr (disk_line, (inr (inl (disk_pending commands (failed refl), refl)), (n, refl))))
   not_started other e fault failed = absurd (fault tt)
@@ -141,45 +143,48 @@ module _ {N O : Type 0} (g : Ghosts N O) (old new : N) (here : Setting) (sign : 
   handed_so [] t name handed = handed
   handed_so (c ∷ cs) t name handed = record { stores = handed.stores; goes_on = handed.goes_on; journal = λ image left. handed.journal image (told, leaves image left) }
 
-  pub played_in_part : (g.faults old < g.faults new → HasFailed disk) → IsCorrect (world_at here) s.correct → IsPlayedInPart g old new here sign s commands shelf sink e → GoesShort here sign J s commands disk shelf sink e
-  played_in_part rose correct p =
+  pub played_in_part : (first_files : List (List ℕ)) (calls : Asked) → (g.faults old < g.faults new → HasFailed disk) → IsCorrect (world_at here) s.correct → (p : IsPlayedInPart g old new here sign s commands shelf sink e) → AsksShort p.done p.rest first_files calls
+      → (short : GoesShort here sign J s commands disk shelf sink e) × AsksShort short.done short.rest first_files calls
+  played_in_part first_files calls rose correct p asks =
       let after = (answers_of here sign s p.done).session in
       let kept = (answers_of here sign s p.done).session.correct.journal in
-      let there : (image : List ℕ) → disk.may_leave_after image → LeavesFront p.done disk.may_leave kept p.more image = λ image left. front_left p.done disk.may_leave kept p.more image (p.leaves told image (leaves image left)) in
-      record {
-        cut = cut_so (g.faults old < g.faults new) (HasFailed disk) shelf shelf sink sink e rose (λ failed. failed) (λ failed. failed) p.cut;
-        done = p.done;
-        rest = p.rest;
-        parts = p.parts;
-        went_on = p.went_on;
-        correct = p.correct correct;
-        last = p.last;
-        last_is = pending_so p.rest after p.last rose p.last_is;
-        wrote = p.wrote;
-        kept = kept;
-        kept_is = inl refl;
-        more = p.more;
-        brings = p.brings;
-        leaves = there;
-        reads = there disk.file_after reads_as;
-        files = λ name. elim (p.files name) [
-          | inl same ↦ inl same
-          | inr handed ↦ inr (handed_so p.rest after name handed)
-        ];
-      }
+      let there : (image : List ℕ) → disk.may_leave_after image → LeavesFront p.done disk.may_leave kept p.more image = λ image left. front_left p.done disk.may_leave kept p.more image (p.leaves told image (leaves image left)) in (
+        record {
+          cut = cut_so (g.faults old < g.faults new) (HasFailed disk) shelf shelf sink sink e rose (λ failed. failed) (λ failed. failed) p.cut;
+          done = p.done;
+          rest = p.rest;
+          parts = p.parts;
+          went_on = p.went_on;
+          correct = p.correct correct;
+          last = p.last;
+          last_is = pending_so p.rest after p.last rose p.last_is;
+          wrote = p.wrote;
+          kept = kept;
+          kept_is = inl refl;
+          more = p.more;
+          brings = p.brings;
+          leaves = there;
+          reads = there disk.file_after reads_as;
+          files = λ name. elim (p.files name) [
+            | inl same ↦ inl same
+            | inr handed ↦ inr (handed_so p.rest after name handed)
+          ];
+        },
+        asks,
+      )
 
 -- what a script came to is what the run answers
-pub answered : {N O : Type 0} (g : Ghosts N O) (old new : N) (there here : Setting) (by sign : Signs) (J : List Record) (s : Session) (commands : List Command) (disk : Disks) (shelf : Shelves) (sink : Sinks) (r : Result (Unit {0}) Ending) (e : Ending)
+pub answered : {N O : Type 0} (g : Ghosts N O) (old new : N) (there here : Setting) (by sign : Signs) (J : List Record) (s : Session) (commands : List Command) (disk : Disks) (shelf : Shelves) (calls : Asked) (sink : Sinks) (r : Result (Unit {0}) Ending) (e : Ending)
     → there ≡ here → by ≡ sign → e ≡ ending_by r → IsTrue (g.tells old) → ((image : List ℕ) → disk.may_leave_after image → g.may_leave new image) → disk.may_leave_after disk.file_after → IsCorrect (world_at here) s.correct → LeavesAll (g.records new) (g.stopped new) (g.may_leave new)
-    → (g.faults old < g.faults new → HasFailed disk) → Plays g old new there by s commands shelf sink r → Answered here sign J s commands disk shelf sink e
-answered g old new there here by sign J s commands disk shelf sink r e stands signs ends told leaves reads_as correct all rose plays =
-    let here_plays = subst (λ (h : Setting). Plays g old new h by s commands shelf sink r) stands plays in
-    let both = subst (λ (x : Signs). Plays g old new here x s commands shelf sink r) signs here_plays in
-    let x : Answered here sign J s commands disk shelf sink (ending_by r) = elim both [
-      | inl p ↦ inl (played_whole g old new here sign J s commands disk shelf sink told leaves reads_as (ending_by r) correct all p)
-      | inr p ↦ inr (played_in_part g old new here sign J s commands disk shelf sink told leaves reads_as (ending_by r) rose correct p)
+    → (g.faults old < g.faults new → HasFailed disk) → Plays g old new there by s commands shelf calls sink r → Answered here sign J s commands [] disk shelf calls sink e
+answered g old new there here by sign J s commands disk shelf calls sink r e stands signs ends told leaves reads_as correct all rose plays =
+    let here_plays = subst (λ (h : Setting). Plays g old new h by s commands shelf calls sink r) stands plays in
+    let both = subst (λ (x : Signs). Plays g old new here x s commands shelf calls sink r) signs here_plays in
+    let x : Answered here sign J s commands [] disk shelf calls sink (ending_by r) = elim both [
+      | inl p ↦ inl (played_whole g old new here sign J s commands disk shelf sink told leaves reads_as (ending_by r) correct all p.0, p.1)
+      | inr p ↦ inr (played_in_part g old new here sign J s commands disk shelf sink told leaves reads_as (ending_by r) [] calls rose correct p.0 p.1)
     ] in
-    subst (Answered here sign J s commands disk shelf sink) (sym ends) x
+    subst (Answered here sign J s commands [] disk shelf calls sink) (sym ends) x
 
 -- ---- the ending
 
@@ -193,3 +198,27 @@ calm_end (Err e) (inr is) = subst (λ (x : Ending). HasNoFault (Err x)) (sym is)
 pub ended_by : (r : Result (Unit {0}) Ending) (e : Ending) → e ≢ ending.Done → ending_by r ≡ e → IsErrOf r e
 ended_by (Ok done) e other is = absurd (other (sym is))
 ended_by (Err x) e other is = ap Err is
+
+-- ---- faults that came
+
+-- what may be answered where the disk failed
+abbrev pub IsAfterDisk : Ending → Type 0
+IsAfterDisk e = (e ≡ ending.Disk) ⊎ ((e ≡ ending.Sink) ⊎ (e ≡ ending.Memory))
+
+-- a start at which the disk failed was refused for it
+pub disk_refused : (sink : Sinks) (error : StartError) (e : Ending) → error ≡ refused.Disk → IsFaultTold sink (line_of_refusal error) (ending_of_refusal error) e → IsAfterDisk e
+disk_refused sink error e is told = by_told (subst (λ (x : StartError). IsFaultTold sink (line_of_refusal x) (ending_of_refusal x) e) is told) where
+  by_told : IsFaultTold sink disk_line ending.Disk e → IsAfterDisk e
+  by_told (inl t) = inl t.0
+  by_told (inr u) = of_unwritten sink disk_line IsAfterDisk (λ none. inr (inr refl)) (λ rose front. inr (inl refl)) e u
+
+-- a script that didn't end without a fault
+pub faulty_end : (r : Result (Unit {0}) Ending) → (HasNoFault r → ⊥) → IsAfterDisk (ending_by r)
+faulty_end (Err ending.Disk) not = inl refl
+faulty_end (Err ending.Sink) not = inr (inl refl)
+faulty_end (Err ending.Memory) not = inr (inr refl)
+faulty_end other not = absurd (not tt)
+
+-- one that ended by the sink
+pub sink_end : (r : Result (Unit {0}) Ending) → IsErrOf r ending.Sink → ending_by r ≡ ending.Sink
+sink_end r is = ap ending_by is

@@ -47,7 +47,7 @@ module _ {N O : Type 0} (g : Ghosts N O) (old new : N) (c : Command) (step : Ste
   stored_told (Ok done) files tells st = (goes, record { runs = runs; journal = journal; files = λ other. st.0 tells other ∙ sym (files other); wrote = st.1 })
   stored_told (Err e) files tells (others, inl st) = untold g old new c step shelf sink more brings leaves (others_same others) runs journal (λ other. st.0 tells other ∙ sym (files other)) stable e st.1
   stored_told (Err e) files tells (others, inr (inl idle)) = without_memory g old new c step shelf sink more brings leaves (λ other. inl (idle.0 other)) (Err e) idle.1.0 idle.1.1
-  stored_told (Err e) files tells (others, inr (inr h)) = shelf_told g old new c step shelf sink more brings leaves (others_same others) name e (stored_is_named c name (own name refl)) h.rose h.told
+  stored_told (Err e) files tells (others, inr (inr h)) = shelf_told g old new c step shelf sink more brings leaves (others_same others) name e (stored_is_named c name (own name refl)) h.failed h.told
 
 -- files are alike where the files before are, and the bytes
 pub stored_alike : (files others : Files) (name bytes more : List ℕ) → ((other : List ℕ) → files other ≡ others other) → bytes ≡ more → (other : List ℕ) → stored files name bytes other ≡ stored others name more other

@@ -4,7 +4,7 @@ use Rattle.std.specs.Result.{IsErrAnd}
 use Rattle.depot_base.specs.declared.record.Record.{Record}
 use Rattle.depot_model.specs.Stops.{HasAll, HasFront, HasRecords, LeavesAll}
 use Rattle.depot_model.specs.declared.replica.Replica.{Ghosts}
-use Rattle.depot_outside.specs.Told.{Shelves, Sinks, Wrote, WroteFront}
+use Rattle.depot_outside.specs.Told.{HasFailedOn, Shelves, Sinks, Wrote, WroteFront}
 use Rattle.depot_schedule.specs.Language.{join}
 use Rattle.depot_script.specs.Scripts.{command_words}
 use Rattle.depot_script.specs.declared.command.Command.{Command}
@@ -61,8 +61,8 @@ module _ {N O : Type 0} (g : Ghosts N O) (old new : N) (c : Command) (step : Ste
   disk_told e rose = fault_told disk_line ending.Disk e (inr (inl (rose, refl))) rose refl
 
   -- that of the shelf
-  pub shelf_told : (name : List ℕ) (e : Ending) → Names c name → shelf.faults_before < shelf.faults_after → IsFaultTold sink (shelf_line name) ending.Shelf e → Turns g old new c step shelf sink (Err e)
-  shelf_told name e named rose = fault_told (shelf_line name) ending.Shelf e (inr (inr (rose, (name, (named, refl))))) rose (name, (named, refl))
+  pub shelf_told : (name : List ℕ) (e : Ending) → Names c name → HasFailedOn shelf name → IsFaultTold sink (shelf_line name) ending.Shelf e → Turns g old new c step shelf sink (Err e)
+  shelf_told name e named failed = fault_told (shelf_line name) ending.Shelf e (inr (inr (failed.rose, (name, ((named, failed), refl))))) failed.rose (name, ((named, failed), refl))
 
   module _ (runs : g.stopped new ≡ false) (journal : g.records new ≡ step.session.correct.journal) (files : (name : List ℕ) → shelf.file_after name ≡ step.session.files name) (stable : IsTrue (g.tells old) → LeavesAll (g.records new) (g.stopped new) (g.may_leave new)) where
     -- what its step made stands

@@ -8,12 +8,12 @@ use Rattle.depot_model.specs.Lawful.{IsLawful}
 use Rattle.depot_model.specs.Stops.{HasFront, LeavesAll}
 use Rattle.depot_model.specs.declared.replica.Replica.{Ghosts}
 use Rattle.depot_model.proofs.FeedGrowth.{IsGrown}
-use Rattle.depot_outside.specs.Told.{LacksFile, Shelves, Sinks}
+use Rattle.depot_outside.specs.Told.{Shelves, Sinks}
 use Rattle.depot_script.specs.declared.command.Command.{Command}
 use Rattle.depot_session.specs.declared.ending.Ending.{Ending}
 use Rattle.depot_session.specs.declared.ending.Ending.TheVariants as ending
 use Rattle.depot_session.specs.Sessions.{Names, Session, Step, StoresAs, absent, shelf_line, step_of, stored}
-use Rattle.depot_session.specs.ScriptTelling.{IsFaultTold, IsUnchanged, Stores, Tells}
+use Rattle.depot_session.specs.ScriptTelling.{IsFaultTold, IsMissing, IsUnchanged, Stores, Tells}
 use Rattle.depot_session.specs.Turns.{IsAt, IsRunning, Keeps, Turns}
 use Rattle.depot_session.proofs.LeftJournals.{all_there, front_of_none}
 use Rattle.depot_session.proofs.StepGrowth.{step_grows}
@@ -35,9 +35,11 @@ module _ {N O : Type 0} (g : Ghosts N O) (v : N) (running : IsRunning g v) where
     lasts = nothing_in only_now (g.stands v) (is_err r) v lawful leaves_all;
     runs_on = λ _. running.runs;
     disk_later = omega arith;
+    disk_quiet = λ _. refl;
     disk_failed = λ is. subst (HasCome (g.faults v < g.faults v) sink) is names.came;
     sink_later = names.later;
     sink_failed = λ is. subst (HasCome (g.faults v < g.faults v) sink) is names.came;
+    sink_only = names.only;
     no_refusal = λ is. subst (HasCome (g.faults v < g.faults v) sink) is names.came;
   }
 
@@ -70,8 +72,8 @@ module _ {N O : Type 0} (g : Ghosts N O) (v : N) (running : IsRunning g v) where
           told g v v c step shelf sink brings.more brings.is leaves (λ name. inl (unchanged name)) running.runs (sym journal) (λ name. unchanged name ∙ at.same_files name ∙ sym (files name)) leaves_all
 
       -- a file that is to be loaded can't be had
-      pub uncalled_without_file : (name : List ℕ) (e : Ending) → Names c name → (s.files name ≡ None → step ≡ absent s name) → IsTrue shelf.tells → LacksFile shelf name → IsFaultTold sink (shelf_line name) ending.Shelf e → Turns g v v c step shelf sink (Err e)
-      uncalled_without_file name e named is tells (inl rose) fault = shelf_told g v v c step shelf sink brings.more brings.is leaves (λ other. inl (unchanged other)) name e named rose fault
+      pub uncalled_without_file : (name : List ℕ) (e : Ending) → Names c name → (s.files name ≡ None → step ≡ absent s name) → IsTrue shelf.tells → IsMissing shelf name → IsFaultTold sink (shelf_line name) ending.Shelf e → Turns g v v c step shelf sink (Err e)
+      uncalled_without_file name e named is tells (inl failed) fault = shelf_told g v v c step shelf sink brings.more brings.is leaves (λ other. inl (unchanged other)) name e named failed fault
       uncalled_without_file name e named is tells (inr none) fault =
           let gone : step ≡ absent s name = is (sym (at.same_files name) ∙ none tells) in
           absent_told g v v c step shelf sink brings.more brings.is leaves (λ other. inl (unchanged other)) running.runs (sym at.journal ∙ ap (λ (x : Step). x.session.correct.journal) (sym gone))

@@ -14,12 +14,12 @@ use Rattle.depot_model.specs.World.{World, Read, IsRead, IsCorrect, NeverFall}
 use Rattle.depot_node.specs.Starting.{IsNotStarted, LeavesFile}
 use Rattle.depot_node.specs.declared.start_error.StartError.{StartError}
 use Rattle.depot_node.specs.declared.start_error.StartError.TheVariants as refused
-use Rattle.depot_outside.specs.Told.{Disks, HasLoaded, Loads, Shelves, Sinks, Wrote}
+use Rattle.depot_outside.specs.Told.{Disks, HasFailedOn, HasLoaded, Loads, Shelves, Sinks, Wrote}
 use Rattle.depot_script.specs.declared.command.Command.{Command}
 use Rattle.depot_session.specs.declared.ending.Ending.{Ending}
 use Rattle.depot_session.specs.declared.ending.Ending.TheVariants as ending
-use Rattle.depot_session.specs.Sessions.{Answers, Names, Session, Step, StoresAs, answers_of, loads_of, session_from, shelf_line, step_of}
-use Rattle.depot_session.specs.ScriptTelling.{IsFaultTold, IsUnchanged}
+use Rattle.depot_session.specs.Sessions.{Answers, Names, Session, Step, StoresAs, answers_of, loads_of, session_from, shelf_line, step_of, stores_of}
+use Rattle.depot_session.specs.ScriptTelling.{Asked, IsFaultTold, IsUnchanged}
 
 -- ---- what a stop leaves
 
@@ -68,7 +68,8 @@ pub record IsHandedOut (left : List ℕ → Type 0) (c : Command) (step : Step) 
   pub goes_on : step.ending ≡ None
   pub journal : (image : List ℕ) → left image → HasRecords step.session.correct.journal image
 
--- What was pending where a run was cut short: the names and the lines of the next command, that what it made stands, and the faults that came.
+-- What was pending where a run was cut short: the name on which the shelf failed, the lines of the next command, that what it made stands, and the
+-- faults that came.
 pub record Pending : Type 1 where
   pub names : List ℕ → Type 0
   pub text : List ℕ
@@ -76,9 +77,13 @@ pub record Pending : Type 1 where
   pub disk_failed : Type 0
   pub shelf_failed : Type 0
 
+-- the shelf failed in this run on a file of this name, which the command loads or stores, and on no other
+abbrev pub FailsFor : Command → Shelves → List ℕ → Type 0
+FailsFor c shelf name = Names c name × HasFailedOn shelf name
+
 -- this command was
 abbrev pub pending_for : Command → Step → (List ℕ → Type 0) → Type 0 → Shelves → Pending
-pending_for c step left disk_failed shelf = record { names = Names c; text = step.text; stands = Stands left shelf step; disk_failed = disk_failed; shelf_failed = shelf.faults_before < shelf.faults_after }
+pending_for c step left disk_failed shelf = record { names = FailsFor c shelf; text = step.text; stands = Stands left shelf step; disk_failed = disk_failed; shelf_failed = shelf.faults_before < shelf.faults_after }
 
 -- the first of these commands was, if there is one
 abbrev pub pending_in : Setting → Signs → Session → List Command → (List ℕ → Type 0) → Type 0 → Shelves → Pending
@@ -90,7 +95,7 @@ abbrev pub IsNextHandedOut : Setting → Signs → Session → List Command → 
 IsNextHandedOut here sign s [] left name = ⊥
 IsNextHandedOut here sign s (c ∷ cs) left name = IsHandedOut left c (step_of here sign s c) name
 
--- the line of a file that the next command names
+-- the line of the file of the next command on which the shelf failed
 abbrev pub IsShelfLine : Pending → List ℕ → Type 0
 IsShelfLine next line = (name : List ℕ) × (next.names name × (line ≡ shelf_line name))
 
@@ -132,8 +137,13 @@ abbrev pub LeavesFront : List Command → (List ℕ → Type 0) → List Record 
 LeavesFront [] before kept more image = before image ⊎ HasFront kept more image
 LeavesFront (c ∷ cs) before kept more image = HasFront kept more image
 
+-- the first of some commands, if there is one
+abbrev pub first_of : List Command → List Command
+first_of [] = []
+first_of (c ∷ cs) = c ∷ []
+
 -- The run of a script from a journal and a session was cut short. Some commands were carried out, and their lines stand whole; and behind
--- them what stands at last. A stop leaves all records of these commands, and a front of those that the others bring. The files are those after
+-- them what stands at last. A stop leaves all records of these commands, and a front of those that the next one brings. The files are those after
 -- these commands, but that what the next one hands out may stand under its name. The node is a correct one with the reads that were told whole.
 pub record GoesShort (here : Setting) (sign : Signs) (J : List Record) (s : Session) (commands : List Command) (disk : Disks) (shelf : Shelves) (sink : Sinks) (ends : Ending) : Type 0 where
   pub cut : IsCutBy (HasFailed disk) shelf sink ends
@@ -148,20 +158,53 @@ pub record GoesShort (here : Setting) (sign : Signs) (J : List Record) (s : Sess
   pub kept : List Record
   pub kept_is : (kept ≡ (answers_of here sign s done).session.correct.journal) ⊎ ((done ≡ []) × (kept ≡ J))
   pub more : List Record
-  pub brings : (answers_of here sign s commands).session.correct.journal ≡ kept ++ more
+  pub brings : (answers_of here sign s (done ++ first_of rest)).session.correct.journal ≡ kept ++ more
   pub leaves : (image : List ℕ) → disk.may_leave_after image → LeavesFront done disk.may_leave kept more image
   pub reads : LeavesFront done disk.may_leave kept more disk.file_after
   pub files : (name : List ℕ) → (shelf.file_after name ≡ (answers_of here sign s done).session.files name) ⊎ IsNextHandedOut here sign (answers_of here sign s done).session rest disk.may_leave_after name
 
--- the run went as the script's answers from this session say, or it was cut short
-abbrev pub Answered : Setting → Signs → List Record → Session → List Command → Disks → Shelves → Sinks → Ending → Type 0
-Answered here sign J s commands disk shelf sink ends = GoesWhole here (answers_of here sign s commands) disk shelf sink ends ⊎ GoesShort here sign J s commands disk shelf sink ends
+-- ---- what a run asks of the shelf
 
--- Over a lawful journal of this node, or none, under its key: lines, files, journal and ending are those of the definition, or the run is cut
--- short. The reads of earlier sessions go on.
-pub record AnswersScript (here : Setting) (key : PublicKey) (sign : Signs) (commands : List Command) (disk : Disks) (shelf : Shelves) (sink : Sinks) (ends : Ending) : Type 0 where
+-- it loaded these files and no other, and stored none
+pub record AsksFirst (first : List (List ℕ)) (calls : Asked) : Type 0 where
+  pub loads : calls.loads_after ≡ calls.loads_before ++ first
+  pub stores : calls.stores_after ≡ calls.stores_before
+
+-- the first of these commands ends the run by what it comes to
+abbrev pub IsEndedBy : Setting → Signs → Session → List Command → Type 0
+IsEndedBy here sign s [] = ⊥
+IsEndedBy here sign s (c ∷ cs) = (e : Ending) × ((step_of here sign s c).ending ≡ Some e)
+
+-- A script was carried out as its answers say. Some commands went on, and the next one, if there is one, ended the run. Behind the files that were
+-- loaded first the shelf was asked for those that all of these load, and to store what those that went on store: each once and in their order.
+pub record AsksWhole (here : Setting) (sign : Signs) (s : Session) (commands : List Command) (first : List (List ℕ)) (calls : Asked) : Type 0 where
+  pub done : List Command
+  pub rest : List Command
+  pub parts : commands ≡ done ++ rest
+  pub went_on : (answers_of here sign s done).ending ≡ ending.Done
+  pub over : (rest ≡ []) ⊎ IsEndedBy here sign (answers_of here sign s done).session rest
+  pub loads : calls.loads_after ≡ calls.loads_before ++ (first ++ flat_map loads_of (done ++ first_of rest))
+  pub stores : calls.stores_after ≡ calls.stores_before ++ flat_map stores_of done
+
+-- Behind the files that were loaded first the shelf was asked for what the commands that are done load and store, each once and in their order, and
+-- for no more than what the next one does. So nothing is asked of it once the run is over.
+pub record AsksShort (done rest : List Command) (first : List (List ℕ)) (calls : Asked) : Type 0 where
+  pub loads : (calls.loads_after ≡ calls.loads_before ++ (first ++ flat_map loads_of done)) ⊎ (calls.loads_after ≡ calls.loads_before ++ (first ++ flat_map loads_of (done ++ first_of rest)))
+  pub stores : (calls.stores_after ≡ calls.stores_before ++ flat_map stores_of done) ⊎ (calls.stores_after ≡ calls.stores_before ++ flat_map stores_of (done ++ first_of rest))
+
+-- ---- what a run answers
+
+-- the run went as the script's answers from this session say, or it was cut short
+abbrev pub Answered : Setting → Signs → List Record → Session → List Command → (first : List (List ℕ)) → Disks → Shelves → Asked → Sinks → Ending → Type 0
+Answered here sign J s commands first disk shelf calls sink ends =
+    (GoesWhole here (answers_of here sign s commands) disk shelf sink ends × AsksWhole here sign s commands first calls) ⊎
+    ((short : GoesShort here sign J s commands disk shelf sink ends) × AsksShort short.done short.rest first calls)
+
+-- Over a lawful journal of this node, or none, under its key: lines, files, journal and ending are those of the definition, and so is what the
+-- shelf was asked for behind the files that were loaded first, or the run is cut short. The reads of earlier sessions go on.
+pub record AnswersScript (here : Setting) (key : PublicKey) (sign : Signs) (commands : List Command) (first : List (List ℕ)) (disk : Disks) (shelf : Shelves) (calls : Asked) (sink : Sinks) (ends : Ending) : Type 0 where
   pub over : IsTrue disk.tells → IsTrue shelf.tells → key_of here.listed here.me ≡ Some key → (J : List Record) (reads : List Read) → IsLawful here J → HasRecords J disk.file → AreReadsOf J reads
-      → Answered here sign J (session_from here J reads shelf.file) commands disk shelf sink ends
+      → Answered here sign J (session_from here J reads shelf.file) commands first disk shelf calls sink ends
 
 -- ---- a run of a node that doesn't start
 
@@ -200,9 +243,9 @@ pub record IsStarted (here : Setting) (key : PublicKey) (disk : Disks) (ends : E
   pub journal : IsTrue disk.tells → (J : List Record) × (IsLawful here J × HasRecords J disk.file)
   pub is_no_refusal : ends ≢ ending.NotLawful
 
--- a run begins: the node is refused, or it starts
-abbrev pub Begins : Setting → PublicKey → Disks → Shelves → Sinks → Ending → Type 0
-Begins here key disk shelf sink ends = IsRefused here key disk shelf sink ends ⊎ IsStarted here key disk ends
+-- A run begins: the node is refused, and the shelf is asked for no file but those that were loaded first, or it starts.
+abbrev pub Begins : Setting → PublicKey → (first : List (List ℕ)) → Disks → Shelves → Asked → Sinks → Ending → Type 0
+Begins here key first disk shelf calls sink ends = (IsRefused here key disk shelf sink ends × AsksFirst first calls) ⊎ IsStarted here key disk ends
 
 -- ---- what is left, and what is loaded
 

@@ -92,6 +92,12 @@ loads_of (command.Bundle hello file) = hello ∷ []
 loads_of (command.Take file) = file ∷ []
 loads_of other = []
 
+-- the names under which a command stores that goes on
+abbrev pub stores_of : Command → List (List ℕ)
+stores_of (command.Hello file) = file ∷ []
+stores_of (command.Bundle hello file) = file ∷ []
+stores_of other = []
+
 abbrev pub shelf_line : List ℕ → List ℕ
 shelf_line name = codes "shelf " ++ name ++ codes "\n"
 

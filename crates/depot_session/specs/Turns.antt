@@ -1,5 +1,5 @@
 -- What a command makes of a node, of the shelf and of the sink.
-use Rattle.std.specs.Prelude.{◌≡◌, ◌<◌, ◌≤◌, ◌⊎◌, ℕ, List, ◌++◌, false, IsTrue, Some, None, Result, Ok, Err, is_err, IsErrOf}
+use Rattle.std.specs.Prelude.{◌≡◌, ◌<◌, ◌≤◌, ◌⊎◌, ℕ, List, [], ◌++◌, false, IsTrue, Some, None, Result, Ok, Err, is_err, IsErrOf}
 use Rattle.depot_base.specs.declared.record.Record.{Record}
 use Rattle.depot_feeds.specs.Lasting.{LastsIn}
 use Rattle.depot_model.specs.Checks.{Setting}
@@ -12,8 +12,9 @@ use Rattle.depot_outside.specs.Told.{Shelves, Sinks, Wrote}
 use Rattle.depot_session.specs.declared.ending.Ending.{Ending}
 use Rattle.depot_session.specs.declared.ending.Ending.TheVariants as ending
 use Rattle.depot_script.specs.declared.command.Command.{Command}
+use Rattle.depot_session.specs.ScriptTelling.{Asked}
 use Rattle.depot_session.specs.Sessions.{Files, Session, Step, Answers, answers_of}
-use Rattle.depot_session.specs.SessionRuns.{IsCutBy, IsHandedOut, IsLast, IsNextHandedOut, pending_for, pending_in, world_at}
+use Rattle.depot_session.specs.SessionRuns.{AsksShort, AsksWhole, IsCutBy, IsHandedOut, IsLast, IsNextHandedOut, first_of, pending_for, pending_in, world_at}
 
 -- ---- the node, whatever came of it
 
@@ -30,16 +31,19 @@ HasNoFault (Err ending.Memory) = ⊥
 HasNoFault other = Unit {0}
 
 -- The node is who it was, on the disk that it had, and runs on where nothing fails. A stop at any moment leaves the records from before, and a
--- front of others with which its journal is lawful. Faults of the disk and the sink are answered only where they came.
+-- front of others with which its journal is lawful. Faults of the disk and the sink are answered only where they came. Where the sink failed that is
+-- answered, and where the disk failed, that, or that its line wasn't written.
 pub record Keeps {N O : Type 0} (g : Ghosts N O) (old new : N) (sink : Sinks) (result : Result (Unit {0}) Ending) : Type 0 where
   pub same : IsSameNode (g.stands old) (g.stands new) (g.key old) (g.key new) (g.signature_of old) (g.signature_of new)
   pub handle : g.handle new ≡ g.handle old
   pub lasts : LastsIn g.tells g.stopped g.records g.moment g.left_since g.may_leave (g.stands old) (is_err result) old new
   pub runs_on : HasNoFault result → g.stopped new ≡ false
   pub disk_later : g.faults old ≤ g.faults new
+  pub disk_quiet : HasNoFault result → g.faults new ≡ g.faults old
   pub disk_failed : IsErrOf result ending.Disk → g.faults old < g.faults new
   pub sink_later : sink.faults_before ≤ sink.faults_after
   pub sink_failed : IsErrOf result ending.Sink → sink.faults_before < sink.faults_after
+  pub sink_only : sink.faults_before < sink.faults_after → IsErrOf result ending.Sink
   pub no_refusal : IsErrOf result ending.NotLawful → ⊥
 
 -- ---- a command
@@ -90,7 +94,7 @@ pub record IsPlayed {N O : Type 0} (g : Ghosts N O) (new : N) (here : Setting) (
   pub correct : IsCorrect (world_at here) s.correct → IsCorrect (world_at here) a.session.correct
 
 -- A script was cut short. Some commands were carried out, and their lines stand whole; and behind them what stands at last. A stop leaves all
--- records of these commands, and a front of those that the others bring. The files are those after these commands, but that what the next one
+-- records of these commands, and a front of those that the next one brings. The files are those after these commands, but that what the next one
 -- hands out may stand under its name.
 pub record IsPlayedInPart {N O : Type 0} (g : Ghosts N O) (old new : N) (here : Setting) (sign : Signs) (s : Session) (commands : List Command) (shelf : Shelves) (sink : Sinks) (ends : Ending) : Type 0 where
   pub cut : IsCutBy (g.faults old < g.faults new) shelf sink ends
@@ -103,7 +107,7 @@ pub record IsPlayedInPart {N O : Type 0} (g : Ghosts N O) (old new : N) (here : 
   pub last_is : IsLast (pending_in here sign (answers_of here sign s done).session rest (LeftBy g old new) (g.faults old < g.faults new) shelf) ends last
   pub wrote : Wrote sink ((answers_of here sign s done).text ++ last)
   pub more : List Record
-  pub brings : (answers_of here sign s commands).session.correct.journal ≡ (answers_of here sign s done).session.correct.journal ++ more
+  pub brings : (answers_of here sign s (done ++ first_of rest)).session.correct.journal ≡ (answers_of here sign s done).session.correct.journal ++ more
   pub leaves : IsTrue (g.tells old) → (image : List ℕ) → g.may_leave new image → HasFront (answers_of here sign s done).session.correct.journal more image
   pub files : (name : List ℕ) → (shelf.file_after name ≡ (answers_of here sign s done).session.files name) ⊎ IsNextHandedOut here sign (answers_of here sign s done).session rest (LeftBy g old new) name
 
@@ -112,7 +116,8 @@ abbrev pub ending_by : Result (Unit {0}) Ending → Ending
 ending_by (Ok done) = ending.Done
 ending_by (Err e) = e
 
--- What a script came to.
-abbrev pub Plays : {N O : Type 0} → Ghosts N O → N → N → Setting → Signs → Session → List Command → Shelves → Sinks → Result (Unit {0}) Ending → Type 0
-Plays g old new here sign s commands shelf sink result =
-    IsPlayed g new here s (answers_of here sign s commands) shelf sink (ending_by result) ⊎ IsPlayedInPart g old new here sign s commands shelf sink (ending_by result)
+-- What a script came to, and what it asked of the shelf.
+abbrev pub Plays : {N O : Type 0} → Ghosts N O → N → N → Setting → Signs → Session → List Command → Shelves → Asked → Sinks → Result (Unit {0}) Ending → Type 0
+Plays g old new here sign s commands shelf calls sink result =
+    (IsPlayed g new here s (answers_of here sign s commands) shelf sink (ending_by result) × AsksWhole here sign s commands [] calls) ⊎
+    ((part : IsPlayedInPart g old new here sign s commands shelf sink (ending_by result)) × AsksShort part.done part.rest [] calls)

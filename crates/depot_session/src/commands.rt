@@ -1,5 +1,5 @@
 //! The commands of a script.
-ghost use Rattle.std.specs.Prelude.{◌≡◌, ◌↔◌, ◌++◌, ◌∷◌, [], ℕ, List, false, None, IfOk, IfErr, IsErrOf, IsTrue, is_ok};
+ghost use Rattle.std.specs.Prelude.{◌≡◌, ◌↔◌, ◌++◌, ◌∷◌, [], ℕ, List, false, None, IfOk, IfErr, IfSome, IsErrOf, IsTrue, is_ok};
 ghost use Rattle.depot_base.specs.Writes.{one_change};
 ghost use Rattle.depot_base.specs.declared.record.Record.{Record};
 ghost use Rattle.depot_model.specs.Bundle.{Signs, bundle_answer};
@@ -10,9 +10,9 @@ ghost use Rattle.depot_outside.specs.Told.{Shelves, shelves, sinks};
 ghost use Rattle.depot_gossip.specs.Bundling.{Bundles};
 ghost use Rattle.depot_deeds.specs.Printing.{IsToldOf, SettlesBundle};
 ghost use Rattle.depot_script.specs.Scripts.{FitsCommand};
-ghost use Rattle.depot_session.specs.Sessions.{Session, IsPut, loads_of, step_of};
+ghost use Rattle.depot_session.specs.Sessions.{Session, IsPut, loads_of, step_of, stores_of};
 ghost use Rattle.depot_session.specs.Sessions as sessions;
-ghost use Rattle.depot_session.specs.ScriptTelling.{IsUnchanged, TellsShelf};
+ghost use Rattle.depot_session.specs.ScriptTelling.{IsUnchanged, StoresUnder, TellsShelf};
 ghost use Rattle.depot_session.specs.Turns.{IsAt, IsRunning, Keeps, Turns};
 
 use crate::ending::Ending;
@@ -131,8 +131,9 @@ fn say_hello<R: Local, F: Shelf, K: Sink>(
     ensures turns { (s : Session) → IsTrue (F.tells shelf.old) → IsAt (R.stands node.now) (R.records node.now) (F.file shelf.old) s → Turns R.Replica node.now node.now command.now (step_of (R.stands node.now) (R.signature_of node.now) s command.now) (shelves F.Shelf shelf.old shelf.new) (sinks K.Sink out.old out.new) result }
     ensures same { K.tells out.new ≡ K.tells out.old }
     ensures loads { F.loads shelf.new ≡ F.loads shelf.old }
+    ensures stores { StoresUnder (F.stores shelf.old) (F.stores shelf.new) (file.now ∷ []) result }
     ensures same_shelf { F.tells shelf.new ≡ F.tells shelf.old }
-    ensures shelf { TellsShelf (F.faults shelf.old) (F.faults shelf.new) result }
+    ensures shelf { TellsShelf (F.faults shelf.old) (F.faults shelf.new) (F.failed shelf.old) (F.failed shelf.new) result }
 {
     let text = hello(alloc, node)?;
     let lines = hello_line(alloc, text.as_slice())?;
@@ -168,8 +169,10 @@ fn make_bundle<R: Local, F: Shelf, K: Sink>(
     ensures turns { (s : Session) → IsTrue (F.tells shelf.old) → IsAt (R.stands node.old) (R.records node.old) (F.file shelf.old) s → Turns R.Replica node.old node.new command.now (step_of (R.stands node.old) (R.signature_of node.old) s command.now) (shelves F.Shelf shelf.old shelf.new) (sinks K.Sink out.old out.new) result }
     ensures same { K.tells out.new ≡ K.tells out.old }
     ensures loads { F.loads shelf.new ≡ F.loads shelf.old ++ hello.now ∷ [] }
+    ensures stores { StoresUnder (F.stores shelf.old) (F.stores shelf.new) (file.now ∷ []) result }
+    ensures unstored { (s : Session) → IsTrue (F.tells shelf.old) → IsAt (R.stands node.old) (R.records node.old) (F.file shelf.old) s → IfSome (step_of (R.stands node.old) (R.signature_of node.old) s command.now).ending (λ _. F.stores shelf.new ≡ F.stores shelf.old) }
     ensures same_shelf { F.tells shelf.new ≡ F.tells shelf.old }
-    ensures shelf { TellsShelf (F.faults shelf.old) (F.faults shelf.new) result }
+    ensures shelf { TellsShelf (F.faults shelf.old) (F.faults shelf.new) (F.failed shelf.old) (F.failed shelf.new) result }
 {
     let Some(text) = load(shelf, hello)? else {
         return Err(no_file(alloc, hello, out));
@@ -230,8 +233,9 @@ fn take<R: Local, F: Shelf, K: Sink>(
     ensures turns { (s : Session) → IsTrue (F.tells shelf.old) → IsAt (R.stands node.old) (R.records node.old) (F.file shelf.old) s → Turns R.Replica node.old node.new command.now (step_of (R.stands node.old) (R.signature_of node.old) s command.now) (shelves F.Shelf shelf.old shelf.new) (sinks K.Sink out.old out.new) result }
     ensures same { K.tells out.new ≡ K.tells out.old }
     ensures loads { F.loads shelf.new ≡ F.loads shelf.old ++ file.now ∷ [] }
+    ensures stores { F.stores shelf.new ≡ F.stores shelf.old }
     ensures same_shelf { F.tells shelf.new ≡ F.tells shelf.old }
-    ensures shelf { TellsShelf (F.faults shelf.old) (F.faults shelf.new) result }
+    ensures shelf { TellsShelf (F.faults shelf.old) (F.faults shelf.new) (F.failed shelf.old) (F.failed shelf.new) result }
 {
     let Some(stream) = load(shelf, file)? else {
         return Err(no_file(alloc, file, out));
@@ -258,8 +262,10 @@ pub fn carry_out<R: Local, F: Shelf, K: Sink>(
     ensures turns { (s : Session) → IsTrue (F.tells shelf.old) → IsAt (R.stands node.old) (R.records node.old) (F.file shelf.old) s → Turns R.Replica node.old node.new command.now (step_of (R.stands node.old) (R.signature_of node.old) s command.now) (shelves F.Shelf shelf.old shelf.new) (sinks K.Sink out.old out.new) result }
     ensures same { K.tells out.new ≡ K.tells out.old }
     ensures loads { F.loads shelf.new ≡ F.loads shelf.old ++ loads_of command.now }
+    ensures stores { StoresUnder (F.stores shelf.old) (F.stores shelf.new) (stores_of command.now) result }
+    ensures unstored { (s : Session) → IsTrue (F.tells shelf.old) → IsAt (R.stands node.old) (R.records node.old) (F.file shelf.old) s → IfSome (step_of (R.stands node.old) (R.signature_of node.old) s command.now).ending (λ _. F.stores shelf.new ≡ F.stores shelf.old) }
     ensures same_shelf { F.tells shelf.new ≡ F.tells shelf.old }
-    ensures shelf { TellsShelf (F.faults shelf.old) (F.faults shelf.new) result }
+    ensures shelf { TellsShelf (F.faults shelf.old) (F.faults shelf.new) (F.failed shelf.old) (F.failed shelf.new) result }
 {
     match command {
         Command::Put { key, value } => put_value(alloc, node, command, key, value, out),

@@ -5,7 +5,7 @@ ghost use Rattle.depot_model.specs.Changes.{AreChanges};
 ghost use Rattle.depot_model.specs.Replicas.{IsSameNode, StopsBy, KeepsDisk};
 ghost use Rattle.depot_model.specs.Stops.{Lasts};
 ghost use Rattle.depot_decide.specs.Putting.{Puts, put_records};
-ghost use Rattle.depot_world.specs.Deeds.{shown_of};
+ghost use Rattle.depot_model.specs.ShownWrites.{shown_of};
 ghost use Rattle.depot_world.specs.Transcript.{ended};
 
 use depot_base::{Bytes, Changes, Key, Memory};

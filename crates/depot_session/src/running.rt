@@ -1,12 +1,12 @@
 //! The run of a script.
-ghost use Rattle.std.specs.Prelude.{◌≡◌, ◌≤◌, ◌<◌, ◌⊎◌, ◌++◌, IsTrue, Some, Err, IfOk, codes};
+ghost use Rattle.std.specs.Prelude.{◌≡◌, ◌≤◌, ◌<◌, ◌⊎◌, ◌++◌, [], IsTrue, Some, Err, IfOk, codes};
 ghost use Rattle.depot_answers.specs.Answers.{numbered, spaced, text_of_record_fault};
 ghost use Rattle.depot_model.specs.Roster.{key_of};
 ghost use Rattle.depot_model.specs.Texts.{IsRoster};
 ghost use Rattle.depot_outside.specs.Told.{disks, loads, shelves, sinks};
 ghost use Rattle.depot_script.specs.Scripts.{IsScript};
 ghost use Rattle.depot_session.specs.SessionRuns.{AnswersScript, Begins, KeepsFile, LoadsFiles, Settles, ending_of_refusal, line_of_refusal};
-ghost use Rattle.depot_session.specs.ScriptTelling.{IsFaultTold, TellsShelf};
+ghost use Rattle.depot_session.specs.ScriptTelling.{IsFaultTold, TellsShelf, asked};
 ghost use Rattle.depot_session.specs.Turns.{ending_by};
 
 use crate::ending::Ending;
@@ -81,6 +81,7 @@ fn refused<K: Sink>(alloc: Global, error: &StartError, out: &mut K) -> Ending
     ensures told { IsFaultTold (sinks K.Sink out.old out.new) (line_of_refusal error.now) (ending_of_refusal error.now) result }
     ensures same { K.tells out.new ≡ K.tells out.old }
     ensures later { K.faults out.old ≤ K.faults out.new }
+    ensures only { K.faults out.old < K.faults out.new → result ≡ Ending.Sink }
 {
     let Ok(line) = refusal_line(alloc, error) else {
         return Ending::Memory;
@@ -131,17 +132,19 @@ fn run_over<D: Disk, F: Shelf, K: Sink, S: Scheme, G: Signer<Of = S>>(
     ensures file { IsTrue (D.tells disk) → KeepsFile (record { verifies = S.verifies; me = me; listed = roster }) (disks D.Disk disk result.disk) }
     ensures stable { IsTrue (D.tells disk) → (result.ending ≡ Ending.Done) ⊎ (result.ending ≡ Ending.Limit) → Settles (record { verifies = S.verifies; me = me; listed = roster }) (disks D.Disk disk result.disk) }
     ensures untouched { (key_of roster me ≡ Some (G.key_of signer) → ⊥) → result.disk ≡ disk }
-    ensures begins { Begins (record { verifies = S.verifies; me = me; listed = roster }) (G.key_of signer) (disks D.Disk disk result.disk) (shelves F.Shelf shelf.old shelf.new) (sinks K.Sink out.old out.new) result.ending }
-    ensures answers { AnswersScript (record { verifies = S.verifies; me = me; listed = roster }) (G.key_of signer) (G.signature_of signer) script.now (disks D.Disk disk result.disk) (shelves F.Shelf shelf.old shelf.new) (sinks K.Sink out.old out.new) result.ending }
+    ensures begins { Begins (record { verifies = S.verifies; me = me; listed = roster }) (G.key_of signer) [] (disks D.Disk disk result.disk) (shelves F.Shelf shelf.old shelf.new) (asked F.Shelf shelf.old shelf.new) (sinks K.Sink out.old out.new) result.ending }
+    ensures answers { AnswersScript (record { verifies = S.verifies; me = me; listed = roster }) (G.key_of signer) (G.signature_of signer) script.now [] (disks D.Disk disk result.disk) (shelves F.Shelf shelf.old shelf.new) (asked F.Shelf shelf.old shelf.new) (sinks K.Sink out.old out.new) result.ending }
     ensures disk_failed { result.ending ≡ Ending.Disk → D.faults disk < D.faults result.disk }
     ensures disk_later { D.faults disk ≤ D.faults result.disk }
+    ensures disk_fault { D.faults disk < D.faults result.disk → (result.ending ≡ Ending.Disk) ⊎ ((result.ending ≡ Ending.Sink) ⊎ (result.ending ≡ Ending.Memory)) }
     ensures same_disk { D.tells result.disk ≡ D.tells disk }
     ensures handle { D.handle result.disk ≡ D.handle disk }
     ensures sink_failed { result.ending ≡ Ending.Sink → K.faults out.old < K.faults out.new }
+    ensures sink_fault { K.faults out.old < K.faults out.new → result.ending ≡ Ending.Sink }
     ensures sink_later { K.faults out.old ≤ K.faults out.new }
     ensures same_sink { K.tells out.new ≡ K.tells out.old }
     ensures loads { LoadsFiles script.now (loads F.Shelf shelf.old shelf.new) }
-    ensures shelf { TellsShelf (F.faults shelf.old) (F.faults shelf.new) (Err result.ending) }
+    ensures shelf { TellsShelf (F.faults shelf.old) (F.faults shelf.new) (F.failed shelf.old) (F.failed shelf.new) (Err result.ending) }
     ensures same_shelf { F.tells shelf.new ≡ F.tells shelf.old }
 {
     is_formed(&roster);
@@ -182,21 +185,26 @@ pub fn run<D: Disk, F: Shelf, K: Sink, S: Scheme, G: Signer<Of = S>>(
     ensures file { IsTrue (D.tells disk.old) → KeepsFile (record { verifies = S.verifies; me = me; listed = roster }) (disks D.Disk disk.old disk.new) }
     ensures stable { IsTrue (D.tells disk.old) → (result ≡ Ending.Done) ⊎ (result ≡ Ending.Limit) → Settles (record { verifies = S.verifies; me = me; listed = roster }) (disks D.Disk disk.old disk.new) }
 
-    // The node is refused, for its key, its roster or its journal, or it starts. The disk isn't touched where the roster hasn't its key.
+    // The node is refused, for its key, its roster or its journal, and then the shelf is asked for nothing, or it starts. The disk isn't touched
+    // where the roster hasn't its key.
     ensures untouched { (key_of roster me ≡ Some (G.key_of signer) → ⊥) → disk.new ≡ disk.old }
-    ensures begins { Begins (record { verifies = S.verifies; me = me; listed = roster }) (G.key_of signer) (disks D.Disk disk.old disk.new) (shelves F.Shelf shelf.old shelf.new) (sinks K.Sink out.old out.new) result }
+    ensures begins { Begins (record { verifies = S.verifies; me = me; listed = roster }) (G.key_of signer) [] (disks D.Disk disk.old disk.new) (shelves F.Shelf shelf.old shelf.new) (asked F.Shelf shelf.old shelf.new) (sinks K.Sink out.old out.new) result }
 
-    // Over a lawful journal of this node, or none, lines, files, journal and ending are those of the definition, or the run is cut short.
-    ensures answers { AnswersScript (record { verifies = S.verifies; me = me; listed = roster }) (G.key_of signer) (G.signature_of signer) script.now (disks D.Disk disk.old disk.new) (shelves F.Shelf shelf.old shelf.new) (sinks K.Sink out.old out.new) result }
+    // Over a lawful journal of this node, or none, lines, files, journal and ending are those of the definition, or the run is cut short. What the
+    // shelf is asked to load and to store is what the commands name that were carried out, each once and in their order, and nothing of a later one.
+    ensures answers { AnswersScript (record { verifies = S.verifies; me = me; listed = roster }) (G.key_of signer) (G.signature_of signer) script.now [] (disks D.Disk disk.old disk.new) (shelves F.Shelf shelf.old shelf.new) (asked F.Shelf shelf.old shelf.new) (sinks K.Sink out.old out.new) result }
 
-    // The files that are loaded are those that its commands name, in their order.
+    // The files that are loaded are those that its first commands load, each once and in their order.
     ensures loads { LoadsFiles script.now (loads F.Shelf shelf.old shelf.new) }
 
-    // A fault of the disk or the sink is answered only where its count rose, which never falls.
+    // A fault of the disk or the sink is answered only where its count rose, which never falls. Where that of the sink rose nothing else is, and
+    // where that of the disk rose, nothing but Disk, Sink or Memory.
     ensures disk_failed { result ≡ Ending.Disk → D.faults disk.old < D.faults disk.new }
     ensures sink_failed { result ≡ Ending.Sink → K.faults out.old < K.faults out.new }
+    ensures disk_fault { D.faults disk.old < D.faults disk.new → (result ≡ Ending.Disk) ⊎ ((result ≡ Ending.Sink) ⊎ (result ≡ Ending.Memory)) }
+    ensures sink_fault { K.faults out.old < K.faults out.new → result ≡ Ending.Sink }
     ensures disk_later { D.faults disk.old ≤ D.faults disk.new }
-    ensures shelf { TellsShelf (F.faults shelf.old) (F.faults shelf.new) (Err result) }
+    ensures shelf { TellsShelf (F.faults shelf.old) (F.faults shelf.new) (F.failed shelf.old) (F.failed shelf.new) (Err result) }
     ensures sink_later { K.faults out.old ≤ K.faults out.new }
     ensures same_disk { D.tells disk.new ≡ D.tells disk.old }
     ensures same_shelf { F.tells shelf.new ≡ F.tells shelf.old }

@@ -1,6 +1,6 @@
 //! What a session writes and stores.
-ghost use Rattle.std.specs.Prelude.{◌≡◌, ◌<◌, ◌≤◌, ◌⊎◌, ◌++◌, ◌∷◌, [], ℕ, List, Some, None, IfOk, IfSome, IfErr, IsTrue, codes, take};
-ghost use Rattle.depot_outside.specs.Told.{LacksFile, WhereTold, Wrote, shelves, sinks};
+ghost use Rattle.std.specs.Prelude.{◌≡◌, ◌<◌, ◌≤◌, ◌⊎◌, ◌++◌, ◌∷◌, [], ℕ, List, Some, None, IfOk, IfSome, IfErr, IsErrOf, IsTrue, codes, take};
+ghost use Rattle.depot_outside.specs.Told.{HasFailedOn, WhereTold, Wrote, shelves, sinks};
 ghost use Rattle.depot_schedule.specs.Language.{join};
 ghost use Rattle.depot_script.specs.Scripts.{command_words};
 ghost use Rattle.depot_session.specs.Sessions.{printed_count, shelf_line, stored};
@@ -19,6 +19,7 @@ pub fn write<K: Sink>(out: &mut K, text: &[u8]) -> Result<(), Ending>
     ensures tells { Tells (sinks K.Sink out.old out.new) text.now None result }
     ensures same { K.tells out.new ≡ K.tells out.old }
     ensures later { K.faults out.old ≤ K.faults out.new }
+    ensures only { K.faults out.old < K.faults out.new → IsErrOf result Ending.Sink }
 {
     match out.write(text) {
         Ok(()) => Ok(()),
@@ -39,6 +40,7 @@ pub fn tell<K: Sink>(
     ensures tells { Tells (sinks K.Sink out.old out.new) (join 32 (take (printed_count command.now) (command_words command.now)) ++ codes " ->" ++ lines.now) ends result }
     ensures same { K.tells out.new ≡ K.tells out.old }
     ensures later { K.faults out.old ≤ K.faults out.new }
+    ensures only { K.faults out.old < K.faults out.new → IsErrOf result Ending.Sink }
 {
     let mut text = Bytes::new(alloc);
     head(alloc, &mut text, command)?;
@@ -55,6 +57,7 @@ pub fn disk_failed<K: Sink>(out: &mut K) -> Ending
     ensures told { IsFaultTold (sinks K.Sink out.old out.new) disk_line Ending.Disk result }
     ensures same { K.tells out.new ≡ K.tells out.old }
     ensures later { K.faults out.old ≤ K.faults out.new }
+    ensures only { K.faults out.old < K.faults out.new → result ≡ Ending.Sink }
 {
     match write(out, b"disk\n") {
         Ok(()) => Ending::Disk,
@@ -67,6 +70,7 @@ pub fn no_file<K: Sink>(alloc: Global, name: &FileName, out: &mut K) -> Ending
     ensures told { IsFaultTold (sinks K.Sink out.old out.new) (shelf_line name.now) Ending.Shelf result }
     ensures same { K.tells out.new ≡ K.tells out.old }
     ensures later { K.faults out.old ≤ K.faults out.new }
+    ensures only { K.faults out.old < K.faults out.new → result ≡ Ending.Sink }
 {
     let name = name.text();
     let Ok(line) = format!(in alloc; "shelf {name}\n") else {
@@ -83,6 +87,7 @@ pub fn load<F: Shelf>(shelf: &mut F, name: &FileName) -> Result<Option<Bytes>, M
     ensures loaded { IfOk result (IsLoaded (shelves F.Shelf shelf.old shelf.new) name.now) }
     ensures files { F.file shelf.new ≡ F.file shelf.old }
     ensures loads { F.loads shelf.new ≡ F.loads shelf.old ++ name.now ∷ [] }
+    ensures stores { F.stores shelf.new ≡ F.stores shelf.old }
     ensures tells { F.tells shelf.new ≡ F.tells shelf.old }
     ensures later { F.faults shelf.old ≤ F.faults shelf.new }
     ensures quiet { IfOk result (λ found. IfSome found (λ _. F.faults shelf.new ≡ F.faults shelf.old)) }
@@ -107,10 +112,12 @@ pub fn store_and_tell<F: Shelf, K: Sink>(
 ) -> Result<(), Ending>
     ensures stores { Stores (shelves F.Shelf shelf.old shelf.new) (sinks K.Sink out.old out.new) (join 32 (take (printed_count command.now) (command_words command.now)) ++ codes " ->" ++ lines.now) file.now bytes.now result }
     ensures loads { F.loads shelf.new ≡ F.loads shelf.old }
+    ensures once { F.stores shelf.new ≡ F.stores shelf.old ++ file.now ∷ [] }
     ensures same_shelf { F.tells shelf.new ≡ F.tells shelf.old }
-    ensures shelf { TellsShelf (F.faults shelf.old) (F.faults shelf.new) result }
+    ensures shelf { TellsShelf (F.faults shelf.old) (F.faults shelf.new) (F.failed shelf.old) (F.failed shelf.new) result }
     ensures same { K.tells out.new ≡ K.tells out.old }
     ensures later { K.faults out.old ≤ K.faults out.new }
+    ensures only { K.faults out.old < K.faults out.new → IsErrOf result Ending.Sink }
 {
     match shelf.store(file.text(), bytes.as_slice()) {
         Ok(()) => tell(alloc, command, lines, None, out),

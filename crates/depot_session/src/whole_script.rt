@@ -5,7 +5,7 @@ ghost use Rattle.depot_schedule.specs.Language.{FitAll};
 ghost use Rattle.depot_script.specs.Scripts.{FitsCommand};
 ghost use Rattle.depot_session.specs.SessionRuns.{LoadsFiles};
 ghost use Rattle.depot_session.specs.Sessions.{Session};
-ghost use Rattle.depot_session.specs.ScriptTelling.{TellsShelf};
+ghost use Rattle.depot_session.specs.ScriptTelling.{TellsShelf, asked};
 ghost use Rattle.depot_session.specs.Turns.{IsAt, IsRunning, Keeps, Plays};
 
 use crate::commands::carry_out;
@@ -26,11 +26,11 @@ pub fn play<R: Local, F: Shelf, K: Sink>(
     requires fit { FitAll FitsCommand commands.now }
     requires running { IsRunning R.Replica node.old }
     ensures keeps { Keeps R.Replica node.old node.new (sinks K.Sink out.old out.new) result }
-    ensures plays { (s : Session) → IsTrue (F.tells shelf.old) → IsAt (R.stands node.old) (R.records node.old) (F.file shelf.old) s → Plays R.Replica node.old node.new (R.stands node.old) (R.signature_of node.old) s commands.now (shelves F.Shelf shelf.old shelf.new) (sinks K.Sink out.old out.new) result }
+    ensures plays { (s : Session) → IsTrue (F.tells shelf.old) → IsAt (R.stands node.old) (R.records node.old) (F.file shelf.old) s → Plays R.Replica node.old node.new (R.stands node.old) (R.signature_of node.old) s commands.now (shelves F.Shelf shelf.old shelf.new) (asked F.Shelf shelf.old shelf.new) (sinks K.Sink out.old out.new) result }
     ensures loads { LoadsFiles commands.now (loads F.Shelf shelf.old shelf.new) }
     ensures same { K.tells out.new ≡ K.tells out.old }
     ensures same_shelf { F.tells shelf.new ≡ F.tells shelf.old }
-    ensures shelf { TellsShelf (F.faults shelf.old) (F.faults shelf.new) result }
+    ensures shelf { TellsShelf (F.faults shelf.old) (F.faults shelf.new) (F.failed shelf.old) (F.failed shelf.new) result }
 {
     for command in commands {
         carry_out(alloc, node, command, shelf, out)?;

@@ -32,7 +32,8 @@ use Rattle.depot_laws.proofs.NewVouchers.{new_are_lawful}
 use Rattle.depot_laws.proofs.OwnTexts.{own_put_is_lawful}
 use Rattle.depot_answers.specs.Answers.{text_of_limit, text_of_put}
 use Rattle.depot_base.proofs.GeneralLaws.{all_both}
-use Rattle.depot_world.specs.Deeds.{idle, grown, put_by, shown_of, read_of, get_by, hello_by, bundle_with, bundle_by, fed_by, give_by, restart_by}
+use Rattle.depot_model.specs.ShownWrites.{shown_of}
+use Rattle.depot_world.specs.Deeds.{idle, grown, put_by, read_of, get_by, hello_by, bundle_with, bundle_by, fed_by, give_by, restart_by}
 use Rattle.depot_model.specs.LatestList.{latest_in}
 use Rattle.depot_world.specs.ScheduleStops.{Deed}
 use Rattle.depot_world.specs.Suite.{Stage, stands_on}
@@ -44,7 +45,7 @@ use Rattle.depot_world.proofs.ByteJournals.{HoldsBytes, AllHold}
 use Rattle.depot_world.proofs.ByteOwn.{IsByteChange, only_change_values, only_next_own, only_own_hello}
 use Rattle.depot_world.proofs.ByteSignatures.{SignsBytes}
 use Rattle.depot_world.proofs.GoodNodes.{IsGoodNode, IsGoodDeed, read_grows}
-use Rattle.depot_world.proofs.LatestWrites.{latest_are_listed}
+use Rattle.depot_model.proofs.LatestWrites.{latest_are_listed}
 
 -- an event that leaves the node as it is
 same_is_good : (stage : Stage) (c : Correct) (calls : ℕ) (answer : List ℕ) (bytes : List ℕ) → IsGoodNode stage c → OnlyBytes bytes → IsGoodDeed stage c (record { journal = c.journal; reads = c.reads; calls = calls; answer = answer; behind = []; bytes = bytes })

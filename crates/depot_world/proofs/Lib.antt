@@ -1,6 +1,4 @@
 pub mod WorkedSchedules
-pub mod InsertionLaws
-pub mod LatestWrites
 pub mod OnlyBytes
 pub mod ByteTexts
 pub mod ByteJournals

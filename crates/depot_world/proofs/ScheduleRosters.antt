@@ -21,7 +21,7 @@ use Rattle.depot_schedule.specs.Schedules.{IsSchedule}
 use Rattle.depot_model.proofs.TreeNodes.{length-node}
 use Rattle.depot_model.specs.Insertion.{order_by}
 use Rattle.depot_world.specs.Suite.{Suite, suite_of, seed_of, entry_of, is_entry_before, roster_of, stage_of}
-use Rattle.depot_world.proofs.InsertionLaws.{IsOrderOf, AllDiffer, from_order, in_order, long_order, order_rises}
+use Rattle.depot_model.proofs.InsertionLaws.{IsOrderOf, AllDiffer, from_order, in_order, long_order, order_rises}
 use Rattle.depot_world.proofs.ScheduleMembers.{nodes_of, members_are, some_member}
 
 -- ---- roots

@@ -8,13 +8,12 @@ use Rattle.depot_model.specs.Bundle.{Signs, BundleAnswer, bundled, bad_hello, ot
 use Rattle.depot_model.specs.Checks.{Setting}
 use Rattle.depot_model.specs.Feeding.{Feeding, feed_of}
 use Rattle.depot_model.specs.Hello.{hello_of, text_of_hello}
-use Rattle.depot_model.specs.Journal.{accepted, seen_under}
 use Rattle.depot_model.specs.Limits.{limit_of_put}
 use Rattle.depot_model.specs.Own.{next_own, values_of}
 use Rattle.depot_model.specs.Vouching.{records_of}
-use Rattle.depot_model.specs.World.{Correct, Read, Shown}
+use Rattle.depot_model.specs.World.{Correct, Read}
 use Rattle.depot_answers.specs.Answers.{spaced, numbered, text_of_limit, text_of_put, text_of_write, text_of_records, text_of_named, text_of_counts, name_of_more, text_of_report, text_of_refusal}
-use Rattle.depot_model.specs.LatestList.{latest_in}
+use Rattle.depot_model.specs.ShownWrites.{shown_of}
 use Rattle.depot_world.specs.ScheduleStops.{Deed, calls_to_append}
 
 -- an event that leaves the node as it is
@@ -33,11 +32,6 @@ put_by here c changes = elim (limit_of_put here c.journal changes) [
   | Some limit ↦ idle c (text_of_limit limit)
   | None ↦ grown c (c.journal ++ OwnPut (next_own c.node c.journal changes) (values_of changes) ∷ []) (text_of_put (next_own c.node c.journal changes)) []
 ]
-
--- the latest writes of a key among what a journal accepted, each with what its records show of the key: the value, that it isn't held,
--- or that the key was deleted
-abbrev pub shown_of : List Record → List ℕ → List Shown
-shown_of J key = map (λ u. record { update = u; seen = seen_under J key u }) (latest_in key (accepted J))
 
 -- a read of a key at the end of a journal
 abbrev pub read_of : List Record → List ℕ → Read

@@ -1,6 +1,4 @@
 pub mod Deeds
-pub mod Insertion
-pub mod ShownLatest
 pub mod Run
 pub mod FaultySigning
 pub mod ScheduleStops

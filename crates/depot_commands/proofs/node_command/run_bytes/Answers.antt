@@ -13,11 +13,11 @@ returns-in-Err-Line-clause-runs g c =
     let line = codes "input " ++ script ++ codes " " ++ text_of_faulty_line c.in-Err-Line.number c.in-Err-Line.fault ++ codes "\n" in
     let first = rw c.in-Err-Line.field-0-is at c.in-Err-Line.ensures.parses in
     inl (
-      (refl {a = c.args.disk.now}, refl {a = g.F.Shelf.file c.args.shelf.now}),
+      (refl {a = c.args.disk.now}, (refl {a = g.F.Shelf.file c.args.shelf.now}, refl {a = g.F.Shelf.stores c.args.shelf.now})),
       (
         sym (append-nil (g.F.Shelf.loads c.args.shelf.now)),
         finished_by (λ (answer : Status) (text : List ℕ). (answer ≡ Input) × IsNoScript script text c.args.bytes.now) (λ (text : List ℕ). text ≡ []) (sinks g.S.Sink c.args.out.now c.finish.new.out) c.faulty_line-told.result (record { status = Input; text = line }) c.finish.result
-            (rw c.text.ensures at c.faulty_line-told.ensures) (refl {a = Input}, record { number = c.in-Err-Line.number; fault = c.in-Err-Line.fault; first = first; is = refl {a = line} }) refl c.finish.ensures,
+            (rw c.text.ensures at c.faulty_line-told.ensures) (refl {a = Input}, record { number = c.in-Err-Line.number; fault = c.in-Err-Line.fault; first = first; is = refl {a = line} }) refl c.finish.ensures.finishes,
       ),
     )
 

@@ -1,4 +1,4 @@
-use Rattle.std.proofs.Common.{Some, refl, sym, append-nil}
+use Rattle.std.proofs.Common.{Some, inr, refl, sym, append-nil}
 use Rattle.std.proofs.lemmas.Result.{IfOk-weaker}
 use Rattle.depot_outside.specs.Told.{loads, shelves, sinks}
 use Rattle.depot_commands.specs.declared.invocation.Command.TheVariants as asked
@@ -13,7 +13,7 @@ returns-in-Scan-clause-results g c =
     let command = Some (asked.Scan c.in-Scan.log c.in-Scan.key) in
     let names = rw c.text.ensures at c.scan.ensures.loads in
     let answered = IfOk-weaker c.scan.result _ _ (λ o is. (names, is)) (rw c.text.ensures at c.scan.ensures.scans) in
-    rw c.in-Scan.is ((refl {a = c.args.disk.now}, c.scan.ensures.files), finished (Answers shelf loaded command) (Begins shelf loaded command) (sinks g.S.Sink c.args.out.now c.finish.new.out) c.scan.result c.finish.result answered refl c.finish.ensures)
+    rw c.in-Scan.is ((refl {a = c.args.disk.now}, (c.scan.ensures.files, c.scan.ensures.stores)), finished (Answers shelf loaded command) (Begins shelf loaded command) (sinks g.S.Sink c.args.out.now c.finish.new.out) c.scan.result c.finish.result answered (inr names, refl) c.finish.ensures.finishes)
 
 pub returns-in-Root-clause-results : goal.returns-in-Root-clause-results
 returns-in-Root-clause-results g c =
@@ -21,7 +21,7 @@ returns-in-Root-clause-results g c =
     let loaded = loads g.F.Shelf c.args.shelf.now c.args.shelf.now in
     let command = Some (asked.Root c.in-Root.seed c.in-Root.height) in
     let answered = IfOk-weaker c.key.result _ _ (λ o is. (sym (append-nil (g.F.Shelf.loads c.args.shelf.now)), is)) c.key.ensures in
-    rw c.in-Root.is ((refl {a = c.args.disk.now}, refl {a = g.F.Shelf.file c.args.shelf.now}), finished (Answers shelf loaded command) (Begins shelf loaded command) (sinks g.S.Sink c.args.out.now c.finish-in-Root.new.out) c.key.result c.finish-in-Root.result answered refl c.finish-in-Root.ensures)
+    rw c.in-Root.is ((refl {a = c.args.disk.now}, (refl {a = g.F.Shelf.file c.args.shelf.now}, refl {a = g.F.Shelf.stores c.args.shelf.now})), finished (Answers shelf loaded command) (Begins shelf loaded command) (sinks g.S.Sink c.args.out.now c.finish-in-Root.new.out) c.key.result c.finish-in-Root.result answered (sym (append-nil (g.F.Shelf.loads c.args.shelf.now)), refl) c.finish-in-Root.ensures.finishes)
 
 pub returns-in-Judge-clause-results : goal.returns-in-Judge-clause-results
 returns-in-Judge-clause-results g c =
@@ -29,10 +29,10 @@ returns-in-Judge-clause-results g c =
     let loaded = loads g.F.Shelf c.args.shelf.now c.judge.new.shelf in
     let command = Some (asked.Judge c.in-Judge.roster c.in-Judge.proof) in
     let answered = rw (c.text-in-Judge.ensures, c.text-in-Judge-2.ensures) at c.judge.ensures.judges in
-    rw c.in-Judge.is ((refl {a = c.args.disk.now}, c.judge.ensures.files), finished (Answers shelf loaded command) (Begins shelf loaded command) (sinks g.S.Sink c.args.out.now c.finish-in-Judge.new.out) c.judge.result c.finish-in-Judge.result answered refl c.finish-in-Judge.ensures)
+    rw c.in-Judge.is ((refl {a = c.args.disk.now}, (c.judge.ensures.files, c.judge.ensures.stores)), finished (Answers shelf loaded command) (Begins shelf loaded command) (sinks g.S.Sink c.args.out.now c.finish-in-Judge.new.out) c.judge.result c.finish-in-Judge.result answered (rw (c.text-in-Judge.ensures, c.text-in-Judge-2.ensures) at c.judge.ensures.loads, refl) c.finish-in-Judge.ensures.finishes)
 
 pub returns-in-Replay-clause-results : goal.returns-in-Replay-clause-results
-returns-in-Replay-clause-results g c = rw c.in-Replay.is ((refl {a = c.args.disk.now}, c.replay.ensures.files), rw c.text-in-Replay.ensures at c.replay.ensures.ends)
+returns-in-Replay-clause-results g c = rw c.in-Replay.is ((refl {a = c.args.disk.now}, (c.replay.ensures.files, c.replay.ensures.stores)), rw c.text-in-Replay.ensures at c.replay.ensures.ends)
 
 pub returns-in-Load-clause-results : goal.returns-in-Load-clause-results
 returns-in-Load-clause-results g c =
@@ -40,4 +40,4 @@ returns-in-Load-clause-results g c =
     let loaded = loads g.F.Shelf c.args.shelf.now c.args.shelf.now in
     let command = Some (asked.Load c.in-Load.number) in
     let answered = IfOk-weaker c.summed_up.result _ _ (λ o is. (sym (append-nil (g.F.Shelf.loads c.args.shelf.now)), is)) c.summed_up.ensures in
-    rw c.in-Load.is ((refl {a = c.args.disk.now}, refl {a = g.F.Shelf.file c.args.shelf.now}), finished (Answers shelf loaded command) (Begins shelf loaded command) (sinks g.S.Sink c.args.out.now c.finish-in-Load.new.out) c.summed_up.result c.finish-in-Load.result answered refl c.finish-in-Load.ensures)
+    rw c.in-Load.is ((refl {a = c.args.disk.now}, (refl {a = g.F.Shelf.file c.args.shelf.now}, refl {a = g.F.Shelf.stores c.args.shelf.now})), finished (Answers shelf loaded command) (Begins shelf loaded command) (sinks g.S.Sink c.args.out.now c.finish-in-Load.new.out) c.summed_up.result c.finish-in-Load.result answered (sym (append-nil (g.F.Shelf.loads c.args.shelf.now)), refl) c.finish-in-Load.ensures.finishes)

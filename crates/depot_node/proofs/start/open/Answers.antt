@@ -6,8 +6,9 @@ use Rattle.depot_model.specs.Checks.{Setting}
 use Rattle.depot_base.specs.declared.record.Record.{Record}
 use Rattle.depot_model.specs.Records.{text_of_record}
 use Rattle.depot_model.specs.Stops.{calls_to_record}
+use Rattle.depot_model.specs.RecordFaults.{AreTextsOf}
 use Rattle.depot_store.specs.Holdings.{Holding, standing}
-use Rattle.depot_node.specs.Starting.{AreNotRead, AreTextsOf, LeavesBetween, LeavesNew, StartLeaves, birth_after, calls_to_start_node, started}
+use Rattle.depot_node.specs.Starting.{AreNotRead, LeavesBetween, LeavesNew, StartLeaves, birth_after, calls_to_start_node, started}
 use Rattle.depot_node.proofs.StartCalls.{calls_of_start, cause_behind, disk_of_journal, reading_fails, start_fails}
 use Rattle.depot_node.proofs.Starts.{fault_has_text, left_by_both, left_by_journal, reading_fault, started_from}
 use Rattle.depot_node.proofs.start.open.Given.{Over}

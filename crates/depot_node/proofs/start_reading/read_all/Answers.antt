@@ -3,8 +3,8 @@ use Rattle.std.proofs.lemmas.Result.{err_from_is_err_and}
 use Rattle.depot_model.specs.Checks.{Setting}
 use Rattle.depot_model.specs.Lawful.{IsLawful}
 use Rattle.depot_model.specs.Stops.{LeavesAll}
+use Rattle.depot_model.specs.RecordFaults.{AreTextsOf}
 use Rattle.depot_store.specs.Holdings.{Holding, IsWhole, standing}
-use Rattle.depot_node.specs.Starting.{AreTextsOf}
 use Rattle.depot_node.proofs.RecordReads.{reading_begins, reading_ends, reading_goes_on, reading_is_shorter, reading_runs, reading_stands, reading_stops}
 use Rattle.depot_node.proofs.start_reading.read_all.Given.{Over}
 use Rattle.depot_node.proofs.start_reading.read_all.Goals as goal

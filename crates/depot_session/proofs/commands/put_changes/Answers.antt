@@ -1,12 +1,12 @@
 use Rattle.std.proofs.Common.{refl, arith}
 use Rattle.depot_outside.specs.Told.{sinks}
-use Rattle.depot_session.proofs.ToldFaults.{names_memory}
+use Rattle.depot_session.proofs.ToldFaults.{names_memory, never_rose}
 use Rattle.depot_session.proofs.Uncalled.{keeps_uncalled, uncalled_without_memory}
 use Rattle.depot_session.proofs.FittingScripts.{are_several, asked_are}
 use Rattle.depot_session.proofs.commands.put_changes.Goals as goal
 
 pub returns-in_err-changes-clause-keeps : goal.returns-in_err-changes-clause-keeps
-returns-in_err-changes-clause-keeps g c = keeps_uncalled g.R.Replica c.args.node.now c.requires.running (g.met.R.Replica.only_now) (g.met.R.Replica.lawful c.args.node.now) _ _ (names_memory _ _ (omega arith) _ c.from_residual.ensures.1)
+returns-in_err-changes-clause-keeps g c = keeps_uncalled g.R.Replica c.args.node.now c.requires.running (g.met.R.Replica.only_now) (g.met.R.Replica.lawful c.args.node.now) _ _ (names_memory _ _ (omega arith) _ c.from_residual.ensures.1 (never_rose _ _))
 
 pub returns-in_err-changes-clause-turns : goal.returns-in_err-changes-clause-turns
 returns-in_err-changes-clause-turns g c = λ shelf s unchanged at.

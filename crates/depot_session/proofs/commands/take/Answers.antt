@@ -5,12 +5,12 @@ use Rattle.depot_model.specs.Feeding.{feed_of}
 use Rattle.depot_session.specs.declared.ending.Ending.TheVariants as ending
 use Rattle.depot_session.proofs.Called.{keeps_running, keeps_to_disk, keeps_without_memory, not_where_some}
 use Rattle.depot_session.proofs.TakeTurns.{ends_fed, is_fed, of_fed, take_ends_calmly, taken_told, taken_to_disk, taken_without_memory, takes_absent}
-use Rattle.depot_session.proofs.ToldFaults.{EndsCalmly, names_fault, names_memory, names_told}
+use Rattle.depot_session.proofs.ToldFaults.{EndsCalmly, names_fault, names_memory, names_told, never_rose}
 use Rattle.depot_session.proofs.Uncalled.{keeps_uncalled, uncalled_without_file, uncalled_without_memory}
 use Rattle.depot_session.proofs.commands.take.Goals as goal
 
 pub returns-in_err-stream-clause-keeps : goal.returns-in_err-stream-clause-keeps
-returns-in_err-stream-clause-keeps g c = keeps_uncalled g.R.Replica c.args.node.now c.requires.running (g.met.R.Replica.only_now) (g.met.R.Replica.lawful c.args.node.now) _ _ (names_memory _ _ (omega arith) _ c.from_residual.ensures.1)
+returns-in_err-stream-clause-keeps g c = keeps_uncalled g.R.Replica c.args.node.now c.requires.running (g.met.R.Replica.only_now) (g.met.R.Replica.lawful c.args.node.now) _ _ (names_memory _ _ (omega arith) _ c.from_residual.ensures.1 (never_rose _ _))
 
 pub returns-in_err-stream-clause-turns : goal.returns-in_err-stream-clause-turns
 returns-in_err-stream-clause-turns g c = λ s tells at.
@@ -18,7 +18,7 @@ returns-in_err-stream-clause-turns g c = λ s tells at.
 
 pub returns-in_default-clause-keeps : goal.returns-in_default-clause-keeps
 returns-in_default-clause-keeps g c =
-    keeps_uncalled g.R.Replica c.args.node.now c.requires.running (g.met.R.Replica.only_now) (g.met.R.Replica.lawful c.args.node.now) _ _ (names_fault _ _ c.no_file.ensures.later _ ending.Shelf c.no_file.result tt c.no_file.ensures.told)
+    keeps_uncalled g.R.Replica c.args.node.now c.requires.running (g.met.R.Replica.only_now) (g.met.R.Replica.lawful c.args.node.now) _ _ (names_fault _ _ c.no_file.ensures.later _ ending.Shelf c.no_file.result tt c.no_file.ensures.told c.no_file.ensures.only)
 
 pub returns-in_default-clause-turns : goal.returns-in_default-clause-turns
 returns-in_default-clause-turns g c = λ s tells at.
@@ -28,7 +28,7 @@ returns-in_default-clause-turns g c = λ s tells at.
 pub returns-in_err-printed-clause-keeps : goal.returns-in_err-printed-clause-keeps
 returns-in_err-printed-clause-keeps g c =
     let fed = c.feed_whole-fed.ensures in
-    keeps_without_memory g.R.Replica c.args.node.now c.feed_whole-fed.new.node _ _ _ fed.stays fed.disk fed.lasts (omega arith) c.from_residual-in_err-printed.result c.from_residual-in_err-printed.ensures.1
+    keeps_without_memory g.R.Replica c.args.node.now c.feed_whole-fed.new.node _ _ _ fed.stays fed.disk fed.lasts (omega arith) c.from_residual-in_err-printed.result c.from_residual-in_err-printed.ensures.1 (never_rose _ _)
 
 pub returns-in_err-printed-clause-turns : goal.returns-in_err-printed-clause-turns
 returns-in_err-printed-clause-turns g c = λ s tells at.
@@ -45,8 +45,8 @@ returns-in-Some-2-clause-keeps g c =
     let settled = c.in_ok-printed.ensures.settled in
     let not = not_where_some _ _ _ c.in-Some-2.is c.in_ok-printed.ensures.stopped.1 in
     let ends = ends_fed c.feed_whole-fed.result x c.ending_of_take-ends.result settled not fed.told c.ending_of_take-ends.ensures.ends in
-    keeps_running g.R.Replica n c.feed_whole-fed.new.node _ _ _ fed.stays fed.disk fed.lasts c.tell.result (ap is_disk (is_fed c.feed_whole-fed.result settled not).1) (of_fed c.feed_whole-fed.result _ settled not fed.runs)
-    (names_told _ _ c.tell.ensures.later _ c.ending_of_take-ends.result c.tell.result (subst EndsCalmly (sym ends) (take_ends_calmly x.closed)) c.tell.ensures.tells)
+    keeps_running g.R.Replica n c.feed_whole-fed.new.node _ _ _ fed.stays fed.disk fed.lasts c.tell.result (ap is_disk (is_fed c.feed_whole-fed.result settled not).1) (of_fed c.feed_whole-fed.result _ settled not fed.runs) not
+    (names_told _ _ c.tell.ensures.later _ c.ending_of_take-ends.result c.tell.result (subst EndsCalmly (sym ends) (take_ends_calmly x.closed)) c.tell.ensures.tells c.tell.ensures.only)
 
 pub returns-in-Some-2-clause-turns : goal.returns-in-Some-2-clause-turns
 returns-in-Some-2-clause-turns g c = λ s tells at.
@@ -64,7 +64,7 @@ returns-in-Some-2-clause-turns g c = λ s tells at.
 pub returns-clause-keeps : goal.returns-clause-keeps
 returns-clause-keeps g c =
     let fed = c.feed_whole-fed.ensures in
-    keeps_to_disk g.R.Replica c.args.node.now c.feed_whole-fed.new.node _ _ _ fed.stays fed.disk fed.lasts c.disk_failed.ensures.later _ c.disk_failed.result (c.in_ok-printed.ensures.stopped.0 c.in-None.is) c.disk_failed.ensures.told
+    keeps_to_disk g.R.Replica c.args.node.now c.feed_whole-fed.new.node _ _ _ fed.stays fed.disk fed.lasts c.disk_failed.ensures.later _ c.disk_failed.result (c.in_ok-printed.ensures.stopped.0 c.in-None.is) c.disk_failed.ensures.told c.disk_failed.ensures.only
 
 pub returns-clause-turns : goal.returns-clause-turns
 returns-clause-turns g c = λ s tells at.

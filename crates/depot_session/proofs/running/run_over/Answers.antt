@@ -5,12 +5,14 @@ use Rattle.depot_model.specs.Lawful.{IsLawful}
 use Rattle.depot_node.proofs.StartLaws.{lawful_file_is_read, lawful_file_starts}
 use Rattle.depot_outside.specs.Told.{disks, shelves, sinks}
 use Rattle.depot_model.specs.Stops.{HasAll, HasRecords}
+use Rattle.depot_session.specs.ScriptTelling.{asked}
 use Rattle.depot_session.specs.Sessions.{session_from}
 use Rattle.depot_session.specs.declared.ending.Ending.TheVariants as ending
+use Rattle.depot_session.proofs.AskedShelves.{asks_nothing}
 use Rattle.depot_session.proofs.LeftJournals.{all_there}
 use Rattle.depot_feeds.proofs.LastingStreams.{front_longer}
 use Rattle.depot_session.proofs.RunImages.{either, has_from_key, key_or_disk, refused_goes_on, run_goes_on, settled}
-use Rattle.depot_session.proofs.RunEnds.{answered, calm_end, ended_by, not_started, start_is_correct}
+use Rattle.depot_session.proofs.RunEnds.{IsAfterDisk, answered, calm_end, disk_refused, ended_by, faulty_end, not_started, sink_end, start_is_correct}
 use Rattle.depot_session.proofs.running.run_over.Goals as goal
 
 pub returns-in-Err-clause-file : goal.returns-in-Err-clause-file
@@ -32,8 +34,8 @@ returns-in-Err-clause-answers g c = record {
       let start = e.any_moment_back told in
       let told_back = subst (λ (b : Bool). IsTrue b) (sym e.tells_back) told in
       inr (not_started here (g.G.Signer.signature_of c.args.signer) J reads c.args.script.now (disks g.D.Disk c.args.disk c.in-Err.field-0.disk) (shelves g.F.Shelf c.args.shelf.now c.args.shelf.now) (sinks g.K.Sink c.args.out.now c.refused-ending.new.out) has
-      (λ image left. start.each image (g.met.D.Disk.counts_now c.in-Err.field-0.disk (g.D.Disk.moment c.args.disk) image start.later left)) (g.met.D.Disk.reads_as_image c.in-Err.field-0.disk told_back) (front_longer []) (λ name. refl) (start_is_correct here J reads (g.F.Shelf.file c.args.shelf.now) c.is_formed.ensures (has_from_key here (g.G.Signer.key_of c.args.signer) keyed) lawful are)
-      c.in-Err.field-0.error c.refused-ending.result
+      (λ image left. start.each image (g.met.D.Disk.counts_now c.in-Err.field-0.disk (g.D.Disk.moment c.args.disk) image start.later left)) (g.met.D.Disk.reads_as_image c.in-Err.field-0.disk told_back) (front_longer []) (λ name. refl) (start_is_correct here J reads (g.F.Shelf.file c.args.shelf.now) c.is_formed.ensures (has_from_key here (g.G.Signer.key_of c.args.signer) keyed) lawful are) [] (asked g.F.Shelf c.args.shelf.now c.args.shelf.now)
+      (asks_nothing c.args.script.now (asked g.F.Shelf c.args.shelf.now c.args.shelf.now) refl refl) c.in-Err.field-0.error c.refused-ending.result
       (lawful_file_starts here (g.G.Signer.key_of c.args.signer) (g.D.Disk.tells c.args.disk) (g.D.Disk.seen c.args.disk) J c.in-Err.field-0.error told keyed has lawful e.refused) e.cause.rose c.refused-ending.ensures.told);
 }
 
@@ -86,7 +88,7 @@ pub returns-in-Err-clause-loads : goal.returns-in-Err-clause-loads
 returns-in-Err-clause-loads g c = (0, sym (append-nil (g.F.Shelf.loads c.args.shelf.now)))
 
 pub returns-in-Err-clause-begins : goal.returns-in-Err-clause-begins
-returns-in-Err-clause-begins g c = inl (record { error = c.in-Err.field-0.error; is = c.in-Err.ensures.refused; told = c.refused-ending.ensures.told; disk_failed = c.in-Err.ensures.cause.rose; unchanged = c.in-Err.ensures.unchanged; files = λ name. refl })
+returns-in-Err-clause-begins g c = inl (record { error = c.in-Err.field-0.error; is = c.in-Err.ensures.refused; told = c.refused-ending.ensures.told; disk_failed = c.in-Err.ensures.cause.rose; unchanged = c.in-Err.ensures.unchanged; files = λ name. refl }, record { loads = sym (append-nil (g.F.Shelf.loads c.args.shelf.now)); stores = refl })
 
 pub returns-clause-begins : goal.returns-clause-begins
 returns-clause-begins g c =
@@ -105,9 +107,24 @@ returns-clause-answers g c = record {
       let told_now = subst (λ (b : Bool). IsTrue b) (sym keeps.lasts.lasts.told) told_then in
       let same = lawful_file_is_read here (g.D.Disk.seen c.args.disk) J c.in-Ok.node.store.records has lawful (e.records told) in
       let plays = c.play-played.ensures.plays s shelf_told (record { node = sym (ap (λ (h : Setting). h.me) e.stands); journal = sym same; same_files = λ name. refl }) in
-      rw c.as_slice.ensures at (answered _ c.in-Ok.node c.play-played.new.node _ here _ (g.G.Signer.signature_of c.args.signer) J s c.as_slice.result.now (disks g.D.Disk c.args.disk c.into_disk.result) (shelves g.F.Shelf c.args.shelf.now c.play-played.new.shelf) (sinks g.K.Sink c.args.out.now c.play-played.new.out)
+      rw c.as_slice.ensures at (answered _ c.in-Ok.node c.play-played.new.node _ here _ (g.G.Signer.signature_of c.args.signer) J s c.as_slice.result.now (disks g.D.Disk c.args.disk c.into_disk.result) (shelves g.F.Shelf c.args.shelf.now c.play-played.new.shelf) (asked g.F.Shelf c.args.shelf.now c.play-played.new.shelf) (sinks g.K.Sink c.args.out.now c.play-played.new.out)
       c.play-played.result c.ended.result e.stands e.signs c.ended.ensures told_then (λ image left. subst (λ d. g.D.Disk.may_leave d image) c.into_disk.ensures left)
       (subst (λ d. g.D.Disk.may_leave d (g.D.Disk.seen d)) (sym c.into_disk.ensures) (g.met.D.Disk.reads_as_image now told_now))
       (start_is_correct here J reads (g.F.Shelf.file c.args.shelf.now) c.is_formed.ensures (has_from_key here (g.G.Signer.key_of c.args.signer) e.key) lawful are) (keeps.lasts.lasts.stable told_then)
       (λ rose. subst (λ d. g.D.Disk.faults c.args.disk < g.D.Disk.faults d) (sym c.into_disk.ensures) (subst (λ (n : ℕ). n < g.D.Disk.faults now) e.calm rose)) plays);
 }
+
+pub returns-in-Err-clause-disk_fault : goal.returns-in-Err-clause-disk_fault
+returns-in-Err-clause-disk_fault g c = λ rose. disk_refused _ c.in-Err.field-0.error c.refused-ending.result (c.in-Err.ensures.cause.only rose) c.refused-ending.ensures.told
+
+pub returns-in-Err-clause-sink_fault : goal.returns-in-Err-clause-sink_fault
+returns-in-Err-clause-sink_fault g c = c.refused-ending.ensures.only
+
+pub returns-clause-disk_fault : goal.returns-clause-disk_fault
+returns-clause-disk_fault g c = λ rose.
+    let now = c.play-played.new.node.store.disk in
+    let by_script = subst (λ (n : ℕ). n < g.D.Disk.faults now) (sym c.in-Ok.ensures.calm) (subst (λ d. g.D.Disk.faults c.args.disk < g.D.Disk.faults d) c.into_disk.ensures rose) in
+    subst IsAfterDisk (sym c.ended.ensures) (faulty_end c.play-played.result (λ calm. let same = c.play-played.ensures.keeps.disk_quiet calm in absurd (omega (arith, same, by_script))))
+
+pub returns-clause-sink_fault : goal.returns-clause-sink_fault
+returns-clause-sink_fault g c = λ rose. c.ended.ensures ∙ sink_end c.play-played.result (c.play-played.ensures.keeps.sink_only rose)

@@ -1,8 +1,10 @@
 use Rattle.std.proofs.Common.{◌+◌, ◌∙◌, Err, sym}
 use Rattle.std.proofs.lemmas.List.{append-nil}
 use Rattle.std.proofs.lemmas.Result.{err_from_is_err_and}
+use Rattle.depot_session.specs.Sessions.{loads_of, stores_of}
+use Rattle.depot_session.proofs.AskedShelves.{more_of}
 use Rattle.depot_session.proofs.FittingScripts.{fits_at}
-use Rattle.depot_session.proofs.PlayedScripts.{are_done_first, are_done_more, keeps_all, keeps_to_end, kept_on_first, kept_on_more, loads_more, plays_to, plays_to_end, tells_of_end, tells_of_stop}
+use Rattle.depot_session.proofs.PlayedScripts.{are_done_first, are_done_more, keeps_all, keeps_to_end, kept_on_first, kept_on_more, plays_to, plays_to_end, tells_of_end, tells_of_stop}
 use Rattle.depot_session.proofs.whole_script.play.Goals as goal
 
 pub loop-command-init : goal.loop-command-init
@@ -10,6 +12,7 @@ loop-command-init g c = record {
   kept = kept_on_first g.R.Replica g.F.Shelf g.K.Sink g.met.R.Replica.only_now c.args.node.now c.args.shelf.now c.args.out.now (g.met.R.Replica.lawful c.args.node.now) c.requires.running;
   done = λ s told at. are_done_first g.R.Replica g.F.Shelf g.K.Sink c.args.node.now c.args.shelf.now c.args.out.now s at;
   loads = sym (append-nil (g.F.Shelf.loads c.args.shelf.now));
+  stores = sym (append-nil (g.F.Shelf.stores c.args.shelf.now));
 }
 
 pub carry_out-requires : goal.carry_out-requires
@@ -28,11 +31,11 @@ returns-in_err-carry_out-clause-plays g c = λ s told at.
     let p = err_from_is_err_and c.from_residual.result c.from_residual.ensures.1 in
     let inv = c.loop-command.invariant in
     rw (p.1, p.2) (plays_to g.R.Replica g.F.Shelf g.K.Sink g.met.R.Replica.lawful c.args.node.now c.loop-command.node c.carry_out.new.node c.args.shelf.now c.loop-command.shelf c.carry_out.new.shelf c.args.out.now c.loop-command.out c.carry_out.new.out s c.args.commands.now c.loop-command.command-index c.command-item.result
-    c.loop-command-test.true c.command-item.is inv.kept told (inv.done s told at) c.in_err-carry_out.ensures.keeps.same.stands c.in_err-carry_out.field-0.0 c.in_err-carry_out.ensures.turns)
+    c.loop-command-test.true c.command-item.is inv.kept told (inv.done s told at) c.in_err-carry_out.ensures.keeps.same.stands c.in_err-carry_out.field-0.0 inv.loads inv.stores c.carry_out.ensures.loads c.in_err-carry_out.ensures.stores c.carry_out.ensures.unstored c.in_err-carry_out.ensures.turns)
 
 pub returns-in_err-carry_out-clause-loads : goal.returns-in_err-carry_out-clause-loads
 returns-in_err-carry_out-clause-loads g c =
-    (c.loop-command.command-index + 1, loads_more c.args.commands.now c.loop-command.command-index c.command-item.result (g.F.Shelf.loads c.args.shelf.now) (g.F.Shelf.loads c.loop-command.shelf) (g.F.Shelf.loads c.carry_out.new.shelf) c.loop-command-test.true c.command-item.is c.loop-command.invariant.loads c.carry_out.ensures.loads)
+    (c.loop-command.command-index + 1, more_of loads_of c.args.commands.now c.loop-command.command-index c.command-item.result c.loop-command-test.true c.command-item.is (g.F.Shelf.loads c.args.shelf.now) (g.F.Shelf.loads c.loop-command.shelf) (g.F.Shelf.loads c.carry_out.new.shelf) c.loop-command.invariant.loads c.carry_out.ensures.loads)
 
 pub returns-in_err-carry_out-clause-same : goal.returns-in_err-carry_out-clause-same
 returns-in_err-carry_out-clause-same g c = c.carry_out.ensures.same ∙ c.loop-command.invariant.kept.same_sink
@@ -43,17 +46,18 @@ returns-in_err-carry_out-clause-same_shelf g c = c.carry_out.ensures.same_shelf 
 pub returns-in_err-carry_out-clause-shelf : goal.returns-in_err-carry_out-clause-shelf
 returns-in_err-carry_out-clause-shelf g c =
     let p = err_from_is_err_and c.from_residual.result c.from_residual.ensures.1 in
-    rw (p.1, p.2) (tells_of_stop (g.F.Shelf.faults c.args.shelf.now) (g.F.Shelf.faults c.loop-command.shelf) (g.F.Shelf.faults c.carry_out.new.shelf) (Err c.in_err-carry_out.field-0.0) c.loop-command.invariant.kept.quiet c.in_err-carry_out.ensures.shelf)
+    rw (p.1, p.2) (tells_of_stop (g.F.Shelf.faults c.args.shelf.now) (g.F.Shelf.faults c.loop-command.shelf) (g.F.Shelf.faults c.carry_out.new.shelf) (g.F.Shelf.failed c.args.shelf.now) (g.F.Shelf.failed c.loop-command.shelf) (g.F.Shelf.failed c.carry_out.new.shelf) (Err c.in_err-carry_out.field-0.0) c.loop-command.invariant.kept.quiet c.loop-command.invariant.kept.calm c.in_err-carry_out.ensures.shelf)
 
 pub loop-command-preserved : goal.loop-command-preserved
 loop-command-preserved g c =
     let inv = c.loop-command.invariant in
     let went = c.in_ok-carry_out.ensures in
     record {
-      kept = kept_on_more g.R.Replica g.F.Shelf g.K.Sink g.met.R.Replica.lawful c.args.node.now c.loop-command.node c.carry_out.new.node c.args.shelf.now c.loop-command.shelf c.carry_out.new.shelf c.args.out.now c.loop-command.out c.carry_out.new.out c.requires.running inv.kept went.keeps went.same went.same_shelf (went.shelf.quiet tt);
+      kept = kept_on_more g.R.Replica g.F.Shelf g.K.Sink g.met.R.Replica.lawful c.args.node.now c.loop-command.node c.carry_out.new.node c.args.shelf.now c.loop-command.shelf c.carry_out.new.shelf c.args.out.now c.loop-command.out c.carry_out.new.out c.requires.running inv.kept went.keeps went.same went.same_shelf (went.shelf.quiet tt) (went.shelf.calm tt);
       done = λ s told at. are_done_more g.R.Replica g.F.Shelf g.K.Sink g.met.R.Replica.lawful c.args.node.now c.loop-command.node c.carry_out.new.node c.args.shelf.now c.loop-command.shelf c.carry_out.new.shelf c.args.out.now c.loop-command.out c.carry_out.new.out s c.args.commands.now c.loop-command.command-index c.command-item.result
           c.loop-command-test.true c.command-item.is inv.kept told (inv.done s told at) went.keeps.same.stands went.turns;
-      loads = loads_more c.args.commands.now c.loop-command.command-index c.command-item.result (g.F.Shelf.loads c.args.shelf.now) (g.F.Shelf.loads c.loop-command.shelf) (g.F.Shelf.loads c.carry_out.new.shelf) c.loop-command-test.true c.command-item.is inv.loads c.carry_out.ensures.loads;
+      loads = more_of loads_of c.args.commands.now c.loop-command.command-index c.command-item.result c.loop-command-test.true c.command-item.is (g.F.Shelf.loads c.args.shelf.now) (g.F.Shelf.loads c.loop-command.shelf) (g.F.Shelf.loads c.carry_out.new.shelf) inv.loads c.carry_out.ensures.loads;
+      stores = more_of stores_of c.args.commands.now c.loop-command.command-index c.command-item.result c.loop-command-test.true c.command-item.is (g.F.Shelf.stores c.args.shelf.now) (g.F.Shelf.stores c.loop-command.shelf) (g.F.Shelf.stores c.carry_out.new.shelf) inv.stores went.stores;
     }
 
 pub returns-clause-keeps : goal.returns-clause-keeps
@@ -61,6 +65,7 @@ returns-clause-keeps g c = keeps_to_end g.R.Replica g.F.Shelf g.K.Sink c.args.no
 
 pub returns-clause-plays : goal.returns-clause-plays
 returns-clause-plays g c = λ s told at. plays_to_end g.R.Replica g.F.Shelf g.K.Sink c.args.node.now c.loop-command.node c.args.shelf.now c.loop-command.shelf c.args.out.now c.loop-command.out s c.args.commands.now c.loop-command.command-index c.loop-command-test.false c.loop-command.invariant.kept (c.loop-command.invariant.done s told at)
+    c.loop-command.invariant.loads c.loop-command.invariant.stores
 
 pub returns-clause-loads : goal.returns-clause-loads
 returns-clause-loads g c = (c.loop-command.command-index, c.loop-command.invariant.loads)
@@ -72,4 +77,4 @@ pub returns-clause-same_shelf : goal.returns-clause-same_shelf
 returns-clause-same_shelf g c = c.loop-command.invariant.kept.same_shelf
 
 pub returns-clause-shelf : goal.returns-clause-shelf
-returns-clause-shelf g c = tells_of_end _ _ c.loop-command.invariant.kept.quiet
+returns-clause-shelf g c = tells_of_end _ _ _ _ c.loop-command.invariant.kept.quiet c.loop-command.invariant.kept.calm

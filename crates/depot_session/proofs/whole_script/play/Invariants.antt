@@ -1,7 +1,7 @@
 use Rattle.std.proofs.Common.{◌≡◌, ◌++◌, take, IsTrue}
 use Rattle.std.specs.List.{flat_map}
 use Rattle.depot_outside.specs.Told.{shelves, sinks}
-use Rattle.depot_session.specs.Sessions.{Session, loads_of}
+use Rattle.depot_session.specs.Sessions.{Session, loads_of, stores_of}
 use Rattle.depot_session.specs.Turns.{IsAt}
 use Rattle.depot_session.proofs.PlayedScripts.{AreDone, IsKeptOn}
 use Rattle.depot_session.proofs.whole_script.play.Given as goal
@@ -12,4 +12,5 @@ invariant-loop-command g l = record {
   done : (s : Session) → IsTrue (g.F.Shelf.tells l.fn.shelf) → IsAt (g.R.Replica.stands l.fn.node) (g.R.Replica.records l.fn.node) (g.F.Shelf.file l.fn.shelf) s
       → AreDone g.R.Replica l.node (g.R.Replica.stands l.fn.node) (g.R.Replica.signature_of l.fn.node) s (take l.command-index l.commands) (shelves g.F.Shelf l.fn.shelf l.shelf) (sinks g.K.Sink l.fn.out l.out);
   loads : g.F.Shelf.loads l.shelf ≡ g.F.Shelf.loads l.fn.shelf ++ flat_map loads_of (take l.command-index l.commands);
+  stores : g.F.Shelf.stores l.shelf ≡ g.F.Shelf.stores l.fn.shelf ++ flat_map stores_of (take l.command-index l.commands);
 }

@@ -1,13 +1,16 @@
 use Rattle.std.proofs.Common.{refl, ◌∙◌, arith}
 use Rattle.depot_outside.specs.Stopping.{state_of}
 use Rattle.depot_replay.proofs.SeatCalls.{done_on}
-use Rattle.depot_replay.proofs.SeatEvents.{begun_there, if_printed, of_printed, same_signs}
+use Rattle.depot_replay.proofs.SeatEvents.{begun_there, fed_runs, if_printed, of_printed, same_signs}
 use Rattle.std.proofs.lemmas.Result.{IfOk-at_ok}
 use Rattle.depot_replay.proofs.SeatTurns.{give_seated, give_turn, same_setting}
 use Rattle.depot_replay.proofs.seat.SeatActor.give.Goals as goal
 
 pub seated-requires-clause-signs : goal.seated-requires-clause-signs
 seated-requires-clause-signs g c = c.feed_all-fed.ensures.stays.signs ∙ same_signs _ _ c.args.self.signs
+
+pub seated-requires-clause-runs : goal.seated-requires-clause-runs
+seated-requires-clause-runs g c = of_printed c.fed_printed-printed.result _ (λ printed is some. fed_runs c.feed_all-fed.result printed _ c.feed_all-fed.ensures.runs (IfOk-at_ok _ is c.fed_printed-printed.ensures.stopped) (IfOk-at_ok _ is c.fed_printed-printed.ensures.settled) some)
 
 pub seated-requires-clause-called : goal.seated-requires-clause-called
 seated-requires-clause-called g c =

@@ -1,0 +1,36 @@
+-- The definitions of this crate, by example.
+use Rattle.std.proofs.Common.{◌≡◌, true, false, Some, None, refl}
+use Rattle.depot_decide.specs.declared.put_answers.PutError.TheVariants as put_error
+use Rattle.depot_feeds.specs.declared.feed_error.FeedError.TheVariants as feed_error
+use Rattle.depot_node.specs.declared.start_error.StartError.TheVariants as start_error
+use Rattle.depot_offers.specs.declared.bundle_error.BundleError.TheVariants as bundle_error
+use Rattle.depot_c.specs.Asked.{asked_by}
+use Rattle.depot_c.specs.Refusals.{number_of, outcome_of}
+use Rattle.depot_c.specs.Seats.{for_disk}
+use Rattle.depot_c.specs.declared.ask.Ask.TheVariants as ask
+use Rattle.depot_c.specs.declared.ask.NodeAsk.TheVariants as node_ask
+use Rattle.depot_c.specs.declared.refused.Refused.TheVariants as refused
+
+a_number_asks : asked_by 19 ≡ Some (ask.Node node_ask.Puts)
+a_number_asks = refl
+
+the_last_number : asked_by 20 ≡ Some ask.Refusal
+the_last_number = refl
+
+a_number_too_high : asked_by 21 ≡ None
+a_number_too_high = refl
+
+a_put_fails : for_disk (refused.Put put_error.Disk) ≡ true
+a_put_fails = refl
+
+a_feed_is_stopped : for_disk (refused.Feed feed_error.Stopped) ≡ true
+a_feed_is_stopped = refl
+
+a_start_fails : for_disk (refused.Start start_error.Disk) ≡ true
+a_start_fails = refl
+
+a_limit_is_no_failure : for_disk (refused.Bundle (bundle_error.Spent 16)) ≡ false
+a_limit_is_no_failure = refl
+
+a_status : number_of (outcome_of (refused.Start (start_error.Damaged 120))) ≡ 9
+a_status = refl

@@ -1,0 +1,3 @@
+mod AskedChanges
+mod Examples
+mod LatestPlaces

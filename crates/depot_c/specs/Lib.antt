@@ -1,0 +1,9 @@
+pub mod Answering
+pub mod Asked
+pub mod Calls
+pub mod Handles
+pub mod Judgements
+pub mod Refusals
+pub mod Seats
+pub mod Serving
+pub mod Starts

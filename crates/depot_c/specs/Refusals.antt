@@ -1,0 +1,136 @@
+-- Why a call is refused, as its caller is told.
+use Rattle.std.specs.Prelude.{◌≡◌, ◌⊎◌, ℕ, List, [], ◌++◌, codes}
+use Rattle.depot_answers.specs.Answers.{numbered, spaced, text_of_full, text_of_limit, text_of_record_fault}
+use Rattle.depot_decide.specs.declared.put_answers.PutError.{PutError}
+use Rattle.depot_decide.specs.declared.put_answers.PutError.TheVariants as put_error
+use Rattle.depot_feeds.specs.declared.feed_error.FeedError.{FeedError}
+use Rattle.depot_feeds.specs.declared.feed_error.FeedError.TheVariants as feed_error
+use Rattle.depot_model.specs.Limits.{collides, full, spent, tips}
+use Rattle.depot_model.specs.Lines.{text_of_roster_error}
+use Rattle.depot_model.specs.declared.roster_format.RosterError.{RosterError}
+use Rattle.depot_model.specs.declared.roster_format.RosterError.TheVariants as roster_error
+use Rattle.depot_node.specs.declared.start_error.StartError.{StartError}
+use Rattle.depot_node.specs.declared.start_error.StartError.TheVariants as start_error
+use Rattle.depot_offers.specs.declared.bundle_error.BundleError.{BundleError}
+use Rattle.depot_offers.specs.declared.bundle_error.BundleError.TheVariants as bundle_error
+use Rattle.depot_c.specs.declared.outcome.Outcome.{Outcome}
+use Rattle.depot_c.specs.declared.outcome.Outcome.TheVariants as outcome
+use Rattle.depot_c.specs.declared.refused.Refused.{Refused}
+use Rattle.depot_c.specs.declared.refused.Refused.TheVariants as refused
+
+-- ---- outcomes
+
+-- the number of an outcome, which the caller has as a status
+abbrev pub number_of : Outcome → ℕ
+number_of outcome.Done = 0
+number_of outcome.Input = 2
+number_of outcome.Disk = 4
+number_of outcome.Memory = 6
+number_of outcome.Limit = 8
+number_of outcome.NotLawful = 9
+number_of outcome.Identity = 10
+number_of outcome.Order = 11
+number_of outcome.Stopped = 12
+number_of outcome.Absent = 13
+
+abbrev pub outcome_of_roster : RosterError → Outcome
+outcome_of_roster roster_error.Memory = outcome.Memory
+outcome_of_roster e = outcome.Input
+
+abbrev pub outcome_of_start : StartError → Outcome
+outcome_of_start start_error.Memory = outcome.Memory
+outcome_of_start start_error.Disk = outcome.Disk
+outcome_of_start (start_error.Damaged at) = outcome.NotLawful
+outcome_of_start (start_error.NotLawful place fault) = outcome.NotLawful
+outcome_of_start start_error.UnknownMe = outcome.Identity
+outcome_of_start (start_error.OtherKey roster signer) = outcome.Identity
+outcome_of_start (start_error.OtherNode node) = outcome.Identity
+outcome_of_start (start_error.OtherRoster kept given) = outcome.Identity
+
+abbrev pub outcome_of_put : PutError → Outcome
+outcome_of_put put_error.Memory = outcome.Memory
+outcome_of_put put_error.Disk = outcome.Disk
+outcome_of_put put_error.Stopped = outcome.Stopped
+outcome_of_put (put_error.Spent n) = outcome.Limit
+outcome_of_put (put_error.Tips n) = outcome.Limit
+outcome_of_put (put_error.Collides id) = outcome.Limit
+outcome_of_put (put_error.Full what) = outcome.Limit
+
+abbrev pub outcome_of_bundle : BundleError → Outcome
+outcome_of_bundle bundle_error.Memory = outcome.Memory
+outcome_of_bundle bundle_error.Disk = outcome.Disk
+outcome_of_bundle bundle_error.Stopped = outcome.Stopped
+outcome_of_bundle (bundle_error.IllFormed at) = outcome.Input
+outcome_of_bundle (bundle_error.OtherRoster given mine) = outcome.Identity
+outcome_of_bundle (bundle_error.Spent n) = outcome.Limit
+outcome_of_bundle (bundle_error.Full what) = outcome.Limit
+
+abbrev pub outcome_of_feed : FeedError → Outcome
+outcome_of_feed feed_error.Memory = outcome.Memory
+outcome_of_feed feed_error.Disk = outcome.Disk
+outcome_of_feed feed_error.Stopped = outcome.Stopped
+outcome_of_feed (feed_error.IllFormed at) = outcome.Input
+outcome_of_feed (feed_error.Full what) = outcome.Limit
+
+-- how a call ends that is refused for this
+abbrev pub outcome_of : Refused → Outcome
+outcome_of refused.Input = outcome.Input
+outcome_of refused.Memory = outcome.Memory
+outcome_of refused.Order = outcome.Order
+outcome_of refused.Stopped = outcome.Stopped
+outcome_of refused.Absent = outcome.Absent
+outcome_of (refused.Roster e) = outcome_of_roster e
+outcome_of (refused.Start e) = outcome_of_start e
+outcome_of (refused.Put e) = outcome_of_put e
+outcome_of (refused.Bundle e) = outcome_of_bundle e
+outcome_of (refused.Feed e) = outcome_of_feed e
+
+-- ---- words
+
+abbrev pub words_of_put : PutError → List ℕ
+words_of_put put_error.Memory = []
+words_of_put put_error.Disk = []
+words_of_put put_error.Stopped = []
+words_of_put (put_error.Spent n) = text_of_limit (spent n)
+words_of_put (put_error.Tips n) = text_of_limit (tips n)
+words_of_put (put_error.Collides id) = text_of_limit (collides id)
+words_of_put (put_error.Full what) = text_of_limit (full what)
+
+abbrev pub words_of_bundle : BundleError → List ℕ
+words_of_bundle bundle_error.Memory = []
+words_of_bundle bundle_error.Disk = []
+words_of_bundle bundle_error.Stopped = []
+words_of_bundle (bundle_error.IllFormed at) = numbered (codes "IllFormed") at
+words_of_bundle (bundle_error.OtherRoster given mine) = codes "OtherRoster"
+words_of_bundle (bundle_error.Spent n) = text_of_limit (spent n)
+words_of_bundle (bundle_error.Full what) = text_of_limit (full what)
+
+abbrev pub words_of_feed : FeedError → List ℕ
+words_of_feed feed_error.Memory = []
+words_of_feed feed_error.Disk = []
+words_of_feed feed_error.Stopped = []
+words_of_feed (feed_error.IllFormed at) = numbered (codes "ill-formed") at
+words_of_feed (feed_error.Full what) = text_of_full what
+
+abbrev pub words_of_start : StartError → List ℕ
+words_of_start start_error.Memory = []
+words_of_start start_error.Disk = []
+words_of_start start_error.UnknownMe = codes "identity UnknownMe"
+words_of_start (start_error.OtherKey roster signer) = codes "identity OtherKey"
+words_of_start (start_error.OtherNode node) = codes "identity OtherNode"
+words_of_start (start_error.OtherRoster kept given) = codes "identity OtherRoster"
+words_of_start (start_error.Damaged at) = numbered (codes "damaged") at
+words_of_start (start_error.NotLawful place fault) = numbered (codes "not lawful") place ++ spaced (text_of_record_fault fault)
+
+-- why a call is refused, in the words of the program's lines
+abbrev pub words_of : Refused → List ℕ
+words_of (refused.Roster e) = text_of_roster_error e
+words_of (refused.Start e) = words_of_start e
+words_of (refused.Put e) = words_of_put e
+words_of (refused.Bundle e) = words_of_bundle e
+words_of (refused.Feed e) = words_of_feed e
+words_of other = []
+
+-- words are told, or no memory was found for them, and then none are
+abbrev pub IsTold : List ℕ → List ℕ → Type 0
+IsTold words told = (told ≡ words) ⊎ (told ≡ [])

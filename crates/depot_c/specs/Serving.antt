@@ -1,0 +1,81 @@
+-- What a call on a handle does.
+use Rattle.std.specs.Prelude.{◌≡◌, ◌≤◌, ℕ, List, [], Bool, true, false, Option, Some, None, Result, Ok, Err, length, take, drop}
+use Rattle.depot_base.specs.Sized.{IsKey, IsValue}
+use Rattle.depot_base.specs.Writes.{one_change}
+use Rattle.depot_base.specs.declared.write.Change.{Change}
+use Rattle.depot_model.specs.Changes.{AreChanges}
+use Rattle.depot_schedule.specs.Language.{nothing, next, split}
+use Rattle.depot_schedule.specs.Vocabulary.{changes}
+use Rattle.depot_schedule.specs.declared.changes.Keys.TheVariants as keys
+use Rattle.depot_schedule.specs.declared.line_fault.LineFault.{LineFault}
+use Rattle.depot_c.specs.Seats.{Bundling, Counting, Helloing, Putting, Reading, Recording, Seat, Told, Valuing}
+use Rattle.depot_c.specs.declared.ask.NodeAsk.{NodeAsk}
+use Rattle.depot_c.specs.declared.ask.NodeAsk.TheVariants as ask
+use Rattle.depot_c.specs.declared.refused.Refused.{Refused}
+use Rattle.depot_c.specs.declared.refused.Refused.TheVariants as refused
+
+-- ---- what the input is
+
+-- it is a key, or it is none and the call is refused for that
+abbrev pub KeyGiven : List ℕ → Result (List ℕ) Refused → Type 0
+KeyGiven input (Ok key) = IsKey input × (key ≡ input)
+KeyGiven input (Err refused.Memory) = IsKey input
+KeyGiven input (Err refused.Input) = IsKey input → ⊥
+KeyGiven input (Err other) = ⊥
+
+-- the changes of a word, as a script has it, where the input is one
+abbrev pub changes_read : Result (List Change × List (List ℕ)) LineFault → Option (List Change)
+changes_read (Ok (cs, [])) = Some cs
+changes_read other = None
+
+unfoldable pub asked_changes : List ℕ → Option (List Change)
+asked_changes input = changes_read (next ((changes {C = Unit {0}} keys.Put).read nothing) (split 32 input))
+
+abbrev pub ChangesGiven : List ℕ → Result (List Change) Refused → Type 0
+ChangesGiven input (Ok cs) = (asked_changes input ≡ Some cs) × AreChanges cs
+ChangesGiven input (Err refused.Memory) = Unit {0}
+ChangesGiven input (Err refused.Input) = asked_changes input ≡ None
+ChangesGiven input (Err other) = ⊥
+
+-- ---- what a node is asked
+
+-- the front of the input, of this length, is a key, and what is behind it a value
+abbrev pub IsPutInput : ℕ → List ℕ → Type 0
+IsPutInput n input = (n ≤ length input) × (IsKey (take n input) × IsValue (drop n input))
+
+-- A put of the key in front and the value behind it. Input comes exactly where they aren't in their form.
+abbrev pub PuttingAt : ℕ → List ℕ → Seat → Told → Seat → Type 0
+PuttingAt n input s (Err refused.Input) t = (IsPutInput n input → ⊥) × (t ≡ s)
+PuttingAt n input s told t = IsPutInput n input × Putting s (one_change (take n input) (drop n input)) told t
+
+-- of changes that were asked for
+abbrev pub OfChanges : Option (List Change) → Seat → Told → Seat → Type 0
+OfChanges None s told t = ⊥
+OfChanges (Some cs) s told t = Putting s cs told t
+
+-- A put of the changes that a word says. Input comes exactly where it says none.
+abbrev pub PuttingAll : List ℕ → Seat → Told → Seat → Type 0
+PuttingAll input s (Err refused.Input) t = (asked_changes input ≡ None) × (t ≡ s)
+PuttingAll input s (Err refused.Memory) t = t ≡ s
+PuttingAll input s told t = OfChanges (asked_changes input) s told t
+
+-- A read of the key that the input is. Input comes exactly where it is none.
+abbrev pub OfKey : (Seat → List ℕ → ℕ → Told → Type 0) → Seat → List ℕ → ℕ → Told → Type 0
+OfKey Reads s input place (Err refused.Input) = IsKey input → ⊥
+OfKey Reads s input place told = IsKey input × Reads s input place told
+
+-- a stopped node is only asked for that
+abbrev pub WhereRunning : Bool → Told → Type 0 → Type 0
+WhereRunning true told P = told ≡ Err refused.Stopped
+WhereRunning false told P = P
+
+-- What a node answers, and what it is then.
+abbrev pub AsksNode : NodeAsk → ℕ → List ℕ → Seat → Told → Seat → Type 0
+AsksNode ask.Put n input s told t = PuttingAt n input s told t
+AsksNode ask.Puts n input s told t = PuttingAll input s told t
+AsksNode ask.Bundle n input s told t = Bundling s input told t
+AsksNode ask.Latest n input s told t = (t ≡ s) × WhereRunning s.stopped told (OfKey Reading s input n told)
+AsksNode ask.Value n input s told t = (t ≡ s) × WhereRunning s.stopped told (OfKey Valuing s input n told)
+AsksNode ask.Hello n input s told t = (t ≡ s) × WhereRunning s.stopped told (Helloing s told)
+AsksNode ask.Count n input s told t = (t ≡ s) × Counting s told
+AsksNode ask.Record n input s told t = (t ≡ s) × Recording s n told

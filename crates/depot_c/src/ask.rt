@@ -1,0 +1,96 @@
+//! What a caller asks, by its number.
+ghost use Rattle.std.specs.Prelude.{◌≡◌};
+ghost use Rattle.depot_c.specs.Asked.{asked_by};
+
+/// What a node is asked.
+#[derive(Clone, Copy, Debug, PartialEq, Eq)]
+pub enum NodeAsk {
+    /// To give a key a value: the number is the key's length, the input the key and behind it the value.
+    Put,
+    /// To give keys values and to delete keys: the input is the word of the changes, as in a script.
+    Puts,
+    /// For a latest write of a key: the number is its place, the input the key.
+    Latest,
+    /// For the value of a latest write of a key: the number is its place, the input the key.
+    Value,
+    /// For its hello.
+    Hello,
+    /// For a bundle: the input is the hello.
+    Bundle,
+    /// How many records its journal has.
+    Count,
+    /// For the text of a record: the number is its place.
+    Record,
+}
+
+/// What a handle is asked.
+#[derive(Clone, Copy, Debug, PartialEq, Eq)]
+pub enum Ask {
+    /// How many bytes the answer has.
+    Length,
+    /// To copy bytes of the answer out, from the number on.
+    Copy,
+    /// For the number of the answer.
+    Number,
+    /// Which of the node's statements was put.
+    Seq,
+    /// For a count of the bundle: the number is its place.
+    Tally,
+    /// To let go of all that it keeps.
+    Clear,
+    /// To keep a roster: the input is its text.
+    Roster,
+    /// To make a key and keep it: the number is the height, the input the seed.
+    Key,
+    /// To start a node: the number is the node's, the input the bytes of the journal's file.
+    Start,
+    /// To end the node.
+    End,
+    /// To feed a piece of a stream, which is the input.
+    Feed,
+    /// What became of the stream, which ends.
+    FeedEnd,
+    /// For a refused frame of the stream that ended last: the number is its place among them.
+    Refusal,
+    /// Something of the node.
+    Node(NodeAsk),
+}
+
+/// What each number asks, as include/depot.h has them.
+const OPERATIONS: [Option<Ask>; 21] = [
+    Some(Ask::Length),
+    Some(Ask::Roster),
+    Some(Ask::Key),
+    Some(Ask::Start),
+    Some(Ask::Tally),
+    Some(Ask::End),
+    Some(Ask::Copy),
+    Some(Ask::Clear),
+    Some(Ask::Number),
+    Some(Ask::Seq),
+    Some(Ask::Node(NodeAsk::Put)),
+    Some(Ask::Node(NodeAsk::Latest)),
+    Some(Ask::Node(NodeAsk::Value)),
+    Some(Ask::Node(NodeAsk::Hello)),
+    Some(Ask::Node(NodeAsk::Bundle)),
+    Some(Ask::Feed),
+    Some(Ask::FeedEnd),
+    Some(Ask::Node(NodeAsk::Count)),
+    Some(Ask::Node(NodeAsk::Record)),
+    Some(Ask::Node(NodeAsk::Puts)),
+    Some(Ask::Refusal),
+];
+
+impl Ask {
+    /// What a number asks.
+    pub fn of(op: u32) -> Option<Ask>
+        ensures { result ≡ asked_by op }
+    {
+        let place = op as usize;
+        if place < OPERATIONS.len() {
+            OPERATIONS[place]
+        } else {
+            None
+        }
+    }
+}

@@ -1,0 +1,31 @@
+//! Depot inside a process of another language: a static library, of functions that C can call (include/depot.h).
+//!
+//! A handle keeps a roster, the signer of a key, at most one node, the stream that is fed to it, and the last answer. The caller
+//! finds the room for it. One export carries all operations of a handle, by a number that is an enum as soon as it is inside: an
+//! export with a raw pointer is proved by hand, so there are two of them.
+//!
+//! - `judging` judges the text of a proof; it keeps nothing.
+//! - `exports` has the handle's exports, `serving` a call, `handle` what a handle keeps and does, `starting` its starts and
+//!   `node_calls` what it asks of a node. Contracts see a handle as a `View` and a node as a `Seat` (specs/).
+//! - `ask` has the operations, `answer` what they answer, `refused` and `outcome` why they don't, in words and as a status.
+//! - `shared_signer` is a key that serves more than one start.
+//!
+//! A node of a handle is in memory, and its caller keeps its records: after each call the new ones, in their order, before it uses the
+//! answer. The kit's gate lets no crate call the system but by a runtime, and no runtime crosses to C.
+//!
+//! What a node answers and what its journal is then are the definitions that `depot_node` and `depot_gossip` are proved by. What
+//! the caller has to uphold stands in include/depot.h and in docs/THREATS.md: no proof reaches it.
+#![tactic(auto)]
+
+mod answer;
+mod ask;
+mod exports;
+mod handle;
+mod judging;
+mod node_calls;
+mod outcome;
+mod refused;
+mod seat;
+mod serving;
+mod shared_signer;
+mod starting;

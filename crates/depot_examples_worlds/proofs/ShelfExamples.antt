@@ -1,0 +1,98 @@
+-- Worked runs of scripts over a shelf: which file one that is cut short names, and what the shelf was asked for.
+use Rattle.std.proofs.Common.{List, [], ◌∷◌, ℕ, true, codes, None, refl, inl, inr, arith}
+use Rattle.depot_model.specs.Bundle.{Signs}
+use Rattle.depot_model.specs.Checks.{Setting}
+use Rattle.depot_outside.specs.Told.{Shelves}
+use Rattle.depot_script.specs.declared.command.Command.{Command}
+use Rattle.depot_script.specs.declared.command.Command.TheVariants as command
+use Rattle.depot_session.specs.ScriptTelling.{Asked}
+use Rattle.depot_session.specs.SessionRuns.{AsksFirst, AsksShort, AsksWhole, FailsFor}
+use Rattle.depot_session.specs.Sessions.{Session, answers_of, step_of}
+
+abbrev hello : List ℕ
+hello = codes "hello"
+
+abbrev made : List ℕ
+made = codes "made"
+
+-- ---- the name
+
+-- a shelf that failed so often, and on these names
+abbrev failed : ℕ → List (List ℕ) → Shelves
+failed faults names = record { tells = true; file = λ name. None; file_after = λ name. None; failed_before = []; failed_after = names; faults_before = 0; faults_after = faults }
+
+abbrev makes_bundle : Command
+makes_bundle = command.Bundle hello made
+
+-- where it failed on the hello of a bundle the run names the hello, and not the file of the bundle
+names_hello : FailsFor makes_bundle (failed 1 (hello ∷ [])) hello
+names_hello = (inl refl, record { rose = omega arith; only = refl })
+
+not_made : FailsFor makes_bundle (failed 1 (hello ∷ [])) made → ⊥
+not_made fails = let is = fails.1.only in cc
+
+-- where it failed on the file of the bundle the run names that
+names_made : FailsFor makes_bundle (failed 1 (made ∷ [])) made
+names_made = (inr refl, record { rose = omega arith; only = refl })
+
+-- a file of which the command doesn't speak isn't named, nor one on which the shelf didn't fail, nor one of two
+not_of_another : FailsFor (command.Take hello) (failed 1 (made ∷ [])) made → ⊥
+not_of_another fails = let is = fails.0 in cc
+
+not_where_calm : FailsFor makes_bundle (failed 0 []) hello → ⊥
+not_where_calm fails = let rose = fails.1.rose in omega (arith, rose)
+
+not_of_two : FailsFor makes_bundle (failed 2 (hello ∷ made ∷ [])) made → ⊥
+not_of_two fails = let is = fails.1.only in cc
+
+-- ---- what was asked
+
+-- these files were loaded, and bytes stored under these names
+abbrev asked_for : List (List ℕ) → List (List ℕ) → Asked
+asked_for loads stores = record { loads_before = []; loads_after = loads; stores_before = []; stores_after = stores }
+
+-- two streams are taken
+abbrev takes : List Command
+takes = command.Take hello ∷ command.Take made ∷ []
+
+-- cut short in the first, the run loaded its file, or none; not that of the second
+first_loaded : AsksShort [] takes [] (asked_for (hello ∷ []) [])
+first_loaded = record { loads = inr refl; stores = inl refl }
+
+none_loaded : AsksShort [] takes [] (asked_for [] [])
+none_loaded = record { loads = inl refl; stores = inl refl }
+
+not_the_second : AsksShort [] takes [] (asked_for (hello ∷ made ∷ []) []) → ⊥
+not_the_second a = elim a.loads [
+  | inl none ↦ cc
+  | inr one ↦ cc
+]
+
+-- cut short in the second it loaded both
+both_loaded : AsksShort (command.Take hello ∷ []) (command.Take made ∷ []) [] (asked_for (hello ∷ made ∷ []) [])
+both_loaded = record { loads = inr refl; stores = inl refl }
+
+-- behind what was loaded before its start
+behind_roster : AsksShort [] takes (codes "roster" ∷ codes "script" ∷ []) (asked_for (codes "roster" ∷ codes "script" ∷ hello ∷ []) [])
+behind_roster = record { loads = inr refl; stores = inl refl }
+
+-- a hello is stored once, and by a run that goes on as often as there are commands for it
+once : AsksShort [] (command.Hello made ∷ []) [] (asked_for [] (made ∷ []))
+once = record { loads = inl refl; stores = inr refl }
+
+not_twice : AsksShort [] (command.Hello made ∷ []) [] (asked_for [] (made ∷ made ∷ [])) → ⊥
+not_twice a = elim a.stores [
+  | inl none ↦ cc
+  | inr one ↦ cc
+]
+
+as_often : (here : Setting) (sign : Signs) (s : Session) → AsksWhole here sign s (command.Hello made ∷ command.Hello made ∷ []) [] (asked_for [] (made ∷ made ∷ []))
+unfolding answers_of step_of
+as_often here sign s = record { done = command.Hello made ∷ command.Hello made ∷ []; rest = []; parts = refl; went_on = refl; over = inl refl; loads = refl; stores = refl }
+
+-- a node that was refused asks for nothing
+refused_asks_nothing : AsksFirst [] (asked_for [] [])
+refused_asks_nothing = record { loads = refl; stores = refl }
+
+not_its_script : AsksFirst [] (asked_for (hello ∷ []) []) → ⊥
+not_its_script a = let is = a.loads in cc

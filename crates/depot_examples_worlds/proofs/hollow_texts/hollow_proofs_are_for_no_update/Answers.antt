@@ -1,5 +1,0 @@
-use Rattle.depot_examples_worlds.proofs.HollowTexts.{passes_hollow, hollow_passes}
-use Rattle.depot_examples_worlds.proofs.hollow_texts.hollow_proofs_are_for_no_update.Goals as goal
-
-pub returns : goal.returns
-returns c s text bytes = (passes_hollow s text bytes, hollow_passes s text bytes)

@@ -1,0 +1,9 @@
+pub mod BookLaws
+pub mod DueReceipts
+pub mod GivenAnswers
+pub mod GivenLaws
+mod GivingExamples
+pub mod HeldByHash
+pub mod HolderLaws
+pub mod KeyLaws
+pub mod RisingPuts

@@ -1,0 +1,62 @@
+-- What a node answers where it is asked for receipts, and what its journal is then.
+use Rattle.std.specs.Prelude.{◌≡◌, List, [], ℕ, map, Some, None, Result, Ok, Err}
+use Rattle.depot_base.specs.declared.write.Change.{Change}
+use Rattle.depot_base.specs.declared.record.Record.{Record}
+use Rattle.depot_model.specs.Checks.{Setting}
+use Rattle.depot_model.specs.Receipts.{receipt_key, no_receipt, unknown, lacks_value}
+use Rattle.depot_decide.specs.Putting.{Puts, put_records}
+use Rattle.depot_decide.specs.declared.put_answers.PutDone.{PutDone}
+use Rattle.depot_decide.specs.declared.put_answers.PutError.{PutError}
+use Rattle.depot_decide.specs.declared.put_answers.PutError.TheVariants as put
+use Rattle.depot_receipts.specs.declared.give_error.GiveError.{GiveError}
+use Rattle.depot_receipts.specs.declared.give_error.GiveError.TheVariants as give
+
+-- the changes that give receipts for these ids: the empty value under the key of each
+abbrev pub receipt_changes : List (List ℕ) → List Change
+receipt_changes ids = map (λ h. record { key = receipt_key h; value = Some [] }) ids
+
+-- the records that are appended then: the next own update, with its empty values
+abbrev pub receipt_records : Setting → List Record → List (List ℕ) → List Record
+receipt_records here J ids = put_records here J (receipt_changes ids)
+
+-- nothing speaks against the receipts, and this is what their put comes to
+abbrev pub PutsReceipts : Setting → List Record → List (List ℕ) → Result PutDone PutError → List Record → Type 0
+PutsReceipts here J ids answer then = (no_receipt J ids ≡ None) × Puts here J (receipt_changes ids) answer then
+
+-- What a node answers where it is asked for receipts for these ids, and the journal after it. Memory may stand in place of each
+-- answer, and then nothing is appended; nor is it by a stopped node.
+abbrev pub Gives : Setting → List Record → List (List ℕ) → Result PutDone GiveError → List Record → Type 0
+Gives here J ids (Ok done) then = PutsReceipts here J ids (Ok done) then
+Gives here J ids (Err give.Memory) then = then ≡ J
+Gives here J ids (Err give.Disk) then = PutsReceipts here J ids (Err put.Disk) then
+Gives here J ids (Err give.Stopped) then = then ≡ J
+Gives here J ids (Err (give.Unknown h)) then = (no_receipt J ids ≡ Some (unknown h)) × (then ≡ J)
+Gives here J ids (Err (give.NoValue h)) then = (no_receipt J ids ≡ Some (lacks_value h)) × (then ≡ J)
+Gives here J ids (Err (give.Spent n)) then = PutsReceipts here J ids (Err (put.Spent n)) then
+Gives here J ids (Err (give.Tips n)) then = PutsReceipts here J ids (Err (put.Tips n)) then
+Gives here J ids (Err (give.Collides h)) then = PutsReceipts here J ids (Err (put.Collides h)) then
+Gives here J ids (Err (give.Full what)) then = PutsReceipts here J ids (Err (put.Full what)) then
+
+-- ---- on the way
+
+-- what is found before a put: the changes where nothing speaks against the receipts, or what does
+abbrev pub AreDue : List Record → List (List ℕ) → Result (List Change) GiveError → Type 0
+AreDue J ids (Ok changes) = (no_receipt J ids ≡ None) × (changes ≡ receipt_changes ids)
+AreDue J ids (Err give.Memory) = Unit {0}
+AreDue J ids (Err (give.Unknown h)) = no_receipt J ids ≡ Some (unknown h)
+AreDue J ids (Err (give.NoValue h)) = no_receipt J ids ≡ Some (lacks_value h)
+AreDue J ids (Err e) = ⊥
+
+-- the refusal of a put, and its answer, as those of giving receipts
+abbrev pub as_refusal : PutError → GiveError
+as_refusal put.Memory = give.Memory
+as_refusal put.Disk = give.Disk
+as_refusal put.Stopped = give.Stopped
+as_refusal (put.Spent n) = give.Spent n
+as_refusal (put.Tips n) = give.Tips n
+as_refusal (put.Collides h) = give.Collides h
+as_refusal (put.Full what) = give.Full what
+
+abbrev pub as_give : Result PutDone PutError → Result PutDone GiveError
+as_give (Ok done) = Ok done
+as_give (Err e) = Err (as_refusal e)

@@ -1,0 +1,5 @@
+pub mod Books
+pub mod GivenReceipts
+pub mod Giving
+pub mod HolderLists
+pub mod RisingPlaces

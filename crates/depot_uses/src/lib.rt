@@ -1,0 +1,16 @@
+//! Three small callers, to begin with where the libraries are used from Rattle.
+//!
+//! `judging` asks a judge whom a proof convicts, `copying` reads and writes a text, and `noting` puts and reads at a node over a disk
+//! in memory. Each says what it does by the definitions of the calls that it makes, and is tried by a test. Nothing stands on
+//! this crate.
+#![tactic(auto)]
+
+mod copying;
+mod judging;
+mod noting;
+#[cfg(test)]
+mod tries;
+
+pub use copying::copied;
+pub use judging::convicted;
+pub use noting::{MemNode, note};

@@ -1,0 +1,119 @@
+/* The file of a node's journal, kept by a caller of the library, in C.
+ *
+ * It makes the calls on the file that the program's disk makes, in their order (docs/FORMATS.md), so that `depot node` goes on
+ * from this file and this from the program's, never both at one time: the lock sees to that. A call that a signal interrupted
+ * is made again. Each function gives 0, or -1 where a call failed; errno says why. Then the file is touched no more: use no
+ * answer that came since the last journal_keep, end the node, and start again from the file. */
+#ifndef JOURNAL_FILE_H
+#define JOURNAL_FILE_H
+#include "depot.h"
+#include <errno.h>
+#include <fcntl.h>
+#include <string.h>
+#include <sys/file.h>
+#include <sys/stat.h>
+#include <unistd.h>
+
+#define JOURNAL_MOST ((off_t)1 << 30) /* no journal has more bytes */
+#define AGAIN(result, call) do (result) = (call); while ((result) < 0 && errno == EINTR)
+
+struct journal {
+    int file;           /* open and locked */
+    int is_stopped;     /* a call failed */
+    uint64_t gate;      /* where the closed gate stands, behind the records that are kept */
+    uint64_t kept;      /* how many these are */
+};
+
+static int journal_write(int file, const uint8_t *bytes, size_t size, uint64_t at)
+{
+    while (size) {
+        ssize_t n;
+        AGAIN(n, pwrite(file, bytes, size, (off_t)at));
+        if (n <= 0)
+            return -1;
+        bytes += n, size -= (size_t)n, at += (uint64_t)n;
+    }
+    return 0;
+}
+
+static int journal_sync(int file)
+{
+    int done;
+    AGAIN(done, fdatasync(file));
+    return done;
+}
+
+/* Opens the journal of a folder, makes it where there is none, and locks it; another one who has the lock is a failure. The
+ * folder is synced, so that no stop loses a file that was made. */
+static int journal_open(struct journal *j, const char *folder)
+{
+    int done, names;
+    *j = (struct journal){-1, 0, 0, 0};
+    AGAIN(names, open(folder, O_RDONLY | O_DIRECTORY | O_CLOEXEC));
+    if (names < 0)
+        return -1;
+    AGAIN(j->file, openat(names, "depot.journal", O_RDWR | O_CREAT | O_CLOEXEC, 0666));
+    done = j->file < 0 ? -1 : flock(j->file, LOCK_EX | LOCK_NB);
+    if (!done)
+        AGAIN(done, fsync(names));
+    if (done && j->file >= 0)
+        close(j->file), j->file = -1;
+    close(names);
+    return done;
+}
+
+/* The bytes that a start takes, which the caller frees. A file of at most one byte has no records, and gets a closed gate. */
+static int journal_read(struct journal *j, uint8_t **bytes, size_t *size)
+{
+    struct stat about;
+    *bytes = NULL;
+    if (journal_sync(j->file) || fstat(j->file, &about))
+        return -1;
+    *size = about.st_size <= 1 ? 0 : (size_t)(about.st_size < JOURNAL_MOST ? about.st_size : JOURNAL_MOST);
+    *bytes = malloc(*size + 1);
+    if (!*bytes)
+        return -1;
+    for (size_t at = 0; at < *size;) {
+        ssize_t n;
+        AGAIN(n, pread(j->file, *bytes + at, *size - at, (off_t)at));
+        if (n <= 0)
+            return -1;
+        at += (size_t)n;
+    }
+    return *size ? 0 : journal_write(j->file, (const uint8_t *)"", 1, 0) || journal_sync(j->file) ? -1 : 0;
+}
+
+/* Finds the closed gate in bytes that a node was started from: the start said that they are no damaged file. */
+static void journal_started(struct journal *j, const uint8_t *bytes, size_t size)
+{
+    for (j->gate = 0, j->kept = 0; j->gate < size && bytes[j->gate] == 1; j->kept++) {
+        const uint8_t *length = bytes + j->gate + 1;
+        j->gate += 5 + ((uint64_t)length[0] << 24 | (uint64_t)length[1] << 16 | (uint64_t)length[2] << 8 | length[3]);
+    }
+}
+
+/* One record: its length, its text and a closed gate behind the closed gate; then that gate is opened. */
+static int journal_append(struct journal *j, void *node)
+{
+    size_t n = depot_length(node);
+    uint8_t *block = malloc(n + 5);
+    if (!block)
+        return -1;
+    uint8_t length[4] = {(uint8_t)(n >> 24), (uint8_t)(n >> 16), (uint8_t)(n >> 8), (uint8_t)n};
+    memcpy(block, length, 4);
+    block[4 + depot_copy(node, 0, block + 4, n)] = 0;
+    int failed = journal_write(j->file, block, n + 5, j->gate + 1) || journal_sync(j->file) ||
+                 journal_write(j->file, (const uint8_t *)"\1", 1, j->gate) || journal_sync(j->file);
+    free(block);
+    j->gate += 5 + n, j->kept++;
+    return failed ? -1 : 0;
+}
+
+/* Appends the records that the node has and the file lacks. It takes the node's last answer: copy out of it before. */
+static int journal_keep(struct journal *j, void *node)
+{
+    for (uint64_t count = depot_count(node); !j->is_stopped && j->kept < count;)
+        j->is_stopped = depot_record(node, j->kept) != DEPOT_DONE || journal_append(j, node);
+    return j->is_stopped ? -1 : 0;
+}
+#endif
