@@ -13,7 +13,7 @@ import shutil
 from make_cases import HERE, ZEROS, frame, history_of, proof, roster, sha, signed, u, update
 
 # How many words of an event stand before the arrow.
-HEAD = {"put": 3, "get": 3, "hello": 3, "give": 3, "bundle": 4}
+HEAD = {"put": 3, "get": 3, "hello": 3, "give": 3, "bundle": 4, "settled": 4}
 
 PLAIN = ["depot schedule 1", "scheme plain 4"]
 

@@ -281,6 +281,20 @@ class Node:
         self.append(("put", (made, [value for _, value in changes if value is not None])))
         return f"{made.seq}/{made.clock}"
 
+    def receipt(self, ids):
+        for some in ids:
+            if some not in self.accepted:
+                return "Unknown"
+        for some in ids:
+            said = [said for _, said in self.accepted[some].writes if said is not None]
+            if any(digest not in self.held or len(self.held[digest]) != length for digest, length in said):
+                return "NoValue"
+        return self.put([(b"receipt:" + some, b"") for some in sorted(set(ids))])
+
+    def settled(self, some, count):
+        key = b"receipt:" + some
+        return "yes" if len({x.writer for x in self.accepted.values() if dict(x.writes).get(key) is not None}) >= count else "no"
+
     def read(self, key):
         writing = [x for x in self.accepted.values() if key in dict(x.writes)]
         latest = [x for x in writing if not any(x.id in past_of(parents(y), self.accepted) for y in writing)]
@@ -461,7 +475,7 @@ class World:
         """The lines of the transcript."""
         for event in self.events:
             words = event.split(" ")
-            head = {"put": 3, "get": 3, "hello": 3, "give": 3, "bundle": 4}.get(words[0], 2)
+            head = {"put": 3, "get": 3, "hello": 3, "give": 3, "bundle": 4, "settled": 4}.get(words[0], 2)
             label = {"hello": 2, "bundle": 3}.get(words[0])
             if label is not None:
                 self.bytes[words[label]] = b""
@@ -472,7 +486,9 @@ class World:
             except Limit as limit:
                 answer = str(limit)
             except NoRef:
-                self.bytes[words[1]], answer = b"", "NoRef"
+                answer = "NoRef"
+                if words[0] not in ("receipt", "settled"):
+                    self.bytes[words[1]] = b""
             for node in self.nodes.values():
                 self.known.update(node.accepted)
             yield " ".join(words[:head]) + " ->" + (" " + answer if answer else "")
@@ -496,6 +512,12 @@ class World:
 
     def give(self, node, label, size=None):
         return self.nodes[int(node)].give(self.bytes[label])
+
+    def receipt(self, node, refs):
+        return self.nodes[int(node)].receipt([self.referred(ref).id for ref in refs.split(",")])
+
+    def settled(self, node, ref, count):
+        return self.nodes[int(node)].settled(self.referred(ref).id, int(count))
 
     def restart(self, node):
         self.nodes[int(node)].restart()

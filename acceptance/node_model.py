@@ -233,6 +233,12 @@ class Run:
         self.files[self.path(name)] = made
         return answer
 
+    def do_receipt(self, node, some):
+        return node.receipt([bytes.fromhex(some)])
+
+    def do_settled(self, node, some, count):
+        return node.settled(bytes.fromhex(some), int(count))
+
     def do_take(self, node, name):
         return node.give(self.load(name))
 

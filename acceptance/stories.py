@@ -31,7 +31,7 @@ class Story:
         self.lines = ["depot schedule 1", f"scheme plain {self.height}"]
         self.lines += [f"node {node}" for node in CORRECT] + [f"faulty {node}" for node in FAULTY]
         self.labels = {"update": [], "voucher": [], "plain": [], "hello": [], "bundle": [], "proof": []}
-        self.streams, self.count = [], 0
+        self.streams, self.count, self.received = [], 0, []
         # The clock and writer of each update, the writer and the named labels of each voucher, and how often each node put.
         self.clocks, self.writers, self.named, self.puts = {}, {}, {}, dict.fromkeys(CORRECT, 0)
         while len(self.lines) < events:
@@ -74,8 +74,9 @@ class Story:
 
     def add(self):
         event = self.draw.choices(
-            [self.put, self.get, self.exchange, self.update, self.voucher, self.give, self.proof, self.hollow, self.bytes, self.restart, self.stop],
-            [14, 10, 12, 16, 5, 14, 4, 4, 6, 3, 3])[0]
+            [self.put, self.get, self.exchange, self.update, self.voucher, self.give, self.proof, self.hollow, self.bytes, self.restart, self.stop,
+             self.receipt, self.settled],
+            [14, 10, 12, 16, 5, 14, 4, 4, 6, 3, 3, 5, 4])[0]
         event()
 
     def say(self, *words):
@@ -178,6 +179,20 @@ class Story:
             self.hand(self.node(), made)
         if self.often(0.2):
             self.say("judge", made)
+
+    def receipt(self):
+        node = self.node()
+        own = [f"{node}.{self.draw.randrange(self.puts[node])}"] if self.puts[node] and self.often(0.4) else []
+        refs = own + [ref for ref in (self.reference() for _ in range(self.draw.choice([1, 1, 2]))) if ref and self.often(0.7)]
+        if refs:
+            self.puts[node] += 1
+            self.say("receipt", node, ",".join(refs))
+            self.received += [(node, ref) for ref in refs]
+
+    def settled(self):
+        node, ref = self.draw.choice(self.received[-6:]) if self.received and self.often(0.8) else (self.node(), self.reference())
+        if ref:
+            self.say("settled", node, ref, self.draw.choice([1, 1, 1, 2, 3]))
 
     def restart(self):
         self.say("restart", self.node())

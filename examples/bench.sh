@@ -22,6 +22,10 @@ fi
 measure "load 1" "$depot" load 1
 python3 "$here/make_schedule.py" busy
 measure "replay of five busy nodes with keys of height 10" "$depot" replay busy
+for idle in 0 200; do
+  python3 "$here/make_schedule.py" chains --chains 4000 --idle "$idle"
+  measure "replay of two nodes that put 4000 times by turns and exchange after each put, and then $idle times for nothing" "$depot" replay chains
+done
 for count in 1025 4096; do
   python3 "$here/make_schedule.py" branches --branches "$count"
   measure "replay of a node that takes $count branches" "$depot" replay branches

@@ -4,6 +4,8 @@
 Usage:
     make_schedule.py OUT                  five nodes with Winternitz keys of height 10: 200 puts on 40 keys, and exchanges
     make_schedule.py OUT --branches N     a faulty writer signs N branches, another vouches for them, and a node takes them all
+    make_schedule.py OUT --chains N       two nodes put N times in all, by turns; after each put the other node takes it
+    make_schedule.py OUT --chains N --idle K      and at the end one asks the other K times for news, of which there is none
 
 In the first, nodes exchange while they write, in pieces of 1,460 bytes; one node is started again, and one bundle is never given. At
 the end each node gives each other one a bundle, and all read every key. The format is that of docs/FORMATS.md ("Schedules").
@@ -62,12 +64,31 @@ def branches(count):
     return lines + [f"give 1 u{seq}" for seq in range(count)] + ["put 1 6b 61"]
 
 
+def chains(count, idle):
+    lines = ["depot schedule 1", "scheme plain 12", "node 1", "node 2"]
+    exchanges = Exchanges()
+    for i in range(count):
+        writer, reader = 1 + i % 2, 2 - i % 2
+        lines.append(f"put {writer} {KEYS[i % 40]} {i:04x}")
+        lines += exchanges.lines(reader, writer)
+    for _ in range(idle):
+        lines += exchanges.lines(1, 2)
+    return lines
+
+
 def main():
     parser = argparse.ArgumentParser()
     parser.add_argument("out")
     parser.add_argument("--branches", type=int)
+    parser.add_argument("--chains", type=int)
+    parser.add_argument("--idle", type=int, default=0)
     args = parser.parse_args()
-    lines = busy() if args.branches is None else branches(args.branches)
+    if args.branches is not None:
+        lines = branches(args.branches)
+    elif args.chains is not None:
+        lines = chains(args.chains, args.idle)
+    else:
+        lines = busy()
     with open(args.out, "w") as out:
         out.write("".join(line + "\n" for line in lines))
 

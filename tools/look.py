@@ -33,17 +33,23 @@ class Page:
     def hash(self, digest):
         return digest.hex() if self.whole else digest.hex()[:16]
 
+    def key(self, key):
+        """A key; that of a receipt by the id of the update that it is for."""
+        if len(key) == 40 and key.startswith(b"receipt:"):
+            return "receipt:" + self.hash(key[8:])
+        return f.shown(key)
+
 
 def writes_line(update, values, page):
     """What an update writes: its values as text where they are held, else their hashes."""
     parts = []
     for write in update.writes:
         if write.hash is None:
-            parts.append("%s deleted" % f.shown(write.key))
+            parts.append("%s deleted" % page.key(write.key))
         elif write.hash in values:
-            parts.append("%s = %s" % (f.shown(write.key), cut(f.shown(values[write.hash]))))
+            parts.append("%s = %s" % (page.key(write.key), cut(f.shown(values[write.hash]))))
         else:
-            parts.append("%s = ? (%d bytes, hash %s)" % (f.shown(write.key), write.length, page.hash(write.hash)))
+            parts.append("%s = ? (%d bytes, hash %s)" % (page.key(write.key), write.length, page.hash(write.hash)))
     return ", ".join(parts)
 
 
@@ -168,7 +174,7 @@ def show_sums(placed, values, page, roster):
         page.say("leaf of writer %d: %s, %s" % (it.writer, page.hash(it.id), it.name))
     for key in sorted({write.key for it in updates for write in it.writes}):
         latest = f.latest_writes(key, updates)
-        page.say("key %s: %s" % (f.shown(key), ", ".join(latest_line(key, it, values) for it in latest)))
+        page.say("key %s: %s" % (page.key(key), ", ".join(latest_line(key, it, values) for it in latest)))
 
 
 def latest_line(key, update, values):

@@ -137,8 +137,10 @@ def guard(journal, kept, is_first):
 
 
 def key_and_values(line):
-    """Of a line that puts, its keys, each with its value or None for a deletion; of another line None."""
+    """Of a line that puts, its keys, each with its value or None for a deletion; of another line None. A receipt is a put, too."""
     verb, *words = line.split(" ")
+    if verb == "receipt" and len(words) == 1:
+        return [(b"receipt:".hex() + words[0], "")]
     if verb == "put" and len(words) == 2:
         return [(words[0], "" if words[1] == "-" else words[1])]
     if verb != "puts" or len(words) != 1:
@@ -171,11 +173,17 @@ def refuse_own_files(lines, folder):
                 raise Refused("line %d of the script names %s, which is the node's own" % (number, name))
 
 
+def is_passed(line, record):
+    """Whether a line stands before the one that made this own update: it puts nothing, or it is a receipt that wasn't given."""
+    made = key_and_values(line)
+    return made is None or (line.startswith("receipt ") and made != written_by(record))
+
+
 def place_in(lines, kept, journal):
     """How many lines are done: those that were told of, and those up to the last put that stands in the journal."""
     done = kept.done
     for record in journal.puts[kept.puts :]:
-        following = [at for at in range(done, len(lines)) if key_and_values(lines[at]) is not None]
+        following = [at for at in range(done, len(lines)) if not is_passed(lines[at], record)]
         if not following or key_and_values(lines[following[0]]) != written_by(record):
             raise Refused("the journal has an update that isn't the script's next put; --anew begins the script again")
         done = following[0] + 1
@@ -266,7 +274,7 @@ class Runner:
         """Counts a line that was told as done, and its update where it put one."""
         head, _, answer = line.partition(b" -> ")
         self.kept.done += 1
-        if head.split(b" ")[0] in (b"put", b"puts") and b"/" in answer:
+        if head.split(b" ")[0] in (b"put", b"puts", b"receipt") and b"/" in answer:
             self.kept.puts += 1
 
 

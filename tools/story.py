@@ -221,7 +221,7 @@ class Telling:
         """One event of the schedule, with the words of its answer and the checks of refused frames by their place."""
         verb, *rest = words
         is_told = answer not in (["NoRef"], [])
-        if verb in ("put", "puts"):
+        if verb in ("put", "puts", "receipt"):
             node, writes, values = self.nodes[rest[0]], *written(verb, rest[1:])
             if "/" in "".join(answer[:1]):
                 self.put(node, writes, "%s/%s" % (rest[0], answer[0]), values)
@@ -271,6 +271,8 @@ def kind_between(one, other):
 
 def written(verb, words):
     """What an event writes, in short, and its values in hex."""
+    if verb == "receipt":
+        return "receipt for %s" % ", ".join(dict.fromkeys(words[0].split(","))), [""]
     writes = words[0].split(",") if verb == "puts" else ["%s=%s" % (words[0], words[1])]
     shown, values = [], []
     for write in writes:

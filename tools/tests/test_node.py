@@ -5,6 +5,7 @@ import os
 import subprocess
 import sys
 import tempfile
+import types
 import unittest
 
 HERE = os.path.dirname(os.path.abspath(__file__))
@@ -175,8 +176,21 @@ class Lines(unittest.TestCase):
     def test_lines(self):
         self.assertEqual(node.key_and_values("put 6b -"), [("6b", "")])
         self.assertEqual(node.key_and_values("puts 61!,62=32,6c=-"), [("61", None), ("62", "32"), ("6c", "")])
-        for line in ["get 6b", "hello h", "put 6b", "puts", ""]:
+        self.assertEqual(node.key_and_values("receipt " + "0a" * 32), [((b"receipt:" + b"\n" * 32).hex(), "")])
+        for line in ["get 6b", "hello h", "put 6b", "puts", "", "settled " + "0a" * 32 + " 2"]:
             self.assertIsNone(node.key_and_values(line))
+
+    def test_receipts_that_were_not_given(self):
+        def own(key):
+            return f.OwnPut(f.Update(1, 0, 1, f.NO_UPDATE, [f.Write(key, f.sha256(b""), 0)], [], f.sha256(), b""), [b""])
+
+        lines = ["receipt " + "0a" * 32, "get 6b", "receipt " + "0b" * 32, "put 6b -", "put 6c -"]
+        for keys, done in [([], 0), ([b"receipt:" + b"\x0b" * 32], 3), ([b"k"], 4), ([b"receipt:" + b"\x0a" * 32, b"k", b"l"], 5)]:
+            journal = types.SimpleNamespace(puts=[own(key) for key in keys])
+            self.assertEqual(node.place_in(lines, types.SimpleNamespace(done=0, puts=0), journal), done)
+        for key in (b"l", b"receipt:" + b"\x0c" * 32):
+            with self.assertRaises(node.Refused):
+                node.place_in(lines, types.SimpleNamespace(done=0, puts=0), types.SimpleNamespace(puts=[own(key)]))
 
     def test_several_writes(self):
         writes = [f.Write(b"a", None, None), f.Write(b"b", f.sha256(b"2"), 1), f.Write(b"l", f.sha256(b""), 0)]

@@ -73,6 +73,10 @@ class Walks(InARoom):
         shown = [it for block in blocks_of("docs/TUTORIAL.md", "Two nodes and their files") for it in block.splitlines()]
         self.assertEqual((out, why), (shown, ""))
 
+    def test_the_settled_put_of_the_tutorial(self):
+        out, why = self.typed("examples/settled.sh")
+        self.assertEqual((out, why), (blocks_of("docs/TUTORIAL.md", "A put that is settled")[0].splitlines(), ""))
+
     def test_the_deletion_of_the_tutorial(self):
         block = blocks_of("docs/TUTORIAL.md", "Several keys, and a deletion")[0]
         events, printed = zip(*(re.split(r"\s{3,}", line) for line in block.splitlines()))

@@ -20,6 +20,7 @@ use Rattle.depot_model.specs.declared.bundle.Ending.{Ending}
 use Rattle.depot_model.specs.declared.bundle.Ending.TheVariants as ending
 use Rattle.depot_model.specs.Limits.{Limit, spent, tips, collides, full}
 use Rattle.depot_model.specs.Lines.{name_of_kind}
+use Rattle.depot_model.specs.Receipts.{NoReceipt, unknown, lacks_value}
 use Rattle.depot_model.specs.World.{Shown}
 use Rattle.depot_schedule.specs.declared.line_fault.LineFault.{LineFault}
 use Rattle.depot_schedule.specs.declared.line_fault.LineFault.TheVariants as line_fault
@@ -82,6 +83,18 @@ text_of_limit (spent n) = numbered (codes "Spent") n
 text_of_limit (tips n) = numbered (codes "Tips") n
 text_of_limit (collides id) = codes "Collides"
 text_of_limit (full f) = text_of_full f
+
+-- ---- receipts
+
+-- why no receipt is given, whatever the id
+abbrev pub text_of_no_receipt : NoReceipt → List ℕ
+text_of_no_receipt (unknown id) = codes "Unknown"
+text_of_no_receipt (lacks_value id) = codes "NoValue"
+
+-- whether enough nodes gave receipts
+abbrev pub name_of_settled : Bool → List ℕ
+name_of_settled true = codes "yes"
+name_of_settled false = codes "no"
 
 -- ---- writes and reads
 

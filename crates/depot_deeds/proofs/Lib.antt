@@ -1,4 +1,5 @@
 pub mod Answered
 pub mod FedStreams
 pub mod PutTexts
+pub mod ReceiptTexts
 pub mod ShownWrites

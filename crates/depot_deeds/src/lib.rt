@@ -4,7 +4,7 @@
 //! afterwards, the lines that tell of it, and the bytes that are handed out. A node answers a call (`depot_node`, `depot_gossip`); here
 //! that answer is printed, and the lines are the defined ones. Where the node's disk failed nothing is printed, and Memory is answered for want of memory alone.
 //!
-//! `puts`, `reads`, `exchanges` and `feeds` have the deeds by kind. Who plays schedules and who runs scripts print the same lines by these.
+//! `puts`, `reads`, `receipts`, `exchanges` and `feeds` have the deeds by kind. Who plays schedules and who runs scripts print the same lines by these.
 #![tactic(auto)]
 
 mod exchanges;
@@ -12,9 +12,11 @@ mod feeds;
 mod printed;
 mod puts;
 mod reads;
+mod receipts;
 
 pub use exchanges::{bundle_printed, hello_line};
 pub use feeds::{Fed, fed_printed, feed_all, feed_whole};
 pub use printed::{Printed, counted_line};
 pub use puts::put_printed;
 pub use reads::shown_line;
+pub use receipts::{has_receipts, receipt_printed, settled_line};

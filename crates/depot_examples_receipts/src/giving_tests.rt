@@ -1,82 +1,25 @@
-//! Who gives receipts, who doesn't, and what books know of them.
+//! A node that gives receipts, and what its book knows of them.
 
-use crate::two_nodes::{Plain, put, signed_put, started};
+use crate::one_node::{Plain, put, started};
 use depot_base::{Hash32, Ids, NodeId};
 use depot_model::Replica;
-use depot_node::{PutDone, Taken};
+use depot_node::PutDone;
 use depot_receipts::{Book, GiveError, give, receipt_key};
 use std::alloc::Global;
 use std::process::Abort;
 use std::test::Fail;
 
-/// What a node is asked.
+/// What a book knows of an id: how many updates it read, the number of the first holder, or 0 where there is none, and for how many
+/// holders, up to 3, the id is settled.
 #[derive(Clone, Copy, Debug, PartialEq, Eq)]
-enum Step {
-    /// A receipt.
-    Receipt,
-    /// To take the other's first statement, which is the put in the record of this place.
-    Take(u32),
-    /// To take the value.
-    Value,
-    /// What its book knows.
-    Book,
+struct Knowledge {
+    count: u32,
+    first: u16,
+    settled: u32,
 }
 
-/// What comes of it.
-#[derive(Clone, Copy, Debug, PartialEq, Eq)]
-enum Answer {
-    /// The number and the clock of a receipt.
-    Given(u32, u64),
-    /// The id is unknown, or its value isn't held.
-    Unknown,
-    NoValue,
-    /// No leaf is left behind so many statements.
-    Spent(u32),
-    /// The disk failed, now or before.
-    Disk,
-    Stopped,
-    /// Something new was taken.
-    New,
-    /// So many updates were read; the first holder is this node, or 0 where there is none; it is settled for so many.
-    Known(u32, u16, u32),
-    Other,
-}
-
-/// What node 1 (true) or node 2 is asked in turn about a put of node 1, and what comes of it.
-static STEPS: [(bool, Step, Answer); 11] = [
-    (false, Step::Receipt, Answer::Unknown),
-    (false, Step::Take(1), Answer::New),
-    (false, Step::Receipt, Answer::NoValue),
-    (false, Step::Value, Answer::New),
-    (false, Step::Receipt, Answer::Given(0, 2)),
-    (true, Step::Book, Answer::Known(1, 0, 0)),
-    (true, Step::Take(3), Answer::New),
-    (true, Step::Book, Answer::Known(2, 2, 1)),
-    (true, Step::Receipt, Answer::Given(1, 3)),
-    (true, Step::Book, Answer::Known(3, 1, 2)),
-    (false, Step::Book, Answer::Known(2, 2, 1)),
-];
-
-/// What node 1 puts under the key of a receipt in turn, or that it deletes the key; and whether it is a holder then.
-static PUTS: [(Option<&[u8]>, u16); 4] = [
-    (None, 0),
-    (Some(b"held or not"), 1),
-    (Some(b""), 1),
-    (None, 1),
-];
-
-/// An answer without the id that it carries.
-fn answer_of(given: Result<PutDone, GiveError>) -> Answer {
-    match given {
-        Ok(done) => Answer::Given(done.seq, done.clock),
-        Err(GiveError::Unknown(_)) => Answer::Unknown,
-        Err(GiveError::NoValue(_)) => Answer::NoValue,
-        Err(GiveError::Spent(count)) => Answer::Spent(count),
-        Err(GiveError::Disk) => Answer::Disk,
-        Err(GiveError::Stopped) => Answer::Stopped,
-        Err(_) => Answer::Other,
-    }
-}
+/// What the node puts under the key of a receipt in turn, or that it deletes the key; and whether it is a holder then.
+static PUTS: [(Option<&[u8]>, u16); 3] = [(None, 0), (Some(b"held or not"), 1), (None, 1)];
 
 /// Gives a receipt for one id.
 fn give_one(alloc: Global, node: &mut Plain, id: &Hash32) -> Result<PutDone, GiveError> {
@@ -85,9 +28,20 @@ fn give_one(alloc: Global, node: &mut Plain, id: &Hash32) -> Result<PutDone, Giv
     give(alloc, node, &ids)
 }
 
-/// Whether a text was taken as new.
-fn answer_to(taken: bool) -> Answer {
-    if taken { Answer::New } else { Answer::Other }
+/// What is answered where two ids are asked for that no update has.
+fn two_unknown(alloc: Global, node: &mut Plain) -> Result<PutDone, GiveError> {
+    let mut ids = Ids::new(alloc);
+    ids.push(Hash32::zeros())?;
+    ids.push(Hash32::new([255; 32]))?;
+    give(alloc, node, &ids)
+}
+
+/// The number of the statement that gives them, if they are given.
+fn seq_of(given: Result<PutDone, GiveError>) -> Option<u32> {
+    match given {
+        Ok(done) => Some(done.seq),
+        Err(_) => None,
+    }
 }
 
 /// A book that has read what a node accepted.
@@ -120,68 +74,33 @@ fn settled_up_to(book: &Book, id: &Hash32) -> u32 {
 }
 
 /// What a node's book knows of an id.
-fn known(alloc: Global, node: &Plain, id: &Hash32) -> Result<Answer, Fail> {
+fn known(alloc: Global, node: &Plain, id: &Hash32) -> Result<Knowledge, Fail> {
     let book = book_of(alloc, node)?;
-    Ok(Answer::Known(
-        book.count(),
-        first_of(book.holders(id)),
-        settled_up_to(&book, id),
-    ))
+    Ok(Knowledge {
+        count: book.count(),
+        first: first_of(book.holders(id)),
+        settled: settled_up_to(&book, id),
+    })
 }
 
-/// What comes of a step that a node takes, where the other is this one, of this number.
-fn comes_of(
-    alloc: Global,
-    node: &mut Plain,
-    other: &Plain,
-    number: u8,
-    id: &Hash32,
-    asked: Step,
-) -> Result<Answer, Fail> {
-    match asked {
-        Step::Receipt => Ok(answer_of(give_one(alloc, node, id))),
-        Step::Take(place) => {
-            let text = signed_put(alloc, other, number, place, 0)?;
-            Ok(answer_to(node.take_statement(text.as_slice()) == Ok(Taken::New)))
-        }
-        Step::Value => Ok(answer_to(node.take_value(b"a") == Ok(Taken::New))),
-        Step::Book => known(alloc, node, id),
-    }
-}
-
-/// What comes of a step of node 1 or node 2.
-fn turn(
-    alloc: Global,
-    one: &mut Plain,
-    two: &mut Plain,
-    id: &Hash32,
-    is_one: bool,
-    asked: Step,
-) -> Result<Answer, Fail> {
-    if is_one {
-        comes_of(alloc, one, two, 2, id, asked)
-    } else {
-        comes_of(alloc, two, one, 1, id, asked)
-    }
-}
-
-/// Node 1 puts a value, and both go through the steps.
-fn steps_go(rt: &impl Abort, alloc: Global, one: &mut Plain, two: &mut Plain) -> Result<(), Fail> {
+/// A receipt for a put, of which the book then knows; and none for two ids that no update has, of which the first is told.
+fn receipt_goes(rt: &impl Abort, alloc: Global, one: &mut Plain) -> Result<(), Fail> {
     let id = put(alloc, one, b"k", Some(b"a"))?.id;
-    for (is_one, asked, right) in STEPS.iter() {
-        assert!(rt;
-            turn(alloc, one, two, &id, *is_one, *asked)? == *right,
-            "{asked:?}"
-        );
-    }
+    assert!(rt; two_unknown(alloc, one) == Err(GiveError::Unknown(Hash32::zeros())));
+    assert!(rt; seq_of(give_one(alloc, one, &id)) == Some(1));
+    let right = Knowledge {
+        count: 2,
+        first: 1,
+        settled: 1,
+    };
+    assert!(rt; known(alloc, one, &id)? == right);
     Ok(())
 }
 
 #[test]
-fn a_receipt_is_given_once_the_value_is_held(rt: HostRuntime) -> Result<(), Fail> {
-    let mut one = started(rt.alloc(), 1, 0)?;
-    let mut two = started(rt.alloc(), 2, 0)?;
-    steps_go(&rt, rt.alloc(), &mut one, &mut two)
+fn a_node_gives_a_receipt_and_its_book_knows_of_it(rt: HostRuntime) -> Result<(), Fail> {
+    let mut one = started(rt.alloc())?;
+    receipt_goes(&rt, rt.alloc(), &mut one)
 }
 
 /// Whoever wrote the key with a value is a holder, once, and stays one.
@@ -192,7 +111,11 @@ fn puts_go(rt: &impl Abort, alloc: Global, one: &mut Plain) -> Result<(), Fail> 
     for (value, holder) in PUTS.iter() {
         put(alloc, one, key.bytes(), *value)?;
         count = count.saturating_add(1);
-        let right = Answer::Known(count, *holder, u32::from(*holder));
+        let right = Knowledge {
+            count,
+            first: *holder,
+            settled: u32::from(*holder),
+        };
         assert!(rt; known(alloc, one, &id)? == right, "{count}");
     }
     Ok(())
@@ -200,61 +123,6 @@ fn puts_go(rt: &impl Abort, alloc: Global, one: &mut Plain) -> Result<(), Fail> 
 
 #[test]
 fn a_holder_counts_once_and_stays_one(rt: HostRuntime) -> Result<(), Fail> {
-    let mut one = started(rt.alloc(), 1, 0)?;
+    let mut one = started(rt.alloc())?;
     puts_go(&rt, rt.alloc(), &mut one)
-}
-
-/// Asks a node that put a value for receipts, and each is answered so.
-fn answers_go(
-    rt: &impl Abort,
-    alloc: Global,
-    one: &mut Plain,
-    answers: &[Answer],
-) -> Result<(), Fail> {
-    let id = put(alloc, one, b"k", Some(b"a"))?.id;
-    for right in answers {
-        assert!(rt; answer_of(give_one(alloc, one, &id)) == *right, "{right:?}");
-    }
-    Ok(())
-}
-
-/// As many as there are leaves, and one more.
-static LEAVES: [Answer; 4] = [
-    Answer::Given(1, 2),
-    Answer::Given(2, 3),
-    Answer::Given(3, 4),
-    Answer::Spent(4),
-];
-
-#[test]
-fn the_limits_of_a_put_are_those_of_a_receipt(rt: HostRuntime) -> Result<(), Fail> {
-    let mut one = started(rt.alloc(), 1, 0)?;
-    answers_go(&rt, rt.alloc(), &mut one, &LEAVES)
-}
-
-/// One in which the disk fails, and one behind it.
-static FAILED: [Answer; 2] = [Answer::Disk, Answer::Stopped];
-
-#[test]
-fn a_failing_call_stops_the_node(rt: HostRuntime) -> Result<(), Fail> {
-    for failing in 13..17 {
-        let mut one = started(rt.alloc(), 1, failing)?;
-        answers_go(&rt, rt.alloc(), &mut one, &FAILED)?;
-    }
-    Ok(())
-}
-
-/// What is answered where two ids are asked for that no update has.
-fn two_unknown(alloc: Global, one: &mut Plain) -> Result<PutDone, GiveError> {
-    let mut ids = Ids::new(alloc);
-    ids.push(Hash32::zeros())?;
-    ids.push(Hash32::new([255; 32]))?;
-    give(alloc, one, &ids)
-}
-
-#[test]
-fn the_first_unknown_id_is_told(rt: HostRuntime) -> Result<(), Fail> {
-    let mut one = started(rt.alloc(), 1, 0)?;
-    assert!(rt; two_unknown(rt.alloc(), &mut one) == Err(GiveError::Unknown(Hash32::zeros())));
-    Ok(())
 }

@@ -7,8 +7,9 @@ use Rattle.depot_model.specs.Bundle.{Signs, BundleAnswer, bundled, bad_hello, ot
 use Rattle.depot_model.specs.Checks.{Setting}
 use Rattle.depot_model.specs.Limits.{Limit, limit_of_put}
 use Rattle.depot_model.specs.Own.{next_own, values_of}
+use Rattle.depot_model.specs.Receipts.{NoReceipt, no_receipt, receipt_changes}
 use Rattle.depot_model.specs.World.{Correct}
-use Rattle.depot_world.specs.Deeds.{idle, grown, put_by, bundle_with, bundle_by}
+use Rattle.depot_world.specs.Deeds.{idle, grown, put_by, receipt_with, receipt_by, settled_by, bundle_with, bundle_by}
 use Rattle.depot_world.specs.ScheduleStops.{Deed}
 
 -- a put reads nothing, whether it meets a limit or not
@@ -21,6 +22,19 @@ put_reads here c cs = by_limit (limit_of_put here c.journal cs) where
   ]).reads ≡ c.reads
   by_limit None = refl
   by_limit (Some limit) = refl
+
+-- nor do receipts, whether they are given or not
+pub receipt_reads : (here : Setting) (c : Correct) (ids : List (List ℕ)) → (receipt_by here c ids).reads ≡ c.reads
+unfolding receipt_by
+receipt_reads here c ids = by_why (no_receipt c.journal ids) where
+  by_why : (o : Option NoReceipt) → (receipt_with here c ids o).reads ≡ c.reads
+  by_why None = put_reads here c (receipt_changes ids)
+  by_why (Some why) = refl
+
+-- whether something is settled is told without a read
+pub settled_reads : (c : Correct) (id : List ℕ) (k : ℕ) → (settled_by c id k).reads ≡ c.reads
+unfolding settled_by
+settled_reads c id k = refl
 
 -- nor does a bundle, whatever is answered
 pub bundle_reads : (here : Setting) (sign : Signs) (c : Correct) (text : List ℕ) → (bundle_by here sign c text).reads ≡ c.reads

@@ -13,6 +13,8 @@ use Rattle.depot_model.specs.Judgement.{first_failed_point, verdict_of}
 use Rattle.depot_model.specs.Lines.{text_of_point, text_of_verdict}
 use Rattle.depot_answers.specs.Answers.{spaced}
 use Rattle.depot_model.specs.Lists.{IsIn}
+use Rattle.depot_model.specs.Texts.{id_of_update}
+use Rattle.depot_model.specs.Vouching.{rising}
 use Rattle.depot_model.specs.World.{Correct, Read}
 use Rattle.depot_model.specs.declared.judgement.JudgeError.{JudgeError}
 use Rattle.depot_model.proofs.Members.{from_map, in_map, all_at}
@@ -23,15 +25,15 @@ use Rattle.depot_schedule.specs.declared.event.Event.TheVariants as event
 use Rattle.depot_schedule.specs.declared.member.Member.{Member}
 use Rattle.depot_schedule.specs.declared.schedule.Schedule.{Schedule}
 use Rattle.depot_examples_worlds.specs.Asked.{key_read, keys_read, verdict_on, verdicts_on}
-use Rattle.depot_world.specs.Deeds.{put_by, get_by, hello_by, bundle_by, give_by, restart_by}
-use Rattle.depot_world.specs.FaultySigning.{updated, proof_in}
-use Rattle.depot_world.specs.Run.{Run, Station, born, run_of, world_by, station_in, bytes_of, with_station}
+use Rattle.depot_world.specs.Deeds.{put_by, get_by, receipt_by, settled_by, hello_by, bundle_by, give_by, restart_by}
+use Rattle.depot_world.specs.FaultySigning.{all_referred, updated, proof_in}
+use Rattle.depot_world.specs.Run.{Run, Station, born, run_of, world_by, station_in, bytes_of, referred, with_station}
 use Rattle.depot_world.specs.ScheduleStops.{Deed, went}
 use Rattle.depot_world.specs.Suite.{Stage, stage_of, stands_on, signs_on}
-use Rattle.depot_world.specs.Transcript.{Done, done_by_node, by_node, armed_at, done_by_update, judged_with, done, run_after, world_of}
+use Rattle.depot_world.specs.Transcript.{Done, done_by_node, by_node, armed_at, receipt_for, settled_for, done_by_update, judged_with, done, run_after, world_of}
 use Rattle.depot_world.proofs.GoodRuns.{numbers_of}
 use Rattle.depot_world.proofs.GoodWorlds.{schedule_makes_world}
-use Rattle.depot_examples_worlds.proofs.DeedReads.{put_reads, bundle_reads}
+use Rattle.depot_examples_worlds.proofs.DeedReads.{put_reads, receipt_reads, settled_reads, bundle_reads}
 use Rattle.depot_examples_worlds.proofs.StationReads.{keys_of, Waits, HasRead, no_keys, no_keys_either, Follows, stays, node_follows, stop_follows}
 
 -- ---- the reads of each event
@@ -70,6 +72,8 @@ node_in (event.Bundle node hello label) = node
 node_in (event.Give node label size) = node
 node_in (event.Restart node) = node
 node_in (event.Stop node call image) = node
+node_in (event.Receipt node refs) = node
+node_in (event.Settled node reference k) = node
 node_in other = 0
 
 -- the keys that an event reads, whoever reads them
@@ -105,6 +109,8 @@ stops_later s (event.Cut label source start count) fits = tt
 stops_later s (event.Flip label source place) fits = tt
 stops_later s (event.Join label first second) fits = tt
 stops_later s (event.Stop node call image) fits = stop_is s node call image fits
+stops_later s (event.Receipt node refs) fits = tt
+stops_later s (event.Settled node reference k) fits = tt
 
 update_stays : (sign : Signs) (run : Run) (label : List ℕ) (values : List (List ℕ)) (o : Option Update) → run.stations ≡ (done_by_update sign run label values o).run.stations
 update_stays sign run label values None = refl
@@ -117,6 +123,18 @@ judge_stays stage run (Ok p) = by_point (first_failed_point stage.suite.verifies
       → run.stations ≡ (elim o as (λ x. Done) [ Some f ↦ record { answer = spaced (text_of_point f); behind = []; run = run } | None ↦ record { answer = spaced (text_of_verdict (verdict_of p)); behind = []; run = record run { judged = run.judged ++ p ∷ [] } } ]).run.stations
   by_point (Some f) = refl
   by_point None = refl
+
+-- receipts, and whether enough were given, for what references name or for nothing
+
+receipts_follow : (stage : Stage) (run : Run) (node : ℕ) (o : Option (List Update)) → ((s : Station) → IsIn s run.stations → Waits s) → Follows run (receipt_for stage run node o).run node []
+receipts_follow stage run node None all = stays run _ node refl
+receipts_follow stage run node (Some us) all =
+    let ids = rising (map id_of_update us) in
+    node_follows run node None (λ s. receipt_by (stands_on stage node) s.correct ids) [] all (λ s. silent s _ (receipt_reads (stands_on stage node) s.correct ids)) (λ s. inl refl)
+
+settled_follows : (run : Run) (node k : ℕ) (o : Option Update) → ((s : Station) → IsIn s run.stations → Waits s) → Follows run (settled_for run node k o).run node []
+settled_follows run node k None all = stays run _ node refl
+settled_follows run node k (Some u) all = node_follows run node None (λ s. settled_by s.correct (id_of_update u) k) [] all (λ s. silent s _ (settled_reads s.correct (id_of_update u) k)) (λ s. inl refl)
 
 event_follows : (stage : Stage) (run : Run) (e : Event) → ((s : Station) → IsIn s run.stations → Waits s) → StopsLater e → Follows run (done stage run e).run (node_in e) (keys_in e)
 unfolding done
@@ -138,6 +156,8 @@ event_follows stage run (event.Cut label source start count) all later = stays r
 event_follows stage run (event.Flip label source place) all later = stays run _ 0 refl
 event_follows stage run (event.Join label first second) all later = stays run _ 0 refl
 event_follows stage run (event.Stop node call image) all later = stop_follows run node call image later
+event_follows stage run (event.Receipt node refs) all later = receipts_follow stage run node (all_referred run refs) all
+event_follows stage run (event.Settled node reference k) all later = settled_follows run node k (referred run reference) all
 
 -- ---- all events
 
@@ -164,6 +184,8 @@ read_here node (event.Cut label source start count) = none (eqb 0 node)
 read_here node (event.Flip label source place) = none (eqb 0 node)
 read_here node (event.Join label first second) = none (eqb 0 node)
 read_here node (event.Stop n call image) = none (eqb n node)
+read_here node (event.Receipt n refs) = none (eqb n node)
+read_here node (event.Settled n reference k) = none (eqb n node)
 
 record After (stage : Stage) (run : Run) (es : List Event) (node : ℕ) (keys : List (List ℕ)) : Type 0 where
   pub numbers : numbers_of (run_after stage run es).stations ≡ numbers_of run.stations
@@ -284,6 +306,14 @@ judge_judged stage run (Ok p) = by_point (first_failed_point stage.suite.verifie
   by_point (Some f) = sym (append-nil run.judged)
   by_point None = refl
 
+receipts_judged : (stage : Stage) (run : Run) (node : ℕ) (o : Option (List Update)) → (receipt_for stage run node o).run.judged ≡ run.judged ++ []
+receipts_judged stage run node None = sym (append-nil run.judged)
+receipts_judged stage run node (Some us) = node_judged run node None _
+
+settled_judged : (run : Run) (node k : ℕ) (o : Option Update) → (settled_for run node k o).run.judged ≡ run.judged ++ []
+settled_judged run node k None = sym (append-nil run.judged)
+settled_judged run node k (Some u) = node_judged run node None _
+
 event_judges : (stage : Stage) (run : Run) (e : Event) → (done stage run e).run.judged ≡ run.judged ++ verdict_on stage run e
 unfolding done
 event_judges stage run (event.Put node key value) = node_judged run node None _
@@ -304,6 +334,8 @@ event_judges stage run (event.Cut label source start count) = sym (append-nil ru
 event_judges stage run (event.Flip label source place) = sym (append-nil run.judged)
 event_judges stage run (event.Join label first second) = sym (append-nil run.judged)
 event_judges stage run (event.Stop node call image) = stop_judged run node call image
+event_judges stage run (event.Receipt node refs) = receipts_judged stage run node (all_referred run refs)
+event_judges stage run (event.Settled node reference k) = settled_judged run node k (referred run reference)
 
 events_judge : (stage : Stage) (run : Run) (es : List Event) → (run_after stage run es).judged ≡ run.judged ++ verdicts_on stage run es
 unfolding run_after

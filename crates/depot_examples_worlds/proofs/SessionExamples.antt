@@ -21,13 +21,14 @@ use Rattle.depot_model.specs.Own.{precedes_named, next_entries, next_own, leaf_c
 use Rattle.depot_model.specs.Plain.{plain_root, plain_signature, plain_verifies}
 use Rattle.depot_model.specs.Records.{birth, own_put, tagged, record_text, text_of_record}
 use Rattle.depot_model.specs.Room.{foreign_leaves, full_with}
+use Rattle.depot_model.specs.Receipts.{receipt_key, put_number, numbers_rising, no_receipt}
 use Rattle.depot_model.specs.Roster.{key_of, is_signed}
 use Rattle.depot_model.specs.Taking.{given_as, answer_to_text, growth_of_text}
 use Rattle.depot_model.specs.Texts.{update_fields, voucher_fields, update_body, voucher_body, statement, signed, proof, roster, id_of_update, id_of_statement, hash_of_roster}
 use Rattle.depot_model.specs.Vouching.{put_rising, rising, groups_behind, groups_of, new_vouchers, limit_of_new, limit_of_vouchers}
 use Rattle.depot_schedule.specs.Vocabulary.{named_by}
 use Rattle.depot_answers.specs.Answers.{text_of_check, text_of_limit, text_of_report}
-use Rattle.depot_world.specs.Deeds.{put_by, get_by, hello_by, bundle_by, give_by, restart_by}
+use Rattle.depot_world.specs.Deeds.{put_by, get_by, receipt_by, settled_by, hello_by, bundle_by, give_by, restart_by}
 use Rattle.depot_model.specs.LatestList.{latest_in}
 use Rattle.depot_model.specs.Insertion.{insert_by, order_by}
 use Rattle.sha2.specs.Sha256.{sha256, first_words, schedule, rounds, compress, hash_after, digest_bytes}
@@ -48,7 +49,7 @@ use Rattle.depot_base.specs.Writes.{one_change}
 use Rattle.depot_base.specs.File.{IsFileOf}
 use Rattle.depot_laws.proofs.TwoNodes.{all_verify, node, newborn, second_born}
 use Rattle.depot_outside.specs.Told.{Disks, Shelves, Sinks, Wrote}
-use Rattle.depot_script.specs.Commands.{put as put_command, puts as puts_command, get as get_command, hello as hello_command, bundle as bundle_command, take as take_command}
+use Rattle.depot_script.specs.Commands.{put as put_command, puts as puts_command, get as get_command, hello as hello_command, bundle as bundle_command, take as take_command, receipt as receipt_command, settled as settled_command}
 use Rattle.depot_script.specs.declared.command.Command.{Command}
 use Rattle.depot_script.specs.declared.command.Command.TheVariants as command
 use Rattle.depot_session.specs.declared.ending.Ending.{Ending}
@@ -125,6 +126,26 @@ record Several : Type 0 where
 several_at_once : Several
 unfolding answers_of step_of put_command puts_command get_command hello_command bundle_command take_command rest_of numeral number bytes_of inner list_of dep roster_entry signed_with is_covered candidates records_where values_behind candidate_parcels parcels fitting sent_for sent_foreign unvouched bundle_frames bundle_of bundle_answer sight content_checks opponent forked refused_as_convicted statement_checks proof_checks first_failed_check is_known answer_to due named_opponent added growth is_of_kind contradicts kind_of proof_of given_by take_frame fed_frame fed_byte fed ending_of report_of frame_at hello_leaf hello convicted_nodes lacking record_place hello_of leaves_of put_by_id by_id history_text history_hash first_values has_id named prev_of is_convicted is_vouched holds_hash holds is_wanted points spent_by tips_of collides_by limit_of_own limit_of_put past precedes_named next_entries next_own leaf_count plain_root plain_signature plain_verifies birth own_put tagged record_text foreign_leaves full_with key_of is_signed given_as answer_to_text growth_of_text update_fields voucher_fields update_body voucher_body statement signed proof roster id_of_update id_of_statement hash_of_roster put_rising rising groups_behind groups_of new_vouchers limit_of_new limit_of_vouchers named_by text_of_check text_of_limit text_of_report put_by get_by hello_by bundle_by give_by restart_by insert_by order_by latest_in sha256 first_words schedule rounds compress hash_after digest_bytes encode_with decode_pairs digits seen_under write marked is_update_text is_hollow
 several_at_once = record { ends = refl; records = refl; lines = refl }
+
+-- receipts, and whether a put is settled
+
+-- the id of the node's first put
+abbrev first_id : List ℕ
+first_id = id_of_update (next_own 1 (born 1) (one_change k (97 ∷ [])))
+
+-- it gives none for what it hasn't accepted, and then one for its own put
+abbrev received : Answers
+received = answers (command.Receipt first_id ∷ command.Put k (97 ∷ []) ∷ command.Settled first_id 1 ∷ command.Receipt first_id ∷ command.Settled first_id 1 ∷ command.Settled first_id 2 ∷ [])
+
+record Received : Type 0 where
+  pub ends : received.ending ≡ ending.Done
+  -- one record a put, and none where no receipt is given
+  pub records : length received.session.correct.journal ≡ 3
+  pub lines : received.text ≡ codes "receipt df4be50b7bd1dc07fc67b2d1e8967be7e022e474f81cb5102039c1a6ecc0666b -> Unknown\nput 6b -> 0/1\nsettled df4be50b7bd1dc07fc67b2d1e8967be7e022e474f81cb5102039c1a6ecc0666b 1 -> no\nreceipt df4be50b7bd1dc07fc67b2d1e8967be7e022e474f81cb5102039c1a6ecc0666b -> 1/2\nsettled df4be50b7bd1dc07fc67b2d1e8967be7e022e474f81cb5102039c1a6ecc0666b 1 -> yes\nsettled df4be50b7bd1dc07fc67b2d1e8967be7e022e474f81cb5102039c1a6ecc0666b 2 -> no\n"
+
+received_all : Received
+unfolding answers_of step_of put_command receipt_command settled_command get_command hello_command bundle_command take_command rest_of numeral number bytes_of inner list_of dep roster_entry signed_with is_covered candidates records_where values_behind candidate_parcels parcels fitting sent_for sent_foreign unvouched bundle_frames bundle_of bundle_answer sight content_checks opponent forked refused_as_convicted statement_checks proof_checks first_failed_check is_known answer_to due named_opponent added growth is_of_kind contradicts kind_of proof_of given_by take_frame fed_frame fed_byte fed ending_of report_of frame_at hello_leaf hello convicted_nodes lacking record_place hello_of leaves_of put_by_id by_id history_text history_hash first_values has_id named prev_of is_convicted is_vouched holds_hash holds is_wanted points spent_by tips_of collides_by limit_of_own limit_of_put past precedes_named next_entries next_own leaf_count plain_root plain_signature plain_verifies birth own_put tagged record_text foreign_leaves full_with key_of is_signed given_as answer_to_text growth_of_text update_fields voucher_fields update_body voucher_body statement signed proof roster id_of_update id_of_statement hash_of_roster put_rising rising groups_behind groups_of new_vouchers limit_of_new limit_of_vouchers named_by text_of_check text_of_limit text_of_report put_by receipt_by settled_by receipt_key put_number numbers_rising no_receipt get_by hello_by bundle_by give_by restart_by insert_by order_by latest_in sha256 first_words schedule rounds compress hash_after digest_bytes encode_with decode_pairs digits seen_under write marked is_update_text is_hollow
+received_all = record { ends = refl; records = refl; lines = refl }
 
 -- ---- how a script ends
 

@@ -12,7 +12,7 @@ use Rattle.depot_session.specs.Sessions.{Session, Step, Answers, step_of, follow
 use Rattle.depot_world.specs.Deeds.{get_by, bundle_by, give_by, hello_by}
 use Rattle.depot_world.specs.ScheduleStops.{Deed}
 use Rattle.depot_examples_worlds.specs.Commanded.{key_got, keys_got, going_on, carried_out_of}
-use Rattle.depot_examples_worlds.proofs.DeedReads.{put_reads, bundle_reads}
+use Rattle.depot_examples_worlds.proofs.DeedReads.{put_reads, receipt_reads, settled_reads, bundle_reads}
 
 -- the keys of the reads of a session's node
 abbrev keys_at : Session → List (List ℕ)
@@ -55,6 +55,8 @@ step_reads here sign s (command.Get key) = get_step s key
 step_reads here sign s (command.Hello file) = hello_step here s
 step_reads here sign s (command.Bundle hello file) = bundle_to_keeps here sign s hello file (s.files hello)
 step_reads here sign s (command.Take file) = take_keeps here s file (s.files file)
+step_reads here sign s (command.Receipt id) = silent s _ (receipt_reads here s.correct (id ∷ []))
+step_reads here sign s (command.Settled id k) = silent s _ (settled_reads s.correct id k)
 
 -- ---- a script
 

@@ -14,11 +14,13 @@ use Rattle.depot_model.specs.Limits.{IsCutShort}
 use Rattle.depot_model.specs.Stops.{Lasts}
 use Rattle.depot_model.specs.Lawful.{IsLawful, is_empty}
 use Rattle.depot_model.specs.Frames.{Frame}
+use Rattle.depot_model.specs.Causality.{puts_of}
 use Rattle.depot_model.specs.Feeding.{take_frame, given_by}
 use Rattle.depot_model.specs.Taking.{as_proof, as_statement, as_value, Outcome, outcome_within, outcome_of, appended_by, growth_of_text}
 use Rattle.depot_laws.specs.Given.{HasText}
 use Rattle.depot_laws.proofs.Growing.{grown_is_lawful}
 use Rattle.depot_laws.proofs.LawfulFeeds.{given_has_text}
+use Rattle.depot_laws.proofs.TrueReceipts.{growth_puts_none, silent_is_true}
 use Rattle.depot_feeds.specs.NodeCalls.{Answers, told, says_disk, says_stopped}
 use Rattle.depot_feeds.specs.Lasting.{IsToAppend, LastsIn}
 use Rattle.depot_feeds.proofs.LastingStreams.{all_of, cut_of, to_append, none_in, IsPart}
@@ -37,6 +39,21 @@ outcome_is_lawful here J (Ok x) l some fits = by_room (full_by here.me J (growth
 frame_is_lawful : (here : Setting) (J : List Record) (f : Frame) → IsLawful here J → is_empty J ≡ false → IsBytes f.payload → IsLawful here (J ++ appended_by (take_frame here J f))
 unfolding take_frame
 frame_is_lawful here J f l some bytes = outcome_is_lawful here J (given_by f) l some (λ x e. given_has_text f x bytes e)
+
+-- ---- it puts nothing
+
+-- what is appended for an outcome puts nothing
+outcome_puts_none : (here : Setting) (J : List Record) (r : Result Given ℕ) → puts_of (appended_by (outcome_of here J r)) ≡ []
+outcome_puts_none here J (Err at) = refl
+outcome_puts_none here J (Ok x) = by_room (full_by here.me J (growth here J x)) where
+  by_room : (o : Option Full) → puts_of (appended_by (outcome_within o (answer_to here J x) (growth here J x))) ≡ []
+  by_room None = growth_puts_none here J x
+  by_room (Some what) = refl
+
+-- nor does what a frame brings
+frame_puts_none : (here : Setting) (J : List Record) (f : Frame) → puts_of (appended_by (take_frame here J f)) ≡ []
+unfolding take_frame
+frame_puts_none here J f = outcome_puts_none here J (given_by f)
 
 -- ---- it was appended, or a front of it
 
@@ -84,7 +101,7 @@ brought_in : {N : Type 0} {tells stopped : N → Bool} {records : N → List Rec
 brought_in {records = records} here f r old new more brings l some bytes runs answers room lasts = record {
   appends = more;
   is = subst (λ (x : List Record). IsToAppend here (records old) x (records new) (says_disk (told r))) (sym brings)
-      (to_append here (records old) _ (records new) (says_disk (told r)) (frame_is_lawful here (records old) f l some bytes) (outcome_part (take_frame here (records old) f) (records old) (records new) r runs room answers));
+      (to_append here (records old) _ (records new) (says_disk (told r)) (frame_is_lawful here (records old) f l some bytes) (silent_is_true (records old) _ (frame_puts_none here (records old) f)) (outcome_part (take_frame here (records old) f) (records old) (records new) r runs room answers));
   lasts = lasts;
 }
 

@@ -7,6 +7,7 @@ use Rattle.depot_base.specs.declared.record.Record.{Record}
 use Rattle.depot_model.specs.Checks.{Setting}
 use Rattle.depot_model.specs.Lawful.{IsLawful}
 use Rattle.depot_model.specs.Limits.{IsCutShort}
+use Rattle.depot_model.specs.Receipts.{AreReceiptsTrue}
 use Rattle.depot_model.specs.Stops.{HasRecords, HasFront, LeavesAll, Lasts}
 use Rattle.depot_feeds.specs.Lasting.{IsToAppend, LastsIn}
 use Rattle.depot_model.proofs.StopLaws.{idle_lasts}
@@ -27,9 +28,9 @@ all_of J new then failed grown = record { count = length new; front = grown ∙ 
 pub cut_of : (J new then : List Record) → IsCutShort J new then → IsPart J new then true
 cut_of J new then cut = record { count = cut.count; front = cut.grown; all = λ e. absurd cc }
 
--- what was to be appended, with which the journal is lawful
-pub to_append : (here : Setting) (J new then : List Record) (failed : Bool) → IsLawful here (J ++ new) → IsPart J new then failed → IsToAppend here J new then failed
-to_append here J new then failed lawful part = record { lawful = lawful; count = part.count; front = part.front; all = part.all }
+-- what was to be appended, with which the journal is lawful and its receipts are true
+pub to_append : (here : Setting) (J new then : List Record) (failed : Bool) → IsLawful here (J ++ new) → (AreReceiptsTrue J → AreReceiptsTrue (J ++ new)) → IsPart J new then failed → IsToAppend here J new then failed
+to_append here J new then failed lawful receipts part = record { lawful = lawful; receipts = receipts; count = part.count; front = part.front; all = part.all }
 
 -- ---- a call that does nothing
 
@@ -40,7 +41,7 @@ none_in {records = records} here failed old new lawful same lasts =
     let nil : records old ≡ records old ++ [] = sym (append-nil (records old)) in
     record {
       appends = [];
-      is = to_append here (records old) [] (records new) failed (subst (λ (K : List Record). IsLawful here K) nil lawful) (all_of (records old) [] (records new) failed (same ∙ nil));
+      is = to_append here (records old) [] (records new) failed (subst (λ (K : List Record). IsLawful here K) nil lawful) (subst AreReceiptsTrue nil) (all_of (records old) [] (records new) failed (same ∙ nil));
       lasts = lasts;
     }
 
@@ -80,6 +81,7 @@ both_to_append here there failed J K L a b stays one two =
     let behind : (x : List Record) → K ++ x ≡ J ++ (a ++ x) = λ x. ap (λ (y : List Record). y ++ x) grown ∙ append_assoc J a x in
     record {
       lawful = subst (λ (x : List Record). IsLawful here x) (behind b) (subst (λ (h : Setting). IsLawful h (K ++ b)) stays two.lawful);
+      receipts = λ a_true. subst AreReceiptsTrue (behind b) (two.receipts (subst AreReceiptsTrue (sym grown) (one.receipts a_true)));
       count = length a + two.count;
       front = two.front ∙ ap (λ (x : List Record). x ++ take two.count b) grown ∙ so_many_more J a b two.count;
       all = λ whole. two.all whole ∙ behind b;

@@ -6,11 +6,14 @@ use Rattle.depot_base.specs.declared.record.Record.{Record}
 use Rattle.depot_model.specs.Checks.{Setting}
 use Rattle.depot_model.specs.Feeding.{Feeding, fed}
 use Rattle.depot_model.specs.Lawful.{IsLawful}
+use Rattle.depot_model.specs.Receipts.{AreReceiptsTrue}
 use Rattle.depot_model.specs.Stops.{CallsDisk, Lasts}
 
--- The call was to append these, with which the journal is lawful. It has appended them all, or, where the disk failed, a front of them.
+-- The call was to append these, with which the journal is lawful, and its receipts stay true. It has appended them all, or, where the disk
+-- failed, a front of them.
 pub record IsToAppend (here : Setting) (J new then : List Record) (failed : Bool) : Type 0 where
   pub lawful : IsLawful here (J ++ new)
+  pub receipts : AreReceiptsTrue J → AreReceiptsTrue (J ++ new)
   pub count : ℕ
   pub front : then ≡ J ++ take count new
   pub all : failed ≡ false → then ≡ J ++ new

@@ -20,6 +20,7 @@ use Rattle.depot_gossip.specs.Bundling.{finds_disk, journaled_for}
 use Rattle.depot_offers.specs.Preparing.{IsPrepared}
 use Rattle.depot_feeds.specs.Lasting.{LastsIn}
 use Rattle.depot_feeds.proofs.LastingStreams.{all_of, cut_of, none_in, to_append, lasts_longer, lasts_alike, IsPart}
+use Rattle.depot_laws.proofs.TrueReceipts.{silent_is_true, vouchers_put_none}
 use Rattle.depot_gossip.proofs.StreamLaws.{same_fault}
 use Rattle.depot_gossip.proofs.ToldLaws.{bundle_is_lawful}
 
@@ -36,7 +37,7 @@ part_in : {N : Type 0} {tells stopped : N → Bool} {records : N → List Record
     → IsPart (records old) (records_of (new_vouchers here.me (records old) p.unvouched)) (records new) failed → Lasts tells stopped records moment left_since may_leave old new (records_of (new_vouchers here.me (records old) p.unvouched)) → LastsIn tells stopped records moment left_since may_leave here failed old new
 part_in {records = records} here sign ran text p failed old new l some is none part lasts = record {
   appends = records_of (new_vouchers here.me (records old) p.unvouched);
-  is = to_append here (records old) _ (records new) failed (vouchers_are_lawful here sign (records old) ran text p l some is none) part;
+  is = to_append here (records old) _ (records new) failed (vouchers_are_lawful here sign (records old) ran text p l some is none) (silent_is_true (records old) _ (vouchers_put_none (new_vouchers here.me (records old) p.unvouched))) part;
   lasts = lasts;
 }
 

@@ -45,6 +45,7 @@ pub mod Parcels
 pub mod Meetings
 pub mod Joining
 pub mod HeldValues
+pub mod HeldByHash
 pub mod Arrivals
 pub mod PlainFrames
 pub mod Carrying

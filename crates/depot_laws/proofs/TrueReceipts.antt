@@ -1,12 +1,14 @@
 -- What keeps the receipts of a journal true: each front of it, and each growth but an own put of a receipt that isn't due.
 use Rattle.std.proofs.Common.{◌≡◌, ℕ, ◌==◌, ◌&&◌, Bool, true, false, not, cond, List, [], ◌∷◌, ◌++◌, length, take, drop, Option, Some, None, refl, sym, ap, subst, ◌∙◌, inl, inr, append_assoc, arith, eq-eqb, eqb-true, ◌⊎◌}
 use Rattle.std.specs.Prelude.{codes, find, option_map}
-use Rattle.std.specs.List.{list_all}
+use Rattle.std.specs.List.{list_all, AllByRecursion}
 use Rattle.std.specs.Str.{bytes_eq}
 use Rattle.std.proofs.lemmas.Grind.{flat_map-append}
 use Rattle.std.proofs.lemmas.List.{append-nil, take-append-drop}
 use Rattle.std.proofs.lemmas.Slice.Eq.{bytes_eq-Decides}
 use Rattle.std.proofs.lemmas.Bool.{and_parts, and_from, and_left, and_right, both_ways, true_from_ne_false}
+use Rattle.depot_base.specs.Pairs.{AllPairsByRecursion}
+use Rattle.depot_base.specs.Parts.{is_below}
 use Rattle.depot_base.specs.declared.update.Update.{Update}
 use Rattle.depot_base.specs.declared.voucher.Voucher.{Voucher}
 use Rattle.depot_base.specs.declared.record.Record.{Record}
@@ -31,7 +33,7 @@ use Rattle.depot_model.proofs.Members.{any_from}
 use Rattle.depot_model.proofs.NamedIds.{has_id_to}
 use Rattle.depot_laws.proofs.Splits.{flat_left, place_of, none_splits, from_end}
 use Rattle.depot_laws.proofs.Puts.{put_by, put_at}
-use Rattle.depot_model.specs.Receipts.{receipt_key, receipt_of, gives_receipt, HoldsAllOf, AreReceiptsTrue, unknown, lacks_value, lacks_one, no_receipt}
+use Rattle.depot_model.specs.Receipts.{receipt_key, receipt_of, receipt_changes, gives_receipt, HoldsAllOf, AreReceiptsTrue, unknown, lacks_value, lacks_one, no_receipt}
 use Rattle.depot_model.specs.Contents.{keys_written}
 use Rattle.depot_laws.proofs.ReadTestLaws.{written_key}
 use Rattle.depot_laws.proofs.HeldStays.{holds_stays}
@@ -44,6 +46,19 @@ unfolding receipt_of receipt_key
 key_read h long =
     let size : (length (codes "receipt:" ++ h) == 40) ≡ true = eq-eqb _ 40 (omega (arith, long)) in
     rw size refl
+
+-- the keys of receipts rise as the ids do
+key_below : (g h : List ℕ) → is_below g h ≡ true → is_below (receipt_key g) (receipt_key h) ≡ true
+unfolding receipt_key
+key_below g h e = e
+
+keys_above : (g : List ℕ) (ids : List (List ℕ)) → AllByRecursion (λ h. is_below g h ≡ true) ids → AllByRecursion (λ c. is_below (receipt_key g) c.key ≡ true) (receipt_changes ids)
+keys_above g [] all = tt
+keys_above g (h ∷ ids) all = (key_below g h all.0, keys_above g ids all.1)
+
+pub keys_rise : (ids : List (List ℕ)) → AllPairsByRecursion (λ g h. is_below g h ≡ true) ids → AllPairsByRecursion (λ c d. is_below c.key d.key ≡ true) (receipt_changes ids)
+keys_rise [] rises = tt
+keys_rise (h ∷ ids) rises = (keys_above h ids rises.0, keys_rise ids rises.1)
 
 chosen : (b : Bool) (h k : List ℕ) → when b h ≡ Some k → (b ≡ true) × (h ≡ k)
 chosen true h k e = (refl, cc)

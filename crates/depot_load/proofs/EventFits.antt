@@ -4,6 +4,7 @@ use Rattle.std.specs.Int.{w16, w32}
 use Rattle.std.proofs.lemmas.Bool.{lt-ltb}
 use Rattle.std.proofs.lemmas.List.{append-nil}
 use Rattle.depot_base.specs.Cursor.{numeral}
+use Rattle.depot_model.specs.Receipts.{receipt_of}
 use Rattle.depot_schedule.specs.declared.event.Event.{Event}
 use Rattle.depot_schedule.specs.declared.event.Event.TheVariants.{Put, Get, Hello, Bundle, Give, Restart, Update}
 use Rattle.depot_schedule.specs.declared.event.HistoryWord.TheVariants.{Right}
@@ -11,7 +12,7 @@ use Rattle.depot_schedule.specs.EventLines.{put, get, hello, bundle, give, resta
 use Rattle.depot_schedule.specs.declared.verb.Made.{Made}
 use Rattle.depot_schedule.specs.declared.verb.Wanted.TheVariants as wanted
 use Rattle.depot_schedule.specs.Spelling.{is_letter}
-use Rattle.depot_schedule.specs.Vocabulary.{correct, key, value, new_label, made_label, meets, is_correct, named_by}
+use Rattle.depot_schedule.specs.Vocabulary.{correct, key, put_key, value, new_label, made_label, meets, is_correct, named_by}
 use Rattle.depot_schedule.specs.Schedules.{FitsEvent, FitEvents}
 use Rattle.depot_world.proofs.OnlyBytes.{by_places, only_numeral}
 use Rattle.depot_load.specs.Loads.{key_of, value_of, label_of, members, faulty_node, schedule_with, round_update}
@@ -47,6 +48,11 @@ key-fits : (es : List Event) (n : ℕ) → key.fits (schedule_with es) (key_of n
 unfolding numeral
 key-fits es n = (refl, by_places (numeral w16 n) (only_numeral w16 n))
 
+-- it has no receipt's form
+put-key-fits : (es : List Event) (n : ℕ) → put_key.fits (schedule_with es) (key_of n)
+unfolding numeral receipt_of
+put-key-fits es n = (key-fits es n, refl)
+
 value-fits : (es : List Event) (t : ℕ) → value.fits (schedule_with es) (value_of t)
 unfolding numeral
 value-fits es t = (refl, by_places (numeral w32 t) (only_numeral w32 t))
@@ -66,7 +72,7 @@ made-fits es c n letter small is = (is_label_of c n letter small, is_made (named
 
 pub put-fits : (es : List Event) (v n t : ℕ) → IsCorrect v → FitsEvent (schedule_with es) (Put v (key_of n) (value_of t))
 unfolding put
-put-fits es v n t node = (node-fits es v node, (key-fits es n, (value-fits es t, refl)))
+put-fits es v n t node = (node-fits es v node, (put-key-fits es n, (value-fits es t, refl)))
 
 pub get-fits : (es : List Event) (v n : ℕ) → IsCorrect v → FitsEvent (schedule_with es) (Get v (key_of n))
 unfolding get

@@ -1,8 +1,9 @@
 -- Receipts: what a node says by signature that it holds, and whether that is true.
-use Rattle.std.specs.Prelude.{◌≡◌, ℕ, List, [], ◌∷◌, ◌++◌, length, take, drop, map, filter, find, Bool, true, not, ◌&&◌, ◌==◌, nat_lt, Option, is_some, option_map, codes, if◌then◌else◌}
+use Rattle.std.specs.Prelude.{◌≡◌, ℕ, List, [], ◌∷◌, ◌++◌, length, take, drop, map, filter, find, Bool, true, not, ◌&&◌, ◌==◌, nat_lt, Option, Some, is_some, option_map, codes, if◌then◌else◌}
 use Rattle.std.specs.List.{list_any, list_all}
 use Rattle.std.specs.Str.{bytes_eq}
 use Rattle.depot_base.specs.declared.update.Update.{Update}
+use Rattle.depot_base.specs.declared.write.Change.{Change}
 use Rattle.depot_base.specs.declared.record.Record.{Record}
 use Rattle.depot_model.specs.Lists.{IsIn, when, first}
 use Rattle.depot_model.specs.Texts.{id_of_update}
@@ -21,6 +22,10 @@ receipt_key h = codes "receipt:" ++ h
 -- the id that a key is a receipt for; none where the key has another form
 unfoldable pub receipt_of : List ℕ → Option (List ℕ)
 receipt_of key = when ((length key == 40) && bytes_eq (take 8 key) (codes "receipt:")) (drop 8 key)
+
+-- the changes that give receipts for these ids: the empty value under the key of each
+abbrev pub receipt_changes : List (List ℕ) → List Change
+receipt_changes ids = map (λ h. record { key = receipt_key h; value = Some [] }) ids
 
 -- ---- who gave receipts
 

@@ -74,8 +74,8 @@ updates_signed s label writer seq clock prev changes refs history fits = by_fiel
 
 -- what a node is asked to put
 pub put_changes : (s : Schedule) (e : Event) → FitsEvent s e → PutsChanges e
-put_changes s (event.Put node key value) fits = (events_bring_bytes s (event.Put node key value) fits).are
-put_changes s (event.Puts node changes) fits = (events_bring_bytes s (event.Puts node changes) fits).are
+put_changes s (event.Put node key value) fits = (events_bring_bytes s (event.Put node key value) fits).0.are
+put_changes s (event.Puts node changes) fits = (events_bring_bytes s (event.Puts node changes) fits).0.are
 put_changes s e fits = tt
 
 -- the kind of a proof is one of two statements
@@ -103,3 +103,7 @@ pub record IsSizedStop (call image : ℕ) : Type 0 where
 pub stop_sizes : (s : Schedule) (node call image : ℕ) → FitsEvent s (event.Stop node call image) → IsSizedStop call image
 unfolding stop
 stop_sizes s node call image (of_node, ((call_least, call_most), ((image_least, image_most), same))) = record { call_least = call_least; call_most = call_most; image_most = image_most }
+
+-- receipts are for 1 to 16 references
+pub receipt_sizes : (s : Schedule) (node : ℕ) (refs : List Ref) → FitsEvent s (event.Receipt node refs) → (1 ≤ length refs) × (length refs ≤ 16)
+receipt_sizes s node refs fits = events_bring_bytes s (event.Receipt node refs) fits

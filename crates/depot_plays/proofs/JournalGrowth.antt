@@ -3,7 +3,7 @@ use Rattle.std.proofs.Common.{◌-◌, ℕ, Bool, true, false, leb, cond, List, 
 use Rattle.depot_base.specs.declared.write.Change.{Change}
 use Rattle.depot_model.specs.Bundle.{Signs}
 use Rattle.depot_model.specs.Checks.{Setting}
-use Rattle.depot_world.specs.Deeds.{put_by, get_by, hello_by, bundle_by, give_by, restart_by}
+use Rattle.depot_world.specs.Deeds.{put_by, get_by, receipt_by, settled_by, hello_by, bundle_by, give_by, restart_by}
 use Rattle.depot_world.specs.Run.{Armed, Station}
 use Rattle.depot_world.specs.ScheduleStops.{Deed, Went, standing_after, left_of, stopped_with, went_armed, went_by, went}
 use Rattle.depot_model.proofs.FeedGrowth.{IsGrown}
@@ -30,6 +30,12 @@ put_grows here s changes = went_grows s (put_by here s.correct changes) (deeds.p
 
 pub get_grows : (s : Station) (key : List ℕ) → IsGrown s.correct.journal (went s (get_by s.correct key)).station.correct.journal
 get_grows s key = went_grows s (get_by s.correct key) (deeds.get_grows s.correct key)
+
+pub receipt_grows : (here : Setting) (s : Station) (ids : List (List ℕ)) → IsGrown s.correct.journal (went s (receipt_by here s.correct ids)).station.correct.journal
+receipt_grows here s ids = went_grows s (receipt_by here s.correct ids) (deeds.receipt_grows here s.correct ids)
+
+pub settled_grows : (s : Station) (id : List ℕ) (k : ℕ) → IsGrown s.correct.journal (went s (settled_by s.correct id k)).station.correct.journal
+settled_grows s id k = went_grows s (settled_by s.correct id k) (deeds.settled_grows s.correct id k)
 
 pub hello_grows : (here : Setting) (s : Station) → IsGrown s.correct.journal (went s (hello_by here s.correct)).station.correct.journal
 hello_grows here s = went_grows s (hello_by here s.correct) (deeds.hello_grows here s.correct)

@@ -7,6 +7,7 @@ pub mod MadeTexts
 pub mod NewUpdates
 pub mod NodeEvents
 pub mod PlayedEvents
+pub mod ReceiptEvents
 pub mod Remembered
 pub mod RememberedRuns
 pub mod SeatPlaces

@@ -244,3 +244,5 @@ made_is stage run (event.Update label writer seq clock prev key value deps histo
 made_is stage run (event.Updates label writer seq clock prev changes deps history) is = absurd cc
 made_is stage run (event.Judge label) is = absurd cc
 made_is stage run (event.Stop node call image) is = absurd cc
+made_is stage run (event.Receipt node refs) is = absurd cc
+made_is stage run (event.Settled node reference k) is = absurd cc

@@ -56,6 +56,8 @@ deed_grows stage run (event.Cut label source start count) s = restart_grows s
 deed_grows stage run (event.Flip label source place) s = restart_grows s
 deed_grows stage run (event.Join label first second) s = restart_grows s
 deed_grows stage run (event.Stop node call image) s = restart_grows s
+deed_grows stage run (event.Receipt node refs) s = restart_grows s
+deed_grows stage run (event.Settled node reference k) s = restart_grows s
 
 -- the event of a node that is there, and of one that isn't
 
@@ -65,11 +67,11 @@ at_node run label deed o = elim o as (λ x. Done) [
   | Some s ↦ done_by_node run label (went s (deed s))
 ]
 
-there_is : (run : Run) (node : ℕ) (label : Option (List ℕ)) (deed : Station → Deed) (s : Station) → station_in run.stations node ≡ Some s → by_node run node label deed ≡ done_by_node run label (went s (deed s))
+pub there_is : (run : Run) (node : ℕ) (label : Option (List ℕ)) (deed : Station → Deed) (s : Station) → station_in run.stations node ≡ Some s → by_node run node label deed ≡ done_by_node run label (went s (deed s))
 unfolding by_node at_node
 there_is run node label deed s found = ap (at_node run label deed) found
 
-none_is : (run : Run) (node : ℕ) (label : Option (List ℕ)) (deed : Station → Deed) → station_in run.stations node ≡ None → by_node run node label deed ≡ record { answer = []; behind = []; run = run }
+pub none_is : (run : Run) (node : ℕ) (label : Option (List ℕ)) (deed : Station → Deed) → station_in run.stations node ≡ None → by_node run node label deed ≡ record { answer = []; behind = []; run = run }
 unfolding by_node at_node
 none_is run node label deed found = ap (at_node run label deed) found
 
@@ -97,6 +99,8 @@ deed_is stage run (event.Cut label source start count) s deed found is = absurd 
 deed_is stage run (event.Flip label source place) s deed found is = absurd cc
 deed_is stage run (event.Join label first second) s deed found is = absurd cc
 deed_is stage run (event.Stop node call image) s deed found is = absurd cc
+deed_is stage run (event.Receipt node refs) s deed found is = absurd cc
+deed_is stage run (event.Settled node reference k) s deed found is = absurd cc
 
 nowhere_is : (stage : Stage) (run : Run) (e : Event) → is_deed e ≡ true → station_in run.stations (node_of e) ≡ None → done stage run e ≡ record { answer = []; behind = []; run = run }
 unfolding done
@@ -118,6 +122,8 @@ nowhere_is stage run (event.Cut label source start count) deed none = absurd cc
 nowhere_is stage run (event.Flip label source place) deed none = absurd cc
 nowhere_is stage run (event.Join label first second) deed none = absurd cc
 nowhere_is stage run (event.Stop node call image) deed none = absurd cc
+nowhere_is stage run (event.Receipt node refs) deed none = absurd cc
+nowhere_is stage run (event.Settled node reference k) deed none = absurd cc
 
 -- an event of a node that isn't there says nothing
 pub nothing_done : (A : Type 0) (view : A → View) (stage : Stage) (run : Run) (e : Event) (play : Play A) → is_deed e ≡ true → position (λ a. eqb (view a).here.me (node_of e)) play.actors.items ≡ None → IsAtPlay view stage run play → HasDone A view stage (done stage run e) (10 ∷ []) play

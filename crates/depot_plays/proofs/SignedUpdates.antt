@@ -98,6 +98,8 @@ update_is stage run (event.Cut label source start count) is = absurd cc
 update_is stage run (event.Flip label source place) is = absurd cc
 update_is stage run (event.Join label first second) is = absurd cc
 update_is stage run (event.Stop node call image) is = absurd cc
+update_is stage run (event.Receipt node refs) is = absurd cc
+update_is stage run (event.Settled node reference k) is = absurd cc
 
 -- ---- judgements
 

@@ -1,16 +1,19 @@
 //! A correct node at work.
-ghost use Rattle.std.specs.Prelude.{◌≡◌, ◌<◌, ◌≤◌, Some, IfOk, length, option_copied, slice_get};
+ghost use Rattle.std.specs.Prelude.{◌≡◌, ◌<◌, ◌≤◌, true, Some, IfOk, length, option_copied, slice_get};
+ghost use Rattle.depot_base.specs.Pairs.{AllPairsByRecursion};
+ghost use Rattle.depot_base.specs.Parts.{is_below};
 ghost use Rattle.depot_base.specs.declared.limits.TheConstants.{MOST_STOP_CALL};
 ghost use Rattle.depot_model.specs.Changes.{AreChanges};
 ghost use Rattle.depot_model.specs.Journal.{accepted};
 ghost use Rattle.depot_model.specs.Lawful.{IsLawful};
-ghost use Rattle.depot_world.specs.Deeds.{put_by, get_by, hello_by, bundle_by, give_by, restart_by};
+ghost use Rattle.depot_model.specs.Receipts.{receipt_changes};
+ghost use Rattle.depot_world.specs.Deeds.{put_by, get_by, receipt_by, settled_by, hello_by, bundle_by, give_by, restart_by};
 ghost use Rattle.depot_world.specs.Run.{Station, own_update};
 ghost use Rattle.depot_world.specs.ScheduleStops.{went};
 ghost use Rattle.depot_world.specs.Suite.{Stage, stands_on, signs_on};
 ghost use Rattle.depot_plays.specs.Acting.{CameTo, IsSeated, View};
 
-use depot_base::{Bytes, Changes, Key, Memory, Update};
+use depot_base::{Bytes, Changes, Hash32, Ids, Key, Memory, Update};
 use depot_cast::Numbered;
 
 /// What an event of a node came to.
@@ -51,6 +54,16 @@ pub trait Actor: Drop + Numbered {
     /// It reads a key.
     fn get(self, key: &Key) -> Result<Told<Self>, Memory>
         ensures { IfOk result (λ t. (stage : Stage) (s : Station) → IsSeated stage s (view self) → CameTo stage (went s (get_by s.correct key.now)) (view t.actor) t.lines t.bytes) };
+
+    /// It gives receipts for 1 to 16 ids, rising strictly.
+    fn receipt(self, ids: &Ids) -> Result<Told<Self>, Memory>
+        requires changes { AreChanges (receipt_changes ids.now) }
+        requires rising { AllPairsByRecursion (λ g h. is_below g h ≡ true) ids.now }
+        ensures { IfOk result (λ t. (stage : Stage) (s : Station) → IsSeated stage s (view self) → CameTo stage (went s (receipt_by (stands_on stage s.correct.node) s.correct ids.now)) (view t.actor) t.lines t.bytes) };
+
+    /// It tells whether at least so many nodes gave a receipt for an id, among all updates that it accepted.
+    fn settled(self, id: &Hash32, k: u32) -> Result<Told<Self>, Memory>
+        ensures { IfOk result (λ t. (stage : Stage) (s : Station) → IsSeated stage s (view self) → CameTo stage (went s (settled_by s.correct id.now k)) (view t.actor) t.lines t.bytes) };
 
     /// It says hello.
     fn hello(self) -> Result<Told<Self>, Memory>

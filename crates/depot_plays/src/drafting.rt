@@ -15,13 +15,14 @@ ghost use Rattle.depot_stage.specs.Seen.{HasSeenParents};
 
 use crate::actor::Actor;
 use crate::play::Play;
-use depot_base::{Change, Deps, Hash32, Ids, Memory, NodeId, Update};
+use depot_base::{Change, Dep, Deps, Hash32, Ids, Memory, NodeId, Update};
 use depot_cast::{entries_of_others, entry_of, rising_ids};
 use depot_graph::Graph;
 use depot_model::{Past, hash_of};
 use depot_schedule::{HistoryWord, Ref};
 use depot_stage::{drafted, writes_of};
 use depot_update::id_of;
+use std::alloc::Global;
 
 impl<A: Actor> Play<A> {
     /// The update that a faulty node signs, for the fields of an event that a schedule may have. None exactly where its prev or an
@@ -81,6 +82,18 @@ impl<A: Actor> Play<A> {
         Ok(Some(ids))
     }
 
+    /// The ids of the updates that references name, in rising order, each once. None exactly where one names nothing.
+    pub fn receipt_ids(&self, refs: &[Ref]) -> Result<Option<Ids>, Memory>
+        requires { IsPlayed A.view self.now }
+        ensures { IfOk result (λ made. (stage : Stage) (run : Run) → IsAtPlay A.view stage run self.now → made ≡ option_map (λ us. rising (map id_of_update us)) (all_referred run refs.now)) }
+    {
+        let Some(named) = self.named(refs)? else {
+            return Ok(None);
+        };
+        let ids = ids_of(self.alloc, named.as_slice())?;
+        Ok(Some(rising_ids(self.alloc, ids.as_slice())?))
+    }
+
     /// The id that a reference names for a voucher: SHA-256 of the bytes of a plain label, or an update's. None exactly where it names
     /// nothing.
     fn id_referred(&self, r: &Ref) -> Result<Option<Hash32>, Memory>
@@ -94,7 +107,7 @@ impl<A: Actor> Play<A> {
     }
 
     /// The id of the update that a reference names. None exactly where it names nothing.
-    fn update_id(&self, r: &Ref) -> Result<Option<Hash32>, Memory>
+    pub fn update_id(&self, r: &Ref) -> Result<Option<Hash32>, Memory>
         requires { IsPlayed A.view self.now }
         ensures { IfOk result (λ id. (stage : Stage) (run : Run) → IsAtPlay A.view stage run self.now → id ≡ option_map id_of_update (referred run r.now)) }
     {
@@ -141,4 +154,15 @@ impl<A: Actor> Play<A> {
         }
         Ok(Some(named))
     }
+}
+
+/// The ids that entries name, in their order.
+fn ids_of(alloc: Global, entries: &[Dep]) -> Result<Ids, Memory>
+    ensures { IfOk result (λ ids. ids ≡ map (λ d. d.id) entries.now) }
+{
+    let mut ids = Ids::new(alloc);
+    for entry in entries {
+        ids.push(entry.id)?;
+    }
+    Ok(ids)
 }

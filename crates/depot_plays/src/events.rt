@@ -64,6 +64,8 @@ impl<A: Actor> Play<A> {
             Event::Flip { label, .. } => self.make(scene, label, event),
             Event::Join { label, .. } => self.make(scene, label, event),
             Event::Stop { node, call, image } => self.stop(*node, *call, *image),
+            Event::Receipt { node, refs } => self.receipt(*node, refs.as_slice()),
+            Event::Settled { node, reference, k } => self.settled(*node, reference, *k),
         }
     }
 

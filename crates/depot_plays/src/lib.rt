@@ -5,8 +5,8 @@
 //! or not. No disk stands here: what a stop leaves is the actor's to say.
 //!
 //! A `Play` is a run at work (`IsAtPlay`): the correct nodes, what labels name, and the updates that were seen. `events` does
-//! one event and gives its lines: `deeds` those that a node acts in, which leaves its place for them (`seat_places`), `event_stops` those
-//! that set a stop on a disk, `updates` and `made` those that only make a label, and `drafting` finds what their references name. `playing`
+//! one event and gives its lines: `deeds` those that a node acts in, which leaves its place for them (`seat_places`), `event_receipts` those
+//! in which it gives receipts or counts them, for what references name, `event_stops` those that set a stop on a disk, `updates` and `made` those that only make a label, and `drafting` finds what their references name. `playing`
 //! begins a run and plays all events. What needs no node stands in `depot_stage` and `depot_cast`; the nodes are `depot_replay`'s.
 #![tactic(auto)]
 
@@ -15,6 +15,7 @@ mod away;
 mod begins;
 mod deeds;
 mod drafting;
+mod event_receipts;
 mod event_stops;
 mod events;
 mod made;

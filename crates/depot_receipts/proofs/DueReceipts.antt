@@ -6,8 +6,6 @@ use Rattle.std.specs.Str.{bytes_eq}
 use Rattle.std.proofs.lemmas.Bool.{and_parts, and_from, and_left, and_right, false_from_ne_true}
 use Rattle.std.proofs.lemmas.Slice.Eq.{bytes_eq-Decides}
 use Rattle.std.proofs.lemmas.Option.{slice_get-get_or}
-use Rattle.depot_base.specs.Pairs.{AllPairsByRecursion}
-use Rattle.depot_base.specs.Parts.{is_below}
 use Rattle.depot_base.specs.Writes.{value_in, values_in}
 use Rattle.depot_base.specs.declared.record.Record.{Record}
 use Rattle.depot_base.specs.declared.update.Update.{Update}
@@ -18,14 +16,13 @@ use Rattle.depot_model.specs.Items.{place_of_id}
 use Rattle.depot_model.specs.Journal.{accepted, has_id, holds}
 use Rattle.depot_model.specs.Lists.{IsIn}
 use Rattle.depot_model.specs.Order.{IsCausal}
-use Rattle.depot_model.specs.Receipts.{receipt_key, lacks_one, no_receipt, unknown, lacks_value}
+use Rattle.depot_model.specs.Receipts.{receipt_key, lacks_one, no_receipt, unknown, lacks_value, receipt_changes}
 use Rattle.depot_model.specs.Texts.{id_of_update}
 use Rattle.depot_model.proofs.Elements.{in_at}
 use Rattle.depot_model.proofs.Members.{any_from, any_to, all-append}
 use Rattle.depot_model.proofs.NamedIds.{has_id_from, has_id_to}
 use Rattle.depot_model.proofs.Orders.{one_of_id}
 use Rattle.depot_graph.proofs.ItemPlaces.{has_place, has_no_place}
-use Rattle.depot_receipts.specs.Giving.{receipt_changes}
 
 -- ---- the first that is found
 
@@ -123,17 +120,3 @@ unknown_against J ids h lost = rw (sym lost) refl
 pub value_against : (J : List Record) (ids : List (List ℕ)) (h : List ℕ) → None ≡ find (λ h. not (has_id (accepted J) h)) ids → Some h ≡ find (lacks_one J) ids → no_receipt J ids ≡ Some (lacks_value h)
 unfolding no_receipt
 value_against J ids h known lacking = rw (sym known, sym lacking) refl
-
--- ---- the keys rise as the ids do
-
-key_below : (g h : List ℕ) → is_below g h ≡ true → is_below (receipt_key g) (receipt_key h) ≡ true
-unfolding receipt_key
-key_below g h e = e
-
-keys_above : (g : List ℕ) (ids : List (List ℕ)) → AllByRecursion (λ h. is_below g h ≡ true) ids → AllByRecursion (λ c. is_below (receipt_key g) c.key ≡ true) (receipt_changes ids)
-keys_above g [] all = tt
-keys_above g (h ∷ ids) all = (key_below g h all.0, keys_above g ids all.1)
-
-pub keys_rise : (ids : List (List ℕ)) → AllPairsByRecursion (λ g h. is_below g h ≡ true) ids → AllPairsByRecursion (λ c d. is_below c.key d.key ≡ true) (receipt_changes ids)
-keys_rise [] rises = tt
-keys_rise (h ∷ ids) rises = (keys_above h ids rises.0, keys_rise ids rises.1)

@@ -11,9 +11,9 @@ use Rattle.depot_model.specs.Checks.{Setting}
 use Rattle.depot_model.specs.Limits.{IsCutShort}
 use Rattle.depot_model.specs.Lists.{IsIn}
 use Rattle.depot_model.specs.Own.{next_own, write_of, values_of}
-use Rattle.depot_model.specs.Receipts.{receipt_key, AreReceiptsTrue, no_receipt}
+use Rattle.depot_model.specs.Receipts.{receipt_key, AreReceiptsTrue, no_receipt, receipt_changes}
 use Rattle.depot_laws.proofs.TrueReceipts.{front_is_true, receipt_put_is_true}
-use Rattle.depot_receipts.specs.Giving.{AreDue, receipt_changes, receipt_records}
+use Rattle.depot_receipts.specs.Giving.{AreDue, receipt_records}
 use Rattle.depot_receipts.specs.declared.give_error.GiveError.{GiveError}
 use Rattle.depot_receipts.specs.declared.give_error.GiveError.TheVariants as give
 

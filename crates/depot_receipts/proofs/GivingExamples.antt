@@ -21,14 +21,14 @@ use Rattle.depot_model.specs.Journal.{has_id, holds, first_values, prev_of, name
 use Rattle.depot_model.specs.Limits.{spent_by, tips_of, collides_by, limit_of_own, limit_of_put}
 use Rattle.depot_model.specs.Order.{past}
 use Rattle.depot_model.specs.Own.{precedes_named, next_entries, next_own, leaf_count}
-use Rattle.depot_model.specs.Receipts.{receipt_key, receipt_of, put_number, numbers_rising, no_receipt, lacks_value}
+use Rattle.depot_model.specs.Receipts.{receipt_key, receipt_of, put_number, numbers_rising, no_receipt, lacks_value, receipt_changes}
 use Rattle.depot_model.specs.Records.{birth, own_put, tagged, record_text}
 use Rattle.depot_model.specs.Room.{foreign_leaves, full_with}
 use Rattle.depot_model.specs.Roster.{key_of}
 use Rattle.depot_model.specs.Texts.{update_fields, voucher_fields, update_body, voucher_body, statement, signed, id_of_update}
 use Rattle.depot_receipts.specs.Books.{IsBookOf}
 use Rattle.depot_receipts.specs.GivenReceipts.{ids_given}
-use Rattle.depot_receipts.specs.Giving.{Gives, receipt_records, receipt_changes}
+use Rattle.depot_receipts.specs.Giving.{Gives, receipt_records}
 use Rattle.depot_receipts.specs.HolderLists.{holders_of}
 use Rattle.depot_receipts.specs.RisingPlaces.{place_among, stands_in}
 use Rattle.depot_receipts.specs.declared.book.Book.{Book}

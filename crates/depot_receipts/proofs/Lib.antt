@@ -3,7 +3,6 @@ pub mod DueReceipts
 pub mod GivenAnswers
 pub mod GivenLaws
 mod GivingExamples
-pub mod HeldByHash
 pub mod HolderLaws
 pub mod KeyLaws
 pub mod RisingPuts

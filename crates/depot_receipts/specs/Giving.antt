@@ -3,17 +3,13 @@ use Rattle.std.specs.Prelude.{◌≡◌, List, [], ℕ, map, Some, None, Result,
 use Rattle.depot_base.specs.declared.write.Change.{Change}
 use Rattle.depot_base.specs.declared.record.Record.{Record}
 use Rattle.depot_model.specs.Checks.{Setting}
-use Rattle.depot_model.specs.Receipts.{receipt_key, no_receipt, unknown, lacks_value}
+use Rattle.depot_model.specs.Receipts.{receipt_changes, no_receipt, unknown, lacks_value}
 use Rattle.depot_decide.specs.Putting.{Puts, put_records}
 use Rattle.depot_decide.specs.declared.put_answers.PutDone.{PutDone}
 use Rattle.depot_decide.specs.declared.put_answers.PutError.{PutError}
 use Rattle.depot_decide.specs.declared.put_answers.PutError.TheVariants as put
 use Rattle.depot_receipts.specs.declared.give_error.GiveError.{GiveError}
 use Rattle.depot_receipts.specs.declared.give_error.GiveError.TheVariants as give
-
--- the changes that give receipts for these ids: the empty value under the key of each
-abbrev pub receipt_changes : List (List ℕ) → List Change
-receipt_changes ids = map (λ h. record { key = receipt_key h; value = Some [] }) ids
 
 -- the records that are appended then: the next own update, with its empty values
 abbrev pub receipt_records : Setting → List Record → List (List ℕ) → List Record

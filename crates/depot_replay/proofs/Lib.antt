@@ -10,5 +10,6 @@ pub mod SeatEvents
 pub mod SeatLaws
 pub mod SeatPuts
 pub mod SeatReads
+pub mod SeatReceipts
 pub mod SeatStarts
 pub mod SeatTurns

@@ -54,6 +54,25 @@ done_on old new s t appends sees c = record {
   part = λ f. let p = c.part f in record { before = p.before; failing = p.failing; rest = p.rest; parts = p.parts; fails = sees _ p.fails };
 }
 
+-- the same where another call failed just where that one did
+pub done_alike : (s t : State) (J K appends : List Record) (one other : Type 0) → one ↔ other → IsDoneOn s t J K appends one → IsDoneOn s t J K appends other
+done_alike s t J K appends one other same done = record { whole = λ well grown is. done.whole (λ f. well (same.0 f)) grown is; part = λ f. done.part (same.1 f) }
+
+-- a call that was to append nothing
+pub none_called : (v : View) (s t : State) (K longer : List Record) (failed : Type 0) → v.armed ≡ armed_of s.next → IsBegunOn v.here s v.journal → (failed → ⊥) → longer ≡ v.journal → K ≡ v.journal → (appends : List Record) → IsDoneOn s t v.journal K appends failed
+    → IsCalled v s t K longer failed
+none_called v s t K longer failed armed begun well stays same appends done =
+    let nil : v.journal ≡ v.journal ++ [] = sym (append-nil v.journal) in
+    record {
+      armed = armed;
+      begun = begun;
+      new = [];
+      grows = stays ∙ nil;
+      lawful = subst (IsLawful v.here) (sym stays) begun.lawful;
+      whole = λ _. (same ∙ sym stays, done.whole well [] (same ∙ nil));
+      part = λ f. absurd (well f);
+    }
+
 -- ---- a station
 
 -- what a deed makes of the journal is the same for the node of a station

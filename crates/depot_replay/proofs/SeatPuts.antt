@@ -1,7 +1,6 @@
 -- What a put makes of the journal of a seated node.
 use Rattle.std.proofs.Common.{◌≡◌, ◌↔◌, ℕ, ◌-◌, ◌*◌, List, [], ◌∷◌, ◌++◌, length, Option, Some, None, Result, Ok, Err, refl, sym, ap, subst, ◌∙◌, arith}
 use Rattle.std.specs.Prelude.{IsErrOf}
-use Rattle.std.proofs.lemmas.List.{append-nil}
 use Rattle.depot_base.specs.declared.write.Change.{Change}
 use Rattle.depot_base.specs.declared.record.Record.{Record}
 use Rattle.depot_base.specs.declared.record.Record.TheVariants.{OwnPut}
@@ -25,7 +24,7 @@ use Rattle.depot_deeds.specs.PutPrinting.{SettlesPut}
 use Rattle.depot_replay.specs.Seats.{Appends, IsBegunOn, IsCalled}
 use Rattle.depot_deeds.specs.declared.printed.Printed.{Printed}
 use Rattle.depot_deeds.proofs.PutTexts.{deed_within, put_lawful}
-use Rattle.depot_replay.proofs.SeatCalls.{IsDoneOn}
+use Rattle.depot_replay.proofs.SeatCalls.{IsDoneOn, done_alike, none_called}
 
 -- ---- the journal
 
@@ -59,18 +58,7 @@ put_appends changes here sign c same = within_appends here c changes (limit_of_p
 module _ (v : View) (s t : State) (K : List Record) (changes : List Change) (armed : v.armed ≡ armed_of s.next) (begun : IsBegunOn v.here s v.journal) where
   none_put : (failed : Type 0) (limit : Limit) → (failed → ⊥) → limit_of_put v.here v.journal changes ≡ Some limit → K ≡ v.journal → (appends : List Record) → IsDoneOn s t v.journal K appends failed
       → IsCalled v s t K (put_longer changes v.here v.sign v.journal) failed
-  none_put failed limit well is same appends done =
-      let longer : put_longer changes v.here v.sign v.journal ≡ v.journal = ap (put_within v.here v.journal changes) is in
-      let nil : v.journal ≡ v.journal ++ [] = sym (append-nil v.journal) in
-      record {
-        armed = armed;
-        begun = begun;
-        new = [];
-        grows = longer ∙ nil;
-        lawful = subst (IsLawful v.here) (sym longer) begun.lawful;
-        whole = λ _. (same ∙ sym longer, done.whole well [] (same ∙ nil));
-        part = λ f. absurd (well f);
-      }
+  none_put failed limit well is same appends done = none_called v s t K _ failed armed begun well (ap (put_within v.here v.journal changes) is) same appends done
 
   one_put : (failed : Type 0) → AreChanges changes → limit_of_put v.here v.journal changes ≡ None → ((failed → ⊥) → K ≡ v.journal ++ put_records v.here v.journal changes) → IsDoneOn s t v.journal K (put_records v.here v.journal changes) failed
       → IsCalled v s t K (put_longer changes v.here v.sign v.journal) failed
@@ -87,7 +75,7 @@ module _ (v : View) (s t : State) (K : List Record) (changes : List Change) (arm
       }
 
   alike : (r : Result PutDone PutError) (printed : Option Printed) (appends : List Record) → (printed ≡ None) ↔ IsErrOf r refused.Disk → IsDoneOn s t v.journal K appends (IsErrOf r refused.Disk) → IsDoneOn s t v.journal K appends (printed ≡ None)
-  alike r printed appends is done = record { whole = λ well grown same. done.whole (λ f. well (is.1 f)) grown same; part = λ f. done.part (is.0 f) }
+  alike r printed appends is done = done_alike s t v.journal K appends (IsErrOf r refused.Disk) (printed ≡ None) (is.1, is.0) done
 
   pub put_called : (r : Result PutDone PutError) (printed : Option Printed) → AreChanges changes → Puts v.here v.journal changes r K → SettlesPut r → IsDoneOn s t v.journal K (put_records v.here v.journal changes) (IsErrOf r refused.Disk) → (printed ≡ None) ↔ IsErrOf r refused.Disk
       → IsCalled v s t K (put_longer changes v.here v.sign v.journal) (printed ≡ None)

@@ -1,16 +1,17 @@
 -- Events of a seated node that append nothing: reads, hellos, and starts.
 use Rattle.std.proofs.Common.{◌≡◌, ℕ, zero, suc, take, ◌-◌, ◌*◌, List, [], ◌++◌, length, None, refl, sym, ap, ◌∙◌, arith}
-use Rattle.std.specs.Prelude.{codes}
+use Rattle.std.specs.Prelude.{codes, nat_le}
 use Rattle.std.proofs.Math.Seq.{drop-length}
 use Rattle.std.proofs.lemmas.List.{append-nil}
-use Rattle.depot_answers.specs.Answers.{numbered, spaced, text_of_named}
+use Rattle.depot_answers.specs.Answers.{name_of_settled, numbered, spaced, text_of_named}
 use Rattle.depot_base.specs.Calls.{Call, Made, made, FailsAmong}
 use Rattle.depot_base.specs.declared.record.Record.{Record}
 use Rattle.depot_model.specs.Checks.{Setting}
 use Rattle.depot_model.specs.Hello.{hello_of, text_of_hello}
+use Rattle.depot_model.specs.Receipts.{receipts}
 use Rattle.depot_outside.specs.Stopping.{State, Leads}
 use Rattle.depot_model.specs.ShownWrites.{shown_of}
-use Rattle.depot_world.specs.Deeds.{get_by, hello_by, restart_by}
+use Rattle.depot_world.specs.Deeds.{get_by, hello_by, restart_by, settled_by}
 use Rattle.depot_world.specs.Run.{Armed, Station}
 use Rattle.depot_world.specs.ScheduleStops.{Deed, left_of, standing_after, went}
 use Rattle.depot_world.specs.Suite.{Stage, stands_on}
@@ -44,6 +45,15 @@ unfolding get_by
 get_came stage x v w s key lines seat armed to_come then is =
     still_came stage x (get_by x.correct key) v w s lines [] seat armed to_come refl (sym seat.journal) then
     (is ∙ ap (λ (J : List Record). ended (shown_text (shown_of J key))) seat.journal ∙ sym (append-nil (ended (shown_text (shown_of x.correct.journal key))))) refl
+
+-- ---- whether enough nodes gave receipts
+
+pub settled_came : (stage : Stage) (x : Station) (v w : View) (s : State) (id : List ℕ) (k : ℕ) (lines : List ℕ) → IsSeated stage x v → v.armed ≡ armed_of s.next → IsToCome s → IsThen v w v.journal v.armed → lines ≡ ended (spaced (name_of_settled (nat_le k (length (receipts v.journal id)))))
+    → CameTo stage (went x (settled_by x.correct id k)) w lines []
+unfolding settled_by
+settled_came stage x v w s id k lines seat armed to_come then is =
+    still_came stage x (settled_by x.correct id k) v w s lines [] seat armed to_come refl (sym seat.journal) then
+    (is ∙ ap (λ (J : List Record). ended (spaced (name_of_settled (nat_le k (length (receipts J id)))))) seat.journal ∙ sym (append-nil (ended (spaced (name_of_settled (nat_le k (length (receipts x.correct.journal id)))))))) refl
 
 -- ---- hellos
 

@@ -15,6 +15,7 @@ use Rattle.depot_model.specs.Bundle.{Signs, bundle_answer}
 use Rattle.depot_model.specs.Changes.{AreChanges}
 use Rattle.depot_model.specs.Checks.{Setting}
 use Rattle.depot_model.specs.Feeding.{Feeding, feed_of}
+use Rattle.depot_model.specs.Receipts.{receipt_changes}
 use Rattle.depot_model.specs.Roster.{Verifies}
 use Rattle.depot_model.specs.World.{Correct}
 use Rattle.depot_decide.specs.Putting.{Puts, put_records}
@@ -22,7 +23,10 @@ use Rattle.depot_decide.specs.declared.put_answers.PutDone.{PutDone}
 use Rattle.depot_decide.specs.declared.put_answers.PutError.{PutError}
 use Rattle.depot_decide.specs.declared.put_answers.PutError.TheVariants as put_error
 use Rattle.depot_outside.specs.Stopping.{State}
-use Rattle.depot_world.specs.Deeds.{bundle_by, fed_by, give_by, put_by}
+use Rattle.depot_receipts.specs.Giving.{Gives, receipt_records}
+use Rattle.depot_receipts.specs.declared.give_error.GiveError.{GiveError}
+use Rattle.depot_receipts.specs.declared.give_error.GiveError.TheVariants as give_error
+use Rattle.depot_world.specs.Deeds.{bundle_by, fed_by, give_by, put_by, receipt_by}
 use Rattle.depot_world.specs.Run.{Station}
 use Rattle.depot_world.specs.ScheduleStops.{went}
 use Rattle.depot_world.specs.Suite.{Stage, signs_on, stands_on}
@@ -31,11 +35,13 @@ use Rattle.depot_replay.specs.Disks.{armed_of}
 use Rattle.depot_deeds.specs.Printing.{IsPrintOf, IsToldOf, SettlesBundle, SettlesFeed}
 use Rattle.depot_replay.specs.PrintedRuns.{EndsAs}
 use Rattle.depot_deeds.specs.PutPrinting.{SettlesPut}
+use Rattle.depot_deeds.specs.ReceiptPrinting.{SettlesGive}
 use Rattle.depot_replay.specs.Seats.{IsBegunOn, IsCalled}
 use Rattle.depot_deeds.specs.declared.printed.Printed.{Printed}
 use Rattle.depot_deeds.specs.declared.feeds.Fed.{Fed}
 use Rattle.depot_replay.proofs.SeatCalls.{IsDoneOn, appends_there, bundle_appends, bundle_called, bundle_longer, give_appends, give_called, give_longer}
 use Rattle.depot_replay.proofs.SeatPuts.{put_appends, put_called, put_longer}
+use Rattle.depot_replay.proofs.SeatReceipts.{receipt_appends, receipt_called, receipt_longer}
 
 -- a node stands where it was started
 pub same_setting : (verifies : Verifies) (me own : ℕ) (listed given : List RosterEntry) → me ≡ own → listed ≡ given → ◌≡◌ {A = Setting} (record { verifies = verifies; me = me; listed = listed }) (record { verifies = verifies; me = own; listed = given })
@@ -62,6 +68,21 @@ module _ (there here : Setting) (stands : there ≡ here) (given sign : Signs) (
   put_turn changes r printed w lines bytes puts prints ends stage x seat =
       ends stage x (put_by (stands_on stage x.correct.node) x.correct changes) seat (appends_there (put_longer changes) (λ h _ c. put_by h c changes) (put_appends changes) stage x (seen_so here sign s J) seat)
       (prints (stands_on stage x.correct.node) x.correct changes K refl (subst (λ (l : List Record). Puts (stands_on stage x.correct.node) l changes r K) seat.journal (subst (λ (h : Setting). Puts h J changes r K) (stands ∙ seat.here) puts)))
+
+  -- ---- receipts
+
+  pub receipt_seated : (ids : List (List ℕ)) (r : Result PutDone GiveError) (printed : Option Printed) → AreChanges (receipt_changes ids) → Gives there J ids r K → SettlesGive r → IsDoneOn s t J K (receipt_records there J ids) (IsErrOf r give_error.Disk) → (printed ≡ None) ↔ IsErrOf r give_error.Disk
+      → IsCalled (seen_so here sign s J) s t K (receipt_longer ids here sign J) (printed ≡ None)
+  receipt_seated ids r printed are gives settled done is =
+      receipt_called (seen_so here sign s J) s t K ids refl begun r printed are (subst (λ (h : Setting). Gives h J ids r K) stands gives) settled
+      (subst (λ (h : Setting). IsDoneOn s t J K (receipt_records h J ids) (IsErrOf r give_error.Disk)) stands done) is
+
+  pub receipt_turn : (ids : List (List ℕ)) (r : Result PutDone GiveError) (printed : Option Printed) (w : View) (lines bytes : List ℕ) → Gives there J ids r K
+      → ((h : Setting) (c : Correct) (hs : List (List ℕ)) (then : List Record) → h.me ≡ c.node → Gives h c.journal hs r then → IsPrintOf printed (receipt_by h c hs)) → EndsAs (seen_so here sign s J) (receipt_longer ids here sign J) printed w lines bytes
+      → (stage : Stage) (x : Station) → IsSeated stage x (seen_so here sign s J) → CameTo stage (went x (receipt_by (stands_on stage x.correct.node) x.correct ids)) w lines bytes
+  receipt_turn ids r printed w lines bytes gives prints ends stage x seat =
+      ends stage x (receipt_by (stands_on stage x.correct.node) x.correct ids) seat (appends_there (receipt_longer ids) (λ h _ c. receipt_by h c ids) (receipt_appends ids) stage x (seen_so here sign s J) seat)
+      (prints (stands_on stage x.correct.node) x.correct ids K refl (subst (λ (l : List Record). Gives (stands_on stage x.correct.node) l ids r K) seat.journal (subst (λ (h : Setting). Gives h J ids r K) (stands ∙ seat.here) gives)))
 
   -- ---- bundles
 

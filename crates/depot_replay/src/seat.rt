@@ -1,11 +1,12 @@
 //! A correct node over a disk in memory.
-ghost use Rattle.std.specs.Prelude.{◌≡◌, ◌≢◌, ◌≤◌, [], ◌∷◌, ℕ, List, false, Some, None, Ok, IfOk, IfErr, IfSome, IsOk, refl};
+ghost use Rattle.std.specs.Prelude.{◌≡◌, ◌≢◌, ◌≤◌, [], ◌∷◌, ℕ, List, length, false, nat_le, Some, None, Ok, IfOk, IfErr, IfSome, IsOk, refl};
 ghost use Rattle.depot_base.specs.Calls.{FailsAmong, made};
 ghost use Rattle.depot_base.specs.declared.record.Record.{Record};
 ghost use Rattle.depot_base.specs.declared.record.Record.TheVariants.{Birth};
-ghost use Rattle.depot_answers.specs.Answers.{numbered, spaced, text_of_named};
+ghost use Rattle.depot_answers.specs.Answers.{name_of_settled, numbered, spaced, text_of_named};
 ghost use Rattle.depot_deeds.specs.Printing.{shown_text};
 ghost use Rattle.depot_model.specs.Hello.{hello_of, text_of_hello};
+ghost use Rattle.depot_model.specs.Receipts.{receipts};
 ghost use Rattle.depot_model.specs.Roster.{key_of};
 ghost use Rattle.depot_model.specs.Stops.{HasRecords};
 ghost use Rattle.depot_model.specs.Texts.{hash_of_roster};
@@ -22,17 +23,18 @@ ghost use Rattle.depot_replay.specs.PrintedRuns.{EndsAs};
 ghost use Rattle.depot_replay.specs.SeatFacts.{IsKeptOn-prop, is_node-prop, is_roster-prop, same_signs-prop, lawful_there};
 ghost use Rattle.depot_replay.specs.Seats.{IsBegunOn, IsCalled, IsKeptOn, IsSeatedAgain, WasCalled};
 
-use depot_base::{Bytes, Changes, Items, Key, Memory, NodeId, Update};
+use depot_base::{Bytes, Changes, Hash32, Ids, Items, Key, Memory, NodeId, Update};
 use depot_cast::Numbered;
 use depot_deeds::{
-    Printed, bundle_printed, counted_line, fed_printed, feed_all, hello_line, put_printed,
-    shown_line,
+    Printed, bundle_printed, counted_line, fed_printed, feed_all, has_receipts, hello_line,
+    put_printed, receipt_printed, settled_line, shown_line,
 };
 use depot_gossip::{bundle, hello};
 use depot_model::{Replica, Scheme, Signer};
 use depot_node::{Node, StartError};
 use depot_outside::{Back, MemDisk};
 use depot_plays::{Actor, Begins, Told};
+use depot_receipts::give;
 use depot_sign::Roster;
 use depot_stage::is_by;
 use std::alloc::Global;
@@ -160,6 +162,24 @@ fn shown_printed<S: Scheme, G: Signer<Of = S>>(
     })
 }
 
+/// What is printed of whether enough nodes gave receipts. It gives a label nothing.
+fn settled_printed<S: Scheme, G: Signer<Of = S>>(
+    alloc: Global,
+    node: &Node<MemDisk, S, G>,
+    id: &Hash32,
+    k: u32,
+) -> Result<Printed, Memory>
+    requires { node.now.store.stopped ≡ false }
+    ensures lines { IfOk result (λ p. p.lines ≡ ended (spaced (name_of_settled (nat_le k (length (receipts node.now.store.records id.now)))))) }
+    ensures bytes { IfOk result (λ p. p.bytes ≡ []) }
+{
+    let enough = has_receipts(alloc, node, id, k)?;
+    Ok(Printed {
+        lines: settled_line(alloc, enough)?,
+        bytes: Bytes::new(alloc),
+    })
+}
+
 /// What is printed of a hello. It gives a label its text.
 fn hello_printed<S: Scheme, G: Signer<Of = S>>(
     alloc: Global,
@@ -269,6 +289,18 @@ impl<S: Scheme + Copy, G: Signer<Of = S> + Copy> Actor for Seat<S, G> {
 
     fn get(self, key: &Key) -> Result<Told<Self>, Memory> {
         let printed = shown_printed(self.means.alloc, &self.node, key);
+        told(self, printed)
+    }
+
+    fn receipt(self, ids: &Ids) -> Result<Told<Self>, Memory> {
+        let Seat { mut node, means } = self;
+        let done = give(means.alloc, &mut node, ids);
+        let printed = receipt_printed(means.alloc, done);
+        seated(node, means, printed)
+    }
+
+    fn settled(self, id: &Hash32, k: u32) -> Result<Told<Self>, Memory> {
+        let printed = settled_printed(self.means.alloc, &self.node, id, k);
         told(self, printed)
     }
 

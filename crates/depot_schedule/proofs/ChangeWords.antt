@@ -1,5 +1,5 @@
 -- Words of writes are lawful, and what is read of them are changes that a node may be asked for.
-use Rattle.std.proofs.Common.{◌≡◌, ℕ, ◌<◌, ◌≤◌, ◌⊎◌, Bool, true, false, not, cond, eqb, leb, ltb, ◌&&◌, List, [], ◌∷◌, ◌++◌, length, Option, Some, None, Result, Ok, Err, refl, sym, ap, subst, ◌∙◌, arith, inl, inr, length-append}
+use Rattle.std.proofs.Common.{◌≡◌, ℕ, ◌<◌, ◌≤◌, ◌⊎◌, Bool, true, false, not, cond, eqb, leb, ltb, ◌&&◌, List, [], ◌∷◌, ◌++◌, length, Option, Some, None, is_some, Result, Ok, Err, refl, sym, ap, subst, ◌∙◌, arith, inl, inr, length-append}
 use Rattle.std.specs.List.{list_all, AllByRecursion}
 use Rattle.std.specs.Option.{option_to_list}
 use Rattle.std.specs.Ordering.{is_lt}
@@ -15,12 +15,14 @@ use Rattle.depot_base.specs.Writes.{one_change, value_in_change}
 use Rattle.depot_base.specs.declared.write.Change.{Change}
 use Rattle.depot_base.proofs.GeneralLaws.{less_is}
 use Rattle.depot_model.specs.Changes.{AreChanges}
+use Rattle.depot_model.specs.Receipts.{receipt_of}
 use Rattle.depot_schedule.specs.declared.line_fault.LineFault.{LineFault}
 use Rattle.depot_schedule.specs.declared.line_fault.LineFault.TheVariants as is
 use Rattle.depot_schedule.specs.declared.changes.Keys.{Keys}
 use Rattle.depot_schedule.specs.declared.changes.Keys.TheVariants as keys
 use Rattle.depot_schedule.specs.Spelling.{is_word, is_word_byte, is_within, is_lower_digit}
 use Rattle.depot_schedule.specs.Language.{nothing, or_fault, split, join, earlier, dash, FitsOption, FitAll, read_parts, with_parts, parts_of}
+use Rattle.depot_schedule.specs.PutKeys.{WriteNoReceipts}
 use Rattle.depot_schedule.specs.Vocabulary.{hex, key, value, key_by, FitsChange, text_behind_key, text_of_change, deletion_of, change_of, change, rise_behind, keys_rise, changes}
 use Rattle.depot_schedule.specs.declared.line_fault.LineError.{LineError}
 use Rattle.depot_schedule.specs.declared.line_fault.LineError.TheVariants.{Memory, In}
@@ -29,6 +31,7 @@ use Rattle.depot_schedule.proofs.LanguageLaws.{LawfulWord, bind_ok, such_that_la
 use Rattle.depot_schedule.proofs.Splitting.{lacks, split_none, split_at, join_split, all_weaker, all_append}
 use Rattle.depot_schedule.proofs.HexWords.{key_lawful, put_key_lawful, value_lawful, lower_encoded, plain_hex}
 use Rattle.depot_schedule.proofs.VocabularyLaws.{parts_lawful}
+use Rattle.depot_schedule.proofs.ReceiptKeys.{plain_key}
 
 -- ---- keys and values
 
@@ -50,7 +53,7 @@ within_is high n e = let p = and_parts (leb 1 n) (leb n high) e in let low : 1 �
 
 pub key_is : (by : Keys) (k : List ℕ) → (key_by {C = Unit {0}} by).fits nothing k → IsKey k × IsBytes k
 key_is keys.Any k fits = (within_is 255 (length k) fits.0, fits.1)
-key_is keys.Put k fits = (within_is 255 (length k) fits.0, fits.1)
+key_is keys.Put k fits = (within_is 255 (length k) fits.0.0, fits.0.1)
 
 pub value_is : (v : List ℕ) → (value {C = Unit {0}}).fits nothing v → IsValue v
 value_is [] fits = omega arith
@@ -153,9 +156,16 @@ bind_fault : {A B : Type 0} (r : Result A LineFault) (then : A → Result B Line
 bind_fault (Ok a) then f e = inr (a, refl, e)
 bind_fault {A = A} (Err g) then f e = let same : g ≡ f = cc in inl (ap (λ (x : LineFault). fails {A = A} x) same)
 
+test_fault : (b : Bool) (k : List ℕ) (f : LineFault) → cond b (Ok k) (Err is.Hex) ≡ Err f → f ≡ is.Hex
+test_fault true k f e = absurd cc
+test_fault false k f e = cc
+
 key_fault : (by : Keys) (word : List ℕ) (f : LineFault) → (key_by {C = Unit {0}} by).read nothing word ≡ Err f → f ≡ is.Hex
 key_fault keys.Any word f e = or_fault_is _ is.Hex f e
-key_fault keys.Put word f e = or_fault_is _ is.Hex f e
+key_fault keys.Put word f e = elim (bind_fault (key.read nothing word) (λ k. cond (not (is_some (receipt_of k))) (Ok k) (Err is.Hex)) f e) [
+  | inl a ↦ or_fault_is _ is.Hex f a
+  | inr a ↦ test_fault (not (is_some (receipt_of a.0))) a.0 f a.2
+]
 
 value_fault : (word : List ℕ) (f : LineFault) → (value {C = Unit {0}}).read nothing word ≡ Err f → f ≡ is.Hex
 value_fault word f e = by_dash (bytes_eq word dash) e where
@@ -258,3 +268,17 @@ one_is c by k v key_fits value_fits = record { some = omega arith; few = omega a
   key_of_it : (by : Keys) → (key_by {C = _} by).fits c k → IsKey k
   key_of_it keys.Any fits = (key_is keys.Any k fits).0
   key_of_it keys.Put fits = (key_is keys.Put k fits).0
+
+-- ---- none is of a receipt's key
+
+each_plain : (cs : List Change) → FitAll (FitsChange keys.Put) cs → WriteNoReceipts cs
+each_plain [] fits = tt
+each_plain (c ∷ cs) fits = (plain_key c.key fits.0.0.1, each_plain cs fits.1)
+
+-- a word of writes that a node may be asked for writes no receipt
+pub puts_no_receipts : {C : Type 0} (c : C) (cs : List Change) → (changes {C = C} keys.Put).fits c cs → WriteNoReceipts cs
+puts_no_receipts c cs fits = each_plain cs fits.0.1
+
+-- so does one key with a value
+pub put_no_receipt : {C : Type 0} (c : C) (k v : List ℕ) → (key_by {C = C} keys.Put).fits c k → WriteNoReceipts (one_change k v)
+put_no_receipt c k v fits = (plain_key k fits.1, tt)

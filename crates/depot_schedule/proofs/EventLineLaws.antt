@@ -10,12 +10,12 @@ use Rattle.depot_schedule.specs.declared.changes.Keys.TheVariants as keys
 use Rattle.depot_schedule.specs.declared.verb.Wanted.TheVariants as wanted
 use Rattle.depot_schedule.specs.declared.verb.TheConstants.{VERBS}
 use Rattle.depot_schedule.specs.Spelling.{is_word}
-use Rattle.depot_schedule.specs.EventLines.{node_of, key_of, value_of, changes_in, label_of, source_of, second_of, size_of, seq_of, clock_of, prev_of, refs_of, history_of, kind_of, bytes_of, place_of, count_of, call_of, image_of, put, puts, get, hello, bundle, give, restart, update, updates, voucher, proof, hollow, judge, raw, cut, flip, join, stop, verb_of, line_of, name_of, verb_named}
+use Rattle.depot_schedule.specs.EventLines.{node_of, key_of, value_of, changes_in, label_of, source_of, second_of, size_of, seq_of, clock_of, prev_of, refs_of, history_of, kind_of, bytes_of, place_of, count_of, call_of, image_of, reference_of, nodes_asked, put, puts, get, hello, bundle, give, restart, update, updates, voucher, proof, hollow, judge, raw, cut, flip, join, stop, receipt, settled, verb_of, line_of, name_of, verb_named}
 use Rattle.depot_schedule.specs.Schedules.{other, head_named}
 use Rattle.depot_schedule.proofs.LanguageLaws.{Lawful, LawfulLine, word_line, made_line, optional_line, counted_line, is_same, if_some}
 use Rattle.depot_schedule.proofs.HexWords.{key_lawful, put_key_lawful, value_lawful, raw_lawful}
 use Rattle.depot_schedule.proofs.ChangeWords.{changes_lawful}
-use Rattle.depot_schedule.proofs.VocabularyLaws.{correct_lawful, faulty_lawful, seq_lawful, clock_lawful, any_u32_lawful, piece_size_lawful, stop_call_lawful, image_lawful, new_label_lawful, label_for_lawful, kind_lawful, history_lawful, references_for_lawful, prev_lawful, deps_lawful}
+use Rattle.depot_schedule.proofs.VocabularyLaws.{correct_lawful, faulty_lawful, seq_lawful, clock_lawful, any_u32_lawful, piece_size_lawful, stop_call_lawful, node_count_lawful, image_lawful, new_label_lawful, label_for_lawful, kind_lawful, history_lawful, reference_for_lawful, references_for_lawful, prev_lawful, deps_lawful}
 
 -- ---- the name and the line of a kind of event
 
@@ -190,6 +190,21 @@ stop_row = lawful_row verb.Stop 3 3 _ refl refl refl (counted_line 3 3 _ _ (
     word_line _ image_of _ _ 0 0 image_lawful (λ a e. refl) λ image.
     made_line _)) (λ e. refl)
 
+receipt_row : LawfulRow verb.Receipt
+unfolding verb_named receipt
+receipt_row = lawful_row verb.Receipt 2 2 _ refl refl refl (counted_line 2 2 _ _ (
+    word_line _ node_of _ _ 1 1 correct_lawful (λ a e. refl) λ node.
+    word_line _ refs_of _ _ 0 0 (references_for_lawful wanted.Update 16) (λ a e. refl) λ refs.
+    made_line _)) (λ e. refl)
+
+settled_row : LawfulRow verb.Settled
+unfolding verb_named settled
+settled_row = lawful_row verb.Settled 3 3 _ refl refl refl (counted_line 3 3 _ _ (
+    word_line _ node_of _ _ 2 2 correct_lawful (λ a e. refl) λ node.
+    word_line _ reference_of _ _ 1 1 (reference_for_lawful wanted.Update) (λ a e. refl) λ update.
+    word_line _ nodes_asked _ _ 0 0 node_count_lawful (λ a e. refl) λ k.
+    made_line _)) (λ e. refl)
+
 -- ---- all of them
 
 pub row_lawful : (v : Verb) → LawfulRow v
@@ -211,6 +226,8 @@ row_lawful verb.Cut = cut_row
 row_lawful verb.Flip = flip_row
 row_lawful verb.Join = join_row
 row_lawful verb.Stop = stop_row
+row_lawful verb.Receipt = receipt_row
+row_lawful verb.Settled = settled_row
 
 -- what is found passes the test
 pub found_passes : {X : Type 0} (test : X → Bool) (xs : List X) (x : X) → find test xs ≡ Some x → test x ≡ true

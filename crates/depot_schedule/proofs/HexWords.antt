@@ -1,5 +1,5 @@
 -- Bytes in hexadecimal are lawful words.
-use Rattle.std.proofs.Common.{◌≡◌, ℕ, suc, ◌+◌, ◌*◌, ◌/◌, ◌%◌, ◌<◌, ◌≤◌, Bool, true, false, not, cond, leb, eqb, ◌&&◌, ◌||◌, List, [], ◌∷◌, length, slice_index, Option, Some, None, Result, Ok, Err, refl, sym, subst, arith, inl, inr}
+use Rattle.std.proofs.Common.{◌≡◌, ℕ, suc, ◌+◌, ◌*◌, ◌/◌, ◌%◌, ◌<◌, ◌≤◌, Bool, true, false, not, cond, leb, eqb, ◌&&◌, ◌||◌, List, [], ◌∷◌, length, slice_index, Option, Some, None, is_some, Result, Ok, Err, refl, sym, subst, arith, inl, inr}
 use Rattle.std.specs.List.{list_all}
 use Rattle.std.specs.Option.{unwrap_or}
 use Rattle.std.specs.Result.{result_ok}
@@ -8,10 +8,11 @@ use Rattle.hex.specs.Hex.{encode_lower, encode_with, lower_digits, decode_of, de
 use Rattle.hex.specs.declared.error.FromHexError.{FromHexError}
 use Rattle.hex.specs.declared.error.FromHexError.TheVariants.{OddLength}
 use Rattle.hex.proofs.HexLemmas.{decode_of-encode_lower, decode_pairs-ok, length-encode_with}
+use Rattle.depot_model.specs.Receipts.{receipt_of}
 use Rattle.depot_schedule.specs.declared.line_fault.LineFault.TheVariants as is
 use Rattle.depot_schedule.specs.Spelling.{is_word, is_word_byte, is_within, is_lower_digit, hex_word, sized}
 use Rattle.depot_schedule.specs.Vocabulary.{hex, key, put_key, value, raw_bytes, digest}
-use Rattle.depot_schedule.proofs.LanguageLaws.{LawfulWord, bind_ok, or_fault_ok, or_empty_lawful, if_some, never}
+use Rattle.depot_schedule.proofs.LanguageLaws.{LawfulWord, bind_ok, or_fault_ok, such_that_lawful, or_empty_lawful, if_some, never}
 use Rattle.depot_schedule.proofs.Splitting.{all_weaker}
 
 -- ---- one digit
@@ -144,7 +145,7 @@ pub key_lawful : {C : Type 0} → LawfulWord (key {C = C})
 key_lawful = hex_lawful (is_within 1 255) refl
 
 pub put_key_lawful : {C : Type 0} → LawfulWord (put_key {C = C})
-put_key_lawful = key_lawful
+put_key_lawful = such_that_lawful key (λ c k. not (is_some (receipt_of k))) is.Hex key_lawful
 
 pub value_lawful : {C : Type 0} → LawfulWord (value {C = C})
 value_lawful {C = C} = or_empty_lawful (hex (is_within 1 65536)) (hex_lawful (is_within 1 65536) refl) (λ c fits. never fits.0) (λ c. (is.Hex, refl))

@@ -6,7 +6,7 @@ use Rattle.std.specs.Str.{bytes_eq}
 use Rattle.std.proofs.lemmas.Bool.{leb-true, ltb-true, lt-ltb, and_parts, and_from, false_from_ne_true, ne_eqb, or_cases}
 use Rattle.hex.specs.Hex.{encode_lower, lower_digits}
 use Rattle.hex.proofs.HexLemmas.{length-encode_with}
-use Rattle.depot_base.specs.declared.limits.TheConstants.{MOST_PIECE, MOST_STOP_CALL}
+use Rattle.depot_base.specs.declared.limits.TheConstants.{MOST_PIECE, MOST_STOP_CALL, MOST_NODES}
 use Rattle.depot_base.specs.declared.proof.Kind.{Kind}
 use Rattle.depot_base.specs.declared.proof.Kind.TheVariants.{SameNumber, SamePrev, Backward, NotUpdate}
 use Rattle.depot_base.specs.Shown.{IsPairKind}
@@ -23,7 +23,7 @@ use Rattle.depot_schedule.specs.declared.verb.Wanted.TheVariants as wanted
 use Rattle.depot_schedule.specs.Spelling.{is_word, is_word_byte, is_label, is_label_byte, is_letter, is_digit, is_within}
 use Rattle.depot_base.specs.Format.{◌>>=◌}
 use Rattle.depot_schedule.specs.Language.{split, join, Word, or_none, or_empty, FitAll, with_parts, read_parts, parts_of}
-use Rattle.depot_schedule.specs.Vocabulary.{id, correct, faulty, seq, clock, any_u32, piece_size, stop_call, image, digest, label, new_label, label_for, is_correct, is_faulty, named_by, meets, kind_named, kind, history, FitsHistory, text_of_history, FitsRef, text_of_ref, ref_of, reference_for, references_for, reference, references}
+use Rattle.depot_schedule.specs.Vocabulary.{id, correct, faulty, seq, clock, any_u32, piece_size, stop_call, node_count, image, digest, label, new_label, label_for, is_correct, is_faulty, named_by, meets, kind_named, kind, history, FitsHistory, text_of_history, FitsRef, text_of_ref, ref_of, reference_for, references_for, reference, references}
 use Rattle.depot_schedule.proofs.LanguageLaws.{LawfulWord, bind_ok, need_ok, if_some, or_fault_ok, is_same, such_that_lawful, or_none_lawful, or_empty_lawful, ok_is}
 use Rattle.depot_schedule.proofs.Splitting.{lacks, split_none, split_at, split_join, join_split, split_some, all_weaker, all_append, all_join}
 use Rattle.depot_schedule.proofs.NumberLaws.{number_or_lawful, number_lawful, plain_decimal, digits_of_decimal}
@@ -54,6 +54,9 @@ piece_size_lawful = number_lawful 1 MOST_PIECE (omega arith)
 
 pub stop_call_lawful : {C : Type 0} → LawfulWord (stop_call {C = C})
 stop_call_lawful = number_lawful 1 MOST_STOP_CALL (omega arith)
+
+pub node_count_lawful : {C : Type 0} → LawfulWord (node_count {C = C})
+node_count_lawful = number_lawful 1 MOST_NODES (omega arith)
 
 pub image_lawful : {C : Type 0} → LawfulWord (image {C = C})
 image_lawful = number_or_lawful is.Label 0 2 (omega arith)

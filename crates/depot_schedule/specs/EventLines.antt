@@ -1,14 +1,15 @@
 -- The lines of events: one line of this table a kind of event.
 use Rattle.std.specs.Prelude.{ℕ, List, [], Option, None, codes, find}
 use Rattle.std.specs.Str.{bytes_eq}
-use Rattle.depot_base.specs.declared.limits.TheConstants.{MOST_ENTRIES, MOST_IDS}
+use Rattle.depot_base.specs.declared.limits.TheConstants.{MOST_ENTRIES, MOST_IDS, MOST_WRITES}
 use Rattle.depot_base.specs.Writes.{one_change}
 use Rattle.depot_base.specs.declared.write.Change.{Change}
 use Rattle.depot_base.specs.declared.proof.Kind.{Kind}
 use Rattle.depot_base.specs.declared.proof.Kind.TheVariants.{SameNumber}
 use Rattle.depot_schedule.specs.declared.event.Event.{Event}
-use Rattle.depot_schedule.specs.declared.event.Event.TheVariants.{Put, Puts, Get, Hello, Bundle, Give, Restart, Update, Updates, Voucher, Proof, Hollow, Judge, Raw, Cut, Flip, Join, Stop}
+use Rattle.depot_schedule.specs.declared.event.Event.TheVariants.{Put, Puts, Get, Hello, Bundle, Give, Restart, Update, Updates, Voucher, Proof, Hollow, Judge, Raw, Cut, Flip, Join, Stop, Receipt, Settled}
 use Rattle.depot_schedule.specs.declared.event.Ref.{Ref}
+use Rattle.depot_schedule.specs.declared.event.Ref.TheVariants.{Own}
 use Rattle.depot_schedule.specs.declared.event.HistoryWord.{HistoryWord}
 use Rattle.depot_schedule.specs.declared.event.HistoryWord.TheVariants.{Right}
 use Rattle.depot_schedule.specs.declared.changes.Keys.TheVariants as keys
@@ -17,7 +18,7 @@ use Rattle.depot_schedule.specs.declared.verb.Verb.{Verb}
 use Rattle.depot_schedule.specs.declared.verb.Verb.TheVariants as verb
 use Rattle.depot_schedule.specs.declared.verb.TheConstants.{VERBS}
 use Rattle.depot_schedule.specs.Language.{Words, word, made, optional, counted, or_none, or_empty}
-use Rattle.depot_schedule.specs.Vocabulary.{correct, faulty, seq, clock, any_u32, piece_size, stop_call, image, key, put_key, value, raw_bytes, new_label, made_label, signed_label, voucher_label, plain_label, kind, history, reference, references, vouched, changes}
+use Rattle.depot_schedule.specs.Vocabulary.{correct, faulty, seq, clock, any_u32, piece_size, stop_call, node_count, image, key, put_key, value, raw_bytes, new_label, made_label, signed_label, voucher_label, plain_label, kind, history, reference, references, vouched, changes}
 
 -- ---- the parts of events; where an event has no such part, any value serves
 
@@ -33,6 +34,8 @@ node_of (Update _ writer _ _ _ _ _ _ _) = writer
 node_of (Updates _ writer _ _ _ _ _ _) = writer
 node_of (Voucher _ writer _ _) = writer
 node_of (Stop node _ _) = node
+node_of (Receipt node _) = node
+node_of (Settled node _ _) = node
 node_of _ = 0
 
 abbrev pub key_of : Event → List ℕ
@@ -111,6 +114,7 @@ abbrev pub refs_of : Event → List Ref
 refs_of (Update _ _ _ _ _ _ _ deps _) = deps
 refs_of (Updates _ _ _ _ _ _ deps _) = deps
 refs_of (Voucher _ _ _ refs) = refs
+refs_of (Receipt _ refs) = refs
 refs_of _ = []
 
 abbrev pub history_of : Event → HistoryWord
@@ -143,6 +147,16 @@ call_of _ = 0
 abbrev pub image_of : Event → ℕ
 image_of (Stop _ _ left) = left
 image_of _ = 0
+
+-- the update that an event asks about
+abbrev pub reference_of : Event → Ref
+reference_of (Settled _ update _) = update
+reference_of _ = Own 0 0
+
+-- the number of nodes that an event asks for
+abbrev pub nodes_asked : Event → ℕ
+nodes_asked (Settled _ _ k) = k
+nodes_asked _ = 0
 
 -- ---- the table, by the words behind the event's name
 
@@ -227,6 +241,14 @@ join = counted 3 3 (word new_label label_of λ label. word made_label source_of 
 unfoldable pub stop : Line
 stop = counted 3 3 (word correct node_of λ node. word stop_call call_of λ call. word image image_of λ left. made (Stop node call left))
 
+-- `receipt N REFS`
+unfoldable pub receipt : Line
+receipt = counted 2 2 (word correct node_of λ node. word (references MOST_WRITES) refs_of λ refs. made (Receipt node refs))
+
+-- `settled N REF K`
+unfoldable pub settled : Line
+settled = counted 3 3 (word correct node_of λ node. word reference reference_of λ update. word node_count nodes_asked λ k. made (Settled node update k))
+
 -- ---- all kinds of events
 
 abbrev pub verb_of : Event → Verb
@@ -248,6 +270,8 @@ verb_of (Cut _ _ _ _) = verb.Cut
 verb_of (Flip _ _ _) = verb.Flip
 verb_of (Join _ _ _) = verb.Join
 verb_of (Stop _ _ _) = verb.Stop
+verb_of (Receipt _ _) = verb.Receipt
+verb_of (Settled _ _ _) = verb.Settled
 
 -- the first word of the line of an event, and the words behind it
 pub record Row : Type 1 where
@@ -276,6 +300,8 @@ row_of verb.Cut = row (codes "cut") cut
 row_of verb.Flip = row (codes "flip") flip
 row_of verb.Join = row (codes "join") join
 row_of verb.Stop = row (codes "stop") stop
+row_of verb.Receipt = row (codes "receipt") receipt
+row_of verb.Settled = row (codes "settled") settled
 
 abbrev pub name_of : Verb → List ℕ
 name_of v = (row_of v).name

@@ -5,13 +5,14 @@ use Rattle.std.specs.Fmt.{decimal}
 use Rattle.std.specs.Str.{bytes_eq}
 use Rattle.depot_base.specs.Parts.{is_below}
 use Rattle.depot_base.specs.Shown.{IsPairKind}
-use Rattle.depot_base.specs.declared.limits.TheConstants.{MOST_KEY, MOST_VALUE, MOST_WRITES, MOST_PIECE, MOST_STOP_CALL}
+use Rattle.depot_base.specs.declared.limits.TheConstants.{MOST_KEY, MOST_VALUE, MOST_WRITES, MOST_PIECE, MOST_STOP_CALL, MOST_NODES}
 use Rattle.hex.specs.Hex.{encode_lower, IsBytes}
 use Rattle.depot_base.specs.declared.proof.Kind.{Kind}
 use Rattle.depot_base.specs.declared.proof.Kind.TheVariants.{SameNumber, SamePrev, Backward}
 use Rattle.depot_base.specs.declared.write.Change.{Change}
 use Rattle.depot_model.specs.Lists.{when}
 use Rattle.depot_model.specs.Lines.{name_of_kind}
+use Rattle.depot_model.specs.Receipts.{receipt_of}
 use Rattle.depot_schedule.specs.declared.line_fault.LineFault.{LineFault}
 use Rattle.depot_schedule.specs.declared.line_fault.LineFault.TheVariants as is
 use Rattle.depot_schedule.specs.declared.member.Member.{Member}
@@ -66,6 +67,8 @@ label_made (event.Cut label _ _ _) = Some (label, made.Plain)
 label_made (event.Flip label _ _) = Some (label, made.Plain)
 label_made (event.Join label _ _) = Some (label, made.Plain)
 label_made (event.Stop _ _ _) = None
+label_made (event.Receipt _ _) = None
+label_made (event.Settled _ _ _) = None
 
 -- what this label names, if it is that one
 abbrev pub if_named : List ℕ → Option (List ℕ × Made) → Option Made
@@ -157,6 +160,10 @@ piece_size = number 1 MOST_PIECE
 abbrev pub stop_call : {C : Type 0} → Word C ℕ
 stop_call = number 1 MOST_STOP_CALL
 
+-- a number of nodes
+abbrev pub node_count : {C : Type 0} → Word C ℕ
+node_count = number 1 MOST_NODES
+
 -- the number of an image of a disk
 abbrev pub image : {C : Type 0} → Word C ℕ
 image = number_or is.Label 0 2
@@ -175,9 +182,9 @@ hex test = record {
 abbrev pub key : {C : Type 0} → Word C (List ℕ)
 key = hex (is_within 1 MOST_KEY)
 
--- a key that a node may be asked to write
+-- a key that a node may be asked to write: none has the form of a receipt's, which receipts alone write
 abbrev pub put_key : {C : Type 0} → Word C (List ℕ)
-put_key = key
+put_key = such_that key (λ c k. not (is_some (receipt_of k))) is.Hex
 
 -- a value: at most 65,536 bytes
 abbrev pub value : {C : Type 0} → Word C (List ℕ)

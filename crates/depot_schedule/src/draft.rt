@@ -94,6 +94,8 @@ fn label_made(event: &Event) -> Option<(&Label, Made)>
         Event::Flip { label, .. } => Some((label, Made::Plain)),
         Event::Join { label, .. } => Some((label, Made::Plain)),
         Event::Stop { .. } => None,
+        Event::Receipt { .. } => None,
+        Event::Settled { .. } => None,
     }
 }
 

@@ -147,6 +147,17 @@ pub enum Event {
         call: u32,
         image: u8,
     },
+    /// The node gives receipts for 1 to 16 updates.
+    Receipt {
+        node: NodeId,
+        refs: Refs,
+    },
+    /// Whether at least `k` nodes, 1 to 256, gave receipts for the update that the node has accepted.
+    Settled {
+        node: NodeId,
+        reference: Ref,
+        k: u32,
+    },
 }
 
 impl Event {
@@ -176,6 +187,8 @@ impl Event {
             Event::Flip { .. } => Verb::Flip,
             Event::Join { .. } => Verb::Join,
             Event::Stop { .. } => Verb::Stop,
+            Event::Receipt { .. } => Verb::Receipt,
+            Event::Settled { .. } => Verb::Settled,
         }
     }
 }

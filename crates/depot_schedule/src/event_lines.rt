@@ -3,7 +3,7 @@ ghost use Rattle.std.specs.Prelude.{◌==◌, length, Ok, Err, if◌then◌else�
 ghost use Rattle.depot_schedule.specs.declared.line_fault.LineFault.TheVariants as is;
 ghost use Rattle.depot_schedule.specs.Language.{nothing, last};
 ghost use Rattle.depot_schedule.specs.Vocabulary.{piece_size};
-ghost use Rattle.depot_schedule.specs.EventLines.{put, puts, get, hello, bundle, give, restart, update, updates, voucher, proof, hollow, judge, raw, cut, flip, join, stop, line_of};
+ghost use Rattle.depot_schedule.specs.EventLines.{put, puts, get, hello, bundle, give, restart, update, updates, voucher, proof, hollow, judge, raw, cut, flip, join, stop, receipt, settled, line_of};
 ghost use Rattle.depot_schedule.specs.Readers.{Gives, Counts};
 
 use crate::changes::{Keys, changes};
@@ -11,11 +11,11 @@ use crate::draft::Draft;
 use crate::event::Event;
 use crate::line_fault::{LineError, LineFault};
 use crate::parts::Parts;
-use crate::references::{deps, prev, vouched};
+use crate::references::{deps, one_update, prev, some_updates, vouched};
 use crate::verb::{Verb, Wanted};
 use crate::vocabulary::{
-    any_u32, clock, correct, faulty, history, image, key, kind, label_for, new_label, number_of,
-    put_key, raw_bytes, seq, stop_call, value,
+    any_u32, clock, correct, faulty, history, image, key, kind, label_for, new_label, node_count,
+    number_of, put_key, raw_bytes, seq, stop_call, value,
 };
 use depot_base::limits::MOST_PIECE;
 use std::alloc::Global;
@@ -350,6 +350,29 @@ fn stop(words: &mut Parts<'_>, behind: &Draft) -> Result<Event, LineError>
     made(words, Event::Stop { node, call, image })
 }
 
+/// `receipt N REFS`
+#[tactic(auto, unfolding(crate::specs::EventLines::receipt))]
+fn receipt(alloc: Global, words: &mut Parts<'_>, behind: &Draft) -> Result<Event, LineError>
+    ensures { Gives result (receipt.read behind.now words.old) }
+{
+    counted(words, 2, 2)?;
+    let node = correct(words, behind)?;
+    let refs = some_updates(alloc, words, behind)?;
+    made(words, Event::Receipt { node, refs })
+}
+
+/// `settled N REF K`
+#[tactic(auto, unfolding(crate::specs::EventLines::settled))]
+fn settled(alloc: Global, words: &mut Parts<'_>, behind: &Draft) -> Result<Event, LineError>
+    ensures { Gives result (settled.read behind.now words.old) }
+{
+    counted(words, 3, 3)?;
+    let node = correct(words, behind)?;
+    let reference = one_update(alloc, words, behind)?;
+    let k = node_count(words)?;
+    made(words, Event::Settled { node, reference, k })
+}
+
 /// The event of the words behind its name.
 pub fn event_of(
     alloc: Global,
@@ -378,5 +401,7 @@ pub fn event_of(
         Verb::Flip => flip(alloc, words, behind),
         Verb::Join => join(alloc, words, behind),
         Verb::Stop => stop(words, behind),
+        Verb::Receipt => receipt(alloc, words, behind),
+        Verb::Settled => settled(alloc, words, behind),
     }
 }

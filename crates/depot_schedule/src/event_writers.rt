@@ -3,14 +3,14 @@ ghost use Rattle.std.specs.Prelude.{◌≡◌, [], ◌∷◌, ◌++◌, OnOk};
 ghost use Rattle.std.specs.Fmt.{decimal};
 ghost use Rattle.hex.specs.Hex.{encode_lower};
 ghost use Rattle.depot_schedule.specs.Language.{text_if_any};
-ghost use Rattle.depot_schedule.specs.EventLines.{put, puts, get, hello, bundle, give, restart, update, updates, voucher, proof, hollow, judge, raw, cut, flip, join, stop, line_of, verb_of};
+ghost use Rattle.depot_schedule.specs.EventLines.{put, puts, get, hello, bundle, give, restart, update, updates, voucher, proof, hollow, judge, raw, cut, flip, join, stop, receipt, settled, line_of, verb_of};
 ghost use Rattle.depot_schedule.specs.Readers.{behind_spaces};
 
 use crate::change_writers::writes;
 use crate::event::{Event, HistoryWord, Ref, Refs};
 use crate::label::Label;
 use crate::word_writers::{
-    deps, hex, hex_or_dash, history, kind, label, node, number, prev, references,
+    deps, hex, hex_or_dash, history, kind, label, node, number, prev, reference, references,
 };
 use depot_base::{Bytes, Change, Key, Kind, Memory, NodeId, Value};
 use std::alloc::Global;
@@ -282,6 +282,25 @@ fn stop(alloc: Global, out: &mut Bytes, id: NodeId, call: u32, image: u8) -> Res
     number(alloc, out, image as u64)
 }
 
+/// `receipt N REFS`
+#[tactic(auto, using(depot_base::proofs::Writing::texts), unfolding(crate::specs::EventLines::receipt))]
+fn receipt(alloc: Global, out: &mut Bytes, id: NodeId, refs: &Refs) -> Result<(), Memory>
+    ensures { OnOk result (out.new ≡ out.old ++ behind_spaces (receipt.text (Event.Receipt id refs.now))) }
+{
+    node(alloc, out, id)?;
+    references(alloc, out, refs.as_slice())
+}
+
+/// `settled N REF K`
+#[tactic(auto, using(depot_base::proofs::Writing::texts), unfolding(crate::specs::EventLines::settled))]
+fn settled(alloc: Global, out: &mut Bytes, id: NodeId, update: &Ref, k: u32) -> Result<(), Memory>
+    ensures { OnOk result (out.new ≡ out.old ++ behind_spaces (settled.text (Event.Settled id update.now k))) }
+{
+    node(alloc, out, id)?;
+    reference(alloc, out, update)?;
+    number(alloc, out, k as u64)
+}
+
 /// The words behind the name of an event.
 pub fn words_of_event(alloc: Global, out: &mut Bytes, event: &Event) -> Result<(), Memory>
     ensures { OnOk result (out.new ≡ out.old ++ behind_spaces ((line_of (verb_of event.now)).text event.now)) }
@@ -358,5 +377,7 @@ pub fn words_of_event(alloc: Global, out: &mut Bytes, event: &Event) -> Result<(
             second,
         } => join(out, label, first, second),
         Event::Stop { node, call, image } => stop(alloc, out, *node, *call, *image),
+        Event::Receipt { node, refs } => receipt(alloc, out, *node, refs),
+        Event::Settled { node, reference, k } => settled(alloc, out, *node, reference, *k),
     }
 }

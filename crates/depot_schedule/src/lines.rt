@@ -9,5 +9,5 @@ pub use crate::line::are_words;
 pub use crate::line_fault::LineError;
 pub use crate::parse::{allowed, in_line, next_line};
 pub use crate::parts::Parts;
-pub use crate::vocabulary::{key, put_key, value};
-pub use crate::word_writers::{hex, label, node, word};
+pub use crate::vocabulary::{digest, key, node_count, put_key, value};
+pub use crate::word_writers::{hex, label, node, number, reference, word};

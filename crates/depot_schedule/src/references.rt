@@ -1,6 +1,6 @@
 //! Reads references, and lists of them.
 ghost use Rattle.std.specs.Prelude.{◌≡◌, ◌++◌, [], ◌∷◌, Option, Some, None, Ok, IfOk};
-ghost use Rattle.depot_base.specs.declared.limits.TheConstants.{MOST_ENTRIES, MOST_IDS};
+ghost use Rattle.depot_base.specs.declared.limits.TheConstants.{MOST_ENTRIES, MOST_IDS, MOST_WRITES};
 ghost use Rattle.depot_schedule.specs.Language.{next, rank_of, earlier, read_parts, split, or_none, or_empty};
 ghost use Rattle.depot_schedule.specs.Vocabulary.{label_ref, own_ref, reference, reference_for, references, references_for, vouched};
 ghost use Rattle.depot_schedule.specs.Readers.{Gives, Reads, gathered, first_fault, GathersMore};
@@ -12,7 +12,7 @@ use crate::parts::Parts;
 use crate::spelling::is;
 use crate::verb::Wanted;
 use crate::vocabulary::{id_of, label_for_of, seq_of};
-use depot_base::limits::{MOST_ENTRIES, MOST_IDS};
+use depot_base::limits::{MOST_ENTRIES, MOST_IDS, MOST_WRITES};
 use depot_base::{Memory, Sequence};
 use std::alloc::Global;
 
@@ -190,6 +190,22 @@ pub fn vouched(alloc: Global, words: &mut Parts<'_>, behind: &Draft) -> Result<R
 {
     let word = words.word()?;
     references_of(alloc, word, behind, Wanted::Vouched, MOST_IDS as usize)
+}
+
+/// The next word of a line, as 1 to 16 updates.
+pub fn some_updates(alloc: Global, words: &mut Parts<'_>, behind: &Draft) -> Result<Refs, LineError>
+    ensures { Reads result words.new (next ((references MOST_WRITES).read behind.now) words.old) }
+{
+    let word = words.word()?;
+    references_of(alloc, word, behind, Wanted::Update, MOST_WRITES as usize)
+}
+
+/// The next word of a line, as an update.
+pub fn one_update(alloc: Global, words: &mut Parts<'_>, behind: &Draft) -> Result<Ref, LineError>
+    ensures { Reads result words.new (next (reference.read behind.now) words.old) }
+{
+    let word = words.word()?;
+    reference_of(alloc, word, behind, Wanted::Update)
 }
 
 /// The next word of a line, as a reference or none.

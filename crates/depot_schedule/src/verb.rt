@@ -43,10 +43,14 @@ pub enum Verb {
     Join,
     /// `stop N K IMAGE`
     Stop,
+    /// `receipt N REFS`
+    Receipt,
+    /// `settled N REF K`
+    Settled,
 }
 
 /// Each kind of event once.
-pub const VERBS: [Verb; 18] = [
+pub const VERBS: [Verb; 20] = [
     Verb::Put,
     Verb::Puts,
     Verb::Get,
@@ -65,6 +69,8 @@ pub const VERBS: [Verb; 18] = [
     Verb::Flip,
     Verb::Join,
     Verb::Stop,
+    Verb::Receipt,
+    Verb::Settled,
 ];
 
 impl Verb {
@@ -91,6 +97,8 @@ impl Verb {
             Verb::Flip => "flip",
             Verb::Join => "join",
             Verb::Stop => "stop",
+            Verb::Receipt => "receipt",
+            Verb::Settled => "settled",
         }
     }
 

@@ -3,7 +3,7 @@ ghost use Rattle.std.specs.Prelude.{◌≡◌, ◌≤◌, ◌<◌, ◌^◌, leng
 ghost use Rattle.depot_base.specs.declared.limits.TheConstants.{GREATEST_HEIGHT};
 ghost use Rattle.depot_schedule.specs.Spelling.{is_within, number_word, is_label};
 ghost use Rattle.depot_schedule.specs.Language.{nothing, next};
-ghost use Rattle.depot_schedule.specs.Vocabulary.{number, id, correct, faulty, any_u32, seq, clock, stop_call, image, hex, key, put_key, value, raw_bytes, label, new_label, label_for, kind, history};
+ghost use Rattle.depot_schedule.specs.Vocabulary.{number, id, correct, faulty, any_u32, seq, clock, stop_call, node_count, image, hex, key, put_key, value, raw_bytes, digest, label, new_label, label_for, kind, history};
 ghost use Rattle.depot_schedule.specs.Readers.{Gives, Reads};
 
 use crate::draft::Draft;
@@ -11,9 +11,9 @@ use crate::event::HistoryWord;
 use crate::label::{Label, is_label};
 use crate::line_fault::{LineError, LineFault};
 use crate::parts::Parts;
-use crate::spelling::{has_length, hex_word, is, number_word};
+use crate::spelling::{has_length, hex_word, is, is_receipt_key, number_word};
 use crate::verb::Wanted;
-use depot_base::limits::{MOST_KEY, MOST_STOP_CALL, MOST_VALUE};
+use depot_base::limits::{MOST_KEY, MOST_NODES, MOST_STOP_CALL, MOST_VALUE};
 use depot_base::{Bytes, Hash32, Key, Kind, NodeId, Value};
 use std::alloc::Global;
 
@@ -119,6 +119,15 @@ pub fn stop_call(words: &mut Parts<'_>) -> Result<u32, LineError>
     Ok(n as u32)
 }
 
+/// A number of nodes, from 1 to 256.
+pub fn node_count(words: &mut Parts<'_>) -> Result<u32, LineError>
+    ensures { Reads result words.new (next (node_count.read nothing) words.old) }
+{
+    let word = words.word()?;
+    let n = number_of(word, 1, MOST_NODES as u64)?;
+    Ok(n as u32)
+}
+
 /// The number of an image, 0, 1 or 2.
 pub fn image(words: &mut Parts<'_>) -> Result<u8, LineError>
     ensures { Reads result words.new (next (image.read nothing) words.old) }
@@ -153,11 +162,27 @@ pub fn key_of(alloc: Global, word: &[u8]) -> Result<Key, LineError>
     Ok(Key::from_bytes(bytes))
 }
 
-/// The key that a word is, of those that a node may be asked to write.
+/// The key that a word is, of those that a node may be asked to write: none is that of a receipt.
 pub fn put_key_of(alloc: Global, word: &[u8]) -> Result<Key, LineError>
     ensures { Gives result (put_key.read nothing word.now) }
 {
-    key_of(alloc, word)
+    let key = key_of(alloc, word)?;
+    if is_receipt_key(key.bytes()) {
+        Err(LineError::In(LineFault::Hex))
+    } else {
+        Ok(key)
+    }
+}
+
+/// The digest that a word is, of 32 bytes.
+fn digest_of(alloc: Global, word: &[u8]) -> Result<Hash32, LineError>
+    ensures { Gives result (digest.read nothing word.now) }
+{
+    let bytes = hex_of(alloc, word, 32, 32)?;
+    match Hash32::from_slice(bytes.as_slice()) {
+        Some(hash) => Ok(hash),
+        None => Err(LineError::In(LineFault::Hex)),
+    }
 }
 
 /// The value that a word is, of at most 65,536 bytes.
@@ -213,6 +238,14 @@ pub fn raw_bytes(alloc: Global, words: &mut Parts<'_>) -> Result<Bytes, LineErro
     }
 }
 
+/// A digest.
+pub fn digest(alloc: Global, words: &mut Parts<'_>) -> Result<Hash32, LineError>
+    ensures { Reads result words.new (next (digest.read nothing) words.old) }
+{
+    let word = words.word()?;
+    digest_of(alloc, word)
+}
+
 /// `right`, or a digest.
 pub fn history(alloc: Global, words: &mut Parts<'_>) -> Result<HistoryWord, LineError>
     ensures { Reads result words.new (next (history.read nothing) words.old) }
@@ -221,11 +254,7 @@ pub fn history(alloc: Global, words: &mut Parts<'_>) -> Result<HistoryWord, Line
     if is(word, "right") {
         return Ok(HistoryWord::Right);
     }
-    let bytes = hex_of(alloc, word, 32, 32)?;
-    match Hash32::from_slice(bytes.as_slice()) {
-        Some(hash) => Ok(HistoryWord::Given(hash)),
-        None => Err(LineError::In(LineFault::Hex)),
-    }
+    Ok(HistoryWord::Given(digest_of(alloc, word)?))
 }
 
 /// A kind of contradiction of two statements.

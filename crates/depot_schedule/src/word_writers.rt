@@ -103,7 +103,7 @@ fn bare_reference(alloc: Global, out: &mut Bytes, reference: &Ref) -> Result<(),
 
 /// A reference.
 #[tactic(auto, using(depot_base::proofs::Writing::texts))]
-fn reference(alloc: Global, out: &mut Bytes, reference: &Ref) -> Result<(), Memory>
+pub fn reference(alloc: Global, out: &mut Bytes, reference: &Ref) -> Result<(), Memory>
     ensures { OnOk result (out.new ≡ out.old ++ (32 ∷ text_of_ref reference.now)) }
 {
     out.push_all(&[b' '])?;

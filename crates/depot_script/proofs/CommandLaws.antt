@@ -9,14 +9,15 @@ use Rattle.depot_schedule.specs.Language.{nothing}
 use Rattle.depot_schedule.proofs.LanguageLaws.{LawfulWord, Lawful, need_ok, is_same, word_lawful, made_lawful, counted_lawful, ok_is}
 use Rattle.depot_schedule.specs.declared.changes.Keys.TheVariants as keys
 use Rattle.depot_schedule.proofs.ChangeWords.{changes_lawful}
-use Rattle.depot_schedule.proofs.HexWords.{key_lawful, put_key_lawful, value_lawful}
+use Rattle.depot_schedule.proofs.HexWords.{key_lawful, put_key_lawful, value_lawful, digest_lawful}
+use Rattle.depot_schedule.proofs.VocabularyLaws.{node_count_lawful}
 use Rattle.depot_schedule.proofs.EventLineLaws.{found_passes}
 use Rattle.depot_script.specs.declared.command.Command.{Command}
 use Rattle.depot_script.specs.declared.command_verb.Verb.{Verb}
 use Rattle.depot_script.specs.declared.command_verb.Verb.TheVariants as verb
 use Rattle.depot_script.specs.declared.command_verb.TheConstants.{VERBS}
 use Rattle.depot_script.specs.Names.{is_file_name, file_name}
-use Rattle.depot_script.specs.Commands.{key_of, value_of, changes_in, file_of, hello_of, put, puts, get, hello, bundle, take, verb_of, name_of, form_of, verb_named}
+use Rattle.depot_script.specs.Commands.{key_of, value_of, changes_in, file_of, hello_of, id_of, nodes_asked, put, puts, get, hello, bundle, take, receipt, settled, verb_of, name_of, form_of, verb_named}
 
 -- ---- names of files
 
@@ -76,6 +77,19 @@ take_lawful = counted_lawful 1 1 _ (
     word_lawful _ _ _ 0 0 file_name_lawful (λ c a e h. ap file_of h) λ file.
     made_lawful _)
 
+pub receipt_lawful : Lawful receipt
+unfolding receipt
+receipt_lawful = counted_lawful 1 1 _ (
+    word_lawful _ _ _ 0 0 digest_lawful (λ c a e h. ap id_of h) λ id.
+    made_lawful _)
+
+pub settled_lawful : Lawful settled
+unfolding settled
+settled_lawful = counted_lawful 2 2 _ (
+    word_lawful _ _ _ 1 1 digest_lawful (λ c a e h. ap id_of h.1) λ id.
+    word_lawful _ _ _ 0 0 node_count_lawful (λ c a e h. ap nodes_asked h) λ k.
+    made_lawful _)
+
 -- ---- all of them
 
 -- the name of a kind of command is a word and is read as that kind; its line is lawful, and each command that fits it is of that kind
@@ -89,13 +103,15 @@ lawful_form : (v : Verb) → verb_named (name_of v) ≡ Some v → is_word (name
 lawful_form v again plain line is = record { again = again; plain = plain; line = line; is = is }
 
 pub form_lawful : (v : Verb) → LawfulForm v
-unfolding verb_named put puts get hello bundle take
+unfolding verb_named put puts get hello bundle take receipt settled
 form_lawful verb.Put = lawful_form verb.Put refl refl put_lawful (λ c h. ap verb_of h.1.1)
 form_lawful verb.Puts = lawful_form verb.Puts refl refl puts_lawful (λ c h. ap verb_of h.1)
 form_lawful verb.Get = lawful_form verb.Get refl refl get_lawful (λ c h. ap verb_of h.1)
 form_lawful verb.Hello = lawful_form verb.Hello refl refl hello_lawful (λ c h. ap verb_of h.1)
 form_lawful verb.Bundle = lawful_form verb.Bundle refl refl bundle_lawful (λ c h. ap verb_of h.1.1)
 form_lawful verb.Take = lawful_form verb.Take refl refl take_lawful (λ c h. ap verb_of h.1)
+form_lawful verb.Receipt = lawful_form verb.Receipt refl refl receipt_lawful (λ c h. ap verb_of h.1)
+form_lawful verb.Settled = lawful_form verb.Settled refl refl settled_lawful (λ c h. ap verb_of h.1.1)
 
 -- a word that is read as a kind of command is its name
 pub name_is : (word : List ℕ) (v : Verb) → verb_named word ≡ Some v → word ≡ name_of v

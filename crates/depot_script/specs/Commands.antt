@@ -5,9 +5,9 @@ use Rattle.depot_base.specs.Writes.{one_change}
 use Rattle.depot_base.specs.declared.write.Change.{Change}
 use Rattle.depot_schedule.specs.declared.changes.Keys.TheVariants as keys
 use Rattle.depot_schedule.specs.Language.{Words, word, made, counted}
-use Rattle.depot_schedule.specs.Vocabulary.{key, put_key, value, changes}
+use Rattle.depot_schedule.specs.Vocabulary.{key, put_key, value, digest, node_count, changes}
 use Rattle.depot_script.specs.declared.command.Command.{Command}
-use Rattle.depot_script.specs.declared.command.Command.TheVariants.{Put, Puts, Get, Hello, Bundle, Take}
+use Rattle.depot_script.specs.declared.command.Command.TheVariants.{Put, Puts, Get, Hello, Bundle, Take, Receipt, Settled}
 use Rattle.depot_script.specs.declared.command_verb.Verb.{Verb}
 use Rattle.depot_script.specs.declared.command_verb.Verb.TheVariants as verb
 use Rattle.depot_script.specs.declared.command_verb.TheConstants.{VERBS}
@@ -41,6 +41,17 @@ abbrev pub hello_of : Command → List ℕ
 hello_of (Bundle hello _) = hello
 hello_of _ = []
 
+-- the id of the update that a command speaks of
+abbrev pub id_of : Command → List ℕ
+id_of (Receipt id) = id
+id_of (Settled id _) = id
+id_of _ = []
+
+-- the number of nodes that a command asks for
+abbrev pub nodes_asked : Command → ℕ
+nodes_asked (Settled _ k) = k
+nodes_asked _ = 0
+
 -- ---- the table, by the words behind the command's name; nothing before a line matters for it
 
 abbrev pub Form : Type 1
@@ -70,6 +81,14 @@ bundle = counted 2 2 (word file_name hello_of λ hello. word file_name file_of �
 unfoldable pub take : Form
 take = counted 1 1 (word file_name file_of λ file. made (Take file))
 
+-- `receipt ID`
+unfoldable pub receipt : Form
+receipt = counted 1 1 (word digest id_of λ id. made (Receipt id))
+
+-- `settled ID K`
+unfoldable pub settled : Form
+settled = counted 2 2 (word digest id_of λ id. word node_count nodes_asked λ k. made (Settled id k))
+
 -- ---- all kinds of commands
 
 abbrev pub verb_of : Command → Verb
@@ -79,6 +98,8 @@ verb_of (Get _) = verb.Get
 verb_of (Hello _) = verb.Hello
 verb_of (Bundle _ _) = verb.Bundle
 verb_of (Take _) = verb.Take
+verb_of (Receipt _) = verb.Receipt
+verb_of (Settled _ _) = verb.Settled
 
 -- the first word of the line of a command
 abbrev pub name_of : Verb → List ℕ
@@ -88,6 +109,8 @@ name_of verb.Get = codes "get"
 name_of verb.Hello = codes "hello"
 name_of verb.Bundle = codes "bundle"
 name_of verb.Take = codes "take"
+name_of verb.Receipt = codes "receipt"
+name_of verb.Settled = codes "settled"
 
 -- the words behind it
 abbrev pub form_of : Verb → Form
@@ -97,6 +120,8 @@ form_of verb.Get = get
 form_of verb.Hello = hello
 form_of verb.Bundle = bundle
 form_of verb.Take = take
+form_of verb.Receipt = receipt
+form_of verb.Settled = settled
 
 -- the kind of command of this name
 unfoldable pub verb_named : List ℕ → Option Verb

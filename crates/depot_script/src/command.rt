@@ -2,7 +2,7 @@
 
 use crate::FileName;
 use crate::command_verb::Verb;
-use depot_base::{Changes, Key, Value};
+use depot_base::{Changes, Hash32, Key, Value};
 
 /// One command.
 #[derive(Debug, Drop)]
@@ -19,6 +19,10 @@ pub enum Command {
     Bundle { hello: FileName, file: FileName },
     /// The node takes the stream in the file.
     Take { file: FileName },
+    /// The node gives a receipt for the update with this id.
+    Receipt { id: Hash32 },
+    /// Whether at least `k` nodes, 1 to 256, gave receipts for the update with this id that the node has accepted.
+    Settled { id: Hash32, k: u32 },
 }
 
 impl Command {
@@ -36,6 +40,8 @@ impl Command {
             Command::Hello { .. } => Verb::Hello,
             Command::Bundle { .. } => Verb::Bundle,
             Command::Take { .. } => Verb::Take,
+            Command::Receipt { .. } => Verb::Receipt,
+            Command::Settled { .. } => Verb::Settled,
         }
     }
 }

@@ -2,12 +2,14 @@
 ghost use Rattle.depot_schedule.specs.Language.{nothing, next};
 ghost use Rattle.depot_schedule.specs.Readers.{Gives, Reads};
 ghost use Rattle.depot_script.specs.Names.{file_name};
-ghost use Rattle.depot_script.specs.Commands.{put, puts, get, hello, bundle, take, form_of};
+ghost use Rattle.depot_script.specs.Commands.{put, puts, get, hello, bundle, take, receipt, settled, form_of};
 
 use crate::command_verb::Verb;
 use crate::{Command, FileName};
 use depot_schedule::LineFault;
-use depot_schedule::lines::{Keys, LineError, Parts, changes, counted, key, made, put_key, value};
+use depot_schedule::lines::{
+    Keys, LineError, Parts, changes, counted, digest, key, made, node_count, put_key, value,
+};
 use std::alloc::Global;
 
 /// A name of a file.
@@ -83,6 +85,27 @@ fn take(alloc: Global, words: &mut Parts<'_>) -> Result<Command, LineError>
     made(words, Command::Take { file })
 }
 
+/// `receipt ID`
+#[tactic(auto, unfolding(crate::specs::Commands::receipt))]
+fn receipt(alloc: Global, words: &mut Parts<'_>) -> Result<Command, LineError>
+    ensures { Gives result (receipt.read nothing words.old) }
+{
+    counted(words, 1, 1)?;
+    let id = digest(alloc, words)?;
+    made(words, Command::Receipt { id })
+}
+
+/// `settled ID K`
+#[tactic(auto, unfolding(crate::specs::Commands::settled))]
+fn settled(alloc: Global, words: &mut Parts<'_>) -> Result<Command, LineError>
+    ensures { Gives result (settled.read nothing words.old) }
+{
+    counted(words, 2, 2)?;
+    let id = digest(alloc, words)?;
+    let k = node_count(words)?;
+    made(words, Command::Settled { id, k })
+}
+
 /// The command of the words behind its name.
 pub fn command_of(alloc: Global, verb: Verb, words: &mut Parts<'_>) -> Result<Command, LineError>
     ensures { Gives result ((form_of verb).read nothing words.old) }
@@ -94,5 +117,7 @@ pub fn command_of(alloc: Global, verb: Verb, words: &mut Parts<'_>) -> Result<Co
         Verb::Hello => hello(alloc, words),
         Verb::Bundle => bundle(alloc, words),
         Verb::Take => take(alloc, words),
+        Verb::Receipt => receipt(alloc, words),
+        Verb::Settled => settled(alloc, words),
     }
 }

@@ -19,16 +19,22 @@ pub enum Verb {
     Bundle,
     /// `take FILE`
     Take,
+    /// `receipt ID`
+    Receipt,
+    /// `settled ID K`
+    Settled,
 }
 
 /// Each kind of command once.
-pub const VERBS: [Verb; 6] = [
+pub const VERBS: [Verb; 8] = [
     Verb::Put,
     Verb::Puts,
     Verb::Get,
     Verb::Hello,
     Verb::Bundle,
     Verb::Take,
+    Verb::Receipt,
+    Verb::Settled,
 ];
 
 impl Verb {
@@ -43,6 +49,8 @@ impl Verb {
             Verb::Hello => "hello",
             Verb::Bundle => "bundle",
             Verb::Take => "take",
+            Verb::Receipt => "receipt",
+            Verb::Settled => "settled",
         }
     }
 

@@ -1,11 +1,11 @@
 //! Writes the words behind the name of a command, each behind a space: one function a line of the table.
 ghost use Rattle.std.specs.Prelude.{◌≡◌, ◌++◌, OnOk};
 ghost use Rattle.depot_schedule.specs.Readers.{behind_spaces};
-ghost use Rattle.depot_script.specs.Commands.{put, puts, get, hello, bundle, take, form_of, verb_of};
+ghost use Rattle.depot_script.specs.Commands.{put, puts, get, hello, bundle, take, receipt, settled, form_of, verb_of};
 
 use crate::{Command, FileName};
-use depot_base::{Bytes, Change, Key, Memory, Value};
-use depot_schedule::lines::{hex, word, write, writes};
+use depot_base::{Bytes, Change, Hash32, Key, Memory, Value};
+use depot_schedule::lines::{hex, number, word, write, writes};
 use std::alloc::Global;
 
 /// `put KEY VALUE`
@@ -57,6 +57,23 @@ fn take(out: &mut Bytes, file: &FileName) -> Result<(), Memory>
     word(out, file.text().as_bytes())
 }
 
+/// `receipt ID`
+#[tactic(auto, using(depot_base::proofs::Writing::texts), unfolding(crate::specs::Commands::receipt))]
+fn receipt(alloc: Global, out: &mut Bytes, id: &Hash32) -> Result<(), Memory>
+    ensures { OnOk result (out.new ≡ out.old ++ behind_spaces (receipt.text (Command.Receipt id.now))) }
+{
+    hex(alloc, out, id.bytes())
+}
+
+/// `settled ID K`
+#[tactic(auto, using(depot_base::proofs::Writing::texts), unfolding(crate::specs::Commands::settled))]
+fn settled(alloc: Global, out: &mut Bytes, id: &Hash32, k: u32) -> Result<(), Memory>
+    ensures { OnOk result (out.new ≡ out.old ++ behind_spaces (settled.text (Command.Settled id.now k))) }
+{
+    hex(alloc, out, id.bytes())?;
+    number(alloc, out, k as u64)
+}
+
 /// The words behind the name of a command.
 pub fn words_of_command(alloc: Global, out: &mut Bytes, command: &Command) -> Result<(), Memory>
     ensures { OnOk result (out.new ≡ out.old ++ behind_spaces ((form_of (verb_of command.now)).text command.now)) }
@@ -68,5 +85,7 @@ pub fn words_of_command(alloc: Global, out: &mut Bytes, command: &Command) -> Re
         Command::Hello { file } => hello(out, file),
         Command::Bundle { hello, file } => bundle(out, hello, file),
         Command::Take { file } => take(out, file),
+        Command::Receipt { id } => receipt(alloc, out, id),
+        Command::Settled { id, k } => settled(alloc, out, id, *k),
     }
 }

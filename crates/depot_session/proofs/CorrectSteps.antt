@@ -9,6 +9,7 @@ use Rattle.depot_model.specs.Lawful.{IsLawful}
 use Rattle.depot_model.specs.Limits.{Limit, limit_of_put}
 use Rattle.depot_model.specs.Lists.{IsIn}
 use Rattle.depot_model.specs.Own.{next_own, values_of}
+use Rattle.depot_model.specs.Receipts.{NoReceipt, no_receipt, receipt_changes}
 use Rattle.depot_model.specs.Roster.{has_node}
 use Rattle.depot_model.specs.World.{Correct, Read, IsCorrect, IsRead, NeverFall}
 use Rattle.depot_model.proofs.FeedGrowth.{IsGrown}
@@ -16,7 +17,7 @@ use Rattle.depot_model.proofs.Members.{in_pushed}
 use Rattle.depot_answers.specs.Answers.{text_of_limit, text_of_put}
 use Rattle.depot_script.specs.declared.command.Command.{Command}
 use Rattle.depot_script.specs.declared.command.Command.TheVariants as command
-use Rattle.depot_world.specs.Deeds.{idle, grown, put_by, read_of, get_by, hello_by, bundle_with, bundle_by, give_by}
+use Rattle.depot_world.specs.Deeds.{idle, grown, put_by, read_of, get_by, receipt_with, receipt_by, settled_by, hello_by, bundle_with, bundle_by, give_by}
 use Rattle.depot_world.specs.ScheduleStops.{Deed}
 use Rattle.depot_world.proofs.GoodDeeds.{read_is, never_falls}
 use Rattle.depot_world.proofs.GoodNodes.{begun_grows, read_grows}
@@ -35,6 +36,17 @@ put_reads here c changes = by_limit (limit_of_put here c.journal changes) where
   ]).reads ≡ c.reads
   by_limit (Some limit) = refl
   by_limit None = refl
+
+receipt_reads : (here : Setting) (c : Correct) (ids : List (List ℕ)) → (receipt_by here c ids).reads ≡ c.reads
+unfolding receipt_by
+receipt_reads here c ids = by_why (no_receipt c.journal ids) where
+  by_why : (o : Option NoReceipt) → (receipt_with here c ids o).reads ≡ c.reads
+  by_why (Some why) = refl
+  by_why None = put_reads here c (receipt_changes ids)
+
+settled_reads : (c : Correct) (id : List ℕ) (k : ℕ) → (settled_by c id k).reads ≡ c.reads
+unfolding settled_by
+settled_reads c id k = refl
 
 hello_reads : (here : Setting) (c : Correct) → (hello_by here c).reads ≡ c.reads
 unfolding hello_by
@@ -96,6 +108,14 @@ module _ (here : Setting) (sign : Signs) (s : Session) (correct : IsCorrect (wor
   unfolding step_of
   puts_step changes = put_reads here s.correct changes
 
+  receipt_made : (id : List ℕ) → (step_of here sign s (command.Receipt id)).session.correct.reads ≡ s.correct.reads
+  unfolding step_of
+  receipt_made id = receipt_reads here s.correct (id ∷ [])
+
+  settled_step : (id : List ℕ) (k : ℕ) → (step_of here sign s (command.Settled id k)).session.correct.reads ≡ s.correct.reads
+  unfolding step_of
+  settled_step id k = settled_reads s.correct id k
+
   hello_step : (file : List ℕ) → (step_of here sign s (command.Hello file)).session.correct.reads ≡ s.correct.reads
   unfolding step_of
   hello_step file = hello_reads here s.correct
@@ -126,3 +146,5 @@ module _ (here : Setting) (sign : Signs) (s : Session) (correct : IsCorrect (wor
   step_is_correct (command.Hello file) lawful = by_reads (command.Hello file) (hello_step file) lawful
   step_is_correct (command.Bundle hello file) lawful = by_reads (command.Bundle hello file) (bundle_made hello file) lawful
   step_is_correct (command.Take file) lawful = by_reads (command.Take file) (take_step file) lawful
+  step_is_correct (command.Receipt id) lawful = by_reads (command.Receipt id) (receipt_made id) lawful
+  step_is_correct (command.Settled id k) lawful = by_reads (command.Settled id k) (settled_step id k) lawful

@@ -27,4 +27,4 @@ module _ {N : Type 0} {tells stopped : N → Bool} {records : N → List Record}
 -- what a call was to append it was to append, where more failed than the call
 pub lasts_so : {N : Type 0} {tells stopped : N → Bool} {records : N → List Record} {moment : N → ℕ} {left_since : N → ℕ → List ℕ → Type 0} {may_leave : N → List ℕ → Type 0}
     → (here : Setting) (was failed : Bool) (old new : N) → (failed ≡ false → was ≡ false) → LastsIn tells stopped records moment left_since may_leave here was old new → LastsIn tells stopped records moment left_since may_leave here failed old new
-lasts_so here was failed old new so l = record { appends = l.appends; is = record { lawful = l.is.lawful; count = l.is.count; front = l.is.front; all = λ well. l.is.all (so well) }; lasts = l.lasts }
+lasts_so here was failed old new so l = record { appends = l.appends; is = record { lawful = l.is.lawful; receipts = l.is.receipts; count = l.is.count; front = l.is.front; all = λ well. l.is.all (so well) }; lasts = l.lasts }

@@ -8,7 +8,9 @@ pub mod Called
 pub mod Uncalled
 pub mod FittingScripts
 pub mod PutTurns
+pub mod ReceiptTurns
 pub mod GetTurns
+pub mod SettledTurns
 pub mod HelloTurns
 pub mod BundleTurns
 pub mod TakeTurns

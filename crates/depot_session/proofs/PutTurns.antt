@@ -19,9 +19,9 @@ use Rattle.depot_model.specs.Checks.{Setting}
 use Rattle.depot_model.specs.Lawful.{IsLawful, is_empty}
 use Rattle.depot_model.specs.Limits.{Limit, limit_of_put}
 use Rattle.depot_model.specs.Own.{next_own, values_of}
+use Rattle.depot_model.specs.Receipts.{AreReceiptsTrue}
 use Rattle.depot_model.specs.Replicas.{IsSameNode, KeepsDisk, StopsBy}
 use Rattle.depot_model.specs.Stops.{HasFront, Lasts}
-use Rattle.depot_model.specs.World.{Correct}
 use Rattle.depot_model.specs.declared.replica.Replica.{Ghosts}
 use Rattle.depot_decide.specs.Putting.{Puts, put_records}
 use Rattle.depot_decide.specs.declared.put_answers.PutDone.{PutDone}
@@ -77,6 +77,8 @@ step_of_put here sign s (command.Get key) changes is = absurd is
 step_of_put here sign s (command.Hello file) changes is = absurd is
 step_of_put here sign s (command.Bundle hello file) changes is = absurd is
 step_of_put here sign s (command.Take file) changes is = absurd is
+step_of_put here sign s (command.Receipt id) changes is = absurd is
+step_of_put here sign s (command.Settled id k) changes is = absurd is
 
 -- the journal after a put that meets this limit, or none
 put_journal : (here : Setting) (s : Session) (c : Command) (changes : List Change) (o : Option Limit) → here.me ≡ s.correct.node → limit_of_put here s.correct.journal changes ≡ o
@@ -88,6 +90,10 @@ put_journal here s c changes None same is =
 put_journal here s c changes (Some limit) same is = ap (λ (x : Deed). x.journal) (deed_within here s.correct changes (Some limit) is) ∙ sym (append-nil s.correct.journal)
 
 -- ---- the call on the node
+
+-- what a node answered over one of two journals that are the same
+pub puts_at : (here : Setting) (J K : List Record) (changes : List Change) (done : Result PutDone PutError) (then : List Record) → K ≡ J → Puts here J changes done then → Puts here K changes done then
+puts_at here J K changes done then same = subst (λ (L : List Record). Puts here L changes done then) (sym same)
 
 module _ {N O : Type 0} (g : Ghosts N O) (old new : N) (changes : List Change) (done : Result PutDone PutError) (running : IsRunning g old) (puts : Puts (g.stands old) (g.records old) changes done (g.records new))
     (lasts : Lasts g.tells g.stopped g.records g.moment g.left_since g.may_leave old new (put_records (g.stands old) (g.records old) changes))
@@ -102,12 +108,13 @@ module _ {N O : Type 0} (g : Ghosts N O) (old new : N) (changes : List Change) (
 
   -- ---- the node, whatever came of it
 
-  module _ (lawful : IsLawful (g.stands old) (g.records old)) (some : is_empty (g.records old) ≡ false) (are : AreChanges changes) where
+  module _ (lawful : IsLawful (g.stands old) (g.records old)) (some : is_empty (g.records old) ≡ false) (are : AreChanges changes)
+      (receipts : AreReceiptsTrue (g.records old) → AreReceiptsTrue (g.records old ++ put_records (g.stands old) (g.records old) changes)) where
     -- the put was to append its records, and did, or a front of them
     put_appends : (failed : Bool) → limit_of_put here J changes ≡ None → IsPart J (put_records here J changes) (g.records new) failed → LastsIn g.tells g.stopped g.records g.moment g.left_since g.may_leave here failed old new
     put_appends failed none part = record {
       appends = put_records here J changes;
-      is = to_append here J (put_records here J changes) (g.records new) failed (put_lawful here J changes lawful some are none) part;
+      is = to_append here J (put_records here J changes) (g.records new) failed (put_lawful here J changes lawful some are none) receipts part;
       lasts = lasts;
     }
 
@@ -172,8 +179,8 @@ module _ {N O : Type 0} (g : Ghosts N O) (old new : N) (changes : List Change) (
     by_answer (Err refused.Stopped) p settled well = absurd settled
     by_answer (Err other) p settled well = ap ending_of_put p.0
 
-  module _ (counts_now : (v : N) (t : ℕ) (file : List ℕ) → t ≤ g.moment v → g.may_leave v file → g.left_since v t file) (c : Command) (is_put : IsPut c changes) (shelf : Shelves) (sink : Sinks) (s : Session) (unchanged : IsUnchanged shelf)
-      (at : IsAt (g.stands old) (g.records old) shelf.file s) where
+  module _ (counts_now : (v : N) (t : ℕ) (file : List ℕ) → t ≤ g.moment v → g.may_leave v file → g.left_since v t file) (c : Command) (shelf : Shelves) (sink : Sinks) (s : Session) (unchanged : IsUnchanged shelf)
+      (at : IsAt (g.stands old) (g.records old) shelf.file s) (is_put : step_of (g.stands old) (g.signature_of old) s c ≡ put_step (g.stands old) s c changes) where
     abbrev sign : Signs
     sign = g.signature_of old
 
@@ -199,7 +206,7 @@ module _ {N O : Type 0} (g : Ghosts N O) (old new : N) (changes : List Change) (
 
     -- the command's step is that of the put
     as_put : (r : Result (Unit {0}) Ending) → Turns g old new c step shelf sink r → Turns g old new c (step_of here sign s c) shelf sink r
-    as_put r turns = subst (λ (x : Step). Turns g old new c x shelf sink r) (sym (step_of_put here sign s c changes is_put)) turns
+    as_put r turns = subst (λ (x : Step). Turns g old new c x shelf sink r) (sym is_put) turns
 
     -- no memory was found for what is printed of it
     pub put_without_memory : (r : Result (Unit {0}) Ending) → IsErrAnd r (λ e. e ≡ ending.Memory) → sink.after ≡ sink.before → Turns g old new c (step_of here sign s c) shelf sink r
@@ -210,15 +217,14 @@ module _ {N O : Type 0} (g : Ghosts N O) (old new : N) (changes : List Change) (
     put_to_disk e rose fault = as_put (Err e) (disk_told g old new c step shelf sink more brings leaves others e rose fault)
 
     -- its lines were written, or not
-    pub put_told : (ends : Option Ending) (r : Result (Unit {0}) Ending) (o : Option Printed) (p : Printed) → o ≡ Some p → (o ≡ None) ↔ IsErrOf done refused.Disk → SettlesPut done
-        → ((there : Setting) (k : Correct) (x : List Change) (then : List Record) → there.me ≡ k.node → Puts there k.journal x done then → IsPrintOf o (put_by there k x)) → ends ≡ ends_of_put done → StopsBy (g.stopped old) (g.stopped new) (IsErrOf done refused.Stopped) (IsErrOf done refused.Disk)
-        → Tells sink (command_text c p.lines) ends r → Turns g old new c (step_of here sign s c) shelf sink r
+    pub put_told : (ends : Option Ending) (r : Result (Unit {0}) Ending) (o : Option Printed) (p : Printed) → o ≡ Some p → (o ≡ None) ↔ IsErrOf done refused.Disk → SettlesPut done → IsPrintOf o (put_by here s.correct changes) → ends ≡ ends_of_put done
+        → StopsBy (g.stopped old) (g.stopped new) (IsErrOf done refused.Stopped) (IsErrOf done refused.Disk) → Tells sink (command_text c p.lines) ends r → Turns g old new c (step_of here sign s c) shelf sink r
     put_told ends r o p is stopped settled printed ends_so stops tells = as_put r so where
       well : IsErrOf done refused.Disk → ⊥
       well = not_where_some o p (IsErrOf done refused.Disk) is stopped.1
 
       lines : p.lines ≡ lines_of_deed (put_by here s.correct changes)
-      lines = (subst (λ (x : Option Printed). IsPrintOf x (put_by here s.correct changes)) is (printed here s.correct changes (g.records new) (sym at.node) (subst (λ (K : List Record). Puts here K changes done (g.records new)) (sym at.journal) puts))).0
+      lines = (subst (λ (x : Option Printed). IsPrintOf x (put_by here s.correct changes)) is printed).0
 
       tells_so : Tells sink step.text ends r
       tells_so = subst (λ (text : List ℕ). Tells sink text ends r) (ap (command_text c) lines) tells

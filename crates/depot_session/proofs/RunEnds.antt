@@ -22,13 +22,20 @@ use Rattle.depot_session.specs.declared.ending.Ending.{Ending}
 use Rattle.depot_session.specs.declared.ending.Ending.TheVariants as ending
 use Rattle.depot_session.specs.SessionRuns.{Answered, AreReadsOf, AsksShort, GoesShort, GoesWhole, HasFailed, IsCutBy, IsLast, IsNextHandedOut, LeavesFront, Pending, disk_line, ending_of_refusal, first_of, line_of_refusal, pending_in, world_at}
 use Rattle.depot_session.specs.Sessions.{Files, Session, answers_of, session_from}
-use Rattle.depot_session.specs.ScriptTelling.{Asked, IsFaultTold, IsUnchanged, IsUnwritten}
+use Rattle.depot_session.specs.ScriptTelling.{Asked, IsFaultTold, IsUnchanged, IsUnwritten, TellsShelf}
 use Rattle.depot_session.specs.Turns.{HasNoFault, IsPlayed, IsPlayedInPart, LeftBy, Plays, ending_by}
 use Rattle.depot_session.proofs.LeftJournals.{all_there}
 use Rattle.depot_session.proofs.PlayedScripts.{cut_so, last_so}
 use Rattle.depot_session.proofs.RunImages.{birth_front}
 use Rattle.depot_session.proofs.StepGrowth.{answers_grow}
 use Rattle.depot_session.proofs.UnwrittenTexts.{front_written, of_unwritten}
+
+-- ---- the shelf
+
+-- what is told of the shelf goes by how the script ended
+pub tells_by_ending : (before after : ℕ) (failed_before failed_after : List (List ℕ)) (r : Result (Unit {0}) Ending) (e : Ending) → e ≡ ending_by r → TellsShelf before after failed_before failed_after r → TellsShelf before after failed_before failed_after (Err e)
+tells_by_ending before after failed_before failed_after (Ok done) e is told = subst (λ (x : Ending). TellsShelf before after failed_before failed_after (Err x)) (sym is) (record { never_falls = told.never_falls; quiet = λ goes. told.quiet tt; calm = λ goes. told.calm tt })
+tells_by_ending before after failed_before failed_after (Err x) e is told = subst (λ (y : Ending). TellsShelf before after failed_before failed_after (Err y)) (sym is) told
 
 -- ---- a run that doesn't start, over a lawful journal
 

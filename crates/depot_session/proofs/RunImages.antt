@@ -1,5 +1,5 @@
 -- What a stop in a run, or after it, leaves on the disk: what it left before, or a journal that goes on from the file.
-use Rattle.std.proofs.Common.{◌≡◌, ◌⊎◌, ℕ, true, is_some, List, [], ◌∷◌, ◌++◌, append_assoc, take, drop, map, Some, sym, ap, subst, ◌∙◌, inl, inr}
+use Rattle.std.proofs.Common.{◌≡◌, ◌⊎◌, ℕ, true, is_some, List, [], ◌∷◌, ◌++◌, append_assoc, take, drop, map, Some, refl, sym, ap, subst, ◌∙◌, inl, inr}
 use Rattle.std.proofs.lemmas.List.{take-append-drop}
 use Rattle.depot_base.specs.File.{IsFileOf}
 use Rattle.depot_base.specs.declared.key.PublicKey.{PublicKey}
@@ -7,8 +7,11 @@ use Rattle.depot_base.specs.declared.record.Record.{Record}
 use Rattle.depot_journal.proofs.OneList.{one_list}
 use Rattle.depot_laws.proofs.Births.{born}
 use Rattle.depot_laws.proofs.Splits.{lawful_front}
+use Rattle.depot_laws.proofs.TrueReceipts.{front_is_true, no_receipts_yet, silent_is_true}
+use Rattle.depot_model.specs.Causality.{puts_of}
 use Rattle.depot_model.specs.Checks.{Setting}
 use Rattle.depot_model.specs.Lawful.{IsLawful}
+use Rattle.depot_model.specs.Receipts.{AreReceiptsTrue}
 use Rattle.depot_model.specs.Records.{text_of_record}
 use Rattle.depot_model.specs.Roster.{has_node, key_of}
 use Rattle.depot_model.specs.Stops.{HasFront, HasRecords}
@@ -31,12 +34,29 @@ key_or_disk here key told file refused.UnknownMe n = inl n
 key_or_disk here key told file (refused.OtherKey other own) n = inl n
 key_or_disk here key told file other n = inr n.0
 
+-- a birth puts nothing
+birth_puts_none : (here : Setting) (J : List Record) → puts_of (birth_after here J) ≡ []
+birth_puts_none here [] = refl
+birth_puts_none here (r ∷ rs) = refl
+
+-- so with a birth behind them, or a front of it, receipts stay true
+birth_is_true : (here : Setting) (J : List Record) → AreReceiptsTrue J → AreReceiptsTrue (J ++ birth_after here J)
+birth_is_true here J = silent_is_true J (birth_after here J) (birth_puts_none here J)
+
 -- a front of a birth goes on from a file without records
 birth_goes_on : (here : Setting) (file image : List ℕ) → IsRoster here.listed → has_node here.listed here.me ≡ true → IsFileOf file [] → HasFront [] (birth_after here []) image → GoesOn here file image
 birth_goes_on here file image formed member none front =
     let birth = birth_after here [] in
     let lawful : IsLawful here (take front.count birth ++ drop front.count birth) = subst (IsLawful here) (sym (take-append-drop front.count birth)) (born here formed member) in
-    record { journal = []; read = none; more = take front.count birth; lawful = lawful_front here (take front.count birth) (drop front.count birth) lawful; has = front.has }
+    let born_true : AreReceiptsTrue (take front.count birth ++ drop front.count birth) = subst AreReceiptsTrue (sym (take-append-drop front.count birth)) (birth_is_true here [] no_receipts_yet) in
+    record {
+      journal = [];
+      read = none;
+      more = take front.count birth;
+      lawful = lawful_front here (take front.count birth) (drop front.count birth) lawful;
+      receipts = λ _. front_is_true (take front.count birth) (drop front.count birth) born_true;
+      has = front.has;
+    }
 
 -- what a start leaves
 pub start_goes_on : (here : Setting) (file : List ℕ) (before : List ℕ → Type 0) (image : List ℕ) → IsRoster here.listed → has_node here.listed here.me ≡ true → StartLeaves here (IsFileOf file []) before image → before image ⊎ GoesOn here file image
@@ -56,15 +76,25 @@ birth_front here (r ∷ J) more file image has none front longer = absurd (some_
 started_behind : (here : Setting) (file : List ℕ) (records : List Record) (s : IsStartedFrom here file records) (some : List Record) → records ++ some ≡ s.journal ++ (birth_after here s.journal ++ some)
 started_behind here file records s some = ap (λ (x : List Record). x ++ some) s.is ∙ append_assoc s.journal (birth_after here s.journal) some
 
+-- a journal up to one of its records, and the rest
+parted : (records appends : List Record) (count : ℕ) → records ++ appends ≡ (records ++ take count appends) ++ drop count appends
+parted records appends count = ap (λ (x : List Record). records ++ x) (sym (take-append-drop count appends)) ∙ sym (append_assoc records (take count appends) (drop count appends))
+
 -- a journal is lawful up to each of its records
 lawful_to : (here : Setting) (records appends : List Record) (count : ℕ) → IsLawful here (records ++ appends) → IsLawful here (records ++ take count appends)
-lawful_to here records appends count lawful =
-    let parts : records ++ appends ≡ (records ++ take count appends) ++ drop count appends = ap (λ (x : List Record). records ++ x) (sym (take-append-drop count appends)) ∙ sym (append_assoc records (take count appends) (drop count appends)) in
-    lawful_front here (records ++ take count appends) (drop count appends) (subst (IsLawful here) parts lawful)
+lawful_to here records appends count lawful = lawful_front here (records ++ take count appends) (drop count appends) (subst (IsLawful here) (parted records appends count) lawful)
+
+-- what was to be appended to a started node's journal leaves the receipts of its file true, up to each record
+true_to : (here : Setting) (file : List ℕ) (records appends : List Record) (count : ℕ) (s : IsStartedFrom here file records) → (AreReceiptsTrue records → AreReceiptsTrue (records ++ appends))
+    → AreReceiptsTrue s.journal → AreReceiptsTrue (s.journal ++ (birth_after here s.journal ++ take count appends))
+true_to here file records appends count s receipts true_before =
+    let started_true : AreReceiptsTrue records = subst AreReceiptsTrue (sym s.is) (birth_is_true here s.journal true_before) in
+    subst AreReceiptsTrue (started_behind here file records s (take count appends))
+    (front_is_true (records ++ take count appends) (drop count appends) (subst AreReceiptsTrue (parted records appends count) (receipts started_true)))
 
 -- a front of what is appended behind the journal of a started node goes on from its file
-pub front_goes_on : (here : Setting) (file image : List ℕ) (records appends : List Record) → IsStartedFrom here file records → IsLawful here (records ++ appends) → HasFront records appends image → GoesOn here file image
-front_goes_on here file image records appends s lawful front =
+pub front_goes_on : (here : Setting) (file image : List ℕ) (records appends : List Record) → IsStartedFrom here file records → IsLawful here (records ++ appends) → (AreReceiptsTrue records → AreReceiptsTrue (records ++ appends)) → HasFront records appends image → GoesOn here file image
+front_goes_on here file image records appends s lawful receipts front =
     let some = take front.count appends in
     let behind = started_behind here file records s some in
     record {
@@ -72,14 +102,15 @@ front_goes_on here file image records appends s lawful front =
       read = s.read;
       more = birth_after here s.journal ++ some;
       lawful = subst (IsLawful here) behind (lawful_to here records appends front.count lawful);
+      receipts = true_to here file records appends front.count s receipts;
       has = subst (λ (K : List Record). HasRecords K image) behind front.has;
     }
 
 -- what a run leaves from its start on
 pub run_goes_on : (here : Setting) (file image : List ℕ) (records appends : List Record) (before : List ℕ → Type 0) → IsRoster here.listed → has_node here.listed here.me ≡ true → IsStartedFrom here file records → IsLawful here (records ++ appends)
-    → StartLeaves here (IsFileOf file []) before image ⊎ HasFront records appends image → before image ⊎ GoesOn here file image
-run_goes_on here file image records appends before formed member s lawful (inl start) = start_goes_on here file before image formed member start
-run_goes_on here file image records appends before formed member s lawful (inr front) = inr (front_goes_on here file image records appends s lawful front)
+    → (AreReceiptsTrue records → AreReceiptsTrue (records ++ appends)) → StartLeaves here (IsFileOf file []) before image ⊎ HasFront records appends image → before image ⊎ GoesOn here file image
+run_goes_on here file image records appends before formed member s lawful receipts (inl start) = start_goes_on here file before image formed member start
+run_goes_on here file image records appends before formed member s lawful receipts (inr front) = inr (front_goes_on here file image records appends s lawful receipts front)
 
 -- what a start that is refused leaves
 pub refused_goes_on : (here : Setting) (key : PublicKey) (told : Type 0) (file : List ℕ) (e : StartError) (before : List ℕ → Type 0) (image : List ℕ) → IsRoster here.listed → IsNotStarted here key told file e → (IsKeyFault here.listed here.me key e → before image)
@@ -90,8 +121,9 @@ refused_goes_on here key told file e before image formed is untouched start = el
 ]
 
 -- all records of a running node are what its run left
-pub settled : (here : Setting) (disk : Disks) (records appends all : List Record) (count : ℕ) → IsStartedFrom here disk.file records → IsLawful here (records ++ appends) → all ≡ records ++ take count appends → HasRecords all disk.file_after → ((image : List ℕ) → disk.may_leave_after image → HasRecords all image) → Settles here disk
-settled here disk records appends all count s lawful is has leaves =
+pub settled : (here : Setting) (disk : Disks) (records appends all : List Record) (count : ℕ) → IsStartedFrom here disk.file records → IsLawful here (records ++ appends) → (AreReceiptsTrue records → AreReceiptsTrue (records ++ appends)) → all ≡ records ++ take count appends
+    → HasRecords all disk.file_after → ((image : List ℕ) → disk.may_leave_after image → HasRecords all image) → Settles here disk
+settled here disk records appends all count s lawful receipts is has leaves =
     let birth = birth_after here s.journal in
     let some = take count appends in
     let same : all ≡ s.journal ++ (birth ++ some) = is ∙ started_behind here disk.file records s some in
@@ -100,6 +132,7 @@ settled here disk records appends all count s lawful is has leaves =
       read = s.read;
       more = birth ++ some;
       lawful = subst (IsLawful here) (started_behind here disk.file records s some) (lawful_to here records appends count lawful);
+      receipts = true_to here disk.file records appends count s receipts;
       has = subst (λ (K : List Record). HasRecords K disk.file_after) same has;
       leaves = λ image left. subst (λ (K : List Record). HasRecords K image) same (leaves image left);
     }

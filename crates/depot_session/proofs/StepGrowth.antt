@@ -8,7 +8,7 @@ use Rattle.depot_script.specs.declared.command.Command.{Command}
 use Rattle.depot_script.specs.declared.command.Command.TheVariants as command
 use Rattle.depot_world.specs.Deeds.{bundle_by}
 use Rattle.depot_world.specs.ScheduleStops.{Deed}
-use Rattle.depot_world.proofs.DeedGrowth.{put_grows, get_grows, hello_grows, bundle_grows, give_grows}
+use Rattle.depot_world.proofs.DeedGrowth.{put_grows, get_grows, hello_grows, bundle_grows, give_grows, receipt_grows, settled_grows}
 use Rattle.depot_session.specs.declared.ending.Ending.{Ending}
 use Rattle.depot_session.specs.Sessions.{Answers, Session, Step, answers_of, bundle_step, bundle_to, followed_by, step_of, take_from}
 
@@ -32,6 +32,8 @@ step_grows here sign s (command.Take file) = by_file (s.files file) where
   by_file : (o : Option (List ℕ)) → IsGrown s.correct.journal (take_from here s file o).session.correct.journal
   by_file None = grown_none s.correct.journal
   by_file (Some bytes) = give_grows here s.correct bytes
+step_grows here sign s (command.Receipt id) = receipt_grows here s.correct (id ∷ [])
+step_grows here sign s (command.Settled id k) = settled_grows s.correct id k
 
 bundle_step_stays : (s : Session) (hello file : List ℕ) (d : Deed) (a : BundleAnswer) → (bundle_step s hello file d a).session.correct.node ≡ s.correct.node
 bundle_step_stays s hello file d (bundled b) = refl
@@ -51,6 +53,8 @@ step_stays here sign s (command.Take file) = by_file (s.files file) where
   by_file : (o : Option (List ℕ)) → (take_from here s file o).session.correct.node ≡ s.correct.node
   by_file None = refl
   by_file (Some bytes) = refl
+step_stays here sign s (command.Receipt id) = refl
+step_stays here sign s (command.Settled id k) = refl
 
 -- ---- a script
 

@@ -8,6 +8,7 @@ use Rattle.depot_model.specs.Bundle.{Signs}
 use Rattle.depot_model.specs.Checks.{Setting}
 use Rattle.depot_model.specs.Lawful.{IsLawful}
 use Rattle.depot_model.specs.Lists.{IsIn}
+use Rattle.depot_model.specs.Receipts.{AreReceiptsTrue}
 use Rattle.depot_model.specs.Roster.{key_of}
 use Rattle.depot_model.specs.Stops.{HasRecords, HasFront}
 use Rattle.depot_model.specs.World.{World, Read, IsRead, IsCorrect, NeverFall}
@@ -23,12 +24,14 @@ use Rattle.depot_session.specs.ScriptTelling.{Asked, IsFaultTold, IsUnchanged}
 
 -- ---- what a stop leaves
 
--- The records of the image are those of a lawful journal that begins with the records of the file.
+-- The records of the image are those of a lawful journal that begins with the records of the file. Its receipts are true where those of
+-- the file are.
 pub record GoesOn (here : Setting) (file image : List ℕ) : Type 0 where
   pub journal : List Record
   pub read : HasRecords journal file
   pub more : List Record
   pub lawful : IsLawful here (journal ++ more)
+  pub receipts : AreReceiptsTrue journal → AreReceiptsTrue (journal ++ more)
   pub has : HasRecords (journal ++ more) image
 
 -- What a stop might have left at some moment of the run it might have left before, or it goes on from the file. As it reads afterwards,
@@ -249,12 +252,14 @@ Begins here key first disk shelf calls sink ends = (IsRefused here key disk shel
 
 -- ---- what is left, and what is loaded
 
--- The run left a lawful journal that begins with the records of the file: the file has it, and so has whatever a stop leaves of it.
+-- The run left a lawful journal that begins with the records of the file, its receipts true where those of the file are: the file has it,
+-- and so has whatever a stop leaves of it.
 pub record Settles (here : Setting) (disk : Disks) : Type 0 where
   pub journal : List Record
   pub read : HasRecords journal disk.file
   pub more : List Record
   pub lawful : IsLawful here (journal ++ more)
+  pub receipts : AreReceiptsTrue journal → AreReceiptsTrue (journal ++ more)
   pub has : HasRecords (journal ++ more) disk.file_after
   pub leaves : (image : List ℕ) → disk.may_leave_after image → HasRecords (journal ++ more) image
 

@@ -8,12 +8,13 @@ use Rattle.depot_model.specs.Bundle.{Signs, BundleAnswer, bundled, bad_hello, ot
 use Rattle.depot_model.specs.Checks.{Setting}
 use Rattle.depot_model.specs.Feeding.{Closing, ill_formed, out_of_room, feed_of}
 use Rattle.depot_model.specs.Limits.{Limit, limit_of_put}
+use Rattle.depot_model.specs.Receipts.{NoReceipt, no_receipt, receipt_changes}
 use Rattle.depot_model.specs.World.{Correct, Read}
 use Rattle.depot_schedule.specs.Language.{join}
 use Rattle.depot_script.specs.Scripts.{command_words}
 use Rattle.depot_script.specs.declared.command.Command.{Command}
 use Rattle.depot_script.specs.declared.command.Command.TheVariants as command
-use Rattle.depot_world.specs.Deeds.{put_by, get_by, hello_by, bundle_by, give_by}
+use Rattle.depot_world.specs.Deeds.{put_by, get_by, hello_by, bundle_by, give_by, receipt_by, settled_by}
 use Rattle.depot_world.specs.ScheduleStops.{Deed}
 use Rattle.depot_deeds.specs.Printing.{lines_of_deed}
 use Rattle.depot_node.specs.Starting.{started}
@@ -51,6 +52,7 @@ pub record Step : Type 0 where
 abbrev pub printed_count : Command → ℕ
 printed_count (command.Bundle hello file) = 3
 printed_count (command.Puts changes) = 1
+printed_count (command.Settled id k) = 3
 printed_count other = 2
 
 -- the lines of a command that a node carries out
@@ -111,6 +113,11 @@ abbrev pub ending_of_put : Option Limit → Option Ending
 ending_of_put None = None
 ending_of_put (Some limit) = Some ending.Limit
 
+-- a receipt that isn't given ends nothing
+abbrev pub ending_of_receipt : Option NoReceipt → Option Limit → Option Ending
+ending_of_receipt (Some why) limit = None
+ending_of_receipt None limit = ending_of_put limit
+
 abbrev pub ending_of_bundle : BundleAnswer → Option Ending
 ending_of_bundle (bundled b) = None
 ending_of_bundle (bad_hello at) = Some ending.Input
@@ -149,6 +156,10 @@ IsPut c changes = ⊥
 abbrev pub put_step : Setting → Session → Command → List Change → Step
 put_step here s c changes = carried_out s c (put_by here s.correct changes) (ending_of_put (limit_of_put here s.correct.journal changes))
 
+-- receipts for these ids, for which the command asks
+abbrev pub receipt_step : Setting → Session → Command → List (List ℕ) → Step
+receipt_step here s c ids = carried_out s c (receipt_by here s.correct ids) (ending_of_receipt (no_receipt s.correct.journal ids) (limit_of_put here s.correct.journal (receipt_changes ids)))
+
 unfoldable pub step_of : Setting → Signs → Session → Command → Step
 step_of here sign s (command.Put key value) = put_step here s (command.Put key value) (one_change key value)
 step_of here sign s (command.Puts changes) = put_step here s (command.Puts changes) changes
@@ -156,6 +167,8 @@ step_of here sign s (command.Get key) = carried_out s (command.Get key) (get_by 
 step_of here sign s (command.Hello file) = carried_out_storing s (command.Hello file) (hello_by here s.correct) file
 step_of here sign s (command.Bundle hello file) = bundle_to here sign s hello file (s.files hello)
 step_of here sign s (command.Take file) = take_from here s file (s.files file)
+step_of here sign s (command.Receipt id) = receipt_step here s (command.Receipt id) (id ∷ [])
+step_of here sign s (command.Settled id k) = carried_out s (command.Settled id k) (settled_by s.correct id k) None
 
 -- ---- a script
 

@@ -1,5 +1,5 @@
 -- What a command makes of a node, of the shelf and of the sink.
-use Rattle.std.specs.Prelude.{◌≡◌, ◌<◌, ◌≤◌, ◌⊎◌, ℕ, List, [], ◌++◌, false, IsTrue, Some, None, Result, Ok, Err, is_err, IsErrOf}
+use Rattle.std.specs.Prelude.{◌≡◌, ◌<◌, ◌≤◌, ◌⊎◌, ℕ, List, [], ◌++◌, false, IsTrue, Option, Some, None, Result, Ok, Err, is_err, IsErrOf}
 use Rattle.depot_base.specs.declared.record.Record.{Record}
 use Rattle.depot_feeds.specs.Lasting.{LastsIn}
 use Rattle.depot_model.specs.Checks.{Setting}
@@ -8,7 +8,10 @@ use Rattle.depot_model.specs.Stops.{HasFront, LeavesAll}
 use Rattle.depot_model.specs.Bundle.{Signs}
 use Rattle.depot_model.specs.World.{IsCorrect}
 use Rattle.depot_model.specs.declared.replica.Replica.{Ghosts}
+use Rattle.depot_decide.specs.declared.put_answers.PutDone.{PutDone}
 use Rattle.depot_outside.specs.Told.{Shelves, Sinks, Wrote}
+use Rattle.depot_receipts.specs.declared.give_error.GiveError.{GiveError}
+use Rattle.depot_receipts.specs.declared.give_error.GiveError.TheVariants as give
 use Rattle.depot_session.specs.declared.ending.Ending.{Ending}
 use Rattle.depot_session.specs.declared.ending.Ending.TheVariants as ending
 use Rattle.depot_script.specs.declared.command.Command.{Command}
@@ -81,6 +84,15 @@ pub record IsBroken {N O : Type 0} (g : Ghosts N O) (old new : N) (c : Command) 
 abbrev pub Turns : {N O : Type 0} → Ghosts N O → N → N → Command → Step → Shelves → Sinks → Result (Unit {0}) Ending → Type 0
 Turns g old new c step shelf sink (Ok done) = (step.ending ≡ None) × Steps g new step shelf sink
 Turns g old new c step shelf sink (Err e) = ((step.ending ≡ Some e) × Steps g new step shelf sink) ⊎ IsBroken g old new c step shelf sink e
+
+-- ---- receipts
+
+-- how the run ends where the node answers receipts so, but for want of memory or its disk: only by a limit
+abbrev pub ends_of_receipt : Result PutDone GiveError → Option Ending
+ends_of_receipt (Ok done) = None
+ends_of_receipt (Err (give.Unknown h)) = None
+ends_of_receipt (Err (give.NoValue h)) = None
+ends_of_receipt (Err other) = Some ending.Limit
 
 -- ---- a script
 

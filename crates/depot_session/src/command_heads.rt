@@ -6,7 +6,7 @@ ghost use Rattle.depot_script.specs.Scripts.{command_words};
 ghost use Rattle.depot_session.specs.Sessions.{printed_count};
 
 use depot_base::{Bytes, Memory};
-use depot_schedule::lines::{hex, word};
+use depot_schedule::lines::{hex, number, word};
 use depot_script::Command;
 use std::alloc::Global;
 
@@ -21,7 +21,7 @@ pub fn head(alloc: Global, out: &mut Bytes, command: &Command) -> Result<(), Mem
 }
 
 /// Writes the words between the name and the arrow, each behind a space.
-#[tactic(auto, using(depot_base::proofs::Writing::texts), unfolding(depot_script::specs::Commands::put, depot_script::specs::Commands::puts, depot_script::specs::Commands::get, depot_script::specs::Commands::hello, depot_script::specs::Commands::bundle, depot_script::specs::Commands::take))]
+#[tactic(auto, using(depot_base::proofs::Writing::texts), unfolding(depot_script::specs::Commands::put, depot_script::specs::Commands::puts, depot_script::specs::Commands::get, depot_script::specs::Commands::hello, depot_script::specs::Commands::bundle, depot_script::specs::Commands::take, depot_script::specs::Commands::receipt, depot_script::specs::Commands::settled))]
 fn words(alloc: Global, out: &mut Bytes, command: &Command) -> Result<(), Memory>
     ensures { OnOk result (out.new ≡ out.old ++ behind_spaces (drop 1 (take (printed_count command.now) (command_words command.now)))) }
 {
@@ -35,5 +35,10 @@ fn words(alloc: Global, out: &mut Bytes, command: &Command) -> Result<(), Memory
             word(out, file.text().as_bytes())
         }
         Command::Take { file } => word(out, file.text().as_bytes()),
+        Command::Receipt { id } => hex(alloc, out, id.bytes()),
+        Command::Settled { id, k } => {
+            hex(alloc, out, id.bytes())?;
+            number(alloc, out, *k as u64)
+        }
     }
 }

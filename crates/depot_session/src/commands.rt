@@ -9,20 +9,26 @@ ghost use Rattle.depot_model.specs.Feeding.{Feeding};
 ghost use Rattle.depot_outside.specs.Told.{Shelves, shelves, sinks};
 ghost use Rattle.depot_gossip.specs.Bundling.{Bundles};
 ghost use Rattle.depot_deeds.specs.Printing.{IsToldOf, SettlesBundle};
+ghost use Rattle.depot_schedule.specs.PutKeys.{WriteNoReceipts};
 ghost use Rattle.depot_script.specs.Scripts.{FitsCommand};
 ghost use Rattle.depot_session.specs.Sessions.{Session, IsPut, loads_of, step_of, stores_of};
 ghost use Rattle.depot_session.specs.Sessions as sessions;
 ghost use Rattle.depot_session.specs.ScriptTelling.{IsUnchanged, StoresUnder, TellsShelf};
-ghost use Rattle.depot_session.specs.Turns.{IsAt, IsRunning, Keeps, Turns};
+ghost use Rattle.depot_session.specs.Turns.{IsAt, IsRunning, Keeps, Turns, ends_of_receipt};
 
 use crate::ending::Ending;
 use crate::local::Local;
 use crate::telling::{disk_failed, load, no_file, store_and_tell, tell};
 use depot_answers::Closing;
-use depot_base::{Changes, Key, Memory, Value};
-use depot_deeds::{Fed, bundle_printed, fed_printed, feed_whole, hello_line, put_printed};
+use depot_base::{Changes, Hash32, Ids, Key, Memory, Value};
+use depot_deeds::{
+    Fed, bundle_printed, fed_printed, feed_whole, hello_line, put_printed, receipt_printed,
+    settled_line,
+};
 use depot_gossip::{BundleError, Bundled, FeedError, bundle, hello};
+use depot_node::PutDone;
 use depot_outside::{Shelf, Sink};
+use depot_receipts::GiveError;
 use depot_script::{Command, FileName};
 use std::alloc::Global;
 
@@ -36,6 +42,7 @@ fn put<R: Local, K: Sink>(
 ) -> Result<(), Ending>
     requires command { IsPut command.now changes }
     requires changes { AreChanges changes }
+    requires plain { WriteNoReceipts changes }
     requires running { IsRunning R.Replica node.old }
     ensures keeps { Keeps R.Replica node.old node.new (sinks K.Sink out.old out.new) result }
     ensures turns { (shelf : Shelves) (s : Session) → IsUnchanged shelf → IsAt (R.stands node.old) (R.records node.old) shelf.file s → Turns R.Replica node.old node.new command.now (step_of (R.stands node.old) (R.signature_of node.old) s command.now) shelf (sinks K.Sink out.old out.new) result }
@@ -114,6 +121,69 @@ fn get<R: Local, K: Sink>(
 {
     let lines = node.read(alloc, key)?;
     tell(alloc, command, &lines, None, out)
+}
+
+/// The list of one id, which is copied.
+fn one_id(alloc: Global, id: &Hash32) -> Result<Ids, Memory>
+    ensures { IfOk result (λ ids. ids ≡ id.now ∷ []) }
+{
+    let mut ids = Ids::new(alloc);
+    ids.push(*id)?;
+    Ok(ids)
+}
+
+/// How receipts end the run, where the node answers neither for want of memory nor for its disk: only by a limit.
+fn ending_of_receipt(done: &Result<PutDone, GiveError>) -> Option<Ending>
+    ensures { result ≡ ends_of_receipt done.now }
+{
+    match done {
+        Ok(_) | Err(GiveError::Unknown(_)) | Err(GiveError::NoValue(_)) => None,
+        Err(_) => Some(Ending::Limit),
+    }
+}
+
+/// Gives a receipt for an update, and tells of it.
+fn give_receipt<R: Local, K: Sink>(
+    alloc: Global,
+    node: &mut R,
+    command: &Command,
+    id: &Hash32,
+    out: &mut K,
+) -> Result<(), Ending>
+    requires command { command.now ≡ Command.Receipt id.now }
+    requires fits { FitsCommand command.now }
+    requires running { IsRunning R.Replica node.old }
+    ensures keeps { Keeps R.Replica node.old node.new (sinks K.Sink out.old out.new) result }
+    ensures turns { (shelf : Shelves) (s : Session) → IsUnchanged shelf → IsAt (R.stands node.old) (R.records node.old) shelf.file s → Turns R.Replica node.old node.new command.now (step_of (R.stands node.old) (R.signature_of node.old) s command.now) shelf (sinks K.Sink out.old out.new) result }
+    ensures same { K.tells out.new ≡ K.tells out.old }
+{
+    let ids = one_id(alloc, id)?;
+    let done = node.receipt(alloc, &ids);
+    let ends = ending_of_receipt(&done);
+    match receipt_printed(alloc, done)? {
+        Some(printed) => tell(alloc, command, &printed.lines, ends, out),
+        None => Err(disk_failed(out)),
+    }
+}
+
+/// Tells whether so many nodes gave receipts for an update.
+fn tell_settled<R: Local, K: Sink>(
+    alloc: Global,
+    node: &R,
+    command: &Command,
+    id: &Hash32,
+    k: u32,
+    out: &mut K,
+) -> Result<(), Ending>
+    requires command { command.now ≡ Command.Settled id.now k }
+    requires running { IsRunning R.Replica node.now }
+    ensures keeps { Keeps R.Replica node.now node.now (sinks K.Sink out.old out.new) result }
+    ensures turns { (shelf : Shelves) (s : Session) → IsUnchanged shelf → IsAt (R.stands node.now) (R.records node.now) shelf.file s → Turns R.Replica node.now node.now command.now (step_of (R.stands node.now) (R.signature_of node.now) s command.now) shelf (sinks K.Sink out.old out.new) result }
+    ensures same { K.tells out.new ≡ K.tells out.old }
+{
+    let enough = node.settled(alloc, id, k)?;
+    let line = settled_line(alloc, enough)?;
+    tell(alloc, command, &line, None, out)
 }
 
 /// Stores the node's hello, and tells of it.
@@ -276,5 +346,7 @@ pub fn carry_out<R: Local, F: Shelf, K: Sink>(
             make_bundle(alloc, node, command, hello, file, shelf, out)
         }
         Command::Take { file } => take(alloc, node, command, file, shelf, out),
+        Command::Receipt { id } => give_receipt(alloc, node, command, id, out),
+        Command::Settled { id, k } => tell_settled(alloc, node, command, id, *k, out),
     }
 }

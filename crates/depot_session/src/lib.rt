@@ -4,7 +4,10 @@
 //! journal, the files, and how the run ends. `run` starts the node from its disk and does just that, or is cut short by want of memory or
 //! by a fault of the disk, the shelf or the sink; `specs/SessionRuns.antt` says what stands then, on the disk at any stop too.
 //!
-//! The node is known as a `Local`, a `Peer` that writes and reads. `commands` has the commands, each of which changes the node, then the
+//! Where the receipts of the file's journal are true (`depot_receipts`), so they are in every image of a run: only the command `receipt` writes
+//! their keys. `session_laws` says what stands in each image then.
+//!
+//! The node is known as a `Local`, a `Peer` that writes and reads and gives receipts. `commands` has the commands, each of which changes the node, then the
 //! shelf, and tells of it last; `telling` writes lines, `command_heads` the words of a command, `whole_script` a whole script, and `running` the run with
 //! its start.
 #![tactic(auto)]
@@ -14,8 +17,10 @@ mod commands;
 mod ending;
 mod local;
 mod running;
+mod session_laws;
 mod telling;
 mod whole_script;
 
 pub use ending::Ending;
 pub use running::run;
+pub use session_laws::images_hold_what_receipts_speak_of;

@@ -1,21 +1,27 @@
 //! The node of a session.
-ghost use Rattle.std.specs.Prelude.{◌≡◌, ◌≢◌, [], false, IfOk, IfErr, IsErrOf};
+ghost use Rattle.std.specs.Prelude.{◌≡◌, ◌≢◌, ◌≤◌, [], length, true, false, IfOk, IfErr, IsErrOf, nat_le};
+ghost use Rattle.depot_base.specs.Pairs.{AllPairsByRecursion};
+ghost use Rattle.depot_base.specs.Parts.{is_below};
+ghost use Rattle.depot_base.specs.declared.limits.TheConstants.{MOST_WRITES};
 ghost use Rattle.depot_deeds.specs.Printing.{shown_text};
 ghost use Rattle.depot_model.specs.Changes.{AreChanges};
+ghost use Rattle.depot_model.specs.Receipts.{receipts};
 ghost use Rattle.depot_model.specs.Replicas.{IsSameNode, StopsBy, KeepsDisk};
 ghost use Rattle.depot_model.specs.Stops.{Lasts};
 ghost use Rattle.depot_decide.specs.Putting.{Puts, put_records};
 ghost use Rattle.depot_model.specs.ShownWrites.{shown_of};
+ghost use Rattle.depot_receipts.specs.Giving.{Gives, receipt_records};
 ghost use Rattle.depot_world.specs.Transcript.{ended};
 
-use depot_base::{Bytes, Changes, Key, Memory};
-use depot_deeds::shown_line;
+use depot_base::{Bytes, Changes, Hash32, Ids, Key, Memory};
+use depot_deeds::{has_receipts, shown_line};
 use depot_model::{Peer, Scheme, Signer};
 use depot_node::{Node, PutDone, PutError};
 use depot_outside::Disk;
+use depot_receipts::{GiveError, give};
 use std::alloc::Global;
 
-/// A node that is at hand: it writes and reads, too.
+/// A node that is at hand: it writes and reads, too, and gives receipts.
 pub trait Local: Peer {
     /// It makes these changes in one update, as `depot_node::Node::put_all` says.
     fn write(&mut self, changes: Changes) -> Result<PutDone, PutError>
@@ -31,6 +37,22 @@ pub trait Local: Peer {
     fn read(&self, alloc: Global, key: &Key) -> Result<Bytes, Memory>
         requires { Self.stopped self.now ≡ false }
         ensures { IfOk result (λ line. line ≡ ended (shown_text (shown_of (Self.records self.now) key.now))) };
+
+    /// It gives receipts for 1 to 16 ids, rising strictly, as `depot_receipts::give` says.
+    fn receipt(&mut self, alloc: Global, ids: &Ids) -> Result<PutDone, GiveError>
+        requires few { (1 ≤ length ids.now) × (length ids.now ≤ MOST_WRITES) }
+        requires rising { AllPairsByRecursion (λ g h. is_below g h ≡ true) ids.now }
+        ensures gives { Gives (Self.stands self.old) (Self.records self.old) ids.now result (Self.records self.new) }
+        ensures stays { IsSameNode (Self.stands self.old) (Self.stands self.new) (Self.key self.old) (Self.key self.new) (Self.signature_of self.old) (Self.signature_of self.new) }
+        ensures stops { StopsBy (Self.stopped self.old) (Self.stopped self.new) (IsErrOf result GiveError.Stopped) (IsErrOf result GiveError.Disk) }
+        ensures disk { KeepsDisk (Self.handle self.old) (Self.handle self.new) (Self.faults self.old) (Self.faults self.new) (Self.is_faultless self.old) (Self.is_faultless self.new) (IsErrOf result GiveError.Disk) }
+        ensures lasts { Lasts Self.tells Self.stopped Self.records Self.moment Self.left_since Self.may_leave self.old self.new (receipt_records (Self.stands self.old) (Self.records self.old) ids.now) }
+        ensures idle { IfErr result (λ e. e ≢ GiveError.Disk → Lasts Self.tells Self.stopped Self.records Self.moment Self.left_since Self.may_leave self.old self.new []) };
+
+    /// Whether at least `k` nodes gave receipts for an id, among all updates that it accepted.
+    fn settled(&self, alloc: Global, id: &Hash32, k: u32) -> Result<bool, Memory>
+        requires { Self.stopped self.now ≡ false }
+        ensures { IfOk result (λ enough. enough ≡ nat_le k (length (receipts (Self.records self.now) id.now))) };
 }
 
 impl<D: Disk, S: Scheme, G: Signer<Of = S>> Local for Node<D, S, G> {
@@ -40,5 +62,13 @@ impl<D: Disk, S: Scheme, G: Signer<Of = S>> Local for Node<D, S, G> {
 
     fn read(&self, alloc: Global, key: &Key) -> Result<Bytes, Memory> {
         shown_line(alloc, self, key)
+    }
+
+    fn receipt(&mut self, alloc: Global, ids: &Ids) -> Result<PutDone, GiveError> {
+        give(alloc, self, ids)
+    }
+
+    fn settled(&self, alloc: Global, id: &Hash32, k: u32) -> Result<bool, Memory> {
+        has_receipts(alloc, self, id, k)
     }
 }

@@ -5,11 +5,12 @@ ghost use Rattle.hex.specs.Hex.{encode_lower};
 ghost use Rattle.depot_schedule.specs.Language.{join};
 ghost use Rattle.depot_schedule.specs.Readers.{behind_spaces};
 ghost use Rattle.depot_schedule.specs.Schedules.{event_words};
+ghost use Rattle.depot_schedule.specs.Vocabulary.{text_of_ref};
 ghost use Rattle.depot_world.specs.Transcript.{head_count};
 
 use depot_base::{Bytes, Key, Memory, NodeId};
-use depot_schedule::lines::{hex, label, node};
-use depot_schedule::{Event, Label};
+use depot_schedule::lines::{hex, label, node, number, reference};
+use depot_schedule::{Event, Label, Ref};
 use std::alloc::Global;
 
 /// Writes an event's name and the words that stand before the arrow, with spaces between them, and the arrow. After Memory a front of
@@ -24,7 +25,7 @@ pub fn event_head(alloc: Global, out: &mut Bytes, event: &Event) -> Result<(), M
 }
 
 /// Writes the words between the name and the arrow, each behind a space.
-#[tactic(auto, unfolding(depot_schedule::specs::EventLines::put, depot_schedule::specs::EventLines::puts, depot_schedule::specs::EventLines::get, depot_schedule::specs::EventLines::hello, depot_schedule::specs::EventLines::bundle, depot_schedule::specs::EventLines::give, depot_schedule::specs::EventLines::restart, depot_schedule::specs::EventLines::update, depot_schedule::specs::EventLines::updates, depot_schedule::specs::EventLines::voucher, depot_schedule::specs::EventLines::proof, depot_schedule::specs::EventLines::hollow, depot_schedule::specs::EventLines::judge, depot_schedule::specs::EventLines::raw, depot_schedule::specs::EventLines::cut, depot_schedule::specs::EventLines::flip, depot_schedule::specs::EventLines::join, depot_schedule::specs::EventLines::stop))]
+#[tactic(auto, unfolding(depot_schedule::specs::EventLines::put, depot_schedule::specs::EventLines::puts, depot_schedule::specs::EventLines::get, depot_schedule::specs::EventLines::hello, depot_schedule::specs::EventLines::bundle, depot_schedule::specs::EventLines::give, depot_schedule::specs::EventLines::restart, depot_schedule::specs::EventLines::update, depot_schedule::specs::EventLines::updates, depot_schedule::specs::EventLines::voucher, depot_schedule::specs::EventLines::proof, depot_schedule::specs::EventLines::hollow, depot_schedule::specs::EventLines::judge, depot_schedule::specs::EventLines::raw, depot_schedule::specs::EventLines::cut, depot_schedule::specs::EventLines::flip, depot_schedule::specs::EventLines::join, depot_schedule::specs::EventLines::stop, depot_schedule::specs::EventLines::receipt, depot_schedule::specs::EventLines::settled))]
 fn words(alloc: Global, out: &mut Bytes, event: &Event) -> Result<(), Memory>
     ensures { OnOk result (out.new ≡ out.old ++ behind_spaces (drop 1 (take (head_count event.now) (event_words event.now)))) }
 {
@@ -47,6 +48,12 @@ fn words(alloc: Global, out: &mut Bytes, event: &Event) -> Result<(), Memory>
         Event::Flip { label: name, .. } => label(out, name),
         Event::Join { label: name, .. } => label(out, name),
         Event::Stop { node: id, .. } => node(alloc, out, *id),
+        Event::Receipt { node: id, .. } => node(alloc, out, *id),
+        Event::Settled {
+            node: id,
+            reference: update,
+            k,
+        } => settled_words(alloc, out, *id, update, *k),
     }
 }
 
@@ -81,4 +88,20 @@ fn node_and_labels(
 {
     node_and_label(alloc, out, id, first)?;
     label(out, second)
+}
+
+/// A node's number, a reference, and a number of nodes.
+#[tactic(auto, using(depot_base::proofs::Writing::texts))]
+fn settled_words(
+    alloc: Global,
+    out: &mut Bytes,
+    id: NodeId,
+    update: &Ref,
+    k: u32,
+) -> Result<(), Memory>
+    ensures { OnOk result (out.new ≡ out.old ++ behind_spaces (decimal id ∷ text_of_ref update.now ∷ decimal k ∷ [])) }
+{
+    node(alloc, out, id)?;
+    reference(alloc, out, update)?;
+    number(alloc, out, k as u64)
 }

@@ -1,80 +1,23 @@
 -- The hashes of values that are named and not held, one put in after the other.
-use Rattle.std.proofs.Common.{◌≡◌, ℕ, ◌+◌, ◌-◌, ◌<◌, ◌≤◌, ◌==◌, Bool, true, false, cond, not, ◌&&◌, ◌||◌, List, [], ◌∷◌, ◌++◌, length, map, drop, get_or, Option, Some, None, refl, sym, ap, subst, ◌∙◌, arith}
+use Rattle.std.proofs.Common.{◌≡◌, ℕ, ◌+◌, ◌-◌, ◌<◌, ◌≤◌, Bool, true, false, cond, not, List, [], ◌∷◌, ◌++◌, length, map, drop, get_or, Some, refl, sym, ap, subst, ◌∙◌, arith}
 use Rattle.std.specs.Prelude.{slice_get}
 use Rattle.std.specs.List.{filter, flat_map, list_any}
-use Rattle.std.specs.Option.{option_map_or}
-use Rattle.std.specs.Str.{bytes_eq}
 use Rattle.std.specs.BTreeSet.{insert_key}
 use Rattle.std.specs.Cmp.Lexicographic.{slice_cmp}
 use Rattle.std.specs.Ordering.{nat_cmp}
-use Rattle.std.proofs.lemmas.Bool.{both_ways}
 use Rattle.std.proofs.lemmas.Option.{slice_get-get_or}
-use Rattle.std.proofs.lemmas.Slice.Eq.{bytes_eq-Decides}
-use Rattle.sha2.specs.Sha256.{sha256}
 use Rattle.depot_base.specs.Writes.{value_in, values_in}
 use Rattle.depot_base.specs.declared.update.Update.{Update}
 use Rattle.depot_base.specs.declared.write.Write.{Write}
 use Rattle.depot_base.specs.declared.record.Record.{Record}
-use Rattle.depot_model.specs.Lists.{is_among}
 use Rattle.depot_model.specs.Contents.{NamedValue, values_named}
 use Rattle.depot_model.specs.Hello.{lacking}
-use Rattle.depot_model.specs.Journal.{accepted, first_values, held, value_with, holds}
+use Rattle.depot_model.specs.Journal.{accepted, holds}
 use Rattle.depot_model.specs.Vouching.{put_rising, rising}
 use Rattle.depot_model.proofs.Elements.{from_place}
-use Rattle.depot_model.proofs.Members.{among-append}
 use Rattle.std.proofs.lemmas.List.{drop_all}
 use Rattle.depot_model.proofs.RisingIds.{insert_put}
 use Rattle.depot_tell.specs.Telling.{with_lacking}
-
--- ---- what is held of a name
-
--- a hash that was there has no value any more
-left_out : (h : List ℕ) (hashes vs : List (List ℕ)) → is_among h hashes ≡ true → value_with h (first_values hashes vs) ≡ None
-unfolding first_values
-left_out h hashes [] there = refl
-left_out h hashes (v ∷ vs) there = step (is_among (sha256 v) hashes) refl (bytes_eq (sha256 v) h) refl (left_out h hashes vs there) (left_out h (hashes ++ sha256 v ∷ []) vs (among-append h hashes (sha256 v ∷ []) ∙ ap (λ (b : Bool). b || is_among h (sha256 v ∷ [])) there)) where
-  step : (a : Bool) → is_among (sha256 v) hashes ≡ a → (b : Bool) → bytes_eq (sha256 v) h ≡ b → value_with h (first_values hashes vs) ≡ None → value_with h (first_values (hashes ++ sha256 v ∷ []) vs) ≡ None
-      → value_with h (cond a (first_values hashes vs) (v ∷ first_values (hashes ++ sha256 v ∷ []) vs)) ≡ None
-  step true is b e same more = same
-  step false is true e same more = absurd (both_ways (is_among (sha256 v) hashes) is (subst (λ (x : List ℕ). is_among x hashes ≡ true) (sym ((bytes_eq-Decides (sha256 v) h).0 e)) there))
-  step false is false e same more = rw e more
-
--- a value of this hash and this length
-abbrev fits : List ℕ → ℕ → List ℕ → Bool
-fits h size v = bytes_eq (sha256 v) h && (length v == size)
-
-or_none : (b rest : Bool) → rest ≡ false → (b || rest) ≡ b
-or_none true rest e = refl
-or_none false rest e = e
-
--- the first value with a hash is the only one
-one_value : (h : List ℕ) (size : ℕ) (hashes vs : List (List ℕ)) → list_any (fits h size) (first_values hashes vs) ≡ option_map_or (λ v. length v == size) (value_with h (first_values hashes vs)) false
-unfolding first_values
-one_value h size hashes [] = refl
-one_value h size hashes (v ∷ vs) = step (is_among (sha256 v) hashes) (bytes_eq (sha256 v) h) refl (one_value h size hashes vs) (one_value h size (hashes ++ sha256 v ∷ []) vs) where
-  more : List (List ℕ)
-  more = first_values (hashes ++ sha256 v ∷ []) vs
-
-  among : bytes_eq (sha256 v) h ≡ true → is_among h (hashes ++ sha256 v ∷ []) ≡ true
-  among e = let same : sha256 v ≡ h = (bytes_eq-Decides (sha256 v) h).0 e in among-append h hashes (sha256 v ∷ []) ∙ last (is_among h hashes) (bytes_eq h (sha256 v)) ((bytes_eq-Decides h (sha256 v)).1 (sym same)) where
-    last : (a b : Bool) → b ≡ true → (a || (b || false)) ≡ true
-    last true b is = refl
-    last false true is = refl
-    last false false is = absurd cc
-
-  step : (a b : Bool) → bytes_eq (sha256 v) h ≡ b → list_any (fits h size) (first_values hashes vs) ≡ option_map_or (λ w. length w == size) (value_with h (first_values hashes vs)) false
-      → list_any (fits h size) more ≡ option_map_or (λ w. length w == size) (value_with h more) false
-      → list_any (fits h size) (cond a (first_values hashes vs) (v ∷ more)) ≡ option_map_or (λ w. length w == size) (value_with h (cond a (first_values hashes vs) (v ∷ more))) false
-  step true b e same rest = same
-  step false true e same rest =
-      let none : list_any (fits h size) more ≡ false = rest ∙ ap (λ (o : Option (List ℕ)). option_map_or (λ w. length w == size) o false) (left_out h (hashes ++ sha256 v ∷ []) vs (among e)) in
-      rw e (or_none (length v == size) (list_any (fits h size) more) none)
-  step false false e same rest = rw e rest
-
--- whether a value is held, by the one that its hash has
-pub holds_by : (J : List Record) (h : List ℕ) (size : ℕ) → holds J h size ≡ option_map_or (λ v. length v == size) (value_with h (held J)) false
-unfolding holds
-holds_by J h size = one_value h size [] _
 
 -- ---- from the last update to the first
 

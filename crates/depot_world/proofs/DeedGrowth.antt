@@ -11,7 +11,8 @@ use Rattle.depot_model.specs.Vouching.{records_of}
 use Rattle.depot_model.specs.World.{Correct}
 use Rattle.depot_model.proofs.FeedGrowth.{IsGrown, grown_none, feed_grows}
 use Rattle.depot_answers.specs.Answers.{text_of_limit, text_of_put}
-use Rattle.depot_world.specs.Deeds.{idle, grown, put_by, get_by, hello_by, bundle_with, bundle_by, give_by, restart_by}
+use Rattle.depot_model.specs.Receipts.{NoReceipt, no_receipt, receipt_changes}
+use Rattle.depot_world.specs.Deeds.{idle, grown, put_by, get_by, receipt_with, receipt_by, settled_by, hello_by, bundle_with, bundle_by, give_by, restart_by}
 use Rattle.depot_world.specs.ScheduleStops.{Deed}
 
 pub put_grows : (here : Setting) (c : Correct) (changes : List Change) → IsGrown c.journal (put_by here c changes).journal
@@ -27,6 +28,17 @@ put_grows here c changes = by_limit (limit_of_put here c.journal changes) where
 pub get_grows : (c : Correct) (key : List ℕ) → IsGrown c.journal (get_by c key).journal
 unfolding get_by
 get_grows c key = grown_none c.journal
+
+pub receipt_grows : (here : Setting) (c : Correct) (ids : List (List ℕ)) → IsGrown c.journal (receipt_by here c ids).journal
+unfolding receipt_by
+receipt_grows here c ids = by_why (no_receipt c.journal ids) where
+  by_why : (o : Option NoReceipt) → IsGrown c.journal (receipt_with here c ids o).journal
+  by_why (Some why) = grown_none c.journal
+  by_why None = put_grows here c (receipt_changes ids)
+
+pub settled_grows : (c : Correct) (id : List ℕ) (k : ℕ) → IsGrown c.journal (settled_by c id k).journal
+unfolding settled_by
+settled_grows c id k = grown_none c.journal
 
 pub hello_grows : (here : Setting) (c : Correct) → IsGrown c.journal (hello_by here c).journal
 unfolding hello_by

@@ -1,7 +1,8 @@
 -- What a schedule says of its events: their keys and values are in their bounds, and all that they bring is bytes.
-use Rattle.std.proofs.Common.{◌≡◌, ℕ, ◌≤◌, true, leb, List, [], ◌∷◌, length, Option, Some, None, arith}
+use Rattle.std.proofs.Common.{◌≡◌, ℕ, ◌<◌, ◌≤◌, true, leb, List, [], ◌∷◌, length, Option, Some, None, arith}
 use Rattle.std.specs.List.{AllByRecursion}
 use Rattle.std.specs.Option.{option_to_list}
+use Rattle.std.proofs.lemmas.Bool.{leb-true}
 use Rattle.depot_base.specs.Writes.{one_change}
 use Rattle.depot_base.specs.declared.write.Change.{Change}
 use Rattle.depot_model.specs.Changes.{AreChanges}
@@ -11,12 +12,14 @@ use Rattle.depot_schedule.specs.declared.changes.Keys.{Keys}
 use Rattle.depot_schedule.specs.declared.changes.Keys.TheVariants as keys
 use Rattle.depot_schedule.specs.declared.event.HistoryWord.{HistoryWord}
 use Rattle.depot_schedule.specs.declared.event.HistoryWord.TheVariants as history_word
+use Rattle.depot_schedule.specs.declared.event.Ref.{Ref}
 use Rattle.depot_schedule.specs.declared.schedule.Schedule.{Schedule}
-use Rattle.depot_schedule.specs.EventLines.{put, puts, update, updates, raw}
+use Rattle.depot_schedule.specs.EventLines.{put, puts, update, updates, raw, receipt}
 use Rattle.depot_schedule.specs.Language.{FitAll, FitsOption, nothing}
 use Rattle.depot_schedule.specs.Schedules.{FitsEvent}
 use Rattle.depot_schedule.specs.Vocabulary.{key_by, value, raw_bytes, changes, FitsChange, FitsHistory}
-use Rattle.depot_schedule.proofs.ChangeWords.{changes_are, one_is}
+use Rattle.depot_schedule.specs.PutKeys.{WriteNoReceipts}
+use Rattle.depot_schedule.proofs.ChangeWords.{changes_are, one_is, put_no_receipt, puts_no_receipts}
 use Rattle.depot_world.proofs.ByteOwn.{IsByteChange}
 use Rattle.depot_world.proofs.OnlyBytes.{OnlyBytes, from_places}
 
@@ -30,10 +33,11 @@ abbrev pub IsByteHistory : HistoryWord → Type 0
 IsByteHistory history_word.Right = Unit {0}
 IsByteHistory (history_word.Given h) = OnlyBytes h
 
--- what an event brings is bytes
+-- what an event brings is bytes; what a put brings is of no receipt's key, and receipts are for 1 to 16 references
 abbrev pub BringsBytes : Event → Type 0
-BringsBytes (event.Put node k v) = AreByteChanges (one_change k v)
-BringsBytes (event.Puts node cs) = AreByteChanges cs
+BringsBytes (event.Put node k v) = AreByteChanges (one_change k v) × WriteNoReceipts (one_change k v)
+BringsBytes (event.Puts node cs) = AreByteChanges cs × WriteNoReceipts cs
+BringsBytes (event.Receipt node refs) = (1 ≤ length refs) × (length refs ≤ 16)
 BringsBytes (event.Update label writer seq clock prev k v deps hash) = AreByteChanges (one_change k v) × IsByteHistory hash
 BringsBytes (event.Updates label writer seq clock prev cs deps hash) = AreByteChanges cs × IsByteHistory hash
 BringsBytes (event.Raw label bytes) = OnlyBytes bytes
@@ -42,7 +46,7 @@ BringsBytes e = Unit {0}
 -- what words of a key, of a value and of changes bring
 key_bytes : {C : Type 0} (c : C) (by : Keys) (k : List ℕ) → (key_by {C = C} by).fits c k → OnlyBytes k
 key_bytes c keys.Any k fits = from_places k fits.1
-key_bytes c keys.Put k fits = from_places k fits.1
+key_bytes c keys.Put k fits = from_places k fits.0.1
 
 value_bytes : {C : Type 0} (c : C) (v : List ℕ) → (value {C = C}).fits c v → OnlyBytes v
 value_bytes c [] fits = tt
@@ -70,17 +74,17 @@ history_is : (h : HistoryWord) → FitsHistory h → IsByteHistory h
 history_is history_word.Right fits = tt
 history_is (history_word.Given h) fits = from_places h fits.1
 
-put_is : (s : Schedule) (node : ℕ) (k v : List ℕ) → put.fits s (event.Put node k v) → AreByteChanges (one_change k v)
+put_is : (s : Schedule) (node : ℕ) (k v : List ℕ) → put.fits s (event.Put node k v) → AreByteChanges (one_change k v) × WriteNoReceipts (one_change k v)
 unfolding put
-put_is s node k v fits = one_brings s keys.Put k v fits.1.0 fits.1.1.0
+put_is s node k v fits = (one_brings s keys.Put k v fits.1.0 fits.1.1.0, put_no_receipt s k v fits.1.0)
 
 update_is : (s : Schedule) (label : List ℕ) (writer seq clock : ℕ) (prev : _) (k v : List ℕ) (deps : _) (hash : HistoryWord) → update.fits s (event.Update label writer seq clock prev k v deps hash) → AreByteChanges (one_change k v) × IsByteHistory hash
 unfolding update
 update_is s label writer seq clock prev k v deps hash (of_label, (of_writer, (of_seq, (of_clock, (of_prev, (of_key, (of_value, (of_deps, (of_history, same))))))))) = (one_brings s keys.Any k v of_key of_value, history_is hash of_history)
 
-puts_is : (s : Schedule) (node : ℕ) (cs : List Change) → puts.fits s (event.Puts node cs) → AreByteChanges cs
+puts_is : (s : Schedule) (node : ℕ) (cs : List Change) → puts.fits s (event.Puts node cs) → AreByteChanges cs × WriteNoReceipts cs
 unfolding puts
-puts_is s node cs fits = changes_bring keys.Put s cs fits.1.0
+puts_is s node cs fits = (changes_bring keys.Put s cs fits.1.0, puts_no_receipts s cs fits.1.0)
 
 updates_is : (s : Schedule) (label : List ℕ) (writer seq clock : ℕ) (prev : _) (cs : List Change) (deps : _) (hash : HistoryWord) → updates.fits s (event.Updates label writer seq clock prev cs deps hash) → AreByteChanges cs × IsByteHistory hash
 unfolding updates
@@ -89,6 +93,10 @@ updates_is s label writer seq clock prev cs deps hash (of_label, (of_writer, (of
 raw_brings : (s : Schedule) (label bytes : List ℕ) → raw.fits s (event.Raw label bytes) → OnlyBytes bytes
 unfolding raw
 raw_brings s label bytes fits = raw_is s bytes fits.1.0
+
+receipt_brings : (s : Schedule) (node : ℕ) (refs : List Ref) → receipt.fits s (event.Receipt node refs) → (1 ≤ length refs) × (length refs ≤ 16)
+unfolding receipt
+receipt_brings s node refs fits = let some : 0 < length refs = fits.1.0.0.0 in (omega (arith, some), leb-true _ _ fits.1.0.1)
 
 -- each event of a schedule
 pub events_bring_bytes : (s : Schedule) (e : Event) → FitsEvent s e → BringsBytes e
@@ -110,3 +118,5 @@ events_bring_bytes s (event.Cut label source start count) fits = tt
 events_bring_bytes s (event.Flip label source place) fits = tt
 events_bring_bytes s (event.Join label first second) fits = tt
 events_bring_bytes s (event.Stop node call image) fits = tt
+events_bring_bytes s (event.Receipt node refs) fits = receipt_brings s node refs fits
+events_bring_bytes s (event.Settled node reference k) fits = tt

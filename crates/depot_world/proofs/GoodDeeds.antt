@@ -20,6 +20,7 @@ use Rattle.depot_model.specs.Limits.{Limit, limit_of_own, limit_of_put}
 use Rattle.depot_model.specs.Lists.{IsIn}
 use Rattle.depot_model.specs.Order.{AreLatestIn}
 use Rattle.depot_model.specs.Own.{next_own, values_of}
+use Rattle.depot_model.specs.Receipts.{NoReceipt, no_receipt, AreReceiptsTrue, receipt_changes}
 use Rattle.depot_model.specs.Roster.{has_node}
 use Rattle.depot_model.specs.Texts.{hash_of_roster}
 use Rattle.depot_model.specs.Vouching.{records_of, limit_of_vouchers}
@@ -30,10 +31,11 @@ use Rattle.depot_laws.proofs.Causes.{lawful_is_causal}
 use Rattle.depot_laws.proofs.LawfulFeeds.{feed_keeps}
 use Rattle.depot_laws.proofs.NewVouchers.{new_are_lawful}
 use Rattle.depot_laws.proofs.OwnTexts.{own_put_is_lawful}
+use Rattle.depot_laws.proofs.TrueReceipts.{silent_is_true, vouchers_put_none}
 use Rattle.depot_answers.specs.Answers.{text_of_limit, text_of_put}
 use Rattle.depot_base.proofs.GeneralLaws.{all_both}
 use Rattle.depot_model.specs.ShownWrites.{shown_of}
-use Rattle.depot_world.specs.Deeds.{idle, grown, put_by, read_of, get_by, hello_by, bundle_with, bundle_by, fed_by, give_by, restart_by}
+use Rattle.depot_world.specs.Deeds.{idle, grown, put_by, read_of, get_by, hello_by, bundle_with, bundle_by, fed_by, give_by, restart_by, receipt_with, receipt_by, settled_by}
 use Rattle.depot_model.specs.LatestList.{latest_in}
 use Rattle.depot_world.specs.ScheduleStops.{Deed}
 use Rattle.depot_world.specs.Suite.{Stage, stands_on}
@@ -44,29 +46,32 @@ use Rattle.depot_world.proofs.ByteFeeds.{feed_grows}
 use Rattle.depot_world.proofs.ByteJournals.{HoldsBytes, AllHold}
 use Rattle.depot_world.proofs.ByteOwn.{IsByteChange, only_change_values, only_next_own, only_own_hello}
 use Rattle.depot_world.proofs.ByteSignatures.{SignsBytes}
+use Rattle.depot_world.proofs.ReceiptChanges.{ids_of, receipts_are_changes, receipts_are_bytes}
+use Rattle.depot_world.proofs.TrueReceipts.{feed_stays_true, receipts_put_stays_true}
 use Rattle.depot_world.proofs.GoodNodes.{IsGoodNode, IsGoodDeed, read_grows}
 use Rattle.depot_model.proofs.LatestWrites.{latest_are_listed}
 
 -- an event that leaves the node as it is
 same_is_good : (stage : Stage) (c : Correct) (calls : ℕ) (answer : List ℕ) (bytes : List ℕ) → IsGoodNode stage c → OnlyBytes bytes → IsGoodDeed stage c (record { journal = c.journal; reads = c.reads; calls = calls; answer = answer; behind = []; bytes = bytes })
-same_is_good stage c calls answer bytes g only = record { grown = grown_none c.journal; lawful = g.lawful; reads = g.reads; in_order = g.in_order; holds = g.holds; bytes = only }
+same_is_good stage c calls answer bytes g only = record { grown = grown_none c.journal; lawful = g.lawful; reads = g.reads; in_order = g.in_order; holds = g.holds; receipts = g.receipts; bytes = only }
 
 -- an event by which the journal grows
-more_is_good : (stage : Stage) (c : Correct) (d : Deed) → IsGoodNode stage c → IsGrown c.journal d.journal → d.reads ≡ c.reads → IsLawful (stands_on stage c.node) d.journal → AllHold d.journal → OnlyBytes d.bytes → IsGoodDeed stage c d
-more_is_good stage c d g e same lawful holds only = record {
+more_is_good : (stage : Stage) (c : Correct) (d : Deed) → IsGoodNode stage c → IsGrown c.journal d.journal → d.reads ≡ c.reads → IsLawful (stands_on stage c.node) d.journal → AllHold d.journal → AreReceiptsTrue d.journal → OnlyBytes d.bytes → IsGoodDeed stage c d
+more_is_good stage c d g e same lawful holds true_receipts only = record {
   grown = e;
   lawful = lawful;
   reads = λ r on. read_grows c.journal d.journal r e (g.reads r (subst (λ (rs : List Read). IsIn r rs) same on));
   in_order = subst NeverFall (sym same) g.in_order;
   holds = holds;
+  receipts = true_receipts;
   bytes = only;
 }
 
 -- ---- puts
 
-pub put_is_good : (stage : Stage) (c : Correct) (changes : List Change) → IsGoodNode stage c → AreChanges changes → AllByRecursion IsByteChange changes → IsGoodDeed stage c (put_by (stands_on stage c.node) c changes)
+pub put_is_good : (stage : Stage) (c : Correct) (changes : List Change) → IsGoodNode stage c → AreChanges changes → AllByRecursion IsByteChange changes → AreReceiptsTrue (c.journal ++ OwnPut (next_own c.node c.journal changes) (values_of changes) ∷ []) → IsGoodDeed stage c (put_by (stands_on stage c.node) c changes)
 unfolding put_by limit_of_put
-put_is_good stage c changes g are only = by_limit (limit_of_own here J u new) refl where
+put_is_good stage c changes g are only true_receipts = by_limit (limit_of_own here J u new) refl where
   here : Setting
   here = stands_on stage c.node
 
@@ -84,7 +89,26 @@ put_is_good stage c changes g are only = by_limit (limit_of_own here J u new) re
 
   by_limit : (o : Option Limit) → limit_of_own here J u new ≡ o → IsGoodDeed stage c (elim o as (λ x. Deed) [ Some limit ↦ idle c (text_of_limit limit) | None ↦ grown c (J ++ new) (text_of_put u) [] ])
   by_limit (Some limit) is = same_is_good stage c 0 _ [] g tt
-  by_limit None is = more_is_good stage c (grown c (J ++ new) (text_of_put u) []) g (record { more = new; is = refl }) refl (put_lawful is) (all_both HoldsBytes J new g.holds ((only_next_own c.node J changes only, only_change_values changes only), tt)) tt
+  by_limit None is = more_is_good stage c (grown c (J ++ new) (text_of_put u) []) g (record { more = new; is = refl }) refl (put_lawful is) (all_both HoldsBytes J new g.holds ((only_next_own c.node J changes only, only_change_values changes only), tt)) true_receipts tt
+
+-- ---- receipts
+
+-- receipts that a node may be asked for
+pub receipt_is_good : (stage : Stage) (c : Correct) (ids : List (List ℕ)) → IsGoodNode stage c → AreChanges (receipt_changes ids) → AllByRecursion IsByteChange (receipt_changes ids) → IsGoodDeed stage c (receipt_by (stands_on stage c.node) c ids)
+unfolding receipt_by
+receipt_is_good stage c ids g are only = by_why (no_receipt c.journal ids) refl where
+  by_why : (o : Option NoReceipt) → no_receipt c.journal ids ≡ o → IsGoodDeed stage c (receipt_with (stands_on stage c.node) c ids o)
+  by_why (Some why) is = same_is_good stage c 0 _ [] g tt
+  by_why None is = put_is_good stage c (receipt_changes ids) g are only (receipts_put_stays_true c.node c.journal ids is g.receipts)
+
+-- receipts for 1 to 16 updates
+pub receipts_are_good : (stage : Stage) (c : Correct) (us : List Update) → IsGoodNode stage c → 1 ≤ length us → length us ≤ 16 → IsGoodDeed stage c (receipt_by (stands_on stage c.node) c (ids_of us))
+receipts_are_good stage c us g some few = receipt_is_good stage c (ids_of us) g (receipts_are_changes us some few) (receipts_are_bytes us)
+
+-- whether something is settled
+pub settled_is_good : (stage : Stage) (c : Correct) (id : List ℕ) (k : ℕ) → IsGoodNode stage c → IsGoodDeed stage c (settled_by c id k)
+unfolding settled_by
+settled_is_good stage c id k g = same_is_good stage c 0 _ [] g tt
 
 -- ---- reads
 
@@ -126,6 +150,7 @@ get_is_good stage c key g = record {
   ];
   in_order = never_falls c.reads (read_of c.journal key) g.in_order (λ s on. (g.reads s on).within);
   holds = g.holds;
+  receipts = g.receipts;
   bytes = tt;
 }
 
@@ -145,7 +170,7 @@ bundled_is_good : (stage : Stage) (c : Correct) (sign : Signs) (h : Hello) → I
 bundled_is_good stage c sign h g signs is =
     let new = records_of (bundle_of c.node sign c.journal h).vouchers in
     more_is_good stage c (bundle_with c (bundled (bundle_of c.node sign c.journal h))) g (record { more = new; is = refl }) refl (vouched stage c sign h g is)
-    (all_both HoldsBytes c.journal new g.holds (bundle_vouchers_hold c.node sign c.journal h)) (bundle_holds c.node sign c.journal h signs g.holds)
+    (all_both HoldsBytes c.journal new g.holds (bundle_vouchers_hold c.node sign c.journal h)) (silent_is_true c.journal new (vouchers_put_none (bundle_of c.node sign c.journal h).vouchers) g.receipts) (bundle_holds c.node sign c.journal h signs g.holds)
 
 answered_is_good : (stage : Stage) (c : Correct) (sign : Signs) (r : Result Hello ℕ) → IsGoodNode stage c → SignsBytes sign → IsGoodDeed stage c (bundle_with c (answer_to_hello (stands_on stage c.node) sign c.journal r))
 answered_is_good stage c sign (Err at) g signs = same_is_good stage c 0 _ [] g tt
@@ -175,7 +200,7 @@ give_is_good stage c stream g only =
     let here = stands_on stage c.node in
     let f = feed_grows here c.journal stream only g.holds in
     let kept = feed_keeps here (feeding_from c.journal) stream (by_places stream only) (record { lawful = g.lawful; some = g.begun; bytes = λ i. omega arith }) in
-    more_is_good stage c (fed_by c (feed_of here c.journal stream)) g f.grown refl kept.lawful f.holds tt
+    more_is_good stage c (fed_by c (feed_of here c.journal stream)) g f.grown refl kept.lawful f.holds (feed_stays_true here c.journal stream g.receipts) tt
 
 pub restart_is_good : (stage : Stage) (c : Correct) → IsGoodNode stage c → IsGoodDeed stage c (restart_by c)
 unfolding restart_by

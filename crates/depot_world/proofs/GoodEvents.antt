@@ -1,5 +1,5 @@
 -- Each event of a schedule keeps a run that makes a world.
-use Rattle.std.proofs.Common.{◌≡◌, ℕ, List, [], ◌∷◌, ◌++◌, take, drop, Option, Some, None, Result, Ok, Err, codes, refl, subst, inl, inr}
+use Rattle.std.proofs.Common.{◌≡◌, ℕ, List, [], ◌∷◌, ◌++◌, take, drop, Option, Some, None, Result, Ok, Err, codes, ◌≤◌, length, refl, subst, inl, inr, arith}
 use Rattle.std.specs.List.{AllByRecursion}
 use Rattle.depot_base.specs.Writes.{one_change}
 use Rattle.depot_base.specs.declared.proof.Proof.{Proof}
@@ -10,7 +10,7 @@ use Rattle.depot_model.specs.Bundle.{Signs}
 use Rattle.depot_model.specs.Judgement.{first_failed_point, verdict_of}
 use Rattle.depot_model.specs.Lines.{text_of_point, text_of_verdict}
 use Rattle.depot_model.specs.Own.{values_of}
-use Rattle.depot_model.specs.Texts.{IsProof, proof}
+use Rattle.depot_model.specs.Texts.{IsProof, proof, id_of_update}
 use Rattle.depot_model.specs.declared.judgement.JudgeError.{JudgeError}
 use Rattle.depot_model.proofs.Members.{in_pushed}
 use Rattle.depot_model.proofs.TextLaws.{proof_lawful}
@@ -19,18 +19,20 @@ use Rattle.depot_schedule.specs.declared.event.Event.TheVariants as event
 use Rattle.depot_schedule.specs.declared.event.HistoryWord.{HistoryWord}
 use Rattle.depot_schedule.specs.declared.event.Ref.{Ref}
 use Rattle.depot_answers.specs.Answers.{spaced}
-use Rattle.depot_world.specs.Deeds.{put_by, get_by, hello_by, bundle_by, give_by, restart_by}
-use Rattle.depot_world.specs.Run.{Station, Run, station_in, bytes_of, seen_with, with_station}
-use Rattle.depot_world.specs.FaultySigning.{counted_bytes, no_reference, update_text, updated, vouched_text, proof_text, hollow_text, proof_in, flip_at}
+use Rattle.depot_world.specs.Deeds.{put_by, get_by, hello_by, bundle_by, give_by, restart_by, receipt_by, settled_by}
+use Rattle.depot_world.specs.Run.{Station, Run, station_in, bytes_of, referred, seen_with, with_station}
+use Rattle.depot_world.specs.FaultySigning.{counted_bytes, no_reference, update_text, updated, vouched_text, proof_text, hollow_text, proof_in, flip_at, all_referred}
 use Rattle.depot_world.specs.ScheduleStops.{Deed}
 use Rattle.depot_world.specs.Suite.{Stage, stands_on, signs_on}
-use Rattle.depot_world.specs.Transcript.{Done, armed_at, done_by_update, done_by_changes, judged_with, done}
+use Rattle.depot_world.specs.Transcript.{Done, armed_at, done_by_update, done_by_changes, judged_with, receipt_for, settled_for, done}
 use Rattle.depot_world.proofs.OnlyBytes.{OnlyBytes, by_places, only_both, only_take, only_drop}
 use Rattle.depot_world.proofs.ByteLabels.{IsByteUpdate, bytes_hold, updated_holds, none_holds, counted_holds, update_text_holds, vouched_text_holds, proof_text_holds, hollow_text_holds, flip_holds}
 use Rattle.depot_world.proofs.ByteOwn.{only_change_values}
 use Rattle.depot_world.proofs.ByteSignatures.{SignsBytes}
 use Rattle.depot_world.proofs.EventFacts.{AreByteChanges, IsByteHistory, BringsBytes}
-use Rattle.depot_world.proofs.GoodDeeds.{put_is_good, get_is_good, hello_is_good, bundle_is_good, give_is_good, restart_is_good}
+use Rattle.depot_world.proofs.GoodDeeds.{put_is_good, get_is_good, hello_is_good, bundle_is_good, give_is_good, restart_is_good, receipts_are_good, settled_is_good}
+use Rattle.depot_world.proofs.ReceiptChanges.{ids_of, referred_as_many}
+use Rattle.depot_world.proofs.TrueReceipts.{put_stays_true}
 use Rattle.depot_world.proofs.GoodNodes.{IsGoodDeed}
 use Rattle.depot_world.proofs.GoodRuns.{IsGoodRun, IsJudged, found_is, station_keeps, text_keeps, seen_keeps, node_keeps}
 
@@ -86,13 +88,26 @@ changes_keep stage run label writer seq clock prev changes deps history signs on
     update_keeps stage (signs_on stage writer) run label (values_of changes) (updated (signs_on stage writer) run writer seq clock prev changes deps history) g signs (only_change_values changes only.bytes)
     (updated_holds (signs_on stage writer) run writer seq clock prev changes deps history only.bytes given)
 
+-- receipts for what 1 to 16 references name
+receipts_keep : (stage : Stage) (run : Run) (node : ℕ) (refs : List Ref) (o : Option (List Update)) → all_referred run refs ≡ o → 1 ≤ length refs → length refs ≤ 16 → IsGoodRun stage run → IsGoodRun stage (receipt_for stage run node o).run
+receipts_keep stage run node refs None is some few g = g
+receipts_keep stage run node refs (Some us) is some few g =
+    let many = referred_as_many run refs us is in
+    node_keeps stage run node None (λ s. receipt_by (stands_on stage node) s.correct (ids_of us)) g
+    (λ s same good. at_number stage s node (λ n. receipt_by (stands_on stage n) s.correct (ids_of us)) same (receipts_are_good stage s.correct us good (omega (arith, many, some)) (omega (arith, many, few))))
+
+-- whether what a reference names is settled
+settled_keeps : (stage : Stage) (run : Run) (node k : ℕ) (o : Option Update) → IsGoodRun stage run → IsGoodRun stage (settled_for run node k o).run
+settled_keeps stage run node k None g = g
+settled_keeps stage run node k (Some u) g = node_keeps stage run node None (λ s. settled_by s.correct (id_of_update u) k) g (λ s same good. settled_is_good stage s.correct (id_of_update u) k good)
+
 -- each event, on a stage whose members sign bytes
 pub event_keeps : (stage : Stage) (run : Run) (e : Event) → ((node : ℕ) → SignsBytes (signs_on stage node)) → BringsBytes e → IsGoodRun stage run → IsGoodRun stage (done stage run e).run
 unfolding done
 event_keeps stage run (event.Put node key value) signs only g = node_keeps stage run node None (λ s. put_by (stands_on stage node) s.correct (one_change key value)) g
-    (λ s same good. at_number stage s node (λ n. put_by (stands_on stage n) s.correct (one_change key value)) same (put_is_good stage s.correct (one_change key value) good only.are only.bytes))
+    (λ s same good. at_number stage s node (λ n. put_by (stands_on stage n) s.correct (one_change key value)) same (put_is_good stage s.correct (one_change key value) good only.0.are only.0.bytes (put_stays_true s.correct.node s.correct.journal (one_change key value) only.1 good.receipts)))
 event_keeps stage run (event.Puts node changes) signs only g = node_keeps stage run node None (λ s. put_by (stands_on stage node) s.correct changes) g
-    (λ s same good. at_number stage s node (λ n. put_by (stands_on stage n) s.correct changes) same (put_is_good stage s.correct changes good only.are only.bytes))
+    (λ s same good. at_number stage s node (λ n. put_by (stands_on stage n) s.correct changes) same (put_is_good stage s.correct changes good only.0.are only.0.bytes (put_stays_true s.correct.node s.correct.journal changes only.1 good.receipts)))
 event_keeps stage run (event.Get node key) signs only g = node_keeps stage run node None (λ s. get_by s.correct key) g (λ s same good. get_is_good stage s.correct key good)
 event_keeps stage run (event.Hello node label) signs only g = node_keeps stage run node (Some label) (λ s. hello_by (stands_on stage node) s.correct) g
     (λ s same good. at_number stage s node (λ n. hello_by (stands_on stage n) s.correct) same (hello_is_good stage s.correct good))
@@ -118,3 +133,5 @@ event_keeps stage run (event.Join label first second) signs only g =
     text_keeps stage run label (counted_bytes (bytes_of run first ++ bytes_of run second)) g
     (counted_holds (bytes_of run first ++ bytes_of run second) (only_both (bytes_of run first) (bytes_of run second) (bytes_hold run first g.labels) (bytes_hold run second g.labels)))
 event_keeps stage run (event.Stop node call image) signs only g = armed_keeps stage run node call image g
+event_keeps stage run (event.Receipt node refs) signs only g = receipts_keep stage run node refs (all_referred run refs) refl only.0 only.1 g
+event_keeps stage run (event.Settled node reference k) signs only g = settled_keeps stage run node k (referred run reference) g

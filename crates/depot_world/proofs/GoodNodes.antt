@@ -7,10 +7,12 @@ use Rattle.depot_model.specs.Journal.{accepted, seen_under}
 use Rattle.depot_model.specs.Lawful.{IsLawful, is_empty}
 use Rattle.depot_model.specs.Lists.{IsIn}
 use Rattle.depot_model.specs.Order.{AreLatestIn}
+use Rattle.depot_model.specs.Receipts.{AreReceiptsTrue}
 use Rattle.depot_model.specs.Roster.{has_node}
 use Rattle.depot_model.specs.World.{Correct, Read, Shown, IsRead, NeverFall}
 use Rattle.depot_laws.proofs.Splits.{lawful_front}
 use Rattle.depot_laws.proofs.Tests.{all_left}
+use Rattle.depot_laws.proofs.TrueReceipts.{front_is_true}
 use Rattle.depot_world.specs.Run.{Armed, Station}
 use Rattle.depot_world.specs.ScheduleStops.{Deed, Went, standing_after, left_of, went_by, stopped_with, went_armed, went}
 use Rattle.depot_world.specs.Suite.{Stage, stands_on}
@@ -26,6 +28,7 @@ pub record IsGoodNode (stage : Stage) (c : Correct) : Type 0 where
   pub reads : (r : Read) → IsIn r c.reads → IsRead c.journal r
   pub in_order : NeverFall c.reads
   pub holds : AllHold c.journal
+  pub receipts : AreReceiptsTrue c.journal
 
 -- what an event leaves where no stop falls into it: more behind the journal, and the reads of the journal
 pub record IsGoodDeed (stage : Stage) (c : Correct) (d : Deed) : Type 0 where
@@ -34,6 +37,7 @@ pub record IsGoodDeed (stage : Stage) (c : Correct) (d : Deed) : Type 0 where
   pub reads : (r : Read) → IsIn r d.reads → IsRead d.journal r
   pub in_order : NeverFall d.reads
   pub holds : AllHold d.journal
+  pub receipts : AreReceiptsTrue d.journal
   pub bytes : OnlyBytes d.bytes
 
 -- ---- journals that grow
@@ -93,6 +97,7 @@ stopped_is_good stage s d a g deed =
         reads = λ r on. read_grows J left r l.grown (g.reads r on);
         in_order = g.in_order;
         holds = all_left HoldsBytes left l.rest (subst AllHold l.is deed.holds);
+        receipts = front_is_true left l.rest (subst AreReceiptsTrue l.is deed.receipts);
       };
       bytes = tt;
     }
@@ -100,7 +105,7 @@ stopped_is_good stage s d a g deed =
 went_is_good : (stage : Stage) (s : Station) (armed : Option Armed) (d : Deed) → IsGoodNode stage s.correct → IsGoodDeed stage s.correct d → IsGoodWent stage s (went_by s armed d)
 went_is_good stage s armed d g deed = record {
   same = refl;
-  good = record { member = g.member; lawful = deed.lawful; begun = begun_grows s.correct.journal d.journal deed.grown g.begun; reads = deed.reads; in_order = deed.in_order; holds = deed.holds };
+  good = record { member = g.member; lawful = deed.lawful; begun = begun_grows s.correct.journal d.journal deed.grown g.begun; reads = deed.reads; in_order = deed.in_order; holds = deed.holds; receipts = deed.receipts };
   bytes = deed.bytes;
 }
 

@@ -8,6 +8,7 @@ use Rattle.depot_base.specs.declared.proof.Proof.TheVariants.{Pair}
 use Rattle.depot_base.specs.declared.statement.Signed.{Signed}
 use Rattle.depot_model.specs.Items.{AreDistinct}
 use Rattle.depot_model.specs.Lists.{IsIn}
+use Rattle.depot_model.specs.Receipts.{AreReceiptsTrue}
 use Rattle.depot_model.specs.Roster.{has_node}
 use Rattle.depot_model.specs.Texts.{IsRoster}
 use Rattle.depot_model.specs.World.{Correct, IsCorrect, IsWorld, IsAuthentic, IsCollisionFree, proofs_of}
@@ -15,6 +16,7 @@ use Rattle.depot_model.proofs.Members.{from_map, from_filter}
 use Rattle.depot_laws.proofs.Births.{born as born_lawful}
 use Rattle.depot_laws.proofs.ForkJoin.{fork_join_causal}
 use Rattle.depot_laws.proofs.NoVerdicts.{convicts_none, pairs_spare}
+use Rattle.depot_laws.proofs.TrueReceipts.{silent_is_true, no_receipts_yet}
 use Rattle.depot_schedule.specs.declared.event.Event.{Event}
 use Rattle.depot_schedule.specs.declared.member.Member.{Member}
 use Rattle.depot_schedule.specs.declared.schedule.Schedule.{Schedule}
@@ -40,6 +42,7 @@ born_is_good stage node fits known = record {
   reads = λ r never. absurd never;
   in_order = tt;
   holds = (tt, tt);
+  receipts = silent_is_true [] (born stage node).correct.journal refl no_receipts_yet;
 }
 
 numbers_born : (stage : Stage) (ms : List Member) → numbers_of (map (λ (m : Member). born stage m.node) ms) ≡ nodes_of ms
@@ -93,6 +96,18 @@ schedule_makes_world s is =
     let stage = stage_of s in
     run_makes_world stage (run_after stage (run_of stage s.members) s.events)
     (events_keep stage (before_events s) (run_of stage s.members) s.events (members_sign_bytes s) is.events (begins_good s is))
+
+run_has_true_receipts : (stage : Stage) (run : Run) (c : Correct) → IsGoodRun stage run → IsIn c (world_by stage run).nodes → AreReceiptsTrue c.journal
+unfolding world_by
+run_has_true_receipts stage run c g on = let s = from_map (λ (x : Station). x.correct) c run.stations on in subst (λ (d : Correct). AreReceiptsTrue d.journal) s.1.1 (g.stations s.0 s.1.0).receipts
+
+-- each receipt of a correct node of it is true
+pub schedule_receipts_are_true : (s : Schedule) (c : Correct) → IsSchedule s → IsIn c (world_of s).nodes → AreReceiptsTrue c.journal
+unfolding world_of
+schedule_receipts_are_true s c is on =
+    let stage = stage_of s in
+    run_has_true_receipts stage (run_after stage (run_of stage s.members) s.events) c
+    (events_keep stage (before_events s) (run_of stage s.members) s.events (members_sign_bytes s) is.events (begins_good s is)) on
 
 -- its roster is that of the stage
 pub schedule_world_has_roster : (s : Schedule) → IsSchedule s → IsRoster (world_of s).listed

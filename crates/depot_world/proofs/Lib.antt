@@ -6,6 +6,8 @@ pub mod ByteFeeds
 pub mod ByteSignatures
 pub mod ByteOwn
 pub mod ByteBundles
+pub mod ReceiptChanges
+pub mod TrueReceipts
 pub mod GoodNodes
 pub mod GoodDeeds
 pub mod ScheduleMembers

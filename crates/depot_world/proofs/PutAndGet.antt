@@ -14,6 +14,7 @@ use Rattle.depot_model.specs.Lists.{IsIn}
 use Rattle.depot_model.specs.Order.{past}
 use Rattle.depot_model.specs.Own.{precedes_named, next_entries, next_own, leaf_count}
 use Rattle.depot_model.specs.Plain.{plain_root}
+use Rattle.depot_model.specs.Receipts.{receipt_of}
 use Rattle.depot_model.specs.Records.{birth, own_put, tagged, record_text}
 use Rattle.depot_model.specs.Room.{foreign_leaves, full_with}
 use Rattle.depot_model.specs.Roster.{key_of}
@@ -40,14 +41,14 @@ abbrev pub put_and_get : Schedule
 put_and_get = record { winter = false; height = 4; members = record { node = 1; correct = true } ∷ []; events = event.Put 1 (107 ∷ []) (97 ∷ []) ∷ event.Get 1 (107 ∷ []) ∷ [] }
 
 is_schedule : IsSchedule put_and_get
-unfolding put get
+unfolding put get receipt_of
 is_schedule = record {
   low = omega arith;
   high = omega arith;
   members = ((omega arith, omega arith, refl), tt);
   some = refl;
   events = (
-    (((omega arith, omega arith), refl), ((refl, by_places (107 ∷ []) (omega arith, tt)), ((refl, by_places (97 ∷ []) (omega arith, tt)), refl))),
+    (((omega arith, omega arith), refl), (((refl, by_places (107 ∷ []) (omega arith, tt)), refl), ((refl, by_places (97 ∷ []) (omega arith, tt)), refl))),
     ((((omega arith, omega arith), refl), ((refl, by_places (107 ∷ []) (omega arith, tt)), refl)), tt),
   );
   lines = omega arith;

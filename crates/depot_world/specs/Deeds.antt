@@ -1,5 +1,5 @@
 -- What the events of correct nodes do.
-use Rattle.std.specs.Prelude.{ℕ, ◌-◌, List, [], ◌∷◌, ◌++◌, length, map, Some, None, codes}
+use Rattle.std.specs.Prelude.{ℕ, ◌-◌, List, [], ◌∷◌, ◌++◌, length, map, nat_le, Option, Some, None, codes}
 use Rattle.std.specs.List.{flat_map}
 use Rattle.depot_base.specs.declared.record.Record.{Record}
 use Rattle.depot_base.specs.declared.record.Record.TheVariants.{OwnPut}
@@ -10,9 +10,10 @@ use Rattle.depot_model.specs.Feeding.{Feeding, feed_of}
 use Rattle.depot_model.specs.Hello.{hello_of, text_of_hello}
 use Rattle.depot_model.specs.Limits.{limit_of_put}
 use Rattle.depot_model.specs.Own.{next_own, values_of}
+use Rattle.depot_model.specs.Receipts.{NoReceipt, receipt_changes, receipts, no_receipt}
 use Rattle.depot_model.specs.Vouching.{records_of}
 use Rattle.depot_model.specs.World.{Correct, Read}
-use Rattle.depot_answers.specs.Answers.{spaced, numbered, text_of_limit, text_of_put, text_of_write, text_of_records, text_of_named, text_of_counts, name_of_more, text_of_report, text_of_refusal}
+use Rattle.depot_answers.specs.Answers.{spaced, numbered, text_of_limit, text_of_no_receipt, name_of_settled, text_of_put, text_of_write, text_of_records, text_of_named, text_of_counts, name_of_more, text_of_report, text_of_refusal}
 use Rattle.depot_model.specs.ShownWrites.{shown_of}
 use Rattle.depot_world.specs.ScheduleStops.{Deed, calls_to_append}
 
@@ -47,6 +48,21 @@ get_by c key = record {
   behind = [];
   bytes = [];
 }
+
+-- ---- receipts
+
+-- what a node does where this speaks against receipts, or nothing does
+abbrev pub receipt_with : Setting → Correct → List (List ℕ) → Option NoReceipt → Deed
+receipt_with here c ids (Some why) = idle c (text_of_no_receipt why)
+receipt_with here c ids None = put_by here c (receipt_changes ids)
+
+-- a node gives receipts for some ids: one put of all, unless it has not accepted an update, lacks a value of one, or meets a limit
+unfoldable pub receipt_by : Setting → Correct → List (List ℕ) → Deed
+receipt_by here c ids = receipt_with here c ids (no_receipt c.journal ids)
+
+-- a node tells whether so many nodes gave receipts for an id, among all updates that it has accepted; it keeps no read of it
+unfoldable pub settled_by : Correct → List ℕ → ℕ → Deed
+settled_by c id k = idle c (name_of_settled (nat_le k (length (receipts c.journal id))))
 
 -- ---- telling and taking
 

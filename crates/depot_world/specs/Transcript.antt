@@ -1,5 +1,5 @@
 -- What a schedule makes happen, event by event: the world and the transcript.
-use Rattle.std.specs.Prelude.{ℕ, List, [], ◌∷◌, ◌++◌, take, drop, false, Option, Some, None, Result, Ok, Err, codes}
+use Rattle.std.specs.Prelude.{ℕ, List, [], ◌∷◌, ◌++◌, map, take, drop, false, Option, Some, None, Result, Ok, Err, codes}
 use Rattle.std.specs.List.{flat_map}
 use Rattle.depot_base.specs.Writes.{one_change}
 use Rattle.depot_base.specs.declared.proof.Proof.{Proof}
@@ -9,6 +9,8 @@ use Rattle.depot_model.specs.Bundle.{Signs}
 use Rattle.depot_model.specs.Judgement.{verdict_of}
 use Rattle.depot_model.specs.Lines.{text_of_point, text_of_verdict}
 use Rattle.depot_model.specs.Own.{values_of}
+use Rattle.depot_model.specs.Texts.{id_of_update}
+use Rattle.depot_model.specs.Vouching.{rising}
 use Rattle.depot_model.specs.World.{World}
 use Rattle.depot_schedule.specs.Language.{join}
 use Rattle.depot_schedule.specs.Schedules.{event_words}
@@ -18,9 +20,9 @@ use Rattle.depot_schedule.specs.declared.event.HistoryWord.{HistoryWord}
 use Rattle.depot_schedule.specs.declared.event.Ref.{Ref}
 use Rattle.depot_schedule.specs.declared.schedule.Schedule.{Schedule}
 use Rattle.depot_answers.specs.Answers.{spaced}
-use Rattle.depot_world.specs.Deeds.{put_by, get_by, hello_by, bundle_by, give_by, restart_by}
-use Rattle.depot_world.specs.Run.{Run, Station, run_of, world_by, station_in, bytes_of, seen_with, with_label, with_station}
-use Rattle.depot_world.specs.FaultySigning.{Text, no_reference, counted_bytes, updated, update_text, vouched_text, proof_text, hollow_text, proof_in, point_by, flip_at}
+use Rattle.depot_world.specs.Deeds.{put_by, get_by, hello_by, bundle_by, give_by, restart_by, receipt_by, settled_by}
+use Rattle.depot_world.specs.Run.{Run, Station, run_of, world_by, station_in, bytes_of, referred, seen_with, with_label, with_station}
+use Rattle.depot_world.specs.FaultySigning.{Text, no_reference, counted_bytes, updated, update_text, vouched_text, proof_text, hollow_text, proof_in, point_by, flip_at, all_referred}
 use Rattle.depot_world.specs.ScheduleStops.{Deed, Went, went}
 use Rattle.depot_world.specs.Suite.{Stage, stage_of, stands_on, signs_on}
 
@@ -50,6 +52,20 @@ armed_at run node call image = elim (station_in run.stations node) [
   | None ↦ record { answer = []; behind = []; run = run }
   | Some s ↦ record { answer = codes " armed"; behind = []; run = with_station run (record { correct = s.correct; armed = Some (record { call = call; image = image }) }) }
 ]
+
+-- a reference names nothing: that is told, and no node is asked
+abbrev pub not_referred : Run → Done
+not_referred run = record { answer = codes " NoRef"; behind = []; run = run }
+
+-- a node gives receipts for what references name, each id once and rising
+abbrev pub receipt_for : Stage → Run → ℕ → Option (List Update) → Done
+receipt_for stage run node None = not_referred run
+receipt_for stage run node (Some us) = by_node run node None (λ s. receipt_by (stands_on stage node) s.correct (rising (map id_of_update us)))
+
+-- a node tells whether what a reference names is settled at so many nodes
+abbrev pub settled_for : Run → ℕ → ℕ → Option Update → Done
+settled_for run node k None = not_referred run
+settled_for run node k (Some u) = by_node run node None (λ s. settled_by s.correct (id_of_update u) k)
 
 -- ---- events that no correct node takes part in
 
@@ -99,6 +115,8 @@ done stage run (event.Cut label source start count) = done_by_text run label (co
 done stage run (event.Flip label source place) = done_by_text run label (counted_bytes (flip_at place (bytes_of run source)))
 done stage run (event.Join label first second) = done_by_text run label (counted_bytes (bytes_of run first ++ bytes_of run second))
 done stage run (event.Stop node call image) = armed_at run node call image
+done stage run (event.Receipt node refs) = receipt_for stage run node (all_referred run refs)
+done stage run (event.Settled node reference k) = settled_for run node k (referred run reference)
 
 -- ---- its lines
 
@@ -109,6 +127,7 @@ head_count (event.Get node key) = 3
 head_count (event.Hello node label) = 3
 head_count (event.Bundle node hello label) = 4
 head_count (event.Give node label size) = 3
+head_count (event.Settled node reference k) = 4
 head_count other = 2
 
 -- a line with its LF

@@ -10,5 +10,6 @@
 mod world_laws;
 
 pub use world_laws::{
-    latest_writes_are_listed, schedules_make_worlds, worlds_of_schedules_are_causal,
+    latest_writes_are_listed, receipts_of_schedules_are_true, schedules_make_worlds,
+    worlds_of_schedules_are_causal,
 };

@@ -8,6 +8,7 @@ ghost use Rattle.depot_base.specs.declared.update.Update.{Update};
 ghost use Rattle.depot_model.specs.Causality.{IsForkJoinCausal, ConvictsNoCorrectNode};
 ghost use Rattle.depot_model.specs.Lists.{IsIn};
 ghost use Rattle.depot_model.specs.Order.{IsCausal, AreLatestIn};
+ghost use Rattle.depot_model.specs.Receipts.{AreReceiptsTrue};
 ghost use Rattle.depot_model.specs.Texts.{IsRoster};
 ghost use Rattle.depot_model.specs.World.{Correct, IsWorld, IsAuthentic, IsCollisionFree, proofs_of};
 ghost use Rattle.depot_schedule.specs.Schedules.{IsSchedule};
@@ -36,4 +37,10 @@ pub fn worlds_of_schedules_are_causal()
     ensures causal { (s : Schedule) → IsSchedule s → IsAuthentic (world_of s) → IsCollisionFree (world_of s) → IsForkJoinCausal (world_of s) }
     ensures convicts { (s : Schedule) → IsSchedule s → IsAuthentic (world_of s) → IsCollisionFree (world_of s) → ConvictsNoCorrectNode (world_of s) }
     ensures pairs { (s : Schedule) (c : Correct) (kind : Kind) (first second : Signed) → IsSchedule s → IsAuthentic (world_of s) → IsIn c (world_of s).nodes → IsIn (Pair kind first second) (proofs_of (world_of s)) → writer_of first.statement ≡ c.node → ⊥ }
+{}
+
+/// Each receipt that a correct node of a schedule's world gave is for an update that it had accepted, all of whose values it held,
+/// wherever its disk stopped.
+pub fn receipts_of_schedules_are_true()
+    ensures { (s : Schedule) (c : Correct) → IsSchedule s → IsIn c (world_of s).nodes → AreReceiptsTrue c.journal }
 {}

@@ -11,7 +11,7 @@ use Rattle.depot_model.specs.Feeding.{feeding_from}
 use Rattle.depot_model.proofs.FeedGrowth.{grown_none, grown_on}
 use Rattle.depot_model.proofs.CallsOnDisk.{nothing_called}
 use Rattle.depot_gossip.proofs.StreamLaws.{keeps_alike}
-use Rattle.depot_deeds.proofs.FedStreams.{fed_alike, goes_on, keeps_on, not_stopped, piece_called, piece_lasts, pieces_called, runs_on, same_failure, told_all, under_way_on}
+use Rattle.depot_deeds.proofs.FedStreams.{all_called, fed_alike, goes_on, keeps_on, not_stopped, piece_called, piece_lasts, pieces_called, runs_on, same_failure, told_all, under_way_on}
 use Rattle.depot_deeds.proofs.feeds.feed_all.Goals as goal
 
 pub returns-in_default-clause-calls : goal.returns-in_default-clause-calls
@@ -104,3 +104,9 @@ pub returns-clause-brings : goal.returns-clause-brings
 returns-clause-brings g c = λ stable.
     let none : length c.loop-rest.rest.now ≡ 0 = grind (arith, nat_tests, c.is_empty.ensures, c.loop-rest-test) in
     piece_fed (g.R.Replica.stands c.args.node.now) _ _ c.args.stream.now c.loop-rest.rest.now c.args.node.now c.loop-rest.node (nil_from_length c.loop-rest.rest.now none) c.loop-rest.invariant.under_way refl (c.loop-rest.invariant.lasts stable)
+
+pub returns-clause-calls : goal.returns-clause-calls
+returns-clause-calls g c =
+    let i = c.loop-rest.invariant in
+    let none : length c.loop-rest.rest.now ≡ 0 = grind (arith, nat_tests, c.is_empty.ensures, c.loop-rest-test) in
+    all_called (g.R.Replica.stands c.args.node.now) _ _ c.args.stream.now c.loop-rest.rest.now c.args.node.now c.loop-rest.node (λ failed. cc) (nil_from_length c.loop-rest.rest.now none) i.under_way refl i.grown i.calls

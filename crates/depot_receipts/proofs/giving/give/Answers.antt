@@ -4,7 +4,7 @@ use Rattle.depot_base.specs.Parts.{is_below}
 use Rattle.depot_base.specs.declared.write.Change.{Change}
 use Rattle.depot_model.proofs.CallsOnDisk.{nothing_called}
 use Rattle.depot_model.proofs.StopLaws.{idle_lasts}
-use Rattle.depot_receipts.proofs.DueReceipts.{keys_rise}
+use Rattle.depot_laws.proofs.TrueReceipts.{keys_rise}
 use Rattle.depot_receipts.proofs.GivenAnswers.{given_are_true, no_fault}
 use Rattle.depot_receipts.proofs.giving.give.Goals as goal
 

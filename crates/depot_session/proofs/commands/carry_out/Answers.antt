@@ -14,6 +14,12 @@ returns-in-Puts-clause-turns g c = λ s told at. c.put_changes.ensures.turns (sh
 pub returns-in-Get-clause-turns : goal.returns-in-Get-clause-turns
 returns-in-Get-clause-turns g c = λ s told at. c.get.ensures.turns (shelves g.F.Shelf c.args.shelf.now c.args.shelf.now) s (λ name. refl) at
 
+pub returns-in-Receipt-clause-turns : goal.returns-in-Receipt-clause-turns
+returns-in-Receipt-clause-turns g c = λ s told at. c.give_receipt.ensures.turns (shelves g.F.Shelf c.args.shelf.now c.args.shelf.now) s (λ name. refl) at
+
+pub returns-in-Settled-clause-turns : goal.returns-in-Settled-clause-turns
+returns-in-Settled-clause-turns g c = λ s told at. c.tell_settled.ensures.turns (shelves g.F.Shelf c.args.shelf.now c.args.shelf.now) s (λ name. refl) at
+
 pub returns-in-Put-clause-loads : goal.returns-in-Put-clause-loads
 returns-in-Put-clause-loads g c = rw c.in-Put.is (sym (append-nil (g.F.Shelf.loads c.args.shelf.now)))
 
@@ -22,6 +28,12 @@ returns-in-Puts-clause-loads g c = rw c.in-Puts.is (sym (append-nil (g.F.Shelf.l
 
 pub returns-in-Get-clause-loads : goal.returns-in-Get-clause-loads
 returns-in-Get-clause-loads g c = rw c.in-Get.is (sym (append-nil (g.F.Shelf.loads c.args.shelf.now)))
+
+pub returns-in-Receipt-clause-loads : goal.returns-in-Receipt-clause-loads
+returns-in-Receipt-clause-loads g c = rw c.in-Receipt.is (sym (append-nil (g.F.Shelf.loads c.args.shelf.now)))
+
+pub returns-in-Settled-clause-loads : goal.returns-in-Settled-clause-loads
+returns-in-Settled-clause-loads g c = rw c.in-Settled.is (sym (append-nil (g.F.Shelf.loads c.args.shelf.now)))
 
 pub returns-in-Hello-clause-loads : goal.returns-in-Hello-clause-loads
 returns-in-Hello-clause-loads g c = rw c.in-Hello.is (c.say_hello.ensures.loads ∙ sym (append-nil (g.F.Shelf.loads c.args.shelf.now)))
@@ -34,6 +46,12 @@ returns-in-Puts-clause-stores g c = rw c.in-Puts.is (stored_none (g.F.Shelf.stor
 
 pub returns-in-Get-clause-stores : goal.returns-in-Get-clause-stores
 returns-in-Get-clause-stores g c = rw c.in-Get.is (stored_none (g.F.Shelf.stores c.args.shelf.now) (g.F.Shelf.stores c.args.shelf.now) c.get.result refl)
+
+pub returns-in-Receipt-clause-stores : goal.returns-in-Receipt-clause-stores
+returns-in-Receipt-clause-stores g c = rw c.in-Receipt.is (stored_none (g.F.Shelf.stores c.args.shelf.now) (g.F.Shelf.stores c.args.shelf.now) c.give_receipt.result refl)
+
+pub returns-in-Settled-clause-stores : goal.returns-in-Settled-clause-stores
+returns-in-Settled-clause-stores g c = rw c.in-Settled.is (stored_none (g.F.Shelf.stores c.args.shelf.now) (g.F.Shelf.stores c.args.shelf.now) c.tell_settled.result refl)
 
 pub returns-in-Hello-clause-stores : goal.returns-in-Hello-clause-stores
 returns-in-Hello-clause-stores g c = rw c.in-Hello.is (c.say_hello.ensures.stores)
@@ -52,6 +70,12 @@ returns-in-Puts-clause-unstored g c = λ s told at. unstored (g.F.Shelf.stores c
 
 pub returns-in-Get-clause-unstored : goal.returns-in-Get-clause-unstored
 returns-in-Get-clause-unstored g c = λ s told at. unstored (g.F.Shelf.stores c.args.shelf.now) (g.F.Shelf.stores c.args.shelf.now) _ refl
+
+pub returns-in-Receipt-clause-unstored : goal.returns-in-Receipt-clause-unstored
+returns-in-Receipt-clause-unstored g c = λ s told at. unstored (g.F.Shelf.stores c.args.shelf.now) (g.F.Shelf.stores c.args.shelf.now) _ refl
+
+pub returns-in-Settled-clause-unstored : goal.returns-in-Settled-clause-unstored
+returns-in-Settled-clause-unstored g c = λ s told at. unstored (g.F.Shelf.stores c.args.shelf.now) (g.F.Shelf.stores c.args.shelf.now) _ refl
 
 pub returns-in-Hello-clause-unstored : goal.returns-in-Hello-clause-unstored
 returns-in-Hello-clause-unstored g c = λ s told at. rw c.in-Hello.is (goes_on_anyhow _ _ (hello_goes_on (g.R.Replica.stands c.args.node.now) (g.R.Replica.signature_of c.args.node.now) s _))

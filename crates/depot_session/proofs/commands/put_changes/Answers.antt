@@ -2,7 +2,7 @@ use Rattle.std.proofs.Common.{refl, arith}
 use Rattle.depot_outside.specs.Told.{sinks}
 use Rattle.depot_session.proofs.ToldFaults.{names_memory, never_rose}
 use Rattle.depot_session.proofs.Uncalled.{keeps_uncalled, uncalled_without_memory}
-use Rattle.depot_session.proofs.FittingScripts.{are_several, asked_are}
+use Rattle.depot_session.proofs.FittingScripts.{are_several, asked_are, asked_plain}
 use Rattle.depot_session.proofs.commands.put_changes.Goals as goal
 
 pub returns-in_err-changes-clause-keeps : goal.returns-in_err-changes-clause-keeps
@@ -17,3 +17,6 @@ put-requires-clause-changes g c = asked_are c.args.command.now _ c.requires.fits
 
 pub put-requires-clause-command : goal.put-requires-clause-command
 put-requires-clause-command g c = are_several c.args.command.now c.args.changes.now _ c.requires.command c.in_ok-changes.ensures
+
+pub put-requires-clause-plain : goal.put-requires-clause-plain
+put-requires-clause-plain g c = asked_plain c.args.command.now _ c.requires.fits (are_several c.args.command.now c.args.changes.now _ c.requires.command c.in_ok-changes.ensures)

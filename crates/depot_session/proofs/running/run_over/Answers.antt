@@ -12,7 +12,7 @@ use Rattle.depot_session.proofs.AskedShelves.{asks_nothing}
 use Rattle.depot_session.proofs.LeftJournals.{all_there}
 use Rattle.depot_feeds.proofs.LastingStreams.{front_longer}
 use Rattle.depot_session.proofs.RunImages.{either, has_from_key, key_or_disk, refused_goes_on, run_goes_on, settled}
-use Rattle.depot_session.proofs.RunEnds.{IsAfterDisk, answered, calm_end, disk_refused, ended_by, faulty_end, not_started, sink_end, start_is_correct}
+use Rattle.depot_session.proofs.RunEnds.{IsAfterDisk, answered, calm_end, disk_refused, ended_by, faulty_end, not_started, sink_end, start_is_correct, tells_by_ending}
 use Rattle.depot_session.proofs.running.run_over.Goals as goal
 
 pub returns-in-Err-clause-file : goal.returns-in-Err-clause-file
@@ -51,7 +51,7 @@ returns-clause-file g c = λ told.
     let only = lasts.lasts.any_moment told_then e.runs in
     let lawful = subst (λ (h : Setting). IsLawful h (c.in-Ok.node.store.records ++ lasts.appends)) e.stands lasts.is.lawful in
     record {
-      images = λ image left. run_goes_on here (g.D.Disk.seen c.args.disk) image c.in-Ok.node.store.records lasts.appends (g.D.Disk.may_leave c.args.disk) c.is_formed.ensures (has_from_key here (g.G.Signer.key_of c.args.signer) e.key) (e.records told) lawful
+      images = λ image left. run_goes_on here (g.D.Disk.seen c.args.disk) image c.in-Ok.node.store.records lasts.appends (g.D.Disk.may_leave c.args.disk) c.is_formed.ensures (has_from_key here (g.G.Signer.key_of c.args.signer) e.key) (e.records told) lawful lasts.is.receipts
           (either (start.each image) (only.before (g.D.Disk.moment c.args.disk) image start.later (subst (λ d. g.D.Disk.left_since d (g.D.Disk.moment c.args.disk) image) c.into_disk.ensures left)));
       reads = subst (λ d. g.D.Disk.left_since d (g.D.Disk.moment c.args.disk) (g.D.Disk.seen d)) (sym c.into_disk.ensures)
           (g.met.D.Disk.counts_now now (g.D.Disk.moment c.args.disk) (g.D.Disk.seen now) (omega (arith, start.later, only.later)) (g.met.D.Disk.reads_as_image now told_now));
@@ -69,7 +69,7 @@ returns-clause-stable g c = λ told calm.
     let lawful = subst (λ (h : Setting). IsLawful h (c.in-Ok.node.store.records ++ keeps.lasts.appends)) e.stands keeps.lasts.is.lawful in
     let runs = keeps.runs_on (calm_end c.play-played.result (subst (λ x. (x ≡ ending.Done) ⊎ (x ≡ ending.Limit)) c.ended.ensures calm)) in
     let there : (image : List ℕ) → g.D.Disk.may_leave now image → HasRecords records image = λ image left. all_there records image (subst (λ (b : Bool). HasAll records b image) runs (keeps.lasts.lasts.stable told_then image left)) in
-    settled here (disks g.D.Disk c.args.disk c.into_disk.result) c.in-Ok.node.store.records keeps.lasts.appends records keeps.lasts.is.count (e.records told) lawful keeps.lasts.is.front
+    settled here (disks g.D.Disk c.args.disk c.into_disk.result) c.in-Ok.node.store.records keeps.lasts.appends records keeps.lasts.is.count (e.records told) lawful keeps.lasts.is.receipts keeps.lasts.is.front
     (subst (λ d. HasRecords records (g.D.Disk.seen d)) (sym c.into_disk.ensures) (there (g.D.Disk.seen now) (g.met.D.Disk.reads_as_image now told_now)))
     (λ image left. there image (subst (λ d. g.D.Disk.may_leave d image) c.into_disk.ensures left))
 
@@ -128,3 +128,6 @@ returns-clause-disk_fault g c = λ rose.
 
 pub returns-clause-sink_fault : goal.returns-clause-sink_fault
 returns-clause-sink_fault g c = λ rose. c.ended.ensures ∙ sink_end c.play-played.result (c.play-played.ensures.keeps.sink_only rose)
+
+pub returns-clause-shelf : goal.returns-clause-shelf
+returns-clause-shelf g c = tells_by_ending _ _ _ _ c.play-played.result c.ended.result c.ended.ensures c.play-played.ensures.shelf

@@ -1,6 +1,6 @@
 use Rattle.std.proofs.Common.{ℕ, List, Option, false, length, nat_eq, sym, ap, ◌∙◌}
 use Rattle.std.specs.Option.{option_map_or}
-use Rattle.depot_tell.proofs.LackingValues.{holds_by}
+use Rattle.depot_laws.proofs.HeldByHash.{holds_by}
 use Rattle.depot_tell.proofs.tell.holds.Goals as goal
 
 pub returns-in-Some : goal.returns-in-Some

@@ -4,7 +4,7 @@ use Rattle.depot_schedule.specs.declared.event.Event.{Event}
 use Rattle.depot_world.specs.Transcript.{done}
 use Rattle.depot_stage.specs.Casting.{MayHappen}
 use Rattle.depot_plays.specs.Doing.{HasDone}
-use Rattle.depot_plays.proofs.EventFields.{put_changes, stop_sizes}
+use Rattle.depot_plays.proofs.EventFields.{put_changes, receipt_sizes, stop_sizes}
 use Rattle.depot_plays.proofs.play.Play.lines.Goals as goal
 
 pub stop-requires-clause-call : goal.stop-requires-clause-call
@@ -37,3 +37,18 @@ deed-requires-clause-changes g c = put_changes c.requires.may.before c.args.even
 
 pub deed-requires-in-Puts-clause-changes : goal.deed-requires-in-Puts-clause-changes
 deed-requires-in-Puts-clause-changes g c = put_changes c.requires.may.before c.args.event.now c.requires.may.fits
+
+pub receipt-requires-clause-few : goal.receipt-requires-clause-few
+receipt-requires-clause-few g c =
+    let may = subst (λ (e : Event). MayHappen c.args.scene.now.height c.args.scene.now.members.now e) c.in-Receipt.is c.requires.may in
+    rw c.as_slice.ensures (receipt_sizes may.before c.in-Receipt.node c.in-Receipt.refs may.fits)
+
+pub returns-in-Receipt : goal.returns-in-Receipt
+unfolding done
+returns-in-Receipt g c = IfOk-weaker c.receipt.result _ _ (λ lines told stage run on at.
+    subst (λ (e : Event). HasDone g.row.A.Denot g.A.Actor.view stage (done stage run e) lines c.receipt.new.self) (sym c.in-Receipt.is) (rw c.as_slice.ensures at (told stage run at))) c.receipt.ensures
+
+pub returns-in-Settled : goal.returns-in-Settled
+unfolding done
+returns-in-Settled g c = IfOk-weaker c.settled.result _ _ (λ lines told stage run on at.
+    subst (λ (e : Event). HasDone g.row.A.Denot g.A.Actor.view stage (done stage run e) lines c.settled.new.self) (sym c.in-Settled.is) (told stage run at)) c.settled.ensures

@@ -1,5 +1,6 @@
 use Rattle.std.proofs.Common.{refl, ◌∙◌}
 use Rattle.depot_outside.specs.Stopping.{state_of}
+use Rattle.depot_deeds.proofs.FedStreams.{runs_on}
 use Rattle.depot_replay.proofs.SeatCalls.{done_on}
 use Rattle.depot_replay.proofs.SeatEvents.{begun_there, if_printed, of_printed, same_signs}
 use Rattle.std.proofs.lemmas.Result.{IfOk-at_ok}
@@ -8,6 +9,9 @@ use Rattle.depot_replay.proofs.seat.SeatActor.bundle.Goals as goal
 
 pub seated-requires-clause-signs : goal.seated-requires-clause-signs
 seated-requires-clause-signs g c = c.bundle-made.ensures.stays.signs ∙ same_signs _ _ c.args.self.signs
+
+pub seated-requires-clause-runs : goal.seated-requires-clause-runs
+seated-requires-clause-runs g c = of_printed c.bundle_printed-printed.result _ (λ printed is some. runs_on _ _ _ _ c.bundle-made.ensures.stops c.args.self.runs (λ failed. some ((IfOk-at_ok _ is c.bundle_printed-printed.ensures.stopped).1 failed)))
 
 pub seated-requires-clause-called : goal.seated-requires-clause-called
 seated-requires-clause-called g c =

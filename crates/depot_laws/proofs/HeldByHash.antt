@@ -52,7 +52,11 @@ first_is_only h size hashes (v ∷ vs) = step (is_among (sha256 v) hashes) (byte
   step false true e same rest = rw e (or_lost (length v == size) (list_any (fits h size) more) (none_behind h size (hashes ++ sha256 v ∷ []) vs (among e)))
   step false false e same rest = rw e rest
 
+-- whether a value is held, by the one that its hash has
+pub holds_by : (J : List Record) (h : List ℕ) (size : ℕ) → holds J h size ≡ option_map_or (λ v. length v == size) (value_with h (held J)) false
+unfolding holds
+holds_by J h size = first_is_only h size [] _
+
 -- the value that a hash has, where it has the length, is what is held
 pub held_by_hash : (J : List Record) (h : List ℕ) (size : ℕ) (o : Option (List ℕ)) → o ≡ value_with h (held J) → option_map_or (λ v. length v == size) o false ≡ holds J h size
-unfolding holds
-held_by_hash J h size o e = ap (λ (p : Option (List ℕ)). option_map_or (λ v. length v == size) p false) e ∙ sym (first_is_only h size [] _)
+held_by_hash J h size o e = ap (λ (p : Option (List ℕ)). option_map_or (λ v. length v == size) p false) e ∙ sym (holds_by J h size)
