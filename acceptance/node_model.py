@@ -170,7 +170,7 @@ class Run:
 
     def run(self, words):
         try:
-            {"node": self.node, "judge": self.judge}[words[0]](*words[1:])
+            {"node": self.node, "judge": self.judge, "audit": self.audit}[words[0]](*words[1:])
             return 0
         except End as end:
             if end.line is not None:
@@ -182,6 +182,10 @@ class Run:
         told = judged(members, self.load(name))
         raise End(0 if told.split()[0].isdigit() else 7, told)
 
+    def audit(self, listed, *names):
+        from audit_model import audit
+        raise End(*audit(Roster(listed, self.load(listed)), self.load, names))
+
     def node(self, listed, seed, height, me, script):
         members, me = Roster(listed, self.load(listed)), int(me)
         lines = self.load(script).decode().splitlines()
@@ -192,6 +196,7 @@ class Run:
             raise End(10, "identity OtherKey")
         SIGNERS[me, signer.height, signer.root] = members.signers[me] = signer
         node = Start(me, members, self.files.get(self.path(JOURNAL), b"")).node
+        self.reads = []
         try:
             for line in lines:
                 self.command(node, *line.split(" "))
@@ -222,7 +227,16 @@ class Run:
         return node.put(changes_of(writes))
 
     def do_get(self, node, key):
-        return node.read(bytes.fromhex(key))
+        from audit_model import answer_of
+        key = bytes.fromhex(key)
+        shown = [id + bytes([mark]) + (u(4, len(value)) + value if mark == 1 else b"") for id, mark, value in answer_of(node, key)]
+        self.reads.append((len(node.records), key, shown))
+        return node.read(key)
+
+    def do_export(self, node, name):
+        from audit_model import trace_text
+        self.files[self.path(name)] = trace_text(node.me, list(map(text_of, node.records)), self.reads)
+        return f"records {len(node.records)} reads {len(self.reads)}"
 
     def do_hello(self, node, name):
         self.files[self.path(name)], answer = node.hello()
@@ -289,7 +303,7 @@ def differs(folder):
 def is_modelled(folder):
     words = words_of(os.path.join(folder, "args")) if os.path.exists(os.path.join(folder, "args")) else []
     name = os.path.basename(folder)
-    return words[:1] in (["node"], ["judge"]) and "script_" not in name and not name.startswith("words_")
+    return words[:1] in (["node"], ["judge"], ["audit"]) and "script_" not in name and not name.startswith("words_")
 
 
 def main():

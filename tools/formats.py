@@ -175,6 +175,27 @@ class Journal(NamedTuple):
     behind: int  # how many bytes stand behind it, which are nothing
 
 
+class Answered(NamedTuple):
+    """A write that a read listed: its update's id, and what was shown: a value, None where it is a deletion, or False where it wasn't held."""
+
+    id: bytes
+    shown: object
+
+
+class Read(NamedTuple):
+    """A read of a trace: the number of records then, the key, and the writes that it listed."""
+
+    length: int
+    key: bytes
+    answer: List[Answered]
+
+
+class Trace(NamedTuple):
+    node: int
+    texts: List[bytes]
+    reads: List[Read]
+
+
 class Frame(NamedTuple):
     offset: int
     tag: int
@@ -369,6 +390,29 @@ def read_hello(fields: Fields) -> Hello:
     leaves = items(MOST_LEAVES, lambda fields: same(number(2, fields.node()) + fields.digest("an id")), "a leaf")
     wanted = items(MOST_WANTED, lambda fields: same(fields.digest("a hash")), "a wanted value")
     return Hello(node, roster, convicted, leaves, wanted)
+
+
+def answered_in(fields: Fields) -> Answered:
+    id, mark = fields.digest("the id of a write"), fields.number(1, 0, 2, "the mark of a write")
+    if mark != 1:
+        return Answered(id, None if mark == 2 else False)
+    return Answered(id, fields.take(fields.number(4, 0, MOST_VALUE, "the length of a value"), "the value"))
+
+
+def read_in(fields: Fields) -> Read:
+    length, key = fields.number(4, 0, 2**32 - 1, "the number of records"), read_key(fields)
+    return Read(length, key, [answered_in(fields) for _ in range(fields.number(2, 0, 4_097, "the number of writes"))])
+
+
+@whole
+def read_trace(fields: Fields) -> Trace:
+    """The trace that a node handed out: its record texts, and its reads."""
+    fields.number(1, 1, 1, "the version")
+    fields.number(1, 5, 5, "the kind")
+    node, texts = fields.node(), []
+    for _ in range(fields.number(4, 1, 131_072, "the number of records")):
+        texts.append(fields.take(fields.number(4, 0, 2**32 - 1, "the length of a record"), "the record"))
+    return Trace(node, texts, [read_in(fields) for _ in range(fields.number(4, 0, 1_000_000, "the number of reads"))])
 
 
 def read_log(data: bytes) -> List[Update]:

@@ -1,5 +1,5 @@
 #!/usr/bin/env python3
-"""Shows what a file of Depot holds, one line a fact: a journal, hello, stream, proof, roster or log.
+"""Shows what a file of Depot holds, one line a fact: a journal, hello, stream, proof, roster, trace or log.
 
     python3 tools/look.py FILE                    the kind is found by reading; --kind KIND says it
     python3 tools/look.py FILE --whole            hashes in full, in place of their first 16 digits
@@ -18,7 +18,7 @@ import sys
 
 import formats as f
 
-KINDS = ["roster", "hello", "journal", "proof", "stream", "log"]
+KINDS = ["roster", "hello", "journal", "proof", "stream", "trace", "log"]
 
 
 class Page:
@@ -147,6 +147,28 @@ def show_journal(data, page, options):
     show_sums(placed, values, page, options.roster)
 
 
+def show_trace(data, page, options):
+    """The records, and then the reads, which name writes by the ids of their updates."""
+    trace = f.read_trace(data)
+    page.say("trace of node %d: %d records, %d reads" % (trace.node, len(trace.texts), len(trace.reads)))
+    placed = []
+    for at, text in enumerate(trace.texts):
+        try:
+            placed.append(f.Placed(0, 0, f.read_record(text)))
+        except f.IllFormed as fault:
+            page.fault = "record %d: %s" % (at, fault)
+            return
+    values = f.values_of(placed)
+    for at, it in enumerate(placed):
+        for line in record_lines(it.record, values, page):
+            page.say("%d: %s" % (at, line))
+    for at, read in enumerate(trace.reads):
+        page.say("read %d at %d records of %s: %d writes" % (at, read.length, page.key(read.key), len(read.answer)))
+        for listed in read.answer:
+            told = {False: "whose value isn't held", None: "a deletion"}.get(listed.shown) or bytes_line("value", listed.shown, page)
+            page.say("  update %s: %s" % (page.hash(listed.id), told))
+
+
 def record_lines(record, values, page):
     if isinstance(record, f.Birth):
         return ["birth of node %d, roster %s" % (record.node, page.hash(record.roster))]
@@ -245,13 +267,14 @@ SHOW = {
     "journal": show_journal,
     "proof": show_proof,
     "stream": show_stream,
+    "trace": show_trace,
     "log": show_log,
 }
 
 
 # A journal's first record is a birth, of 35 bytes.
 JOURNAL_HEAD = b"\1\0\0\0\43\1"
-WHOLE = [("roster", f.read_roster), ("hello", f.read_hello), ("proof", f.read_proof), ("log", f.read_log)]
+WHOLE = [("roster", f.read_roster), ("hello", f.read_hello), ("proof", f.read_proof), ("trace", f.read_trace), ("log", f.read_log)]
 
 
 def kind_of(data):
@@ -272,7 +295,7 @@ def look(data, options):
     page = Page(options.whole)
     kind = options.kind or kind_of(data)
     if kind is None:
-        page.fault = "it is no roster, hello, journal, proof, stream or log; with --kind KIND it is said where it fails"
+        page.fault = "it is no roster, hello, journal, proof, stream, trace or log; with --kind KIND it is said where it fails"
         return page
     try:
         SHOW[kind](data, page, options)

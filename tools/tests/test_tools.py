@@ -124,6 +124,8 @@ class Look(InARoom):
     def test_the_other_kinds(self):
         self.assertEqual(self.lines(PROOF)[1][0], "proof against node 9, SamePrev: 9/0/1 and 9/1/2")
         self.assertEqual(self.lines(path_of("examples", "fork", "joined.log"))[1][0], "log: 3 updates")
+        traced = self.lines(path_of("acceptance", "node_exports_its_trace", "after", "F"))[1]
+        self.assertEqual((traced[0], traced[-2]), ("trace of node 1: 3 records, 4 reads", 'read 3 at 3 records of "l": 1 writes'))
         members = self.lines(path_of("examples", "fork", "roster"))[1][1:]
         self.assertTrue(members[0].startswith("member 1: 4 statements (height 2)"))
 

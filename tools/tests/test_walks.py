@@ -77,6 +77,10 @@ class Walks(InARoom):
         out, why = self.typed("examples/settled.sh")
         self.assertEqual((out, why), (blocks_of("docs/TUTORIAL.md", "A put that is settled")[0].splitlines(), ""))
 
+    def test_the_audit_of_the_tutorial(self):
+        out, why = self.typed("examples/audit.sh")
+        self.assertEqual((out, why), (blocks_of("docs/TUTORIAL.md", "An audit")[0].splitlines(), ""))
+
     def test_the_deletion_of_the_tutorial(self):
         block = blocks_of("docs/TUTORIAL.md", "Several keys, and a deletion")[0]
         events, printed = zip(*(re.split(r"\s{3,}", line) for line in block.splitlines()))

@@ -14,6 +14,7 @@ use Rattle.depot_model.specs.declared.record_fault.RecordFault.TheVariants as re
 use Rattle.depot_model.specs.declared.bundle.Counts.{Counts}
 use Rattle.depot_model.specs.declared.bundle.Refusal.{Refusal}
 use Rattle.depot_model.specs.declared.hello.Hello.{Hello}
+use Rattle.depot_model.specs.Audit.{Op, the_write, the_read, Finding, yes_found, unlawful, answer_found, circle_found, unordered_found, unseen_found, wrong_found, split_found, named_found}
 use Rattle.depot_model.specs.Contents.{Sighting, held_value, not_held, gone}
 use Rattle.depot_model.specs.Feeding.{Feeding, Closing, ill_formed, out_of_room, report_of}
 use Rattle.depot_model.specs.declared.bundle.Ending.{Ending}
@@ -157,6 +158,33 @@ text_of_report s = numbered (codes "accepted") s.accepted ++ spaced (numbered (c
 -- a refusal, on a line of its own: the number of the frame, and the check
 abbrev pub text_of_refusal : Refusal → List ℕ
 text_of_refusal r = spaced (numbered (codes "refused") r.frame ++ spaced (text_of_check r.check))
+
+-- ---- audits
+
+-- how many records and reads a trace has
+abbrev pub text_of_traced : ℕ → ℕ → List ℕ
+text_of_traced records reads = numbered (codes "records") records ++ spaced (numbered (codes "reads") reads)
+
+-- the place of a node's record or read behind a space: `NODE PLACE`
+abbrev pub text_of_spot : ℕ → ℕ → List ℕ
+text_of_spot node place = spaced (numbered (decimal node) place)
+
+-- an operation behind a space: `wNODE.PLACE` of a write, `rNODE.PLACE` of a read
+abbrev pub text_of_op : Op → List ℕ
+text_of_op (the_write node place) = codes " w" ++ decimal node ++ codes "." ++ decimal place
+text_of_op (the_read node place) = codes " r" ++ decimal node ++ codes "." ++ decimal place
+
+-- what an audit finds
+unfoldable pub text_of_finding : Finding → List ℕ
+text_of_finding yes_found = codes "yes"
+text_of_finding (unlawful node place fault) = codes "no record" ++ text_of_spot node place ++ spaced (text_of_record_fault fault)
+text_of_finding (answer_found node place) = codes "no answer" ++ text_of_spot node place
+text_of_finding (circle_found o) = codes "no fjc 1" ++ text_of_op o
+text_of_finding (unordered_found first second) = codes "no fjc 2" ++ text_of_op first ++ text_of_op second
+text_of_finding (unseen_found first second) = codes "no fjc 3" ++ text_of_op first ++ text_of_op second
+text_of_finding (wrong_found node place) = codes "no fjc 4" ++ text_of_op (the_read node place)
+text_of_finding (split_found node place) = codes "no fjc 5" ++ text_of_spot node place
+text_of_finding (named_found node place) = codes "no named" ++ text_of_spot node place
 
 -- ---- texts of lines
 

@@ -4,11 +4,12 @@
 //! gives for that answer, without LF. Where no memory is found, a front of it may have been added.
 //!
 //! `checks` has failed checks and refusals, `limits` the limits that a node meets, `journals` what is put, read and counted of a
-//! journal, `exchanges` hellos, bundles and streams, `receipts` why none is given and whether a put is settled, `judgements` rosters and proofs, `record_faults` faulty records, `faults` faulty lines, and `words` what these are made of.
+//! journal, `exchanges` hellos, bundles and streams, `receipts` why none is given and whether a put is settled, `judgements` rosters and proofs, `audits` what an audit finds, `record_faults` faulty records, `faults` faulty lines, and `words` what these are made of.
 //!
 //! Nothing here reads, decides or prints.
 #![tactic(auto)]
 
+mod audit_answers;
 mod checks;
 mod exchange_answers;
 mod fault_answers;
@@ -19,6 +20,7 @@ mod receipt_answers;
 mod record_faults;
 mod words;
 
+pub use audit_answers::{finding, traced};
 pub use checks::{check, refusal};
 pub use exchange_answers::{Closing, counts, named, report};
 pub use fault_answers::faulty_line;

@@ -4,25 +4,17 @@ use Rattle.depot_base.specs.Format.{whole}
 use Rattle.depot_base.specs.declared.update.Update.{Update}
 use Rattle.depot_base.specs.declared.key.RosterEntry.{RosterEntry}
 use Rattle.depot_model.specs.Log.{first_orphan}
-use Rattle.depot_sign.proofs.RosterCauses.{refused_is_none}
 use Rattle.depot_model.proofs.LogLaws.{one_log, log_has_no_fault}
 use Rattle.depot_schedule.specs.Schedules.{schedule_of}
 use Rattle.depot_schedule.proofs.ScheduleLaws.{schedule_again}
+pub use Rattle.depot_commands.proofs.ThereFiles.{not_lacking, one_file, no_roster}
+use Rattle.depot_commands.proofs.AuditCompletes.{audit_completes}
 use Rattle.depot_commands.specs.declared.status.Status.{Status}
 use Rattle.depot_commands.specs.declared.status.Status.TheVariants.{Done, Input, Shelf, Memory, NoProof, NotLawful}
 use Rattle.depot_commands.specs.declared.invocation.Command.{Command}
 use Rattle.depot_commands.specs.declared.invocation.Command.TheVariants as asked
 use Rattle.depot_outside.specs.Told.{Shelves, Loads, Sinks, HasFile, LacksFile}
 use Rattle.depot_commands.specs.Runs.{IsNoLog, IsOrphaned, Scans, PrintsKey, IsRosterText, IsNoRoster, HasRoster, JudgesProof, Judges, IsNoSchedule, PrintsLoad, Replays, Answers, Begins, Ends, IsWell, IsWholeLog, IsScheduleText, Completes}
-
--- a file that is there isn't lacking where the shelf is well
-pub not_lacking : (shelf : Shelves) (sink : Sinks) (name bytes : List ℕ) → IsWell shelf sink → shelf.file name ≡ Some bytes → LacksFile shelf name → ⊥
-not_lacking shelf sink name bytes well there (inl rose) = omega (arith, rose, well.shelf_is_well)
-not_lacking shelf sink name bytes well there (inr absent) = let none = absent well.tells in cc
-
--- the bytes of a file are one
-pub one_file : (shelf : Shelves) (name x y : List ℕ) → shelf.file name ≡ Some x → shelf.file name ≡ Some y → x ≡ y
-one_file shelf name x y e f = cc
 
 no_log : (shelf : Shelves) (name text : List ℕ) → HasFile shelf name IsWholeLog → HasFile shelf name (IsNoLog name text) → ⊥
 no_log shelf name text whole broken =
@@ -49,13 +41,6 @@ scan_completes shelf sink log key status text well answer whole = absurd answer
 key_completes : (seed : List ℕ) (height : ℕ) (status : Status) (text : List ℕ) → PrintsKey seed height status text → (status ≡ Done) ⊎ (status ≡ Memory)
 key_completes seed height Done text answer = inl refl
 key_completes seed height status text answer = absurd answer
-
--- a roster's text is not refused
-pub no_roster : (shelf : Shelves) (name text : List ℕ) → HasRoster shelf name → HasFile shelf name (IsNoRoster name text) → ⊥
-no_roster shelf name text good broken =
-    let same = one_file shelf name good.bytes broken.bytes good.there broken.there in
-    let is = subst (λ (x : List ℕ). (r : List RosterEntry) × IsRosterText x r) same good.holds in
-    refused_is_none broken.bytes is.0 broken.holds.error is.1.fits is.1.is broken.holds.cause
 
 proof_completes : (shelf : Shelves) (sink : Sinks) (listed : List RosterEntry) (proof : List ℕ) (status : Status) (text : List ℕ) → IsWell shelf sink → JudgesProof shelf listed proof status text → HasFile shelf proof (λ bytes. Unit {0}) → (status ≡ Done) ⊎ ((status ≡ NoProof) ⊎ (status ≡ Memory))
 proof_completes shelf sink listed proof Done text well answer there = inl refl
@@ -95,6 +80,7 @@ completes shelf loads sink (Some (asked.Root seed height)) status text (loaded, 
 completes shelf loads sink (Some (asked.Judge name proof)) status text answer well = judge_completes shelf loads sink name proof status text well answer
 completes shelf loads sink (Some (asked.Load number)) status text (loaded, answer) well = load_completes number status text answer
 completes shelf loads sink (Some (asked.Node n)) status text answer well = tt
+completes shelf loads sink (Some (asked.Audit name traces)) status text answer well = audit_completes shelf loads sink name traces status text well answer
 completes shelf loads sink (Some (asked.Replay name)) status text (loaded, answer) well = replay_completes shelf sink name status text well answer
 
 -- memory may run out in place of each
@@ -106,6 +92,7 @@ without_memory shelf (Some (asked.Judge name proof)) status is = λ good there. 
 without_memory shelf (Some (asked.Replay name)) status is = λ good. inr is
 without_memory shelf (Some (asked.Load number)) status is = inr is
 without_memory shelf (Some (asked.Node n)) status is = tt
+without_memory shelf (Some (asked.Audit name traces)) status is = λ listed ts good there of. inr (inr is)
 
 -- a run that ends as its command answers completes it, where nothing failed
 pub ends_complete : (shelf : Shelves) (loads : Loads) (sink : Sinks) (command : Option Command) (status : Status) → Ends (Answers shelf loads command) (Begins shelf loads command) sink status → IsWell shelf sink → Completes shelf command status

@@ -1,6 +1,7 @@
 -- What each command answers and prints, and how a run ends.
-use Rattle.std.specs.Prelude.{◌≡◌, ◌<◌, ◌⊎◌, ℕ, List, [], ◌∷◌, ◌++◌, codes, take, IsTrue, Option, Some, None, Result, Ok, Err}
+use Rattle.std.specs.Prelude.{◌≡◌, ◌<◌, ◌⊎◌, ◌↔◌, ℕ, ◌+◌, List, [], ◌∷◌, ◌++◌, codes, map, take, true, IsTrue, slice_get, Option, Some, None, Result, Ok, Err}
 use Rattle.std.specs.Fmt.{decimal}
+use Rattle.std.specs.List.{AllByRecursion}
 use Rattle.hex.specs.Hex.{encode_lower}
 use Rattle.depot_base.specs.Statement.{writer_of}
 use Rattle.depot_base.specs.declared.memory.Memory as absent
@@ -20,9 +21,13 @@ use Rattle.depot_model.specs.Judgement.{IsJudgementOf}
 use Rattle.depot_model.specs.Winternitz.{root_of, winternitz_verifies}
 use Rattle.depot_model.specs.Lines.{text_of_verdict, text_of_point, text_of_roster_error}
 use Rattle.depot_model.specs.Causality.{IsForkJoinCausal, ConvictsNoCorrectNode}
+use Rattle.depot_model.specs.Items.{AreDistinct}
 use Rattle.depot_model.specs.Lists.{IsIn}
+use Rattle.depot_model.specs.Roster.{has_node}
 use Rattle.depot_model.specs.World.{Correct, World, IsAuthentic, IsCollisionFree, proofs_of}
-use Rattle.depot_answers.specs.Answers.{text_of_faulty_line}
+use Rattle.depot_model.specs.Audit as audits
+use Rattle.depot_model.specs.Traces.{IsFindingOf, IsCausalWorldOf}
+use Rattle.depot_answers.specs.Answers.{text_of_faulty_line, text_of_finding}
 use Rattle.depot_script.specs.Scripts.{script_of}
 use Rattle.depot_schedule.specs.Readers.{IsTextOf}
 use Rattle.depot_schedule.specs.Schedules.{schedule_of}
@@ -34,11 +39,19 @@ use Rattle.depot_load.specs.Summaries.{summary_of}
 use Rattle.depot_session.specs.Sessions.{shelf_line}
 use Rattle.depot_scan.specs.LogScans.{IsScanned, HasOrphan}
 use Rattle.depot_outside.specs.Told.{Shelves, Loads, HasLoaded, HasFile, WhereTold, LacksFile, Sinks, Wrote, WroteFront}
+use Rattle.depot_traces.specs.SeenTraces.{trace_of}
+use Rattle.depot_traces.specs.TraceTexts.{IsTrace, text_of_trace}
+use Rattle.depot_traces.specs.declared.trace.Trace.{Trace}
+use Rattle.depot_trace_files.specs.Handing.{AreForAudit, AreHanded, IsGathered, IsRefusedAt, nodes_of}
+use Rattle.depot_trace_files.specs.declared.loading.Gathered.{Gathered}
+use Rattle.depot_trace_files.specs.declared.loading.Gathered.TheVariants as gathered
+use Rattle.depot_trace_files.specs.declared.loading.Refusal.{Refusal}
+use Rattle.depot_trace_files.specs.declared.loading.Refusal.TheVariants as refusal
 use Rattle.depot_commands.specs.declared.invocation.Command.{Command}
 use Rattle.depot_commands.specs.declared.invocation.Command.TheVariants as asked
 use Rattle.depot_commands.specs.declared.outcome.Outcome.{Outcome}
 use Rattle.depot_commands.specs.declared.status.Status.{Status}
-use Rattle.depot_commands.specs.declared.status.Status.TheVariants.{Done, Words, Input, Shelf, Sink, Memory, NoProof, NotLawful}
+use Rattle.depot_commands.specs.declared.status.Status.TheVariants.{Done, Words, Input, Shelf, Sink, Memory, NoProof, NotLawful, Broken}
 
 -- ---- the shelf
 
@@ -194,6 +207,69 @@ NodeInputs shelf loads roster script status text =
     ((HasLoaded loads (roster ∷ script ∷ []) × ((status ≡ Shelf) × (WhereTold shelf (HasFile shelf roster IsSomeRoster) × (LacksFile shelf script × (text ≡ shelf_line script))))) ⊎
     (HasLoaded loads (roster ∷ script ∷ []) × ((status ≡ Input) × (WhereTold shelf (HasFile shelf roster IsSomeRoster) × WhereTold shelf (HasFile shelf script (IsNoScript script text)))))))
 
+-- ---- audit
+
+-- yes is Done, and all else that an audit finds Broken
+abbrev pub status_of_finding : audits.Finding → Status
+status_of_finding audits.yes_found = Done
+status_of_finding other = Broken
+
+-- What an audit of these traces answers: their one finding. It is yes exactly where they make a world that is fork-join causal, in which no
+-- conviction names one of their nodes.
+pub record IsAudited (listed : List RosterEntry) (ts : List Trace) (status : Status) (text : List ℕ) : Type 0 where
+  pub found : audits.Finding
+  pub is : IsFindingOf winternitz_verifies listed (map trace_of ts) found
+  pub yes : (found ≡ audits.yes_found) ↔ IsCausalWorldOf winternitz_verifies listed (map trace_of ts)
+  pub status_is : status ≡ status_of_finding found
+  pub text_is : text ≡ text_of_finding found ++ codes "\n"
+
+-- why the file of a name is refused, as it is told
+abbrev pub text_of_refusal : List ℕ → Refusal → List ℕ
+text_of_refusal name refusal.Missing = shelf_line name
+text_of_refusal name (refusal.IllFormed at) = codes "input " ++ name ++ codes " at " ++ decimal at ++ codes "\n"
+text_of_refusal name (refusal.Twice node) = codes "input " ++ name ++ codes " twice " ++ decimal node ++ codes "\n"
+text_of_refusal name refusal.Stranger = codes "input " ++ name ++ codes " at " ++ decimal 2 ++ codes "\n"
+
+abbrev pub status_of_refusal : Refusal → Status
+status_of_refusal refusal.Missing = Shelf
+status_of_refusal why = Input
+
+-- the shelf failed in this run
+abbrev pub HasFailed : Shelves → Type 0
+HasFailed shelf = shelf.faults_before < shelf.faults_after
+
+-- What the trace files of these names answer, where this was gathered of them.
+abbrev pub AnswersGathered : List RosterEntry → List (List ℕ) → Gathered → Status → List ℕ → Type 0
+AnswersGathered listed names (gathered.Traces ts) status text = IsAudited listed ts status text
+AnswersGathered listed names (gathered.Refused place why) status text = (status ≡ status_of_refusal why) × ((name : List ℕ) → slice_get names place ≡ Some name → text ≡ text_of_refusal name why)
+
+-- What they answer behind a roster: what was gathered of them, by which files were loaded, and its answer.
+abbrev pub AnswersFiles : Shelves → Loads → List RosterEntry → List (List ℕ) → Status → List ℕ → Type 0
+AnswersFiles shelf loads listed names status text = (g : Gathered) × (IsGathered shelf.tells shelf.file (HasFailed shelf) (shelf.faults_after ≡ shelf.faults_before) loads listed names g × AnswersGathered listed names g status text)
+
+-- The trace file of a place is refused: those before it were loaded and are traces of distinct nodes of the roster, and none behind it was loaded.
+pub record RefusesTrace (shelf : Shelves) (loads : Loads) (listed : List RosterEntry) (roster : List ℕ) (names : List (List ℕ)) (status : Status) (text : List ℕ) : Type 0 where
+  pub place : ℕ
+  pub why : Refusal
+  pub loaded : HasLoaded loads (roster ∷ take (place + 1) names)
+  pub refused : IsRefusedAt shelf.tells shelf.file (HasFailed shelf) listed names place why
+  pub status_is : status ≡ status_of_refusal why
+  pub text_is : text ≡ text_of_refusal refused.name why
+
+-- All trace files are traces of distinct nodes of the roster, and are audited.
+pub record AuditsTraces (shelf : Shelves) (loads : Loads) (listed : List RosterEntry) (roster : List ℕ) (names : List (List ℕ)) (status : Status) (text : List ℕ) : Type 0 where
+  pub traces : List Trace
+  pub loaded : HasLoaded loads (roster ∷ names)
+  pub handed : AreHanded shelf.tells shelf.file names traces
+  pub audited : IsAudited listed traces status text
+
+-- What `audit` answers: the roster is loaded and parsed first, then the trace files one by one, and then they are audited.
+abbrev pub Audits : Shelves → Loads → List ℕ → List (List ℕ) → Status → List ℕ → Type 0
+Audits shelf loads roster names status text =
+    (HasLoaded loads (roster ∷ []) × ((status ≡ Shelf) × (LacksFile shelf roster × (text ≡ shelf_line roster)))) ⊎
+    ((HasLoaded loads (roster ∷ []) × ((status ≡ Input) × WhereTold shelf (HasFile shelf roster (IsNoRoster roster text)))) ⊎
+    ((listed : List RosterEntry) × (WhereTold shelf (HasFile shelf roster (λ bytes. IsRosterText bytes listed)) × (RefusesTrace shelf loads listed roster names status text ⊎ AuditsTraces shelf loads listed roster names status text))))
+
 -- ---- any command
 
 -- what the command answers and prints, and which files it loads, where memory is found and the sink doesn't fail
@@ -205,6 +281,7 @@ Answers shelf loads (Some (asked.Judge roster proof)) status text = Judges shelf
 Answers shelf loads (Some (asked.Replay schedule)) status text = HasLoaded loads (schedule ∷ []) × Replays shelf schedule status text
 Answers shelf loads (Some (asked.Load number)) status text = HasLoaded loads [] × PrintsLoad number status text
 Answers shelf loads (Some (asked.Node n)) status text = NodeInputs shelf loads n.roster n.script status text
+Answers shelf loads (Some (asked.Audit roster traces)) status text = Audits shelf loads roster traces status text
 
 -- nothing, or a front of a text of which this holds
 abbrev pub IsFrontOf : (List ℕ → Type 0) → List ℕ → Type 0
@@ -218,12 +295,17 @@ LoadsAtMost loads name = HasLoaded loads [] ⊎ HasLoaded loads (name ∷ [])
 abbrev pub LoadsBehindRoster : Shelves → Loads → List ℕ → List ℕ → Type 0
 LoadsBehindRoster shelf loads roster other = LoadsAtMost loads roster ⊎ (HasLoaded loads (roster ∷ other ∷ []) × WhereTold shelf (HasRoster shelf roster))
 
+-- no more than the roster was loaded; or it is one, and some first ones of the files of these names were loaded, too
+abbrev pub LoadsSomeBehindRoster : Shelves → Loads → List ℕ → List (List ℕ) → Type 0
+LoadsSomeBehindRoster shelf loads roster names = LoadsAtMost loads roster ⊎ ((n : ℕ) × (HasLoaded loads (roster ∷ take n names) × WhereTold shelf (HasRoster shelf roster)))
+
 -- what had been loaded when memory ran out: the first of the files that the words name
 abbrev pub LoadsFirst : Shelves → Loads → Option Command → Type 0
 LoadsFirst shelf loads (Some (asked.Scan log key)) = LoadsAtMost loads log
 LoadsFirst shelf loads (Some (asked.Judge roster proof)) = LoadsBehindRoster shelf loads roster proof
 LoadsFirst shelf loads (Some (asked.Replay schedule)) = LoadsAtMost loads schedule
 LoadsFirst shelf loads (Some (asked.Node n)) = LoadsBehindRoster shelf loads n.roster n.script
+LoadsFirst shelf loads (Some (asked.Audit roster traces)) = LoadsSomeBehindRoster shelf loads roster traces
 LoadsFirst shelf loads command = HasLoaded loads []
 
 -- what had been loaded and written when memory ran out: no text, or a front of the transcript that `replay` writes line by line
@@ -286,6 +368,14 @@ pub record IsWholeLog (bytes : List ℕ) : Type 0 where
 abbrev pub IsScheduleText : List ℕ → Type 0
 IsScheduleText bytes = (s : Schedule) × IsTextOf bytes s
 
+-- the files of these names are traces
+abbrev pub AreTraceFiles : Shelves → List (List ℕ) → List Trace → Type 0
+AreTraceFiles shelf names ts = AreHanded true shelf.file names ts × AllByRecursion IsTrace ts
+
+-- of distinct nodes of the roster
+abbrev pub AreOfRoster : List RosterEntry → List Trace → Type 0
+AreOfRoster listed ts = AllByRecursion (λ t. has_node listed t.node ≡ true) ts × AreDistinct (nodes_of ts)
+
 -- what such a run comes to, where its files are there and in their grammars; Memory may stand in place of each status. Of `node` it is said beside its runs.
 abbrev pub Completes : Shelves → Option Command → Status → Type 0
 Completes shelf None status = (status ≡ Words) ⊎ (status ≡ Memory)
@@ -294,4 +384,5 @@ Completes shelf (Some (asked.Root seed height)) status = (status ≡ Done) ⊎ (
 Completes shelf (Some (asked.Judge roster proof)) status = HasRoster shelf roster → HasFile shelf proof (λ bytes. Unit {0}) → (status ≡ Done) ⊎ ((status ≡ NoProof) ⊎ (status ≡ Memory))
 Completes shelf (Some (asked.Load number)) status = (status ≡ Done) ⊎ (status ≡ Memory)
 Completes shelf (Some (asked.Node n)) status = Unit {0}
+Completes shelf (Some (asked.Audit roster names)) status = (listed : List RosterEntry) (ts : List Trace) → HasFile shelf roster (λ bytes. IsRosterText bytes listed) → AreTraceFiles shelf names ts → AreOfRoster listed ts → (status ≡ Done) ⊎ ((status ≡ Broken) ⊎ (status ≡ Memory))
 Completes shelf (Some (asked.Replay schedule)) status = HasFile shelf schedule IsScheduleText → (status ≡ Done) ⊎ (status ≡ Memory)

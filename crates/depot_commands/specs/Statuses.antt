@@ -3,7 +3,7 @@ use Rattle.std.specs.Prelude.{ℕ}
 use Rattle.depot_session.specs.declared.ending.Ending.{Ending}
 use Rattle.depot_session.specs.declared.ending.Ending.TheVariants as ending
 use Rattle.depot_commands.specs.declared.status.Status.{Status}
-use Rattle.depot_commands.specs.declared.status.Status.TheVariants.{Done, Words, Input, Shelf, Disk, Sink, Memory, NoProof, Limit, NotLawful, Identity}
+use Rattle.depot_commands.specs.declared.status.Status.TheVariants.{Done, Words, Input, Shelf, Disk, Sink, Memory, NoProof, Limit, NotLawful, Identity, Broken}
 
 abbrev pub number_of_status : Status → ℕ
 number_of_status Done = 0
@@ -17,6 +17,7 @@ number_of_status NoProof = 7
 number_of_status Limit = 8
 number_of_status NotLawful = 9
 number_of_status Identity = 10
+number_of_status Broken = 11
 
 abbrev pub status_of : Ending → Status
 status_of ending.Done = Done

@@ -1,11 +1,14 @@
 -- Which words are a command.
-use Rattle.std.specs.Prelude.{ℕ, List, [], ◌∷◌, codes, Option, Some, None, option_and_then, option_map, if◌then◌else◌}
+use Rattle.std.specs.Prelude.{ℕ, List, [], ◌∷◌, length, Bool, ◌&&◌, codes, Option, Some, None, option_and_then, option_map, if◌then◌else◌}
+use Rattle.std.specs.List.{list_all}
 use Rattle.std.specs.Str.{bytes_eq}
 use Rattle.depot_base.specs.declared.limits.TheConstants.{MOST_KEY, LEAST_HEIGHT, GREATEST_HEIGHT}
 use Rattle.depot_model.specs.Lists.{when}
 use Rattle.depot_schedule.specs.Spelling.{is_within, hex_word, sized, number_word, is_name}
+use Rattle.depot_script.specs.Names.{is_file_name}
+use Rattle.depot_traces.specs.declared.trace.TheConstants.{MOST_TRACES}
 use Rattle.depot_commands.specs.declared.invocation.Command.{Command}
-use Rattle.depot_commands.specs.declared.invocation.Command.TheVariants.{Scan, Root, Judge, Load, Replay, Node}
+use Rattle.depot_commands.specs.declared.invocation.Command.TheVariants.{Scan, Root, Judge, Load, Replay, Node, Audit}
 
 -- ---- commands
 
@@ -43,6 +46,14 @@ abbrev pub node_command : List ℕ → List ℕ → List ℕ → List ℕ → Li
 node_command roster seed height id script =
     option_and_then (λ r. option_and_then (λ s. option_and_then (λ h. option_and_then (λ i. option_map (λ c. Node (record { roster = r; seed = s; height = h; id = i; script = c })) (name_word script)) (number_word 1 65535 id)) (number_word LEAST_HEIGHT GREATEST_HEIGHT height)) (sized (is_within 32 32) (hex_word seed))) (name_word roster)
 
+-- the names of 1 to 32 trace files
+abbrev pub trace_names : List (List ℕ) → Option (List (List ℕ))
+trace_names words = when (is_within 1 MOST_TRACES (length words) && list_all is_file_name words) words
+
+-- `audit ROSTER TRACE..`
+abbrev pub audit_command : List ℕ → List (List ℕ) → Option Command
+audit_command roster traces = option_and_then (λ r. option_map (λ ts. Audit r ts) (trace_names traces)) (name_word roster)
+
 -- a command of two words
 unfoldable pub command_with : List ℕ → List ℕ → Option Command
 command_with verb a =
@@ -60,9 +71,14 @@ command_by verb a b =
 unfoldable pub command_for : List ℕ → List ℕ → List ℕ → List ℕ → List ℕ → List ℕ → Option Command
 command_for verb a b c d e = if bytes_eq verb (codes "node") then node_command a b c d e else None
 
+-- the command that the words are by their number: any but `audit`
+abbrev pub command_by_number : List (List ℕ) → Option Command
+command_by_number (verb ∷ a ∷ []) = command_with verb a
+command_by_number (verb ∷ a ∷ b ∷ []) = command_by verb a b
+command_by_number (verb ∷ a ∷ b ∷ c ∷ d ∷ e ∷ []) = command_for verb a b c d e
+command_by_number words = None
+
 -- the command that the words are, if they are one
 abbrev pub command_of : List (List ℕ) → Option Command
-command_of (verb ∷ a ∷ []) = command_with verb a
-command_of (verb ∷ a ∷ b ∷ []) = command_by verb a b
-command_of (verb ∷ a ∷ b ∷ c ∷ d ∷ e ∷ []) = command_for verb a b c d e
+command_of (verb ∷ roster ∷ traces) = if bytes_eq verb (codes "audit") then audit_command roster traces else command_by_number (verb ∷ roster ∷ traces)
 command_of words = None

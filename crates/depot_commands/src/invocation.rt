@@ -1,11 +1,17 @@
 //! The commands, and which words ask for them.
 ghost use Rattle.std.specs.Prelude.{◌≡◌, ◌≤◌, IfOk, None, Some, option_map};
-ghost use Rattle.depot_commands.specs.Words.{command_of, command_by, command_for, command_with, scan_command, key_command, judge_command, load_command, node_command, replay_command};
+ghost use Rattle.std.specs.List.{list_all};
+ghost use Rattle.depot_model.specs.Lists.{when};
+ghost use Rattle.depot_script.specs.Names.{is_file_name};
+ghost use Rattle.depot_commands.specs.Words.{audit_command, trace_names, command_of, command_by_number, command_by, command_for, command_with, scan_command, key_command, judge_command, load_command, node_command, replay_command};
 
 use crate::given_words::{hash_word, height_word, id_word, key_word, load_word, name_word};
 use crate::height::Height;
+use crate::trace_names::{FileNames, TraceNames};
 use crate::word::Word;
 use depot_base::{Hash32, Key, Memory, NodeId};
+use depot_script::FileName;
+use depot_traces::MOST_TRACES;
 use std::alloc::Global;
 
 /// What the words ask for.
@@ -23,6 +29,8 @@ pub enum Command {
     Load(u32),
     /// `node ROSTER SEED HEIGHT ID SCRIPT`: what a script makes of a node over the disk.
     Node(NodeWords),
+    /// `audit ROSTER TRACE..`: whether what nodes did keeps the headline. The name of the roster, and those of 1 to 32 traces.
+    Audit(Word, TraceNames),
 }
 
 /// What `node` is asked for: the names of the roster and of the script, and the node's seed, height and number.
@@ -129,6 +137,47 @@ fn node_command(
     })))
 }
 
+/// The names of files that words are.
+fn file_names(alloc: Global, words: &[Word]) -> Result<Option<FileNames>, Memory>
+    ensures { IfOk result (λ names. names ≡ when (list_all is_file_name words.now) words.now) }
+{
+    let mut names = FileNames::new(alloc);
+    for word in words {
+        match FileName::new(alloc, word.text().as_bytes())? {
+            Some(name) => names.push(name)?,
+            None => return Ok(None),
+        }
+    }
+    Ok(Some(names))
+}
+
+/// The names of 1 to 32 trace files that words are.
+#[tactic(auto, using(crate::proofs::FileWords::is_kept))]
+fn trace_names(alloc: Global, words: &[Word]) -> Result<Option<TraceNames>, Memory>
+    ensures { IfOk result (λ names. names ≡ trace_names words.now) }
+{
+    if words.is_empty() || words.len() > MOST_TRACES as usize {
+        return Ok(None);
+    }
+    match file_names(alloc, words)? {
+        Some(names) => Ok(Some(TraceNames::new(names))),
+        None => Ok(None),
+    }
+}
+
+/// The command of `audit`'s words.
+fn audit_command(alloc: Global, roster: &Word, traces: &[Word]) -> Result<Option<Command>, Memory>
+    ensures { IfOk result (λ c. c ≡ audit_command roster.now traces.now) }
+{
+    let Some(roster) = name_word(roster)? else {
+        return Ok(None);
+    };
+    let Some(traces) = trace_names(alloc, traces)? else {
+        return Ok(None);
+    };
+    Ok(Some(Command::Audit(roster, traces)))
+}
+
 /// The command of two words.
 #[tactic(auto, unfolding(crate::specs::Words::command_with))]
 fn two_words(verb: &Word, word: &Word) -> Result<Option<Command>, Memory>
@@ -187,6 +236,16 @@ fn six_words(
 /// The command that the words are, or None where they are none.
 pub fn parse(alloc: Global, words: &[Word]) -> Result<Option<Command>, Memory>
     ensures { IfOk result (λ c. c ≡ command_of words.now) }
+{
+    if words.len() >= 2 && words[0].is("audit") {
+        return audit_command(alloc, &words[1], &words[2..]);
+    }
+    by_number(alloc, words)
+}
+
+/// The command that the words are by their number: any but `audit`.
+fn by_number(alloc: Global, words: &[Word]) -> Result<Option<Command>, Memory>
+    ensures { IfOk result (λ c. c ≡ command_by_number words.now) }
 {
     match words {
         [verb, word] => two_words(verb, word),

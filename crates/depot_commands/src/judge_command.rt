@@ -17,7 +17,7 @@ use depot_winter::WinterScheme;
 use std::alloc::Global;
 
 /// A text as a line.
-fn line(status: Status, mut text: Bytes) -> Result<Outcome, Memory>
+pub fn line(status: Status, mut text: Bytes) -> Result<Outcome, Memory>
     ensures { IfOk result (λ o. o ≡ record { status = status; text = text ++ codes "\n" }) }
 {
     text.push_all(b"\n")?;

@@ -11,6 +11,7 @@
 //! Nothing here decides what a log, a proof, a schedule or a script means.
 #![tactic(auto)]
 
+mod audit_command;
 mod given_words;
 mod height;
 mod invocation;
@@ -24,6 +25,7 @@ mod replay;
 mod scan;
 mod status;
 mod top;
+mod trace_names;
 mod word;
 
 pub use status::Status;

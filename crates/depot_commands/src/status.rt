@@ -29,6 +29,8 @@ pub enum Status {
     NotLawful,
     /// The node, its key or a roster is another.
     Identity,
+    /// What nodes did doesn't keep the headline: an audit found what fails first.
+    Broken,
 }
 
 impl Status {
@@ -65,6 +67,7 @@ impl Status {
             Status::Limit => 8,
             Status::NotLawful => 9,
             Status::Identity => 10,
+            Status::Broken => 11,
         }
     }
 }

@@ -6,6 +6,7 @@ ghost use Rattle.depot_session.specs.ScriptTelling.{asked};
 ghost use Rattle.depot_commands.specs.Nodes.{CompletesNode, IsWellDisk, Results};
 ghost use Rattle.depot_commands.specs.Runs.{EndsAtFault, IsWell, Completes};
 
+use crate::audit_command::audit;
 use crate::invocation::{Command, parse};
 use crate::judge_command::judge;
 use crate::key_command::key;
@@ -43,14 +44,17 @@ fn run<F: Shelf, D: Disk, S: Sink>(
         Command::Replay(schedule) => replay(alloc, shelf, schedule.text(), out),
         Command::Load(number) => finish(summed_up(alloc, *number), out),
         Command::Node(words) => node(alloc, words, shelf, disk, out),
+        Command::Audit(roster, traces) => {
+            finish(audit(alloc, shelf, roster.text(), traces), out)
+        }
     }
 }
 
 /// Runs the program: does what the words ask for, writes its text to `out`, and says how the run ended. The first
 /// fault ends the run.
 ///
-/// The commands built so far are `scan LOG KEY`, `key SEED HEIGHT`, `judge ROSTER PROOF`, `replay SCHEDULE`, `load NUMBER`
-/// and `node ROSTER SEED HEIGHT ID SCRIPT`; other words are refused as Words. `docs/FORMATS.md` has each text that is
+/// The commands built so far are `scan LOG KEY`, `key SEED HEIGHT`, `judge ROSTER PROOF`, `replay SCHEDULE`, `load NUMBER`,
+/// `node ROSTER SEED HEIGHT ID SCRIPT` and `audit ROSTER TRACE..`; other words are refused as Words. `docs/FORMATS.md` has each text that is
 /// printed, and `docs/PROMISES.md` the clauses in plain words.
 pub fn depot<F: Shelf, D: Disk, S: Sink>(
     alloc: Global,
@@ -61,7 +65,7 @@ pub fn depot<F: Shelf, D: Disk, S: Sink>(
 ) -> Status
     // The run ends as its command answers, with the whole text written; or for want of memory, with nothing written, or
     // with a front of the transcript that `replay` writes, and no more loaded than the first of the files that its words
-    // name, a second one only behind a roster; or because the sink failed in this run, with a prefix of the text written.
+    // name, further ones only behind a roster; or because the sink failed in this run, with a prefix of the text written.
     // `node` runs its script over the disk, as its record says: images, lines and journal, what the shelf is asked for,
     // runs cut short. Every other command leaves the disk and the shelf's files as they were, and stores nothing.
     ensures results { Results (disks D.Disk disk.old disk.new) (shelves F.Shelf shelf.old shelf.new) (loads F.Shelf shelf.old shelf.new) (asked F.Shelf shelf.old shelf.new) (sinks S.Sink out.old out.new) (disk.new ≡ disk.old) ((F.file shelf.new ≡ F.file shelf.old) × (F.stores shelf.new ≡ F.stores shelf.old)) (command_of words.now) result }

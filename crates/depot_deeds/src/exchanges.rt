@@ -3,9 +3,7 @@ ghost use Rattle.std.specs.Prelude.{◌≡◌, ◌++◌, ◌↔◌, ℕ, false, 
 ghost use Rattle.depot_base.specs.declared.record.Record.{Record};
 ghost use Rattle.depot_model.specs.Bundle.{Signs};
 ghost use Rattle.depot_model.specs.Checks.{Setting};
-ghost use Rattle.depot_model.specs.Hello.{IsHello, text_of_hello};
 ghost use Rattle.depot_model.specs.World.{Correct};
-ghost use Rattle.depot_model.specs.declared.hello.Hello.{Hello};
 ghost use Rattle.depot_answers.specs.Answers.{name_of_more, spaced, text_of_counts, text_of_named};
 ghost use Rattle.depot_gossip.specs.Bundling.{Bundles};
 ghost use Rattle.depot_world.specs.Deeds.{bundle_by};
@@ -15,19 +13,17 @@ ghost use Rattle.depot_deeds.specs.Printing.{IsPrintOf, IsRefusalOf, SettlesBund
 use crate::printed::Printed;
 use depot_answers::{counts, full, named, numbered, spent};
 use depot_base::{Bytes, Memory};
-use depot_gossip::{BundleError, Bundled, decode_hello};
+use depot_gossip::{BundleError, Bundled};
+use depot_model::Hello;
 use std::alloc::Global;
 
-/// The line of a node's own hello, of which this is the text: nothing but memory can be wanting.
+/// The line of a node's own hello.
 #[tactic(auto, using(depot_base::proofs::Writing::texts))]
-pub fn hello_line(alloc: Global, text: &[u8]) -> Result<Bytes, Memory>
-    ensures { IfOk result (λ line. (h : Hello) → IsHello h → text.now ≡ text_of_hello h → line ≡ ended (spaced (text_of_named h))) }
+pub fn hello_line(alloc: Global, told: &Hello) -> Result<Bytes, Memory>
+    ensures { IfOk result (λ line. line ≡ ended (spaced (text_of_named told.now))) }
 {
-    let Ok(told) = decode_hello(alloc, text) else {
-        return Err(Memory);
-    };
     let mut line = Bytes::from_slice(alloc, b" ")?;
-    named(alloc, &mut line, &told)?;
+    named(alloc, &mut line, told)?;
     line.push_all(b"\n")?;
     Ok(line)
 }

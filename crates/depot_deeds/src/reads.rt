@@ -17,7 +17,7 @@ use depot_outside::Disk;
 use std::alloc::Global;
 
 /// What a read shows of an update's write of a key, of which this value is held, if one is.
-fn seen<'a>(update: &Update, key: &Key, value: Option<&'a [u8]>) -> Seen<'a>
+pub fn seen<'a>(update: &Update, key: &Key, value: Option<&'a [u8]>) -> Seen<'a>
     ensures { (J : List Record) → option_copied value.entry ≡ value_seen (seen_under J key.now update.now) → sighting_of result ≡ seen_under J key.now update.now }
 {
     match update.wrote(key.bytes()) {

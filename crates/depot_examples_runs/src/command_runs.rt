@@ -33,6 +33,15 @@ const ROSTER: &str = "010400020008\
 025d92fbbc23d40d2955a3392b0890fd14637d7942735afaef041d679a74657029\
 000902c70aaf512f592cc5a9e6523dfb6a94c86629a8ac80f9dffe32e77976aa098491";
 
+/// What node 9 hands in with no record but its birth: a read of `k` which shows nothing.
+const TRACE: &str = "01050009000000010000002301000929608914f5fcba083afb63dbb326ff80\
+31a31cbab496c98bfbf4555b7986aaff0000000100000001016b0000";
+
+/// The same with a read which shows a write that it hasn't.
+const WRONG: &str = "01050009000000010000002301000929608914f5fcba083afb63dbb326ff80\
+31a31cbab496c98bfbf4555b7986aaff0000000100000001016b0001\
+e3b0c44298fc1c149afbf4c8996fb92427ae41e4649b934ca495991b7852b85500";
+
 /// Node 9 puts a value.
 const NODE_PUT: &str =
     "node ROSTER 0909090909090909090909090909090909090909090909090909090909090909 2 9 PUT";
@@ -162,11 +171,13 @@ fn put_lines(shelf: &mut MemShelf) -> Result<(), Memory> {
     shelf.put("EMPTY", b"")
 }
 
-/// Puts logs, schedules, scripts, a roster and four texts that may be a proof.
+/// Puts logs, schedules, scripts, a roster, traces and four texts that may be a proof.
 fn put_files(alloc: Global, shelf: &mut MemShelf) -> Result<(), Fail> {
     put_hex(alloc, shelf, "LOG", LOG)?;
     put_hex(alloc, shelf, "GONE", GONE)?;
     put_hex(alloc, shelf, "ROSTER", ROSTER)?;
+    put_hex(alloc, shelf, "TRACE", TRACE)?;
+    put_hex(alloc, shelf, "WRONG", WRONG)?;
     put_proofs(alloc, shelf)?;
     put_hollow(alloc, shelf)?;
     put_lines(shelf)?;
@@ -214,7 +225,7 @@ fn ends_so(
 /// Words, the calls of the shelf and of the sink that fail, and how the run ends.
 type Case = (&'static str, u32, u32, End);
 
-static CASES: [Case; 24] = [
+static CASES: [Case; 28] = [
     ("scan LOG 6b", 0, 0, (Status::Done, Some(LINE))),
     ("scan LOG 6b", 1, 0, (Status::Shelf, Some("shelf LOG\n"))),
     ("scan LOG 6b", 0, 1, (Status::Sink, Some(""))),
@@ -255,6 +266,25 @@ static CASES: [Case; 24] = [
         0,
         0,
         (Status::Done, Some("9 NotUpdate\n")),
+    ),
+    ("audit ROSTER TRACE", 0, 0, (Status::Done, Some("yes\n"))),
+    (
+        "audit ROSTER WRONG",
+        0,
+        0,
+        (Status::Broken, Some("no answer 9 0\n")),
+    ),
+    (
+        "audit ROSTER TRACE TRACE",
+        0,
+        0,
+        (Status::Input, Some("input TRACE twice 9\n")),
+    ),
+    (
+        "audit ROSTER TRACE",
+        2,
+        0,
+        (Status::Shelf, Some("shelf TRACE\n")),
     ),
     (
         "replay EMPTY",

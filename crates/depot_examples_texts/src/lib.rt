@@ -1,4 +1,4 @@
-//! Examples of texts: updates, vouchers, signed statements, proofs, records and hellos, and proofs of both shapes before a judge.
+//! Examples of texts: updates, vouchers, signed statements, proofs, records, hellos and traces, and proofs of both shapes before a judge.
 //!
 //! Texts and offsets that were written by hand or by other programs are tried on the codecs and on the judge, and each of their
 //! public functions is called once with ample memory. What is promised of them is proved in their crates; nothing is promised
@@ -22,3 +22,5 @@ mod numbers_and_fields;
 mod records;
 #[cfg(test)]
 mod text_tests;
+#[cfg(test)]
+mod traces;

@@ -111,6 +111,7 @@ stops_later s (event.Join label first second) fits = tt
 stops_later s (event.Stop node call image) fits = stop_is s node call image fits
 stops_later s (event.Receipt node refs) fits = tt
 stops_later s (event.Settled node reference k) fits = tt
+stops_later s event.Audit fits = tt
 
 update_stays : (sign : Signs) (run : Run) (label : List ℕ) (values : List (List ℕ)) (o : Option Update) → run.stations ≡ (done_by_update sign run label values o).run.stations
 update_stays sign run label values None = refl
@@ -158,6 +159,7 @@ event_follows stage run (event.Join label first second) all later = stays run _ 
 event_follows stage run (event.Stop node call image) all later = stop_follows run node call image later
 event_follows stage run (event.Receipt node refs) all later = receipts_follow stage run node (all_referred run refs) all
 event_follows stage run (event.Settled node reference k) all later = settled_follows run node k (referred run reference) all
+event_follows stage run event.Audit all later = stays run _ 0 refl
 
 -- ---- all events
 
@@ -186,6 +188,7 @@ read_here node (event.Join label first second) = none (eqb 0 node)
 read_here node (event.Stop n call image) = none (eqb n node)
 read_here node (event.Receipt n refs) = none (eqb n node)
 read_here node (event.Settled n reference k) = none (eqb n node)
+read_here node event.Audit = none (eqb 0 node)
 
 record After (stage : Stage) (run : Run) (es : List Event) (node : ℕ) (keys : List (List ℕ)) : Type 0 where
   pub numbers : numbers_of (run_after stage run es).stations ≡ numbers_of run.stations
@@ -336,6 +339,7 @@ event_judges stage run (event.Join label first second) = sym (append-nil run.jud
 event_judges stage run (event.Stop node call image) = stop_judged run node call image
 event_judges stage run (event.Receipt node refs) = receipts_judged stage run node (all_referred run refs)
 event_judges stage run (event.Settled node reference k) = settled_judged run node k (referred run reference)
+event_judges stage run event.Audit = sym (append-nil run.judged)
 
 events_judge : (stage : Stage) (run : Run) (es : List Event) → (run_after stage run es).judged ≡ run.judged ++ verdicts_on stage run es
 unfolding run_after

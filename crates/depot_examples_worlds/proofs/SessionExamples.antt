@@ -24,13 +24,14 @@ use Rattle.depot_model.specs.Room.{foreign_leaves, full_with}
 use Rattle.depot_model.specs.Receipts.{receipt_key, put_number, numbers_rising, no_receipt}
 use Rattle.depot_model.specs.Roster.{key_of, is_signed}
 use Rattle.depot_model.specs.Taking.{given_as, answer_to_text, growth_of_text}
-use Rattle.depot_model.specs.Texts.{update_fields, voucher_fields, update_body, voucher_body, statement, signed, proof, roster, id_of_update, id_of_statement, hash_of_roster}
+use Rattle.depot_model.specs.Texts.{text_of_update, update_fields, voucher_fields, update_body, voucher_body, statement, signed, proof, roster, id_of_update, id_of_statement, hash_of_roster}
 use Rattle.depot_model.specs.Vouching.{put_rising, rising, groups_behind, groups_of, new_vouchers, limit_of_new, limit_of_vouchers}
 use Rattle.depot_schedule.specs.Vocabulary.{named_by}
 use Rattle.depot_answers.specs.Answers.{text_of_check, text_of_limit, text_of_report}
 use Rattle.depot_world.specs.Deeds.{put_by, get_by, receipt_by, settled_by, hello_by, bundle_by, give_by, restart_by}
 use Rattle.depot_model.specs.LatestList.{latest_in}
 use Rattle.depot_model.specs.Insertion.{insert_by, order_by}
+use Rattle.depot_traces.specs.TraceTexts.{answered_text, behind_mark, read_text, record_piece, trace_text}
 use Rattle.sha2.specs.Sha256.{sha256, first_words, schedule, rounds, compress, hash_after, digest_bytes}
 use Rattle.hex.specs.Hex.{encode_with, decode_pairs}
 use Rattle.std.specs.Fmt.{digits}
@@ -44,18 +45,18 @@ use Rattle.depot_model.specs.Feeding.{out_of_room}
 use Rattle.depot_model.specs.World.{Read, IsCorrect}
 use Rattle.depot_model.specs.Bundle.{Signs}
 use Rattle.depot_model.specs.Stops.{HasRecords}
-use Rattle.depot_model.proofs.Exchanges.{here, sign, born, put, hello_text, bundle, bytes_in, stream}
+use Rattle.depot_model.proofs.Exchanges.{here, sign, born, members, put, hello_text, bundle, bytes_in, stream}
 use Rattle.depot_base.specs.Writes.{one_change}
 use Rattle.depot_base.specs.File.{IsFileOf}
 use Rattle.depot_laws.proofs.TwoNodes.{all_verify, node, newborn, second_born}
 use Rattle.depot_outside.specs.Told.{Disks, Shelves, Sinks, Wrote}
-use Rattle.depot_script.specs.Commands.{put as put_command, puts as puts_command, get as get_command, hello as hello_command, bundle as bundle_command, take as take_command, receipt as receipt_command, settled as settled_command}
+use Rattle.depot_script.specs.Commands.{put as put_command, puts as puts_command, get as get_command, hello as hello_command, bundle as bundle_command, take as take_command, receipt as receipt_command, settled as settled_command, export as export_command}
 use Rattle.depot_script.specs.declared.command.Command.{Command}
 use Rattle.depot_script.specs.declared.command.Command.TheVariants as command
 use Rattle.depot_session.specs.declared.ending.Ending.{Ending}
 use Rattle.depot_session.specs.declared.ending.Ending.TheVariants as ending
 use Rattle.depot_session.specs.SessionRuns.{GoesShort, IsCutBy, IsLast, IsToBeWritten, LeavesFront, pending_for, pending_in, world_at}
-use Rattle.depot_session.specs.Sessions.{Answers, Files, Session, answers_of, ending_of_take, session_from, step_of}
+use Rattle.depot_session.specs.Sessions.{Answers, Files, Session, answers_of, ending_of_take, export_by, session_from, step_of}
 
 -- ---- a script
 
@@ -146,6 +147,34 @@ record Received : Type 0 where
 received_all : Received
 unfolding answers_of step_of put_command receipt_command settled_command get_command hello_command bundle_command take_command rest_of numeral number bytes_of inner list_of dep roster_entry signed_with is_covered candidates records_where values_behind candidate_parcels parcels fitting sent_for sent_foreign unvouched bundle_frames bundle_of bundle_answer sight content_checks opponent forked refused_as_convicted statement_checks proof_checks first_failed_check is_known answer_to due named_opponent added growth is_of_kind contradicts kind_of proof_of given_by take_frame fed_frame fed_byte fed ending_of report_of frame_at hello_leaf hello convicted_nodes lacking record_place hello_of leaves_of put_by_id by_id history_text history_hash first_values has_id named prev_of is_convicted is_vouched holds_hash holds is_wanted points spent_by tips_of collides_by limit_of_own limit_of_put past precedes_named next_entries next_own leaf_count plain_root plain_signature plain_verifies birth own_put tagged record_text foreign_leaves full_with key_of is_signed given_as answer_to_text growth_of_text update_fields voucher_fields update_body voucher_body statement signed proof roster id_of_update id_of_statement hash_of_roster put_rising rising groups_behind groups_of new_vouchers limit_of_new limit_of_vouchers named_by text_of_check text_of_limit text_of_report put_by receipt_by settled_by receipt_key put_number numbers_rising no_receipt get_by hello_by bundle_by give_by restart_by insert_by order_by latest_in sha256 first_words schedule rounds compress hash_after digest_bytes encode_with decode_pairs digits seen_under write marked is_update_text is_hollow
 received_all = record { ends = refl; records = refl; lines = refl }
+
+-- a trace that is handed in
+
+-- behind a read, and before one that it doesn't have
+abbrev exported : Answers
+exported = answers (command.Put k (97 ∷ []) ∷ command.Get k ∷ command.Export (codes "t") ∷ command.Get k ∷ [])
+
+-- a run of its journal, whose read is one of an earlier run
+abbrev exported_later : Answers
+exported_later = answers_of (here 1) (sign 1) (session_from (here 1) (put 1 97 (born 1)) exported.session.correct.reads files) (command.Export (codes "t") ∷ [])
+
+-- the texts of its two records
+abbrev birth_text : List ℕ
+birth_text = 1 ∷ 0 ∷ 1 ∷ hash_of_roster members
+
+abbrev put_text : List ℕ
+put_text = 2 ∷ 0 ∷ 0 ∷ 0 ∷ 120 ∷ (text_of_update (next_own 1 (born 1) (one_change k (97 ∷ []))) ++ 97 ∷ [])
+
+record Exported : Type 0 where
+  pub ends : exported.ending ≡ ending.Done
+  pub lines : exported.text ≡ codes "put 6b -> 0/1\nget 6b -> 1/0/1=61\nexport t -> records 2 reads 1\nget 6b -> 1/0/1=61\n"
+  -- two records, each behind its length, and a read of two records: of the key, with one write and its value
+  pub file : exported.session.files (codes "t") ≡ Some (1 ∷ 5 ∷ 0 ∷ 1 ∷ 0 ∷ 0 ∷ 0 ∷ 2 ∷ (0 ∷ 0 ∷ 0 ∷ 35 ∷ (birth_text ++ (0 ∷ 0 ∷ 0 ∷ 126 ∷ (put_text ++ (0 ∷ 0 ∷ 0 ∷ 1 ∷ 0 ∷ 0 ∷ 0 ∷ 2 ∷ 1 ∷ 107 ∷ 0 ∷ 1 ∷ (first_id ++ 1 ∷ 0 ∷ 0 ∷ 0 ∷ 1 ∷ 97 ∷ [])))))))
+  pub later : exported_later.text ≡ codes "export t -> records 2 reads 0\n"
+
+exported_all : Exported
+unfolding answers_of step_of export_by trace_text record_piece read_text answered_text behind_mark put_command get_command export_command hello_command bundle_command take_command rest_of numeral number bytes_of inner list_of dep roster_entry signed_with is_covered candidates records_where values_behind candidate_parcels parcels fitting sent_for sent_foreign unvouched bundle_frames bundle_of bundle_answer sight content_checks opponent forked refused_as_convicted statement_checks proof_checks first_failed_check is_known answer_to due named_opponent added growth is_of_kind contradicts kind_of proof_of given_by take_frame fed_frame fed_byte fed ending_of report_of frame_at hello_leaf hello convicted_nodes lacking record_place hello_of leaves_of put_by_id by_id history_text history_hash first_values has_id named prev_of is_convicted is_vouched holds_hash holds is_wanted points spent_by tips_of collides_by limit_of_own limit_of_put past precedes_named next_entries next_own leaf_count plain_root plain_signature plain_verifies birth own_put tagged record_text foreign_leaves full_with key_of is_signed given_as answer_to_text growth_of_text update_fields voucher_fields update_body voucher_body statement signed proof roster id_of_update id_of_statement hash_of_roster put_rising rising groups_behind groups_of new_vouchers limit_of_new limit_of_vouchers named_by text_of_check text_of_limit text_of_report put_by get_by hello_by bundle_by give_by restart_by insert_by order_by latest_in sha256 first_words schedule rounds compress hash_after digest_bytes encode_with decode_pairs digits seen_under write marked is_update_text is_hollow
+exported_all = record { ends = refl; lines = refl; file = refl; later = refl }
 
 -- ---- how a script ends
 

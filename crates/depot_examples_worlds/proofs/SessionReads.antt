@@ -8,7 +8,7 @@ use Rattle.depot_model.specs.World.{Read}
 use Rattle.depot_script.specs.declared.command.Command.{Command}
 use Rattle.depot_script.specs.declared.command.Command.TheVariants as command
 use Rattle.depot_session.specs.declared.ending.Ending.{Ending}
-use Rattle.depot_session.specs.Sessions.{Session, Step, Answers, step_of, followed_by, bundle_step, bundle_to, take_from, answers_of}
+use Rattle.depot_session.specs.Sessions.{Session, Step, Answers, step_of, followed_by, bundle_step, bundle_to, export_by, take_from, answers_of}
 use Rattle.depot_world.specs.Deeds.{get_by, bundle_by, give_by, hello_by}
 use Rattle.depot_world.specs.ScheduleStops.{Deed}
 use Rattle.depot_examples_worlds.specs.Commanded.{key_got, keys_got, going_on, carried_out_of}
@@ -31,6 +31,10 @@ get_step s key = map-append (λ (r : Read). r.key) s.correct.reads _
 hello_step : (here : Setting) (s : Session) → map (λ (r : Read). r.key) (hello_by here s.correct).reads ≡ keys_at s ++ []
 unfolding hello_by
 hello_step here s = silent s _ refl
+
+export_step : (s : Session) → map (λ (r : Read). r.key) (export_by s).reads ≡ keys_at s ++ []
+unfolding export_by
+export_step s = silent s _ refl
 
 bundle_keeps : (s : Session) (hello file : List ℕ) (d : Deed) (a : BundleAnswer) → d.reads ≡ s.correct.reads → keys_at (bundle_step s hello file d a).session ≡ keys_at s ++ []
 bundle_keeps s hello file d (bundled b) same = silent s _ same
@@ -57,6 +61,7 @@ step_reads here sign s (command.Bundle hello file) = bundle_to_keeps here sign s
 step_reads here sign s (command.Take file) = take_keeps here s file (s.files file)
 step_reads here sign s (command.Receipt id) = silent s _ (receipt_reads here s.correct (id ∷ []))
 step_reads here sign s (command.Settled id k) = silent s _ (settled_reads s.correct id k)
+step_reads here sign s (command.Export file) = export_step s
 
 -- ---- a script
 

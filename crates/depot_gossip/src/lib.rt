@@ -19,6 +19,6 @@ pub use depot_frames::{
     decode_hello, encode_hello, hellos_are_prefix_free, hellos_are_read_in_one_way, put_frame,
 };
 pub use depot_model::{Counts, Ending, Refusal, Refusals, Report};
-pub use depot_offers::{BundleError, Bundled, hello};
+pub use depot_offers::{BundleError, Bundled, hello, node_hello};
 pub use gossip_laws::bundles_tell_own_statements;
 pub use own_bundle::bundle;

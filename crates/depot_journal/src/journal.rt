@@ -200,6 +200,27 @@ impl<D: Disk> Journal<D> {
 }
 
 impl<D: Disk> Journal<D> {
+    /// A journal without records on a disk that tells nothing of its bytes, which isn't touched. It takes no memory.
+    pub fn unwritten(alloc: Global, disk: D) -> Journal<D>
+        requires { D.tells disk ≡ false }
+        ensures { result ≡ record { records = []; disk = disk; is_stopped = false; room_records = 0; room_bytes = 0 } }
+    {
+        Journal {
+            mirror: Mirror {
+                disk,
+                bytes: Vec::new(alloc),
+                spans: Vec::new(alloc),
+            },
+            room: Room {
+                records: 0,
+                bytes: 0,
+            },
+            stopped: false,
+        }
+    }
+}
+
+impl<D: Disk> Journal<D> {
     /// Reads the records of a disk, which it syncs first. A file of at most one byte has none, and gets a closed gate.
     ///
     /// A file of more bytes stays as it is. `Damaged` comes exactly where the file is damaged, with the offset. After it and

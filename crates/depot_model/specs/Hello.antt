@@ -79,12 +79,16 @@ record_place J h = position (λ r. has_id (accepted_by r) h) J
 abbrev pub AreLeafPlaces : List Record → List ℕ → Type 0
 AreLeafPlaces J places = map (λ place. Some place) places ≡ map (λ t. record_place J (id_of_update t)) (by_id (leaves_of (accepted J)))
 
+-- the leaves of a journal in that order, as a hello names them
+abbrev pub leaves_named : List Record → List HelloLeaf
+leaves_named J = map named_leaf (by_id (leaves_of (accepted J)))
+
 -- the hello of a node with this journal
 unfoldable pub hello_of : Setting → List Record → Hello
 hello_of here J = record {
   node = here.me;
   roster = hash_of_roster here.listed;
   convicted = convicted_nodes here J;
-  leaves = map named_leaf (by_id (leaves_of (accepted J)));
+  leaves = leaves_named J;
   wanted = wanted_of J;
 }

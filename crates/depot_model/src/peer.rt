@@ -1,18 +1,18 @@
 //! What a node tells others of what it has.
-ghost use Rattle.std.specs.Prelude.{◌≡◌, ◌≢◌, List, [], ◌∷◌, true, false, length, map, Some, IfOk, IfErr, IsErrOf, option_copied, slice_get};
+ghost use Rattle.std.specs.Prelude.{◌≡◌, ◌≢◌, List, [], ◌∷◌, true, false, length, map, Some, IfOk, IfErr, IsErrOf, option_copied, option_to_list, slice_get};
 ghost use Rattle.std.specs.List.{AllByRecursion};
 ghost use Rattle.depot_base.specs.declared.record.Record.{Record};
 ghost use Rattle.depot_model.specs.Bundle.{signed_by, candidate_places};
-ghost use Rattle.depot_model.specs.Hello.{convicted_nodes, wanted_of, AreLeafPlaces};
-ghost use Rattle.depot_model.specs.Journal.{accepted, held, value_with, is_foreign};
+ghost use Rattle.depot_model.specs.Hello.{convicted_nodes, wanted_of, leaves_named, AreLeafPlaces};
+ghost use Rattle.depot_model.specs.Journal.{accepted, accepted_at, held, value_with, is_foreign};
 ghost use Rattle.depot_model.specs.Lists.{AreApart};
 ghost use Rattle.depot_model.specs.Replicas.{IsSameNode, StopsBy, KeepsDisk};
 ghost use Rattle.depot_model.specs.Stops.{CallsDisk, Lasts};
-ghost use Rattle.depot_model.specs.Texts.{text_of_signed};
+ghost use Rattle.depot_model.specs.Texts.{id_of_update, text_of_signed};
 ghost use Rattle.depot_model.specs.Vouching.{Vouches, is_mine_vouched, new_vouchers, records_of};
 
-use crate::{Replica, VoucherError};
-use depot_base::{Bytes, Hash32, Ids, Items, Memory, NodeId, Nodes};
+use crate::{HelloLeaves, Replica, VoucherError};
+use depot_base::{Bytes, Hash32, Ids, Items, Memory, NodeId, Nodes, Update};
 
 /// A replica that tells others what it has, and vouches for what it took. Of what it has accepted a node that is stopped tells no
 /// more than the texts of its records and of its signed statements.
@@ -27,6 +27,11 @@ pub trait Peer: Replica {
         requires { Self.stopped self.now ≡ false }
         ensures { IfOk result (λ places. AreLeafPlaces (Self.records self.now) places) };
 
+    /// The leaves, in rising order of (writer, id), as a hello names them.
+    fn leaves(&self) -> Result<HelloLeaves, Memory>
+        requires { Self.stopped self.now ≡ false }
+        ensures { IfOk result (λ leaves. leaves ≡ leaves_named (Self.records self.now)) };
+
     /// The hashes of values that it lacks, the first 1,024 in rising order.
     fn wanted(&self) -> Result<Ids, Memory>
         requires { Self.stopped self.now ≡ false }
@@ -36,6 +41,16 @@ pub trait Peer: Replica {
     fn candidates(&self, leaves: &Ids, reader: NodeId) -> Result<Items, Memory>
         requires { Self.stopped self.now ≡ false }
         ensures { IfOk result (λ places. places ≡ candidate_places (Self.records self.now) leaves.now reader) };
+
+    /// The update that the record of a place, from 0, accepts. None exactly where it accepts none. It takes no memory.
+    fn update_at(&self, place: u32) -> Option<&Update>
+        requires { Self.stopped self.now ≡ false }
+        ensures { option_to_list (option_copied result) ≡ accepted_at (Self.records self.now) place };
+
+    /// The id of the update that the record of a place, from 0, accepts. None exactly where it accepts none. It takes no memory.
+    fn id_at(&self, place: u32) -> Option<&Hash32>
+        requires { Self.stopped self.now ≡ false }
+        ensures { option_to_list (option_copied result) ≡ map id_of_update (accepted_at (Self.records self.now) place) };
 
     /// The text of the signed statement of a place, from 0, that holds one: another's as it came, its own signed now.
     fn signed_text(&self, place: u32) -> Result<Bytes, Memory>

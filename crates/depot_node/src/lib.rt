@@ -30,6 +30,8 @@ mod vouch;
 
 pub use depot_decide::{PutDone, PutError};
 pub use depot_model::{RecordFault, TakeError, Taken};
+pub use depot_records::{PlaceFault, check_records};
+pub use held::held_as;
 pub use node::Node;
 pub use node_laws::lawful_files_start;
 pub use start_error::StartError;

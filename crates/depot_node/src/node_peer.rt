@@ -2,11 +2,13 @@
 
 use crate::node::Node;
 use crate::vouch::own_vouchers;
-use depot_base::{Bytes, Hash32, Ids, Items, Memory, NodeId, Nodes};
+use depot_base::{Bytes, Hash32, Ids, Items, Memory, NodeId, Nodes, Update};
 use depot_decide::is_foreign;
-use depot_model::{Peer, Scheme, Signer, VoucherError};
+use depot_model::{HelloLeaves, Peer, Scheme, Signer, VoucherError};
 use depot_outside::Disk;
-use depot_tell::{candidates, convicted, leaf_places, signed_text, wanted};
+use depot_tell::{
+    candidates, convicted, id_at, leaf_places, leaves, signed_text, update_at, wanted,
+};
 
 impl<D: Disk, S: Scheme, G: Signer<Of = S>> Peer for Node<D, S, G> {
     fn convicted(&self) -> Result<Nodes, Memory> {
@@ -17,12 +19,24 @@ impl<D: Disk, S: Scheme, G: Signer<Of = S>> Peer for Node<D, S, G> {
         leaf_places(self.alloc, &self.store)
     }
 
+    fn leaves(&self) -> Result<HelloLeaves, Memory> {
+        leaves(self.alloc, &self.store)
+    }
+
     fn wanted(&self) -> Result<Ids, Memory> {
         wanted(self.alloc, &self.store)
     }
 
     fn candidates(&self, leaves: &Ids, reader: NodeId) -> Result<Items, Memory> {
         candidates(self.alloc, &self.store, leaves, reader)
+    }
+
+    fn update_at(&self, place: u32) -> Option<&Update> {
+        update_at(&self.store, place)
+    }
+
+    fn id_at(&self, place: u32) -> Option<&Hash32> {
+        id_at(&self.store, place)
     }
 
     fn signed_text(&self, place: u32) -> Result<Bytes, Memory> {

@@ -18,7 +18,7 @@ use Rattle.depot_model.specs.declared.hello.Hello.{Hello}
 use Rattle.depot_model.specs.Lists.{IsIn, is_among, AreTogether}
 use Rattle.depot_model.specs.Texts.{IsSigned, text_of_signed, id_of_update}
 use Rattle.depot_model.specs.Records.{IsRecord, text_of_record}
-use Rattle.depot_model.specs.Journal.{accepted, accepted_by, own_by, update_in, held, value_with}
+use Rattle.depot_model.specs.Journal.{accepted, accepted_at, accepted_by, own_by, update_in, held, value_with}
 use Rattle.depot_model.specs.Contents.{values_named}
 use Rattle.depot_model.specs.Checks.{Setting}
 use Rattle.depot_model.specs.Lawful.{IsLawful}
@@ -168,20 +168,30 @@ told_at here sign J place text l short t texts =
 pub is_item : (sign : Signs) (J : List Record) (place : ℕ) (text : List ℕ) (t : IsToldAt sign J place text) (r : Record) → slice_get J place ≡ Some r → t.item ≡ r
 is_item sign J place text t r at = let both : Some t.item ≡ Some r = sym t.at ∙ at in cc
 
+-- the update that the record of a place accepts
+pub accepts_at : (J : List Record) (place : ℕ) (t : TellsAt J place) → accepted_at J place ≡ t.update ∷ []
+accepts_at J place t = ap (λ (o : Option Record). flat_map accepted_by (option_to_list o)) t.at ∙ append-nil (accepted_by t.item) ∙ t.accepts
+
+-- and it is that of the statement which tells of it
+pub told_update : {sign : Signs} {text : List ℕ} (J : List Record) (place : ℕ) (t : TellsAt J place) (told : IsToldAt sign J place text) (u : Update) → u ∷ [] ≡ accepted_at J place → update_in told.told.statement ≡ u ∷ []
+told_update J place t told u one =
+    let same : told.item ≡ t.item = let both : Some told.item ≡ Some t.item = sym told.at ∙ t.at in cc in
+    sym told.accepts ∙ ap accepted_by same ∙ t.accepts ∙ sym (accepts_at J place t) ∙ sym one
+
 -- the ids of the updates of others in what tells of a record
-pub foreign_are : (me : ℕ) (x : Parcel) (s : Signed) → x.told ≡ s ∷ [] → foreign_ids me s ≡ sent_foreign me (x ∷ [])
+pub foreign_are : (me : ℕ) (x : Parcel) (s : Signed) → x.told ≡ s ∷ [] → foreign_ids me (update_in s.statement) ≡ sent_foreign me (x ∷ [])
 unfolding sent_foreign
 foreign_are me x s told =
     let other = λ (u : Update). not (eqb u.writer me) in
     sym (ap (λ (ss : List Signed). map id_of_update (filter other (flat_map (λ (t : Signed). update_in t.statement) ss ++ []))) told
     ∙ ap (λ (us : List Update). map id_of_update (filter other us)) (append-nil (update_in s.statement ++ []) ∙ append-nil (update_in s.statement)))
 
--- the values of its parcel are those that were found behind its statement
-pub parcel_values : (sign : Signs) (J : List Record) (place : ℕ) (text : List ℕ) (t : IsToldAt sign J place text) (keys : List (List ℕ)) (r : Record) (s : Signed) (found new : List (List ℕ)) → slice_get J place ≡ Some r → s ≡ t.told
-    → Finds J keys (flat_map values_named (update_in s.statement)) found new → (candidate_parcel sign J keys r).values ≡ found
-parcel_values sign J place text t keys r s found new at same f =
-    let updates : accepted_by r ≡ update_in s.statement = ap accepted_by (sym (is_item sign J place text t r at)) ∙ t.accepts ∙ ap (λ (x : Signed). update_in x.statement) (sym same) in
-    ap (λ (us : List Update). values_behind J keys (flat_map values_named us)) updates ∙ sym f.values
+-- the values of its parcel are those that were found behind its update
+pub parcel_values : (sign : Signs) (J : List Record) (place : ℕ) (keys : List (List ℕ)) (r : Record) (u : Update) (found new : List (List ℕ)) → slice_get J place ≡ Some r → accepted_at J place ≡ u ∷ []
+    → Finds J keys (values_named u) found new → (candidate_parcel sign J keys r).values ≡ found
+parcel_values sign J place keys r u found new at accepts f =
+    let updates : accepted_by r ≡ u ∷ [] = sym (append-nil (accepted_by r)) ∙ ap (λ (o : Option Record). flat_map accepted_by (option_to_list o)) (sym at) ∙ accepts in
+    ap (λ (us : List Update). values_behind J keys (flat_map values_named us)) updates ∙ ap (values_behind J keys) (append-nil (values_named u)) ∙ sym f.values
 
 -- with more hashes, whatever the answer
 pub hashes_added : {E : Type 0} (old more new : List (List ℕ)) (r : Result Bool E) → AreTogether old more new → AddsHashes old more r new

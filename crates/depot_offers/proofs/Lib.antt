@@ -3,6 +3,6 @@ pub mod ChoiceLaws
 pub mod FitLaws
 pub mod FrontLaws
 pub mod HashLaws
-pub mod LeafPlaces
+pub mod HelloParts
 pub mod LeftIds
 pub mod ValueLaws

@@ -1,7 +1,7 @@
--- What a bundle goes by of a candidate's signed statement: the id of its update, and the values behind it.
-use Rattle.std.proofs.Common.{◌≡◌, ℕ, ◌+◌, ◌<◌, ◌≤◌, List, [], ◌∷◌, ◌++◌, length, map, take, get_or, Bool, true, false, not, cond, ◌||◌, eqb, Option, Some, None, refl, sym, ap, subst, ◌∙◌, arith, length-append}
+-- The values behind the update of a candidate: which are found, how many, and how long they are.
+use Rattle.std.proofs.Common.{◌≡◌, ℕ, ◌+◌, ◌<◌, ◌≤◌, List, [], ◌∷◌, ◌++◌, length, map, take, get_or, Bool, true, false, cond, ◌||◌, Option, Some, None, refl, sym, ap, subst, ◌∙◌, arith, length-append}
 use Rattle.std.specs.Borrow.{Bor}
-use Rattle.std.specs.List.{filter, flat_map}
+use Rattle.std.specs.List.{flat_map}
 use Rattle.std.specs.Str.{bytes_eq}
 use Rattle.std.proofs.Math.Bool.{or-false, or_assoc}
 use Rattle.std.proofs.lemmas.List.{append-nil, map-append}
@@ -19,32 +19,20 @@ use Rattle.depot_base.specs.declared.record.Record.{Record}
 use Rattle.depot_base.proofs.GeneralLaws.{flat_push, or_swap, take_next}
 use Rattle.depot_base.proofs.MembershipLaws.{all_from}
 use Rattle.depot_model.specs.Lists.{is_among, AreTogether}
-use Rattle.depot_model.specs.Texts.{IsStatement, IsSigned, id_of_update}
+use Rattle.depot_model.specs.Texts.{IsStatement, IsSigned}
 use Rattle.depot_model.specs.Journal.{update_in, held_as}
 use Rattle.depot_model.specs.Contents.{values_named}
 use Rattle.depot_model.specs.Checks.{Setting}
 use Rattle.depot_model.specs.Lawful.{IsLawful}
 use Rattle.depot_model.specs.Bundle.{values_behind}
-use Rattle.depot_model.proofs.BodyLaws.{body_is_text_of_update, IsStatement-from_signed, IsUpdate-from_statement}
+use Rattle.depot_model.proofs.BodyLaws.{IsStatement-from_signed, IsUpdate-from_statement}
 use Rattle.depot_model.proofs.FieldFacts.{update_facts}
 use Rattle.depot_model.proofs.Members.{among-append}
 use Rattle.depot_laws.proofs.Candidates.{behind_is}
 use Rattle.depot_laws.proofs.HeldValues.{held_as_is}
 use Rattle.depot_laws.proofs.WantedValues.{value_fits}
 use Rattle.depot_frames.specs.Sendings.{ArePayloads, payloads_of}
-use Rattle.depot_offers.specs.Choosing.{AreAlike, Finds, foreign_ids}
-
--- ---- the id of a candidate of another
-
--- the hash of the body is the id of the update of another
-pub other_is : (me : ℕ) (s : Signed) (u : Update) (id : List ℕ) → IsSigned s → s.statement ≡ statement.Update u → eqb u.writer me ≡ false → id ≡ sha256 s.body → id ∷ [] ≡ foreign_ids me s
-unfolding id_of_update
-other_is me s u id fits is other hashed =
-    ap (λ (h : List ℕ). h ∷ []) (hashed ∙ ap sha256 (body_is_text_of_update s u fits is))
-    ∙ sym (ap (λ (x : Statement). map id_of_update (filter (λ (v : Update). not (eqb v.writer me)) (update_in x))) is ∙ by_test (eqb u.writer me) other) where
-      by_test : (b : Bool) → b ≡ false → map id_of_update (cond (not b) (u ∷ []) []) ≡ id_of_update u ∷ []
-      by_test false e = refl
-      by_test true e = absurd cc
+use Rattle.depot_offers.specs.Choosing.{AreAlike, Finds}
 
 -- ---- the values behind names
 
@@ -131,15 +119,6 @@ finds_more J keys mid new ws i w names found more all low is named added f m =
 pub lent_push : (new lent : List (Bor (List ℕ))) (v : Bor (List ℕ)) → new ≡ lent ++ v ∷ [] → payloads_of new ≡ payloads_of lent ++ v.now ∷ []
 lent_push new lent v is = ap payloads_of is ∙ map-append (λ (x : Bor (List ℕ)). x.now) lent (v ∷ [])
 
--- of all writes of a statement's update
-pub finds_of_update : (J : List Record) (keys found new : List (List ℕ)) (us : List Update) (u : Update) → u ∷ [] ≡ us → Finds J keys (values_named u) found new → Finds J keys (flat_map values_named us) found new
-finds_of_update J keys found new us u one f =
-    let names : values_named u ≡ flat_map values_named us = sym (append-nil (values_named u)) ∙ ap (flat_map values_named) one in
-    subst (λ (ns : List NamedValue). Finds J keys ns found new) names f
-
-pub finds_of_none : (J : List Record) (keys : List (List ℕ)) (us : List Update) → [] ≡ us → Finds J keys (flat_map values_named us) [] keys
-finds_of_none J keys us none = subst (λ (vs : List Update). Finds J keys (flat_map values_named vs) [] keys) none (finds_none J keys)
-
 -- ---- how many are found, and how long they are
 
 few_behind : (J : List Record) (keys : List (List ℕ)) (ns : List NamedValue) → length (values_behind J keys ns) ≤ length ns
@@ -166,8 +145,10 @@ few_names s (statement.Update u) fits is =
     omega (arith, ap length (append-nil (values_named u)), few_named u.writes, facts.writes.few)
 
 -- behind one statement there are at most as many values as an update has writes
-pub few_found : (J : List Record) (keys : List (List ℕ)) (s : Signed) (found new : List (List ℕ)) → IsSigned s → Finds J keys (flat_map values_named (update_in s.statement)) found new → length found ≤ 16
-few_found J keys s found new fits f = omega (arith, ap length f.values, few_behind J keys (flat_map values_named (update_in s.statement)), few_names s s.statement fits refl)
+pub few_found : (J : List Record) (keys : List (List ℕ)) (s : Signed) (u : Update) (found new : List (List ℕ)) → IsSigned s → update_in s.statement ≡ u ∷ [] → Finds J keys (values_named u) found new → length found ≤ 16
+few_found J keys s u found new fits is f =
+    let same : flat_map values_named (update_in s.statement) ≡ values_named u = ap (flat_map values_named) is ∙ append-nil (values_named u) in
+    omega (arith, ap length f.values, few_behind J keys (values_named u), few_names s s.statement fits refl, ap length same)
 
 -- each of them is short enough for a frame
 pub found_are_short : (here : Setting) (J : List Record) (keys : List (List ℕ)) (ns : List NamedValue) (found new : List (List ℕ)) → IsLawful here J → Finds J keys ns found new → ArePayloads found

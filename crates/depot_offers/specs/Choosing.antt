@@ -4,11 +4,10 @@ use Rattle.std.specs.List.{flat_map}
 use Rattle.sha2.specs.Sha256.{sha256}
 use Rattle.depot_base.specs.declared.update.NamedValue.{NamedValue}
 use Rattle.depot_base.specs.declared.update.Update.{Update}
-use Rattle.depot_base.specs.declared.statement.Signed.{Signed}
 use Rattle.depot_base.specs.declared.record.Record.{Record}
 use Rattle.depot_model.specs.Lists.{is_among, AreTogether}
 use Rattle.depot_model.specs.Texts.{id_of_update}
-use Rattle.depot_model.specs.Journal.{accepted_by, update_in}
+use Rattle.depot_model.specs.Journal.{accepted_by}
 use Rattle.depot_model.specs.Frames.{text_of_frame}
 use Rattle.depot_model.specs.Bundle.{Parcel, values_behind, hashes_of}
 use Rattle.depot_frames.specs.declared.sending.Sending.{Sending}
@@ -64,9 +63,9 @@ pub record TellsAt (J : List Record) (place : ℕ) : Type 0 where
 abbrev pub records_at : List Record → List ℕ → List Record
 records_at J places = flat_map (λ place. option_to_list (slice_get J place)) places
 
--- the id of a signed statement's update, if it is one of another node than this
-abbrev pub foreign_ids : ℕ → Signed → List (List ℕ)
-foreign_ids me s = map id_of_update (filter (λ u. not (u.writer == me)) (update_in s.statement))
+-- the ids of those of these updates that are of another node than this
+abbrev pub foreign_ids : ℕ → List Update → List (List ℕ)
+foreign_ids me us = map id_of_update (filter (λ u. not (u.writer == me)) us)
 
 -- These are the held values of the names that have none of these hashes, each hash once; and with theirs the hashes are the new ones.
 pub record Finds (J : List Record) (keys : List (List ℕ)) (names : List NamedValue) (found new : List (List ℕ)) : Type 0 where

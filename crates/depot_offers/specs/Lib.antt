@@ -3,4 +3,3 @@ pub mod Choosing
 pub mod Errors
 pub mod Fronts
 pub mod Preparing
-pub mod RecordLeaves

@@ -4,14 +4,13 @@ ghost use Rattle.std.specs.List.{AllByRecursion, flat_map};
 ghost use Rattle.sha2.specs.Sha256.{sha256};
 ghost use Rattle.depot_base.specs.declared.limits.TheConstants.{MOST_PAYLOAD, MOST_WRITES};
 ghost use Rattle.depot_base.specs.declared.record.Record.{Record};
-ghost use Rattle.depot_model.specs.Texts.{IsSigned};
 ghost use Rattle.depot_model.specs.Bundle.{Parcel, candidate_parcel, candidate_parcels, wanted_parcel, hashes_of, parcels, sent_for};
 ghost use Rattle.depot_frames.specs.Sendings.{Holds, IsShort, ArePayloads, payloads_of};
-ghost use Rattle.depot_offers.specs.Choosing.{AddsTo, AddsFound, TellsAt, records_at, foreign_ids, AddsHashes, AreHashesOf, value_parcels};
+ghost use Rattle.depot_offers.specs.Choosing.{AddsTo, AddsFound, TellsAt, records_at, AddsHashes, AreHashesOf, value_parcels};
 
-use crate::candidate::{foreign_id, signed_of, values_of};
+use crate::candidate::{foreign_id, values_behind};
 use crate::hashes::{Hashes, has_hash};
-use depot_base::{Hash32, Ids, Memory, NodeId, Signed};
+use depot_base::{Hash32, Ids, Memory};
 use depot_frames::Sending;
 use depot_model::{Hello, HelloLeaves, Peer};
 use std::alloc::Global;
@@ -37,25 +36,24 @@ fn push_id(ids: &mut Ids, id: Option<Hash32>) -> Result<(), Memory>
     }
 }
 
-/// Chooses a candidate: its signed statement, with this text, and the values that were found behind it. Says whether it has room.
+/// Chooses a candidate: its signed statement, with this text, and the values that were found behind it; and its id, if it is to be
+/// vouched for. Says whether it has room.
 fn add_found(
     sending: &mut Sending,
-    me: NodeId,
-    signed: &Signed,
     told: &[u8],
     found: &[&[u8]],
+    foreign: Option<Hash32>,
 ) -> Result<bool, Memory>
-    requires fits { IsSigned signed.now }
     requires short { IsShort sending.old }
     requires few { length found.now ≤ MOST_WRITES }
     requires told { length told.now ≤ MOST_PAYLOAD }
     requires found { ArePayloads (payloads_of found.now) }
-    ensures { AddsFound sending.old (told.now ∷ []) (payloads_of found.now) (foreign_ids me signed.now) result sending.new }
+    ensures { AddsFound sending.old (told.now ∷ []) (payloads_of found.now) (option_to_list foreign) result sending.new }
 {
     if !sending.add(&[told], found)? {
         return Ok(false);
     }
-    push_id(&mut sending.ids, foreign_id(signed, me))?;
+    push_id(&mut sending.ids, foreign)?;
     Ok(true)
 }
 
@@ -74,16 +72,16 @@ fn add_candidate<R: Peer>(
     ensures adds { (xs : List Parcel) (r : Record) → Holds (R.stands node.now).me xs sending.old → slice_get (R.records node.now) place ≡ Some r → AddsTo (R.stands node.now).me (xs ++ candidate_parcel (R.signature_of node.now) (R.records node.now) hashes.old.keys r ∷ []) sending.new result }
     ensures hashes { (r : Record) → slice_get (R.records node.now) place ≡ Some r → AddsHashes hashes.old.keys (map sha256 (candidate_parcel (R.signature_of node.now) (R.records node.now) hashes.old.keys r).values) result hashes.new.keys }
 {
+    let Some(update) = node.update_at(place) else {
+        unreachable!()
+    };
+    let Some(id) = node.id_at(place) else {
+        unreachable!()
+    };
     let told = node.signed_text(place)?;
-    let signed = signed_of(alloc, told.as_slice())?;
-    let found = values_of(alloc, node, hashes, &signed)?;
-    add_found(
-        sending,
-        node.me(),
-        &signed,
-        told.as_slice(),
-        found.as_slice(),
-    )
+    let found = values_behind(alloc, node, hashes, update.writes.as_slice())?;
+    let foreign = foreign_id(update, id, node.me());
+    add_found(sending, told.as_slice(), found.as_slice(), foreign)
 }
 
 /// Chooses the candidates of these places, as long as there is room. Says whether all have room.

@@ -7,16 +7,16 @@ ghost use Rattle.depot_base.specs.declared.record.Record.TheVariants.{OwnVoucher
 ghost use Rattle.depot_base.specs.declared.proof.Proof.{Proof};
 ghost use Rattle.depot_model.specs.Lists.{is_among};
 ghost use Rattle.depot_model.specs.declared.hello.Hello.{Hello};
-ghost use Rattle.depot_model.specs.Records.{tag_of, IsRecord};
+ghost use Rattle.depot_model.specs.Records.{tag_of, IsRecord, text_of_record};
 ghost use Rattle.depot_model.specs.Bundle.{Signs};
 ghost use Rattle.depot_model.specs.Texts.{text_of_proof};
 ghost use Rattle.depot_offers.specs.Fronts.{IsFront, is_in_front};
 
 use crate::hashes::{Hashes, has_hash};
-use crate::own_hello::record_of;
-use depot_base::{Bytes, Memory, NodeId, Proof, Record, Voucher};
+use depot_base::{Bytes, DecodeError, Memory, NodeId, Proof, Record, Voucher};
 use depot_frames::put_frame;
 use depot_model::{Hello, Peer};
+use depot_update::decode_record;
 use std::alloc::Global;
 
 /// The tag of an own voucher's record.
@@ -36,6 +36,18 @@ pub(crate) struct Front {
     pub vouchers: Bytes,
     /// How many these are.
     pub voucher_count: u32,
+}
+
+/// The record with this text, which is one's: nothing but memory can be wanting.
+fn record_of(alloc: Global, text: &[u8]) -> Result<Record, Memory>
+    requires { (r : Record) × (IsRecord r × (text.now ≡ text_of_record r)) }
+    ensures { IfOk result (λ item. (r : Record) → IsRecord r → text.now ≡ text_of_record r → item ≡ r) }
+{
+    match decode_record(alloc, text) {
+        Ok(item) => Ok(item),
+        Err(DecodeError::Memory) => Err(Memory),
+        Err(DecodeError::IllFormed(_)) => unreachable!(),
+    }
 }
 
 /// Whether the hello lists a node as convicted.

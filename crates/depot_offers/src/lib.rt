@@ -20,5 +20,5 @@ mod preparing;
 
 pub use bundle_error::BundleError;
 pub use bundle_stream::{Bundled, told_of};
-pub use own_hello::hello;
+pub use own_hello::{hello, node_hello};
 pub use preparing::{Prepared, prepare};

@@ -11,6 +11,7 @@ use Rattle.depot_model.specs.Lists.{IsIn}
 use Rattle.depot_model.specs.Roster.{Verifies, key_of}
 use Rattle.depot_model.specs.Texts.{hash_of_roster}
 use Rattle.depot_model.proofs.Members.{from_map}
+use Rattle.depot_traces.specs.declared.trace.ReadTrace.{ReadTrace}
 use Rattle.depot_schedule.specs.Schedules.{FitEvents, IsSchedule, before_events, with_event}
 use Rattle.depot_schedule.specs.declared.event.Event.{Event}
 use Rattle.depot_schedule.specs.declared.member.Member.{Member}
@@ -19,7 +20,7 @@ use Rattle.depot_world.specs.Run.{Station, born}
 use Rattle.depot_world.specs.Suite.{Suite, Stage, entry_of, is_entry_before, roster_of, stage_of, suite_of}
 use Rattle.depot_model.proofs.InsertionLaws.{from_order}
 use Rattle.depot_world.proofs.ScheduleRosters.{stage_has_members}
-use Rattle.depot_plays.specs.Acting.{AreSeated, IsSeated, View}
+use Rattle.depot_plays.specs.Acting.{AreSeated, IsPart, IsSeated, PartView, TellReads, View}
 use Rattle.depot_cast.specs.Hands.{AreSigners, Hand, hand_of, hands_of}
 use Rattle.depot_stage.specs.Casting.{IsSet, MayHappen}
 use Rattle.depot_cast.proofs.CastLaws.{hand_at}
@@ -93,25 +94,29 @@ stations_push stage (x ∷ ms) m = choice x.correct (stations_push stage ms m) w
 stations_more : (stage : Stage) (ms : List Member) (place : ℕ) (m : Member) → place < length ms → m ≡ get_or ms place m → stations_of stage (take (place + 1) ms) ≡ stations_of stage (take place ms) ++ stations_of stage (m ∷ [])
 stations_more stage ms place m within is = ap (stations_of stage) (take_more ms place m within ∙ ap (λ (x : Member). take place ms ++ x ∷ []) (sym is)) ∙ stations_push stage (take place ms) m
 
-seated_push : (stage : Stage) (ss : List Station) (vs : List View) (s : Station) (v : View) → AreSeated stage ss vs → IsSeated stage s v → AreSeated stage (ss ++ s ∷ []) (vs ++ v ∷ [])
-seated_push stage [] [] s v seated one = (one, tt)
-seated_push stage [] (w ∷ vs) s v seated one = absurd seated
-seated_push stage (t ∷ ss) [] s v seated one = absurd seated
-seated_push stage (t ∷ ss) (w ∷ vs) s v seated one = (seated.0, seated_push stage ss vs s v seated.1 one)
+seated_push : (stage : Stage) (ss : List Station) (ps : List PartView) (s : Station) (p : PartView) → AreSeated stage ss ps → IsPart stage s p → AreSeated stage (ss ++ s ∷ []) (ps ++ p ∷ [])
+seated_push stage [] [] s p seated one = (one, tt)
+seated_push stage [] (q ∷ ps) s p seated one = absurd seated
+seated_push stage (t ∷ ss) [] s p seated one = absurd seated
+seated_push stage (t ∷ ss) (q ∷ ps) s p seated one = (seated.0, seated_push stage ss ps s p seated.1 one)
+
+-- a node that was just started has no reads
+pub unread : (stage : Stage) (node : ℕ) (reads : List ReadTrace) → reads ≡ [] → TellReads (born stage node).correct.reads reads
+unread stage node reads none = subst (λ (rs : List ReadTrace). TellReads [] rs) (sym none) (record { are = refl; fit = tt })
 
 -- one correct member more
-pub correct_more : (stage : Stage) (ms : List Member) (place : ℕ) (m : Member) (vs : List View) (v : View) → place < length ms → m ≡ get_or ms place m → m.correct ≡ true → AreSeated stage (stations_of stage (take place ms)) vs → IsSeated stage (born stage m.node) v
-    → AreSeated stage (stations_of stage (take (place + 1) ms)) (vs ++ v ∷ [])
-correct_more stage ms place m vs v within is correct seated one =
+pub correct_more : (stage : Stage) (ms : List Member) (place : ℕ) (m : Member) (ps : List PartView) (p : PartView) → place < length ms → m ≡ get_or ms place m → m.correct ≡ true → AreSeated stage (stations_of stage (take place ms)) ps → IsPart stage (born stage m.node) p
+    → AreSeated stage (stations_of stage (take (place + 1) ms)) (ps ++ p ∷ [])
+correct_more stage ms place m ps p within is correct seated one =
     let alone : stations_of stage (m ∷ []) ≡ born stage m.node ∷ [] = ap (λ (b : Bool). map (λ (y : Member). born stage y.node) (cond b (m ∷ []) [])) correct in
-    subst (λ (ss : List Station). AreSeated stage ss (vs ++ v ∷ [])) (sym (stations_more stage ms place m within is ∙ ap (λ (ss : List Station). stations_of stage (take place ms) ++ ss) alone))
-    (seated_push stage (stations_of stage (take place ms)) vs (born stage m.node) v seated one)
+    subst (λ (ss : List Station). AreSeated stage ss (ps ++ p ∷ [])) (sym (stations_more stage ms place m within is ∙ ap (λ (ss : List Station). stations_of stage (take place ms) ++ ss) alone))
+    (seated_push stage (stations_of stage (take place ms)) ps (born stage m.node) p seated one)
 
 -- one faulty member more
-pub faulty_more : (stage : Stage) (ms : List Member) (place : ℕ) (m : Member) (vs : List View) → place < length ms → m ≡ get_or ms place m → m.correct ≡ false → AreSeated stage (stations_of stage (take place ms)) vs → AreSeated stage (stations_of stage (take (place + 1) ms)) vs
-faulty_more stage ms place m vs within is faulty seated =
+pub faulty_more : (stage : Stage) (ms : List Member) (place : ℕ) (m : Member) (ps : List PartView) → place < length ms → m ≡ get_or ms place m → m.correct ≡ false → AreSeated stage (stations_of stage (take place ms)) ps → AreSeated stage (stations_of stage (take (place + 1) ms)) ps
+faulty_more stage ms place m ps within is faulty seated =
     let alone : stations_of stage (m ∷ []) ≡ [] = ap (λ (b : Bool). map (λ (y : Member). born stage y.node) (cond b (m ∷ []) [])) faulty in
-    subst (λ (ss : List Station). AreSeated stage ss vs) (sym (stations_more stage ms place m within is ∙ ap (λ (ss : List Station). stations_of stage (take place ms) ++ ss) alone ∙ append-nil (stations_of stage (take place ms)))) seated
+    subst (λ (ss : List Station). AreSeated stage ss ps) (sym (stations_more stage ms place m within is ∙ ap (λ (ss : List Station). stations_of stage (take place ms) ++ ss) alone ∙ append-nil (stations_of stage (take place ms)))) seated
 
 -- ---- the events of a schedule
 

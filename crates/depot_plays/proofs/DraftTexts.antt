@@ -26,7 +26,7 @@ use Rattle.depot_model.specs.Order.{is_named, past}
 use Rattle.depot_model.specs.Own.{entry_of, write_of}
 use Rattle.depot_model.specs.Texts.{IsStatement, IsUpdate, id_of_update, update_body, update_fields, version_of}
 use Rattle.depot_model.specs.Vouching.{rising}
-use Rattle.depot_model.proofs.Members.{all_from, among-append, among_from, any_from, from_map, in_last}
+use Rattle.depot_model.proofs.Members.{all_from, among-append, among_from, any_from, in_last}
 use Rattle.depot_laws.proofs.NewVouchers.{voucher_fits}
 use Rattle.depot_laws.proofs.OwnTexts.{entry_fits, id_is_digest}
 use Rattle.depot_laws.proofs.LawfulRecords.{IsStatement-from_own_voucher}

@@ -28,8 +28,9 @@ use Rattle.depot_world.specs.Run.{Made, Run, Station, first_update, id_referred,
 use Rattle.depot_world.specs.FaultySigning.{all_of, all_referred, entries_of}
 use Rattle.depot_world.specs.Suite.{Stage}
 use Rattle.depot_world.proofs.GoodRuns.{found_is}
-use Rattle.depot_plays.specs.Acting.{AreSeated, IsSeated, View}
-use Rattle.depot_plays.specs.Playing.{IsAtPlay, IsPlayed, IsRemembered}
+use Rattle.depot_plays.specs.Acting.{AreSeated, IsSeated, PartView, View}
+use Rattle.depot_plays.specs.Playing.{IsAtPlay, IsPlayed, IsRemembered, part_by}
+use Rattle.depot_plays.specs.declared.part.Part.{Part}
 use Rattle.depot_plays.specs.declared.play.Play.{Play}
 use Rattle.depot_cast.specs.DraftEntries.{others_in_order}
 
@@ -68,26 +69,26 @@ abbrev pub AreNamedWell : Run → Type 0
 AreNamedWell run = (r : Ref) (u : Update) → referred run r ≡ Some u → IsNamed run.seen u
 
 -- the journal of each node is lawful
-abbrev AreLawful : List View → Type 0
-AreLawful vs = (v : View) → IsIn v vs → IsLawful v.here v.journal
+abbrev AreLawful : List PartView → Type 0
+AreLawful ps = (p : PartView) → IsIn p ps → IsLawful p.view.here p.view.journal
 
 -- the nodes of a run, whose journals are lawful, where what is named was seen
-record IsSound (stage : Stage) (run : Run) (vs : List View) : Type 0 where
-  pub seated : AreSeated stage run.stations vs
-  pub lawful : AreLawful vs
+record AreKnown (stage : Stage) (run : Run) (ps : List PartView) : Type 0 where
+  pub seated : AreSeated stage run.stations ps
+  pub lawful : AreLawful ps
   pub known : IsRemembered run
 
 -- the node of a station
-record HasSeat (stage : Stage) (s : Station) (vs : List View) : Type 0 where
-  pub view : View
-  pub on : IsIn view vs
-  pub seated : IsSeated stage s view
+record HasSeat (stage : Stage) (s : Station) (ps : List PartView) : Type 0 where
+  pub part : PartView
+  pub on : IsIn part ps
+  pub seated : IsSeated stage s part.view
 
-seat_of : (stage : Stage) (ss : List Station) (vs : List View) (s : Station) → AreSeated stage ss vs → IsIn s ss → HasSeat stage s vs
-seat_of stage [] vs s seated never = absurd never
+seat_of : (stage : Stage) (ss : List Station) (ps : List PartView) (s : Station) → AreSeated stage ss ps → IsIn s ss → HasSeat stage s ps
+seat_of stage [] ps s seated never = absurd never
 seat_of stage (t ∷ ss) [] s seated on = absurd seated
-seat_of stage (t ∷ ss) (v ∷ vs) s seated (inl here) = record { view = v; on = inl refl; seated = subst (λ (x : Station). IsSeated stage x v) here seated.0 }
-seat_of stage (t ∷ ss) (v ∷ vs) s seated (inr there) = let seat = seat_of stage ss vs s seated.1 there in record { view = seat.view; on = inr seat.on; seated = seat.seated }
+seat_of stage (t ∷ ss) (p ∷ ps) s seated (inl here) = record { part = p; on = inl refl; seated = subst (λ (x : Station). IsSeated stage x p.view) here seated.0.seated }
+seat_of stage (t ∷ ss) (p ∷ ps) s seated (inr there) = let seat = seat_of stage ss ps s seated.1 there in record { part = seat.part; on = inr seat.on; seated = seat.seated }
 
 -- what a label names is one of the labels
 made_is : (ms : List Made) (label : List ℕ) (m : Made) → made_in ms label ≡ Some m → IsIn m ms
@@ -117,32 +118,32 @@ labelled_is run label u known is = by_made (made_in run.labels label) refl is wh
   by_made None found e = absurd cc
   by_made (Some m) found e = by_signed m m.signed (made_is run.labels label m found) refl e
 
-own_is : (stage : Stage) (run : Run) (vs : List View) (node seq : ℕ) (u : Update) → IsSound stage run vs → option_and_then (λ s. own_update s.correct.journal seq) (station_in run.stations node) ≡ Some u → IsNamed run.seen u
-own_is stage run vs node seq u sound is = by_station (station_in run.stations node) refl is where
+own_is : (stage : Stage) (run : Run) (ps : List PartView) (node seq : ℕ) (u : Update) → AreKnown stage run ps → option_and_then (λ s. own_update s.correct.journal seq) (station_in run.stations node) ≡ Some u → IsNamed run.seen u
+own_is stage run ps node seq u all is = by_station (station_in run.stations node) refl is where
   by_station : (o : Option Station) → station_in run.stations node ≡ o → option_and_then (λ (s : Station). own_update s.correct.journal seq) o ≡ Some u → IsNamed run.seen u
   by_station None found e = absurd cc
   by_station (Some s) found e =
       let there = (found_is run.stations node s found).on in
-      let seat = seat_of stage run.stations vs s sound.seated there in
+      let seat = seat_of stage run.stations ps s all.seated there in
       let on = own_update_is s.correct.journal seq u e in
       record {
-        fits = accepted_fit seat.view.here seat.view.journal u (sound.lawful seat.view seat.on) (subst (λ (J : List Record). IsIn u (accepted J)) (sym seat.seated.journal) on);
-        was = all_at (λ (w : Update). has_id run.seen (id_of_update w) ≡ true) (accepted s.correct.journal) u (sound.known.accepted_were s there) on;
+        fits = accepted_fit seat.part.view.here seat.part.view.journal u (all.lawful seat.part seat.on) (subst (λ (J : List Record). IsIn u (accepted J)) (sym seat.seated.journal) on);
+        was = all_at (λ (w : Update). has_id run.seen (id_of_update w) ≡ true) (accepted s.correct.journal) u (all.known.accepted_were s there) on;
       }
 
 -- what references name has texts, and was seen
-referred_is : (stage : Stage) (run : Run) (vs : List View) → IsSound stage run vs → AreNamedWell run
+referred_is : (stage : Stage) (run : Run) (ps : List PartView) → AreKnown stage run ps → AreNamedWell run
 unfolding referred
-referred_is stage run vs sound (ref.Label label) u is = labelled_is run label u sound.known is
-referred_is stage run vs sound (ref.Own node seq) u is = own_is stage run vs node seq u sound is
+referred_is stage run ps all (ref.Label label) u is = labelled_is run label u all.known is
+referred_is stage run ps all (ref.Own node seq) u is = own_is stage run ps node seq u all is
 
 -- ---- at a point of a run
 
-lawful_views : {A : Type 0} (view : A → View) (actors : List A) → ((a : A) → IsLawful (view a).here (view a).journal) → AreLawful (map view actors)
-lawful_views view actors lawful v on = let a = from_map view v actors on in subst (λ (x : View). IsLawful x.here x.journal) a.1.1 (lawful a.0)
+lawful_parts : {A : Type 0} (view : A → View) (parts : List (Part A)) → ((a : A) → IsLawful (view a).here (view a).journal) → AreLawful (map (part_by view) parts)
+lawful_parts view parts lawful p on = let a = from_map (part_by view) p parts on in subst (λ (x : PartView). IsLawful x.view.here x.view.journal) a.1.1 (lawful a.0.actor)
 
 pub named_here : {A : Type 0} (view : A → View) (stage : Stage) (run : Run) (play : Play A) → ((a : A) → IsLawful (view a).here (view a).journal) → IsAtPlay view stage run play → AreNamedWell run
-named_here view stage run play lawful at = referred_is stage run (map view play.actors.items) (record { seated = at.seated; lawful = lawful_views view play.actors.items lawful; known = at.remembered })
+named_here view stage run play lawful at = referred_is stage run (map (part_by view) play.parts.items) (record { seated = at.seated; lawful = lawful_parts view play.parts.items lawful; known = at.remembered })
 
 -- what a reference names has a text
 pub fits_here : {A : Type 0} (view : A → View) (play : Play A) → ((a : A) → IsLawful (view a).here (view a).journal) → IsPlayed view play → (r : Ref) (u : Update) → ((stage : Stage) (run : Run) → IsAtPlay view stage run play → Some u ≡ referred run r) → IsUpdate u

@@ -2,10 +2,12 @@ pub mod BegunRuns
 pub mod DraftTexts
 pub mod EventFields
 pub mod JournalGrowth
+pub mod KeptReads
 pub mod LabelledUpdates
 pub mod MadeTexts
 pub mod NewUpdates
 pub mod NodeEvents
+pub mod PlayedAudits
 pub mod PlayedEvents
 pub mod ReceiptEvents
 pub mod Remembered

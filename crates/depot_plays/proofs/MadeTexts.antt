@@ -38,8 +38,9 @@ use Rattle.depot_stage.specs.Casting.{MayHappen}
 use Rattle.depot_plays.specs.Doing.{HasDone, is_text, text_by}
 use Rattle.depot_plays.specs.Drafts.{HasLeaf, MaySign}
 use Rattle.depot_stage.specs.Labels.{AreLabels}
-use Rattle.depot_plays.specs.Playing.{IsAtPlay, IsRemembered, WereSeen}
+use Rattle.depot_plays.specs.Playing.{IsAtPlay, IsRemembered, WereSeen, part_by}
 use Rattle.depot_stage.specs.StageTexts.{IsText}
+use Rattle.depot_plays.specs.declared.part.Part.{Part}
 use Rattle.depot_plays.specs.declared.play.Play.{Play}
 use Rattle.depot_stage.specs.declared.seen.Seen.{Seen}
 use Rattle.depot_stage.specs.declared.texts.Text as made_text
@@ -206,13 +207,13 @@ update_seen seen u (Some s) were is = subst (λ (st : Statement). WereSeen seen 
 
 -- a label was given a text
 pub text_given : (A : Type 0) (view : A → View) (stage : Stage) (run : Run) (label : List ℕ) (t : Text) (old new : Play A) (made : made_text.Text) (lines : List ℕ) → IsAtPlay view stage run old → IsText made t → IsKept run.seen made.signed
-    → lines ≡ spaced made.answer ++ 10 ∷ [] → new.actors ≡ old.actors → new.seen ≡ old.seen
+    → lines ≡ spaced made.answer ++ 10 ∷ [] → new.parts ≡ old.parts → new.seen ≡ old.seen
     → ((labels : List Made) → AreLabels old.labels.map.entries labels → AreLabels new.labels.map.entries (labels ++ record { label = label; bytes = made.bytes; signed = made.signed; plain = made.plain } ∷ []))
     → HasDone A view stage (done_by_text run label t) lines new
-text_given A view stage run label t old new made lines at is kept told actors seen labels = record {
+text_given A view stage run label t old new made lines at is kept told parts seen labels = record {
   lines_are = told ∙ ap (λ (answer : List ℕ). spaced answer ++ 10 ∷ []) is.answer_is ∙ sym (append-nil (spaced t.answer ++ 10 ∷ []));
   at = record {
-    seated = subst (λ (v : Vec A Global). AreSeated stage run.stations (map view v.items)) (sym actors) at.seated;
+    seated = subst (λ (v : Vec (Part A) Global). AreSeated stage run.stations (map (part_by view) v.items)) (sym parts) at.seated;
     labels_are = subst (λ (m : Made). AreLabels new.labels.map.entries (run.labels ++ m ∷ []))
         (ap (λ (b : List ℕ). record { label = label; bytes = b; signed = made.signed; plain = made.plain }) is.bytes_are
         ∙ ap (λ (o : Option Signed). record { label = label; bytes = t.bytes; signed = o; plain = made.plain }) is.signed_is
@@ -246,3 +247,4 @@ made_is stage run (event.Judge label) is = absurd cc
 made_is stage run (event.Stop node call image) is = absurd cc
 made_is stage run (event.Receipt node refs) is = absurd cc
 made_is stage run (event.Settled node reference k) is = absurd cc
+made_is stage run event.Audit is = absurd cc

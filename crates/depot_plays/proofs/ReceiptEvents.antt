@@ -15,6 +15,7 @@ use Rattle.depot_model.specs.Own.{entry_of}
 use Rattle.depot_model.specs.Receipts.{receipt_changes}
 use Rattle.depot_model.specs.Texts.{id_of_update}
 use Rattle.depot_model.specs.Vouching.{rising}
+use Rattle.depot_model.specs.World.{Read}
 use Rattle.depot_model.proofs.FeedGrowth.{IsGrown}
 use Rattle.depot_schedule.specs.declared.event.Ref.{Ref}
 use Rattle.depot_stage.specs.Labels.{AreLabels}
@@ -25,10 +26,11 @@ use Rattle.depot_world.specs.Run.{Run, Station, referred, seen_with}
 use Rattle.depot_world.specs.ScheduleStops.{Deed, went}
 use Rattle.depot_world.specs.Suite.{Stage, stands_on}
 use Rattle.depot_world.specs.Transcript.{Done, by_node, not_referred, receipt_for, settled_for}
+use Rattle.depot_world.proofs.ReadCounts.{receipt_keeps, settled_keeps, went_reads}
 use Rattle.depot_world.proofs.ReceiptChanges.{receipts_are_changes, referred_as_many}
-use Rattle.depot_plays.specs.Acting.{CameTo, View}
+use Rattle.depot_plays.specs.Acting.{CameTo, TellReads, View}
 use Rattle.depot_plays.specs.Doing.{HasDone}
-use Rattle.depot_plays.specs.Playing.{IsAtPlay, WereSeen}
+use Rattle.depot_plays.specs.Playing.{IsAtPlay, WereSeen, part_by}
 use Rattle.depot_plays.specs.declared.away.Away.{Away}
 use Rattle.depot_plays.specs.declared.play.Play.{Play}
 use Rattle.depot_plays.proofs.JournalGrowth.{receipt_grows, settled_grows}
@@ -71,9 +73,9 @@ due_ids run refs ids few is = of (all_referred run refs) (λ us e. referred_as_m
 -- ---- the event of a node whose bytes no label is given
 
 -- no node is there
-nothing_at : (A : Type 0) (view : A → View) (stage : Stage) (run : Run) (node : ℕ) (deed : Station → Deed) (play : Play A) → position (λ a. eqb (view a).here.me node) play.actors.items ≡ None → IsAtPlay view stage run play → HasDone A view stage (by_node run node None deed) (10 ∷ []) play
+nothing_at : (A : Type 0) (view : A → View) (stage : Stage) (run : Run) (node : ℕ) (deed : Station → Deed) (play : Play A) → position (λ p. eqb (view p.actor).here.me node) play.parts.items ≡ None → IsAtPlay view stage run play → HasDone A view stage (by_node run node None deed) (10 ∷ []) play
 nothing_at A view stage run node deed play none at =
-    subst (λ (d : Done). HasDone A view stage d (10 ∷ []) play) (sym (none_is run node None deed (no_seat view stage run.stations play.actors.items node at.seated none))) (record { lines_are = refl; at = at })
+    subst (λ (d : Done). HasDone A view stage d (10 ∷ []) play) (sym (none_is run node None deed (no_seat (part_by view) stage run.stations play.parts.items node at.seated none))) (record { lines_are = refl; at = at })
 
 -- what it had accepted was seen
 seen_before : (A : Type 0) (view : A → View) (stage : Stage) (run : Run) (node : ℕ) (d : Deed) (left : Play A) (away : Away A) (after : A) (lines bytes : List ℕ) → (i : IsLeft A view stage run node left away) → CameTo stage (went i.station d) (view after) lines bytes
@@ -82,14 +84,16 @@ seen_before A view stage run node d left away after lines bytes i came grown =
     let K = (went i.station d).station.correct.journal in
     subst (λ (x : List Record). WereSeen (updates_in left.seen.graph.items.entries) (take away.count (accepted x))) (sym came.seated.journal) (had_seen A view stage run node left away K i grown)
 
--- the event was done, once the node is back
+-- the event was done, once the node is back with the reads that it had
 done_there : (A : Type 0) (view : A → View) (stage : Stage) (run : Run) (node : ℕ) (deed : Station → Deed) (before left new : Play A) (away : Away A) (after : A) (lines bytes : List ℕ) → IsLawful (view after).here (view after).journal → IsAtPlay view stage run before
-    → (i : IsLeft A view stage run node left away) → CameTo stage (went i.station (deed i.station)) (view after) lines bytes
-    → new.actors.items ≡ insert left.actors.items away.place after → updates_in new.seen.graph.items.entries ≡ seen_with (updates_in left.seen.graph.items.entries) (accepted (view after).journal) → new.labels ≡ left.labels
+    → (i : IsLeft A view stage run node left away) → CameTo stage (went i.station (deed i.station)) (view after) lines bytes → (deed i.station).reads ≡ i.station.correct.reads
+    → new.parts.items ≡ insert left.parts.items away.place (record { actor = after; reads = away.part.reads }) → updates_in new.seen.graph.items.entries ≡ seen_with (updates_in left.seen.graph.items.entries) (accepted (view after).journal) → new.labels ≡ left.labels
     → HasDone A view stage (by_node run node None deed) lines new
-done_there A view stage run node deed before left new away after lines bytes lawful at i came actors seen labels =
+done_there A view stage run node deed before left new away after lines bytes lawful at i came none parts seen labels =
+    let told : TellReads (went i.station (deed i.station)).station.correct.reads away.part.reads = subst (λ (rs : List Read). TellReads rs away.part.reads) (sym (went_reads i.station (deed i.station) none)) i.told in
     subst (λ (d : Done). HasDone A view stage d lines new) (sym (there_is run node None deed i.station i.found))
-    (comes_back A view stage run node None before left new away after lines bytes (went i.station (deed i.station)) lawful at i came (same_node i.station (deed i.station)) actors seen (λ ls are. subst (λ (x : Labels). AreLabels x.map.entries ls) (sym labels) are))
+    (comes_back A view stage run node None before left new away (record { actor = after; reads = away.part.reads }) lines bytes (went i.station (deed i.station)) lawful at i came (same_node i.station (deed i.station)) told parts seen
+    (λ ls are. subst (λ (x : Labels). AreLabels x.map.entries ls) (sym labels) are))
 
 -- ---- receipts
 
@@ -106,10 +110,11 @@ receipts_had_seen A view stage run node ids left away after lines bytes i came =
 
 pub receipts_given : (A : Type 0) (view : A → View) (stage : Stage) (run : Run) (node : ℕ) (ids : List (List ℕ)) (before left new : Play A) (away : Away A) (after : A) (lines bytes : List ℕ) → IsLawful (view after).here (view after).journal → IsAtPlay view stage run before
     → (i : IsLeft A view stage run node left away) → CameTo stage (went i.station (receipt_by (stands_on stage i.station.correct.node) i.station.correct ids)) (view after) lines bytes
-    → new.actors.items ≡ insert left.actors.items away.place after → updates_in new.seen.graph.items.entries ≡ seen_with (updates_in left.seen.graph.items.entries) (accepted (view after).journal) → new.labels ≡ left.labels
+    → new.parts.items ≡ insert left.parts.items away.place (record { actor = after; reads = away.part.reads }) → updates_in new.seen.graph.items.entries ≡ seen_with (updates_in left.seen.graph.items.entries) (accepted (view after).journal) → new.labels ≡ left.labels
     → HasDone A view stage (by_node run node None (λ s. receipt_by (stands_on stage node) s.correct ids)) lines new
-receipts_given A view stage run node ids before left new away after lines bytes lawful at i came actors seen labels =
-    done_there A view stage run node (λ s. receipt_by (stands_on stage node) s.correct ids) before left new away after lines bytes lawful at i (at_its_number stage i.station node ids (view after) lines bytes i.is came) actors seen labels
+receipts_given A view stage run node ids before left new away after lines bytes lawful at i came parts seen labels =
+    done_there A view stage run node (λ s. receipt_by (stands_on stage node) s.correct ids) before left new away after lines bytes lawful at i (at_its_number stage i.station node ids (view after) lines bytes i.is came)
+    (receipt_keeps (stands_on stage node) i.station.correct ids) parts seen labels
 
 -- ---- whether enough were given
 
@@ -119,9 +124,10 @@ settled_had_seen A view stage run node id k left away after lines bytes i came =
 
 pub settled_told : (A : Type 0) (view : A → View) (stage : Stage) (run : Run) (node : ℕ) (id : List ℕ) (k : ℕ) (before left new : Play A) (away : Away A) (after : A) (lines bytes : List ℕ) → IsLawful (view after).here (view after).journal → IsAtPlay view stage run before
     → (i : IsLeft A view stage run node left away) → CameTo stage (went i.station (settled_by i.station.correct id k)) (view after) lines bytes
-    → new.actors.items ≡ insert left.actors.items away.place after → updates_in new.seen.graph.items.entries ≡ seen_with (updates_in left.seen.graph.items.entries) (accepted (view after).journal) → new.labels ≡ left.labels
+    → new.parts.items ≡ insert left.parts.items away.place (record { actor = after; reads = away.part.reads }) → updates_in new.seen.graph.items.entries ≡ seen_with (updates_in left.seen.graph.items.entries) (accepted (view after).journal) → new.labels ≡ left.labels
     → HasDone A view stage (by_node run node None (λ s. settled_by s.correct id k)) lines new
-settled_told A view stage run node id k before left new away after lines bytes lawful at i came actors seen labels = done_there A view stage run node (λ s. settled_by s.correct id k) before left new away after lines bytes lawful at i came actors seen labels
+settled_told A view stage run node id k before left new away after lines bytes lawful at i came parts seen labels =
+    done_there A view stage run node (λ s. settled_by s.correct id k) before left new away after lines bytes lawful at i came (settled_keeps i.station.correct id k) parts seen labels
 
 -- ---- what references name
 
@@ -156,7 +162,7 @@ pub receipts_done : (A : Type 0) (view : A → View) (stage : Stage) (run : Run)
 receipts_done A view stage run node refs ids lines play is done = subst (λ (d : Done). HasDone A view stage d lines play) (sym (receipts_for stage run node ids (all_referred run refs) is)) done
 
 pub receipts_of_none : (A : Type 0) (view : A → View) (stage : Stage) (run : Run) (node : ℕ) (refs : List Ref) (ids : List (List ℕ)) (play : Play A) → Some ids ≡ option_map (λ us. rising (map id_of_update us)) (all_referred run refs)
-    → position (λ a. eqb (view a).here.me node) play.actors.items ≡ None → IsAtPlay view stage run play → HasDone A view stage (receipt_for stage run node (all_referred run refs)) (10 ∷ []) play
+    → position (λ p. eqb (view p.actor).here.me node) play.parts.items ≡ None → IsAtPlay view stage run play → HasDone A view stage (receipt_for stage run node (all_referred run refs)) (10 ∷ []) play
 receipts_of_none A view stage run node refs ids play is none at = receipts_done A view stage run node refs ids (10 ∷ []) play is (nothing_at A view stage run node (λ s. receipt_by (stands_on stage node) s.correct ids) play none at)
 
 pub receipts_refused : (A : Type 0) (view : A → View) (stage : Stage) (run : Run) (node : ℕ) (refs : List Ref) (play : Play A) → None ≡ option_map (λ us. rising (map id_of_update us)) (all_referred run refs) → IsAtPlay view stage run play
@@ -168,7 +174,7 @@ pub settled_done : (A : Type 0) (view : A → View) (stage : Stage) (run : Run) 
 settled_done A view stage run node r id k lines play is done = subst (λ (d : Done). HasDone A view stage d lines play) (sym (settled_of run node id k (referred run r) is)) done
 
 pub settled_of_none : (A : Type 0) (view : A → View) (stage : Stage) (run : Run) (node : ℕ) (r : Ref) (id : List ℕ) (k : ℕ) (play : Play A) → Some id ≡ option_map id_of_update (referred run r)
-    → position (λ a. eqb (view a).here.me node) play.actors.items ≡ None → IsAtPlay view stage run play → HasDone A view stage (settled_for run node k (referred run r)) (10 ∷ []) play
+    → position (λ p. eqb (view p.actor).here.me node) play.parts.items ≡ None → IsAtPlay view stage run play → HasDone A view stage (settled_for run node k (referred run r)) (10 ∷ []) play
 settled_of_none A view stage run node r id k play is none at = settled_done A view stage run node r id k (10 ∷ []) play is (nothing_at A view stage run node (λ s. settled_by s.correct id k) play none at)
 
 pub settled_refused : (A : Type 0) (view : A → View) (stage : Stage) (run : Run) (node : ℕ) (r : Ref) (k : ℕ) (play : Play A) → None ≡ option_map id_of_update (referred run r) → IsAtPlay view stage run play

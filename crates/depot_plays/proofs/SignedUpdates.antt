@@ -26,14 +26,15 @@ use Rattle.depot_world.specs.Run.{Run, bytes_of, seen_with}
 use Rattle.depot_world.specs.FaultySigning.{drafted, entries_of, history_by, prev_of, proof_in, updated, update_text, with_history}
 use Rattle.depot_world.specs.Suite.{Stage, signs_on}
 use Rattle.depot_world.specs.Transcript.{Done, done, done_by_text, done_by_update, ended, head_count, judged_with, lines_after_arrow, lines_of}
-use Rattle.depot_plays.specs.Acting.{AreSeated, View}
+use Rattle.depot_plays.specs.Acting.{AreSeated, PartView, View}
 use Rattle.depot_plays.specs.Doing.{HasDone, is_signing, signed_text, update_by, with_update}
 use Rattle.depot_stage.specs.Labels.{AreLabels}
 use Rattle.depot_plays.specs.Drafts.{IsNumbered}
-use Rattle.depot_plays.specs.Playing.{IsAt, IsAtPlay}
+use Rattle.depot_plays.specs.Playing.{IsAt, IsAtPlay, part_by}
 use Rattle.depot_stage.specs.Seen.{HasSeenParents}
 use Rattle.depot_stage.specs.declared.label_table.Given.{Given}
 use Rattle.depot_stage.specs.declared.label_table.Labels.{Labels}
+use Rattle.depot_plays.specs.declared.part.Part.{Part}
 use Rattle.depot_plays.specs.declared.play.Play.{Play}
 use Rattle.depot_plays.proofs.RememberedRuns.{judged_remembers, update_remembers}
 
@@ -62,10 +63,10 @@ on_ok (Ok x) p more = more p
 on_ok (Err e) p more = tt
 
 -- an update was seen
-pub sees_update : (A : Type 0) (view : A → View) (stage : Stage) (run : Run) (u : Update) (old new : Play A) → IsAtPlay view stage run old → HasSeenParents (updates_in old.seen.graph.items.entries) u → new.actors ≡ old.actors → new.labels ≡ old.labels
+pub sees_update : (A : Type 0) (view : A → View) (stage : Stage) (run : Run) (u : Update) (old new : Play A) → IsAtPlay view stage run old → HasSeenParents (updates_in old.seen.graph.items.entries) u → new.parts ≡ old.parts → new.labels ≡ old.labels
     → updates_in new.seen.graph.items.entries ≡ seen_with (updates_in old.seen.graph.items.entries) (u ∷ []) → IsAtPlay view stage (with_update run (Some u)) new
-sees_update A view stage run u old new at parents actors labels seen = record {
-  seated = subst (λ (v : Vec A Global). AreSeated stage run.stations (map view v.items)) (sym actors) at.seated;
+sees_update A view stage run u old new at parents parts labels seen = record {
+  seated = subst (λ (v : Vec (Part A) Global). AreSeated stage run.stations (map (part_by view) v.items)) (sym parts) at.seated;
   labels_are = subst (λ (x : Labels). AreLabels x.map.entries run.labels) (sym labels) at.labels_are;
   seen_are = seen ∙ ap (λ (us : List Update). seen_with us (u ∷ [])) at.seen_are;
   remembered = update_remembers run u at.remembered (subst (λ (us : List Update). HasSeenParents us u) at.seen_are parents);
@@ -100,15 +101,16 @@ update_is stage run (event.Join label first second) is = absurd cc
 update_is stage run (event.Stop node call image) is = absurd cc
 update_is stage run (event.Receipt node refs) is = absurd cc
 update_is stage run (event.Settled node reference k) is = absurd cc
+update_is stage run event.Audit is = absurd cc
 
 -- ---- judgements
 
 -- a judgement changes nothing that a play keeps
-judged_at : (stage : Stage) (run : Run) (read : Result Proof ℕ) (views : List View) (entries : List (Vec ℕ Global × Given)) (seen : List Update) → IsAt stage run views entries seen → IsAt stage (judged_with stage run read).run views entries seen
-judged_at stage run (Err at) views entries seen i = i
-judged_at stage run (Ok p) views entries seen i = by_point (first_failed_point stage.suite.verifies stage.listed p) where
+judged_at : (stage : Stage) (run : Run) (read : Result Proof ℕ) (parts : List PartView) (entries : List (Vec ℕ Global × Given)) (seen : List Update) → IsAt stage run parts entries seen → IsAt stage (judged_with stage run read).run parts entries seen
+judged_at stage run (Err at) parts entries seen i = i
+judged_at stage run (Ok p) parts entries seen i = by_point (first_failed_point stage.suite.verifies stage.listed p) where
   by_point : (o : Option JudgeError)
-      → IsAt stage (elim o as (λ x. Done) [ Some f ↦ record { answer = spaced (text_of_point f); behind = []; run = run } | None ↦ record { answer = spaced (text_of_verdict (verdict_of p)); behind = []; run = record run { judged = run.judged ++ p ∷ [] } } ]).run views entries seen
+      → IsAt stage (elim o as (λ x. Done) [ Some f ↦ record { answer = spaced (text_of_point f); behind = []; run = run } | None ↦ record { answer = spaced (text_of_verdict (verdict_of p)); behind = []; run = record run { judged = run.judged ++ p ∷ [] } } ]).run parts entries seen
   by_point (Some f) = i
   by_point None = record { seated = i.seated; labels_are = i.labels_are; seen_are = i.seen_are; remembered = judged_remembers run (run.judged ++ p ∷ []) i.remembered }
 
@@ -118,7 +120,7 @@ judged_done A view stage run label bytes text lines play at same is none told =
     let d = judged_with stage run (proof_in bytes) in
     let done : HasDone A view stage d lines play = record {
       lines_are = told ∙ ap (λ (t : List ℕ). t ++ 10 ∷ []) is ∙ sym (append-nil (d.answer ++ 10 ∷ [])) ∙ ap (λ (ls : List (List ℕ)). ended d.answer ++ flat_map ended ls) (sym none);
-      at = judged_at stage run (proof_in bytes) (map view play.actors.items) play.labels.map.entries (updates_in play.seen.graph.items.entries) at;
+      at = judged_at stage run (proof_in bytes) (map (part_by view) play.parts.items) play.labels.map.entries (updates_in play.seen.graph.items.entries) at;
     } in
     subst (λ (b : List ℕ). HasDone A view stage (judged_with stage run (proof_in b)) lines play) same done
 

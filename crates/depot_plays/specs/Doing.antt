@@ -1,15 +1,18 @@
 -- What an event does to a play.
 use Rattle.std.specs.Prelude.{◌≡◌, ◌==◌, ℕ, List, [], ◌∷◌, ◌++◌, length, take, drop, remove, position, slice_get, Bool, true, false, Option, Some, None}
 use Rattle.depot_base.specs.Writes.{one_change}
+use Rattle.depot_base.specs.declared.record.Record.{Record}
 use Rattle.depot_base.specs.declared.update.Update.{Update}
 use Rattle.depot_base.specs.declared.write.Change.{Change}
 use Rattle.depot_model.specs.Bundle.{Signs}
 use Rattle.depot_model.specs.Changes.{AreChanges}
 use Rattle.depot_model.specs.Journal.{accepted}
 use Rattle.depot_model.specs.Own.{values_of}
+use Rattle.depot_model.specs.Traces.{ReadTrace}
 use Rattle.depot_schedule.specs.declared.event.Event.{Event}
 use Rattle.depot_schedule.specs.declared.event.Event.TheVariants as event
-use Rattle.depot_world.specs.Deeds.{put_by, get_by, hello_by, bundle_by, give_by, restart_by}
+use Rattle.depot_world.specs.Audits.{traced_read}
+use Rattle.depot_world.specs.Deeds.{read_of, put_by, get_by, hello_by, bundle_by, give_by, restart_by}
 use Rattle.depot_world.specs.Run.{Run, Station, bytes_of, seen_with}
 use Rattle.depot_world.specs.FaultySigning.{Text, no_reference, counted_bytes, updated, update_text, vouched_text, proof_text, hollow_text, flip_at}
 use Rattle.depot_world.specs.ScheduleStops.{Deed}
@@ -61,12 +64,17 @@ deed_of stage run (event.Bundle node hello label) s = bundle_by (stands_on stage
 deed_of stage run (event.Give node label size) s = give_by (stands_on stage s.correct.node) s.correct (bytes_of run label)
 deed_of stage run e s = restart_by s.correct
 
+-- the read that a node makes in it, as a trace tells it, if it makes one
+abbrev pub reads_by : List Record → Event → List ReadTrace
+reads_by J (event.Get node key) = traced_read (read_of J key) ∷ []
+reads_by J e = []
+
 -- The first node of this number left its place.
 pub record HasLeft (A : Type 0) (view : A → View) (node : ℕ) (old new : Play A) (away : Away A) : Type 0 where
-  pub place_is : position (λ a. (view a).here.me == node) old.actors.items ≡ Some away.place
-  pub actor_is : slice_get old.actors.items away.place ≡ Some away.actor
-  pub count_is : away.count ≡ length (accepted (view away.actor).journal)
-  pub others : new.actors.items ≡ remove old.actors.items away.place
+  pub place_is : position (λ p. (view p.actor).here.me == node) old.parts.items ≡ Some away.place
+  pub part_is : slice_get old.parts.items away.place ≡ Some away.part
+  pub count_is : away.count ≡ length (accepted (view away.part.actor).journal)
+  pub others : new.parts.items ≡ remove old.parts.items away.place
   pub labels_stay : new.labels ≡ old.labels
   pub seen_stays : new.seen ≡ old.seen
 

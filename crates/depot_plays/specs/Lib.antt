@@ -1,4 +1,5 @@
 pub mod Acting
+pub mod Auditing
 pub mod Doing
 pub mod Drafts
 pub mod Playing

@@ -1,5 +1,5 @@
 //! A correct node at work.
-ghost use Rattle.std.specs.Prelude.{◌≡◌, ◌<◌, ◌≤◌, true, Some, IfOk, length, option_copied, slice_get};
+ghost use Rattle.std.specs.Prelude.{◌≡◌, ◌<◌, ◌≤◌, true, Some, IfOk, length, map, option_copied, slice_get};
 ghost use Rattle.depot_base.specs.Pairs.{AllPairsByRecursion};
 ghost use Rattle.depot_base.specs.Parts.{is_below};
 ghost use Rattle.depot_base.specs.declared.limits.TheConstants.{MOST_STOP_CALL};
@@ -7,14 +7,20 @@ ghost use Rattle.depot_model.specs.Changes.{AreChanges};
 ghost use Rattle.depot_model.specs.Journal.{accepted};
 ghost use Rattle.depot_model.specs.Lawful.{IsLawful};
 ghost use Rattle.depot_model.specs.Receipts.{receipt_changes};
-ghost use Rattle.depot_world.specs.Deeds.{put_by, get_by, receipt_by, settled_by, hello_by, bundle_by, give_by, restart_by};
-ghost use Rattle.depot_world.specs.Run.{Station, own_update};
+ghost use Rattle.depot_model.specs.Records.{text_of_record};
+ghost use Rattle.depot_traces.specs.SeenTraces as seen_traces;
+ghost use Rattle.depot_traces.specs.TraceTexts.{IsTrace, read_text};
+ghost use Rattle.depot_traces.specs.declared.trace.TheConstants.{MOST_READS};
+ghost use Rattle.depot_world.specs.Audits.{traced_read};
+ghost use Rattle.depot_world.specs.Deeds.{read_of, put_by, get_by, receipt_by, settled_by, hello_by, bundle_by, give_by, restart_by};
+ghost use Rattle.depot_world.specs.Run.{Armed, Station, own_update};
 ghost use Rattle.depot_world.specs.ScheduleStops.{went};
 ghost use Rattle.depot_world.specs.Suite.{Stage, stands_on, signs_on};
-ghost use Rattle.depot_plays.specs.Acting.{CameTo, IsSeated, View};
+ghost use Rattle.depot_plays.specs.Acting.{CameTo, HaveTexts, IsSeated, View};
 
 use depot_base::{Bytes, Changes, Hash32, Ids, Key, Memory, Update};
 use depot_cast::Numbered;
+use depot_traces::{ReadTrace, Trace};
 
 /// What an event of a node came to.
 #[derive(Drop)]
@@ -50,6 +56,16 @@ pub trait Actor: Drop + Numbered {
     fn put(self, changes: Changes) -> Result<Told<Self>, Memory>
         requires { AreChanges changes }
         ensures { IfOk result (λ t. (stage : Stage) (s : Station) → IsSeated stage s (view self) → CameTo stage (went s (put_by (stands_on stage s.correct.node) s.correct changes)) (view t.actor) t.lines t.bytes) };
+
+    /// A read of a key at its records as they are, as a trace tells it.
+    fn read(&self, key: &Key) -> Result<ReadTrace, Memory>
+        ensures { IfOk result (λ r. read_text.fits r × (seen_traces.read_of r ≡ traced_read (read_of (view self.now).journal key.now))) };
+
+    /// What it hands in for an audit: its records, and these of its reads, which are copied.
+    fn trace(&self, reads: &[ReadTrace]) -> Result<Trace, Memory>
+        requires few { length reads.now ≤ MOST_READS }
+        requires fit { HaveTexts reads.now }
+        ensures { IfOk result (λ t. IsTrace t × (seen_traces.trace_of t ≡ record { node = (view self.now).here.me; texts = map text_of_record (view self.now).journal; reads = map seen_traces.read_of reads.now })) };
 
     /// It reads a key.
     fn get(self, key: &Key) -> Result<Told<Self>, Memory>
@@ -94,4 +110,7 @@ pub trait Actor: Drop + Numbered {
 
     /// Its journal is lawful.
     ghost lawful: { (a : Self) → IsLawful (view a).here (view a).journal };
+
+    /// A stop that waits on its disk comes in a call to come.
+    ghost to_come: { (a : Self) (stop : Armed) → (view a).armed ≡ Some stop → 1 ≤ stop.call };
 }

@@ -1,21 +1,24 @@
 //! Events that a node acts in.
-ghost use Rattle.std.specs.Prelude.{◌≡◌, true, IfOk};
+ghost use Rattle.std.specs.Prelude.{◌≡◌, ◌++◌, map, true, IfOk, OnOk};
 ghost use Rattle.depot_schedule.specs.EventLines.{node_of};
+ghost use Rattle.depot_traces.specs.SeenTraces.{read_of};
 ghost use Rattle.depot_world.specs.Run.{Run, Station};
 ghost use Rattle.depot_world.specs.ScheduleStops.{went};
 ghost use Rattle.depot_world.specs.Suite.{Stage};
 ghost use Rattle.depot_world.specs.Transcript.{done};
-ghost use Rattle.depot_plays.specs.Acting.{CameTo, IsSeated};
+ghost use Rattle.depot_plays.specs.Acting.{CameTo, HaveTexts, IsSeated};
 ghost use Rattle.depot_plays.specs.declared.play.Play.{Play};
-ghost use Rattle.depot_plays.specs.Doing.{HasDone, HasLeft, HasLeftPlay, PutsChanges, deed_of, is_deed};
+ghost use Rattle.depot_plays.specs.Doing.{HasDone, HasLeft, HasLeftPlay, PutsChanges, deed_of, is_deed, reads_by};
 ghost use Rattle.depot_stage.specs.Labels.{AreLabels};
 ghost use Rattle.depot_plays.specs.Playing.{IsAtPlay, IsPlayed};
 
 use crate::actor::{Actor, Told};
 use crate::away::Away;
+use crate::part::Part;
 use crate::play::Play;
 use depot_base::{Bytes, Changes, Memory, NodeId};
 use depot_schedule::Event;
+use depot_traces::Reads;
 
 impl<A: Actor> Play<A> {
     /// An event that a node acts in. The lines are those from the arrow on.
@@ -39,17 +42,15 @@ impl<A: Actor> Play<A> {
         requires left { HasLeftPlay A A.view (node_of event.now) self.old away }
         ensures { IfOk result (λ lines. (before : Play A) → HasLeft A A.view (node_of event.now) before self.old away → (stage : Stage) (run : Run) → IsAtPlay A.view stage run before → HasDone A A.view stage (done stage run event.now) lines self.new) }
     {
-        let Away {
-            place,
-            count,
-            actor,
-        } = away;
+        let Away { place, count, part } = away;
+        let Part { actor, mut reads } = part;
+        note_read(&actor, event, &mut reads)?;
         let Told {
             actor,
             lines,
             bytes,
         } = self.acted(actor, event)?;
-        self.come_back(place, count, actor)?;
+        self.come_back(place, count, Part { actor, reads })?;
         self.labels.keep(event, bytes)?;
         Ok(lines)
     }
@@ -72,5 +73,16 @@ impl<A: Actor> Play<A> {
             Event::Restart { .. } => actor.restart(),
             _ => unreachable!(),
         }
+    }
+}
+
+/// Keeps the read that a node makes in an event, if it makes one.
+fn note_read<A: Actor>(actor: &A, event: &Event, reads: &mut Reads) -> Result<(), Memory>
+    ensures told { OnOk result (map read_of reads.new ≡ map read_of reads.old ++ reads_by (A.view actor.now).journal event.now) }
+    ensures fit { HaveTexts reads.old → OnOk result (HaveTexts reads.new) }
+{
+    match event {
+        Event::Get { key, .. } => reads.push(actor.read(key)?),
+        _ => Ok(()),
     }
 }

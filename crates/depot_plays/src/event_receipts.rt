@@ -16,6 +16,7 @@ ghost use Rattle.depot_plays.specs.declared.play.Play.{Play};
 
 use crate::actor::{Actor, Told};
 use crate::away::Away;
+use crate::part::Part;
 use crate::play::Play;
 use depot_base::{Bytes, Hash32, Ids, Memory, NodeId};
 use depot_schedule::Ref;
@@ -44,13 +45,10 @@ impl<A: Actor> Play<A> {
         requires left { (node : ℕ) × HasLeftPlay A A.view node self.old away }
         ensures { (node : ℕ) (before : Play A) → HasLeft A A.view node before self.old away → IfOk result (λ lines. (stage : Stage) (run : Run) → IsAtPlay A.view stage run before → HasDone A A.view stage (by_node run node None (λ s. receipt_by (stands_on stage node) s.correct ids.now)) lines self.new) }
     {
-        let Away {
-            place,
-            count,
-            actor,
-        } = away;
+        let Away { place, count, part } = away;
+        let Part { actor, reads } = part;
         let Told { actor, lines, .. } = actor.receipt(ids)?;
-        self.come_back(place, count, actor)?;
+        self.come_back(place, count, Part { actor, reads })?;
         Ok(lines)
     }
 
@@ -73,13 +71,10 @@ impl<A: Actor> Play<A> {
         requires left { (node : ℕ) × HasLeftPlay A A.view node self.old away }
         ensures { (node : ℕ) (before : Play A) → HasLeft A A.view node before self.old away → IfOk result (λ lines. (stage : Stage) (run : Run) → IsAtPlay A.view stage run before → HasDone A A.view stage (by_node run node None (λ s. settled_by s.correct id.now k)) lines self.new) }
     {
-        let Away {
-            place,
-            count,
-            actor,
-        } = away;
+        let Away { place, count, part } = away;
+        let Part { actor, reads } = part;
         let Told { actor, lines, .. } = actor.settled(id, k)?;
-        self.come_back(place, count, actor)?;
+        self.come_back(place, count, Part { actor, reads })?;
         Ok(lines)
     }
 }

@@ -10,6 +10,7 @@ ghost use Rattle.depot_plays.specs.declared.play.Play.{Play};
 
 use crate::actor::Actor;
 use crate::away::Away;
+use crate::part::Part;
 use crate::play::Play;
 use depot_base::{Bytes, Memory, NodeId};
 
@@ -36,13 +37,10 @@ impl<A: Actor> Play<A> {
         requires left { (node : ℕ) × HasLeftPlay A A.view node self.old away }
         ensures { (node : ℕ) (before : Play A) → HasLeft A A.view node before self.old away → IfOk result (λ lines. (stage : Stage) (run : Run) → IsAtPlay A.view stage run before → HasDone A A.view stage (armed_at run node call image) lines self.new) }
     {
-        let Away {
-            place,
-            count,
-            actor,
-        } = away;
+        let Away { place, count, part } = away;
+        let Part { actor, reads } = part;
         let actor = actor.stop_at(call, image)?;
-        self.come_back(place, count, actor)?;
+        self.come_back(place, count, Part { actor, reads })?;
         Ok(Bytes::from_slice(self.alloc, b" armed\n")?)
     }
 }

@@ -1,12 +1,13 @@
 //! One event of a schedule.
 ghost use Rattle.std.specs.Prelude.{IfOk};
+ghost use Rattle.depot_world.specs.Audits.{IsSound};
 ghost use Rattle.depot_world.specs.Run.{Run, bytes_of};
 ghost use Rattle.depot_world.specs.FaultySigning.{proof_in};
 ghost use Rattle.depot_world.specs.Suite.{Stage};
 ghost use Rattle.depot_world.specs.Transcript.{done, judged_with};
-ghost use Rattle.depot_stage.specs.Casting.{IsOn, IsOnSome, MayHappen};
+ghost use Rattle.depot_stage.specs.Casting.{IsOn, MayHappen};
 ghost use Rattle.depot_plays.specs.Doing.{HasDone, HasTold};
-ghost use Rattle.depot_plays.specs.Playing.{IsAtPlay, IsPlayed};
+ghost use Rattle.depot_plays.specs.Playing.{IsAtPlay, IsPlayedOn};
 
 use crate::actor::Actor;
 use crate::play::Play;
@@ -22,10 +23,9 @@ impl<A: Actor> Play<A> {
         scene: &Scene<'_, S, G>,
         event: &Event,
     ) -> Result<Bytes, Memory>
-        requires scene { IsOnSome S.verifies G.key_of G.signature_of scene.now }
         requires may { MayHappen scene.now.height scene.now.members.now event.now }
-        requires played { IsPlayed A.view self.old }
-        ensures { IfOk result (λ lines. (stage : Stage) (run : Run) → IsOn S.verifies G.key_of G.signature_of stage scene.now → IsAtPlay A.view stage run self.old → HasTold A A.view stage event.now (done stage run event.now) lines self.new) }
+        requires played { IsPlayedOn S.verifies G.key_of G.signature_of scene.now A.view self.old }
+        ensures { IfOk result (λ lines. (stage : Stage) (run : Run) → IsOn S.verifies G.key_of G.signature_of stage scene.now → IsSound stage run → IsAtPlay A.view stage run self.old → HasTold A A.view stage event.now (done stage run event.now) lines self.new) }
     {
         let mut lines = Bytes::new(self.alloc);
         event_head(self.alloc, &mut lines, event)?;
@@ -40,10 +40,9 @@ impl<A: Actor> Play<A> {
         scene: &Scene<'_, S, G>,
         event: &Event,
     ) -> Result<Bytes, Memory>
-        requires scene { IsOnSome S.verifies G.key_of G.signature_of scene.now }
         requires may { MayHappen scene.now.height scene.now.members.now event.now }
-        requires played { IsPlayed A.view self.old }
-        ensures { IfOk result (λ lines. (stage : Stage) (run : Run) → IsOn S.verifies G.key_of G.signature_of stage scene.now → IsAtPlay A.view stage run self.old → HasDone A A.view stage (done stage run event.now) lines self.new) }
+        requires played { IsPlayedOn S.verifies G.key_of G.signature_of scene.now A.view self.old }
+        ensures { IfOk result (λ lines. (stage : Stage) (run : Run) → IsOn S.verifies G.key_of G.signature_of stage scene.now → IsSound stage run → IsAtPlay A.view stage run self.old → HasDone A A.view stage (done stage run event.now) lines self.new) }
     {
         match event {
             Event::Put { node, .. } => self.deed(*node, event),
@@ -66,6 +65,7 @@ impl<A: Actor> Play<A> {
             Event::Stop { node, call, image } => self.stop(*node, *call, *image),
             Event::Receipt { node, refs } => self.receipt(*node, refs.as_slice()),
             Event::Settled { node, reference, k } => self.settled(*node, reference, *k),
+            Event::Audit => self.audit(scene),
         }
     }
 

@@ -4,13 +4,16 @@
 //! an `Actor`, known by its contract alone: what an event makes of it is what the definitions of runs say, whether a stop falls into it
 //! or not. No disk stands here: what a stop leaves is the actor's to say.
 //!
-//! A `Play` is a run at work (`IsAtPlay`): the correct nodes, what labels name, and the updates that were seen. `events` does
-//! one event and gives its lines: `deeds` those that a node acts in, which leaves its place for them (`seat_places`), `event_receipts` those
-//! in which it gives receipts or counts them, for what references name, `event_stops` those that set a stop on a disk, `updates` and `made` those that only make a label, and `drafting` finds what their references name. `playing`
-//! begins a run and plays all events. What needs no node stands in `depot_stage` and `depot_cast`; the nodes are `depot_replay`'s.
+//! A `Play` is a run at work (`IsAtPlay`): the correct nodes, each with the reads that it made (`Part`), what labels name, and the
+//! updates that were seen. `events` does one event and gives its lines: `deeds` those that a node acts in, which leaves its place for them
+//! (`seat_places`), `event_receipts` those in which it gives receipts or counts them, for what references name, `event_stops` those that
+//! set a stop on a disk, `audits` the audit of all nodes, `updates` and `made` those that only make a label, and `drafting` finds what
+//! their references name. `playing` begins a run and plays all events. What needs no node stands in `depot_stage` and `depot_cast`; the
+//! nodes are `depot_replay`'s.
 #![tactic(auto)]
 
 mod actor;
+mod audits;
 mod away;
 mod begins;
 mod deeds;
@@ -19,6 +22,7 @@ mod event_receipts;
 mod event_stops;
 mod events;
 mod made;
+mod part;
 mod play;
 mod playing;
 mod replay_error;
@@ -27,6 +31,7 @@ mod updates;
 
 pub use actor::{Actor, Told};
 pub use begins::Begins;
+pub use part::Part;
 pub use play::Play;
 pub use playing::{begun, play_all, write};
 pub use replay_error::ReplayError;

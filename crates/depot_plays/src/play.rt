@@ -5,17 +5,19 @@ ghost use Rattle.depot_world.specs.Suite.{Stage};
 ghost use Rattle.depot_plays.specs.Playing.{IsAtPlay};
 
 use crate::actor::Actor;
+use crate::part::Part;
 use depot_base::{NodeId, Signed, Update};
 use depot_cast::place_of;
 use depot_schedule::{Label, Ref};
 use depot_stage::{Labels, Seen};
 use std::alloc::Global;
 
-/// A run between two events: the correct nodes in the order of their lines, what labels name, and the updates that were seen.
+/// A run between two events: the correct nodes with their reads in the order of their lines, what labels name, and the updates that were
+/// seen.
 #[derive(Drop)]
 pub struct Play<A: Actor> {
     pub alloc: Global,
-    pub actors: Vec<A>,
+    pub parts: Vec<Part<A>>,
     pub labels: Labels,
     pub seen: Seen,
 }
@@ -23,9 +25,9 @@ pub struct Play<A: Actor> {
 impl<A: Actor> Play<A> {
     /// The place of the first node with this number, from 0. It takes no memory.
     pub fn place_of(&self, node: NodeId) -> Option<usize>
-        ensures { result ≡ position (λ a. (A.view a).here.me == node) self.now.actors.items }
+        ensures { result ≡ position (λ p. (A.view p.actor).here.me == node) self.now.parts.items }
     {
-        place_of(self.actors.as_slice(), node)
+        place_of(self.parts.as_slice(), node)
     }
 
     /// The bytes of a label. It takes no memory.
@@ -67,6 +69,6 @@ impl<A: Actor> Play<A> {
         ensures { (stage : Stage) (run : Run) → IsAtPlay A.view stage run self.now → option_copied result ≡ option_and_then (λ s. own_update s.correct.journal seq) (station_in run.stations node) }
     {
         let place = self.place_of(node)?;
-        self.actors[place].own_update(seq)
+        self.parts[place].actor.own_update(seq)
     }
 }

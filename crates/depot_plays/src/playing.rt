@@ -9,10 +9,11 @@ ghost use Rattle.depot_world.specs.Run.{Run, run_of};
 ghost use Rattle.depot_world.specs.Suite.{Stage, stage_of};
 ghost use Rattle.depot_world.specs.Transcript.{printed};
 ghost use Rattle.depot_stage.specs.Casting.{IsOn, MayHappen};
-ghost use Rattle.depot_plays.specs.Playing.{IsAtPlay, IsPlayedOn};
+ghost use Rattle.depot_plays.specs.Playing.{IsAtPlay, MayPlay, StaysSound};
 
 use crate::actor::Actor;
 use crate::begins::Begins;
+use crate::part::Part;
 use crate::play::Play;
 use crate::replay_error::ReplayError;
 use depot_base::Memory;
@@ -20,6 +21,7 @@ use depot_model::{Scheme, Signer};
 use depot_outside::{OutError, Sink};
 use depot_schedule::{Event, Schedule};
 use depot_stage::{Labels, Scene, Seen};
+use depot_traces::Reads;
 use std::alloc::Global;
 
 /// The run before its first event.
@@ -33,18 +35,22 @@ pub fn begun<'a, A: Begins<S, &'a G>, S: Scheme + Copy, G: Signer<Of = S>>(
     requires scene { IsOn S.verifies G.key_of G.signature_of (stage_of schedule.now) scene.now }
     ensures { IfOk result (λ play. IsAtPlay A.view (stage_of schedule.now) (run_of (stage_of schedule.now) schedule.now.members) play) }
 {
-    let mut actors = Vec::new(alloc);
+    let mut parts = Vec::new(alloc);
     for place in 0..scene.members.len() {
         let member = scene.members[place];
         if !member.correct {
             continue;
         }
         let signer = &scene.signers[place];
-        actors.push(A::born(alloc, scene.roster, scene.scheme, signer, member.node)?)?;
+        let actor = A::born(alloc, scene.roster, scene.scheme, signer, member.node)?;
+        parts.push(Part {
+            actor,
+            reads: Reads::new(alloc),
+        })?;
     }
     Ok(Play {
         alloc,
-        actors,
+        parts,
         labels: Labels::new(alloc),
         seen: Seen::new(alloc),
     })
@@ -58,9 +64,9 @@ pub fn play_all<A: Actor, S: Scheme, G: Signer, K: Sink>(
     out: &mut K,
 ) -> Result<(), ReplayError>
     requires may { (e : Event) → IsIn e events.now → MayHappen scene.now.height scene.now.members.now e }
-    requires played { IsPlayedOn S.verifies G.key_of G.signature_of scene.now A.view play.old }
-    ensures done { (stage : Stage) (run : Run) → IsOn S.verifies G.key_of G.signature_of stage scene.now → IsAtPlay A.view stage run play.old → IsTrue (K.tells out.old) → OnOk result (K.written out.new ≡ K.written out.old ++ printed stage run events.now) }
-    ensures front { (stage : Stage) (run : Run) → IsOn S.verifies G.key_of G.signature_of stage scene.now → IsAtPlay A.view stage run play.old → IsTrue (K.tells out.old) → OnErr result (AddsFrontOf (K.written out.old) (printed stage run events.now) (K.written out.new)) }
+    requires played { MayPlay S.verifies G.key_of G.signature_of scene.now events.now A.view play.old }
+    ensures done { (stage : Stage) (run : Run) → IsOn S.verifies G.key_of G.signature_of stage scene.now → StaysSound stage run events.now → IsAtPlay A.view stage run play.old → IsTrue (K.tells out.old) → OnOk result (K.written out.new ≡ K.written out.old ++ printed stage run events.now) }
+    ensures front { (stage : Stage) (run : Run) → IsOn S.verifies G.key_of G.signature_of stage scene.now → StaysSound stage run events.now → IsAtPlay A.view stage run play.old → IsTrue (K.tells out.old) → OnErr result (AddsFrontOf (K.written out.old) (printed stage run events.now) (K.written out.new)) }
     ensures tells { K.tells out.new ≡ K.tells out.old }
     ensures cause { HasCause (K.faults out.old) (K.faults out.new) (IsErrOf result ReplayError.Sink) }
     ensures faultless { K.is_faultless out.old → K.is_faultless out.new × (K.faults out.new ≡ K.faults out.old) }

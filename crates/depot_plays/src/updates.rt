@@ -147,7 +147,7 @@ impl<A: Actor> Play<A> {
         requires leaf { update.seq < 2 ^ scene.now.height }
         requires scene { IsOnSome S.verifies G.key_of G.signature_of scene.now }
         ensures is { IfOk result (λ text. (stage : Stage) → IsOn S.verifies G.key_of G.signature_of stage scene.now → IsText text (update_text (signs_on stage update.writer) update (values_of changes.now))) }
-        ensures actors { self.new.actors ≡ self.old.actors }
+        ensures parts { self.new.parts ≡ self.old.parts }
         ensures labels { self.new.labels ≡ self.old.labels }
         ensures seen { OnOk result (⟦<Graph as Past>⟧.updates self.new.seen.graph ≡ seen_with (⟦<Graph as Past>⟧.updates self.old.seen.graph) (update ∷ [])) }
         ensures fits { IfOk result (λ text. IfSome text.signed IsSigned) }

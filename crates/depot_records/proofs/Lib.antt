@@ -2,3 +2,4 @@ mod RecordParts
 mod RecordChecks
 mod PutValues
 mod RecordFaultExamples
+pub mod TakenTexts

@@ -1,1 +1,2 @@
 pub mod ReadRecords
+pub mod TextFaults

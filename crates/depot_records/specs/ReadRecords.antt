@@ -10,8 +10,8 @@ use Rattle.depot_model.specs.declared.taken.Taken.{Taken}
 use Rattle.depot_model.specs.declared.taken.Taken.TheVariants.{New, Known}
 use Rattle.depot_model.specs.Checks.{Setting}
 use Rattle.depot_model.specs.Lawful.{MayFollow, IsAllowed}
-use Rattle.depot_model.specs.RecordFaults.{IsFault, IsFaultOf}
-use Rattle.depot_model.specs.Records.{text_of_record}
+use Rattle.depot_model.specs.RecordFaults.{IsAtPlace, IsFault, IsFaultOf}
+use Rattle.depot_model.specs.Records.{IsRecord, text_of_record}
 use Rattle.depot_records.specs.declared.record_check.ReadError.{ReadError}
 use Rattle.depot_records.specs.declared.record_check.ReadError.TheVariants as refused
 
@@ -25,6 +25,21 @@ abbrev pub IsChecked : Setting → List Record → Record → Result (List Recor
 IsChecked here J r (Ok new) = IsGood here J r new
 IsChecked here J r (Err refused.Memory) = Unit {0}
 IsChecked here J r (Err (refused.Fault f)) = IsFaultOf here J r f
+
+-- these are the record of a text, which is allowed but for the room
+pub record IsFitFrom (here : Setting) (J : List Record) (text : List ℕ) (new : List Record) : Type 0 where
+  pub one : Record
+  pub alone : new ≡ one ∷ []
+  pub fits : IsRecord one
+  pub is : text ≡ text_of_record one
+  pub place : IsAtPlace J one
+  pub may : MayFollow here J one
+
+-- what is found of a text but for the room: the record that it is, or what is wrong with it; Memory may stand in place of each answer
+abbrev pub IsFitAs : Setting → List Record → List ℕ → Result (List Record) ReadError → Type 0
+IsFitAs here J text (Ok new) = IsFitFrom here J text new
+IsFitAs here J text (Err refused.Memory) = Unit {0}
+IsFitAs here J text (Err (refused.Fault f)) = IsFault here J text f
 
 -- these are the record of a text, which is allowed
 pub record IsReadFrom (here : Setting) (J : List Record) (text : List ℕ) (new : List Record) : Type 0 where

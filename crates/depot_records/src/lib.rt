@@ -7,5 +7,7 @@
 #![tactic(auto)]
 
 mod record_check;
+mod unwritten;
 
-pub use record_check::{ReadError, check_record};
+pub use record_check::{ReadError, check_record, check_text};
+pub use unwritten::{PlaceFault, check_records, take_text, unwritten_store};

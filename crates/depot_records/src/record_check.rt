@@ -12,7 +12,7 @@ ghost use Rattle.depot_model.specs.Texts.{hash_of_roster, id_of_update};
 ghost use Rattle.depot_store.specs.Holdings.{standing};
 ghost use Rattle.depot_store.specs.RecordTexts.{IsTextOf};
 ghost use Rattle.depot_records.specs.declared.record_check.ReadError.TheVariants as refused;
-ghost use Rattle.depot_records.specs.ReadRecords.{IsChecked, IsReadAs, TakesNew, HasManyEntries, fault_of};
+ghost use Rattle.depot_records.specs.ReadRecords.{IsChecked, IsFitAs, IsReadAs, TakesNew, HasManyEntries, fault_of};
 
 use depot_base::{
     Bytes, Check, DecodeError, Hash32, Memory, NodeId, Proof, Record, Signed, Update, Value,
@@ -56,6 +56,25 @@ pub fn check_record<D: Disk, S: Scheme>(
     requires next { (rest : List (List ℕ)) × (store.now.unread ≡ text.now ∷ rest) }
     ensures { IsReadAs (standing S.verifies store.now) store.now.records text.now result }
 {
+    let growth = check_text(alloc, store, text)?;
+    if !store.has_room(&growth) {
+        drop(growth);
+        return Err(ReadError::Fault(RecordFault::NoRoom));
+    }
+    Ok(growth)
+}
+
+/// The record of any text, where it is allowed behind those that were read, but for the room, which isn't looked at. Else the first
+/// fault that it has.
+pub fn check_text<D: Disk, S: Scheme>(
+    alloc: Global,
+    store: &Store<D, S>,
+    text: &[u8],
+) -> Result<Growth, ReadError>
+    requires runs { store.now.stopped ≡ false }
+    requires lawful { IsLawful (standing S.verifies store.now) store.now.records }
+    ensures { IsFitAs (standing S.verifies store.now) store.now.records text.now result }
+{
     let item = match decode_record(alloc, text) {
         Ok(item) => item,
         Err(DecodeError::Memory) => return Err(ReadError::Memory),
@@ -65,12 +84,7 @@ pub fn check_record<D: Disk, S: Scheme>(
         drop(item);
         return Err(ReadError::Fault(RecordFault::Birth));
     }
-    let growth = check_item(alloc, store, item, text)?;
-    if !store.has_room(&growth) {
-        drop(growth);
-        return Err(ReadError::Fault(RecordFault::NoRoom));
-    }
-    Ok(growth)
+    check_item(alloc, store, item, text)
 }
 
 /// Whether a record is a birth exactly where no record was read.

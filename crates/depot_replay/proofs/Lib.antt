@@ -12,4 +12,5 @@ pub mod SeatPuts
 pub mod SeatReads
 pub mod SeatReceipts
 pub mod SeatStarts
+pub mod SeatTraces
 pub mod SeatTurns

@@ -27,9 +27,9 @@ use depot_base::{Bytes, Changes, Hash32, Ids, Items, Key, Memory, NodeId, Update
 use depot_cast::Numbered;
 use depot_deeds::{
     Printed, bundle_printed, counted_line, fed_printed, feed_all, has_receipts, hello_line,
-    put_printed, receipt_printed, settled_line, shown_line,
+    node_trace, put_printed, read_traced, receipt_printed, settled_line, shown_line,
 };
-use depot_gossip::{bundle, hello};
+use depot_gossip::{bundle, encode_hello, node_hello};
 use depot_model::{Replica, Scheme, Signer};
 use depot_node::{Node, StartError};
 use depot_outside::{Back, MemDisk};
@@ -37,6 +37,7 @@ use depot_plays::{Actor, Begins, Told};
 use depot_receipts::give;
 use depot_sign::Roster;
 use depot_stage::is_by;
+use depot_traces::{ReadTrace, Trace};
 use std::alloc::Global;
 
 /// How many calls on a disk start a node from a journal that has begun.
@@ -189,8 +190,9 @@ fn hello_printed<S: Scheme, G: Signer<Of = S>>(
     ensures lines { IfOk result (λ p. p.lines ≡ ended (spaced (text_of_named (hello_of (standing S.verifies node.now.store) node.now.store.records)))) }
     ensures bytes { IfOk result (λ p. p.bytes ≡ text_of_hello (hello_of (standing S.verifies node.now.store) node.now.store.records)) }
 {
-    let bytes = hello(alloc, node)?;
-    let lines = hello_line(alloc, bytes.as_slice())?;
+    let told = node_hello(node)?;
+    let bytes = encode_hello(alloc, &told)?;
+    let lines = hello_line(alloc, &told)?;
     Ok(Printed { lines, bytes })
 }
 
@@ -287,6 +289,14 @@ impl<S: Scheme + Copy, G: Signer<Of = S> + Copy> Actor for Seat<S, G> {
         seated(node, means, printed)
     }
 
+    fn read(&self, key: &Key) -> Result<ReadTrace, Memory> {
+        read_traced(self.means.alloc, &self.node, key)
+    }
+
+    fn trace(&self, reads: &[ReadTrace]) -> Result<Trace, Memory> {
+        node_trace(self.means.alloc, &self.node, reads)
+    }
+
     fn get(self, key: &Key) -> Result<Told<Self>, Memory> {
         let printed = shown_printed(self.means.alloc, &self.node, key);
         told(self, printed)
@@ -347,6 +357,8 @@ impl<S: Scheme + Copy, G: Signer<Of = S> + Copy> Actor for Seat<S, G> {
     ghost named = { λ a. refl };
 
     ghost lawful = { λ a. lawful_there S.verifies a.node.store.me a.means.me a.node.store.listed a.means.roster a.node.store.records a.is_me a.is_listed a.node.lawful };
+
+    ghost to_come = { λ a. a.kept.to_come };
 }
 
 impl<S: Scheme + Copy, G: Signer<Of = S> + Copy> Begins<S, G> for Seat<S, G> {

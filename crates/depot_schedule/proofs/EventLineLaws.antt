@@ -10,7 +10,7 @@ use Rattle.depot_schedule.specs.declared.changes.Keys.TheVariants as keys
 use Rattle.depot_schedule.specs.declared.verb.Wanted.TheVariants as wanted
 use Rattle.depot_schedule.specs.declared.verb.TheConstants.{VERBS}
 use Rattle.depot_schedule.specs.Spelling.{is_word}
-use Rattle.depot_schedule.specs.EventLines.{node_of, key_of, value_of, changes_in, label_of, source_of, second_of, size_of, seq_of, clock_of, prev_of, refs_of, history_of, kind_of, bytes_of, place_of, count_of, call_of, image_of, reference_of, nodes_asked, put, puts, get, hello, bundle, give, restart, update, updates, voucher, proof, hollow, judge, raw, cut, flip, join, stop, receipt, settled, verb_of, line_of, name_of, verb_named}
+use Rattle.depot_schedule.specs.EventLines.{node_of, key_of, value_of, changes_in, label_of, source_of, second_of, size_of, seq_of, clock_of, prev_of, refs_of, history_of, kind_of, bytes_of, place_of, count_of, call_of, image_of, reference_of, nodes_asked, put, puts, get, hello, bundle, give, restart, update, updates, voucher, proof, hollow, judge, raw, cut, flip, join, stop, receipt, settled, audit, verb_of, line_of, name_of, verb_named}
 use Rattle.depot_schedule.specs.Schedules.{other, head_named}
 use Rattle.depot_schedule.proofs.LanguageLaws.{Lawful, LawfulLine, word_line, made_line, optional_line, counted_line, is_same, if_some}
 use Rattle.depot_schedule.proofs.HexWords.{key_lawful, put_key_lawful, value_lawful, raw_lawful}
@@ -205,6 +205,10 @@ settled_row = lawful_row verb.Settled 3 3 _ refl refl refl (counted_line 3 3 _ _
     word_line _ nodes_asked _ _ 0 0 node_count_lawful (λ a e. refl) λ k.
     made_line _)) (λ e. refl)
 
+audit_row : LawfulRow verb.Audit
+unfolding verb_named audit
+audit_row = lawful_row verb.Audit 0 0 _ refl refl refl (counted_line 0 0 _ _ (made_line _)) (λ e. refl)
+
 -- ---- all of them
 
 pub row_lawful : (v : Verb) → LawfulRow v
@@ -228,6 +232,7 @@ row_lawful verb.Join = join_row
 row_lawful verb.Stop = stop_row
 row_lawful verb.Receipt = receipt_row
 row_lawful verb.Settled = settled_row
+row_lawful verb.Audit = audit_row
 
 -- what is found passes the test
 pub found_passes : {X : Type 0} (test : X → Bool) (xs : List X) (x : X) → find test xs ≡ Some x → test x ≡ true

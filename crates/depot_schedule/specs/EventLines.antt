@@ -7,7 +7,7 @@ use Rattle.depot_base.specs.declared.write.Change.{Change}
 use Rattle.depot_base.specs.declared.proof.Kind.{Kind}
 use Rattle.depot_base.specs.declared.proof.Kind.TheVariants.{SameNumber}
 use Rattle.depot_schedule.specs.declared.event.Event.{Event}
-use Rattle.depot_schedule.specs.declared.event.Event.TheVariants.{Put, Puts, Get, Hello, Bundle, Give, Restart, Update, Updates, Voucher, Proof, Hollow, Judge, Raw, Cut, Flip, Join, Stop, Receipt, Settled}
+use Rattle.depot_schedule.specs.declared.event.Event.TheVariants.{Put, Puts, Get, Hello, Bundle, Give, Restart, Update, Updates, Voucher, Proof, Hollow, Judge, Raw, Cut, Flip, Join, Stop, Receipt, Settled, Audit}
 use Rattle.depot_schedule.specs.declared.event.Ref.{Ref}
 use Rattle.depot_schedule.specs.declared.event.Ref.TheVariants.{Own}
 use Rattle.depot_schedule.specs.declared.event.HistoryWord.{HistoryWord}
@@ -249,6 +249,10 @@ receipt = counted 2 2 (word correct node_of λ node. word (references MOST_WRITE
 unfoldable pub settled : Line
 settled = counted 3 3 (word correct node_of λ node. word reference reference_of λ update. word node_count nodes_asked λ k. made (Settled node update k))
 
+-- `audit`
+unfoldable pub audit : Line
+audit = counted 0 0 (made Audit)
+
 -- ---- all kinds of events
 
 abbrev pub verb_of : Event → Verb
@@ -272,6 +276,7 @@ verb_of (Join _ _ _) = verb.Join
 verb_of (Stop _ _ _) = verb.Stop
 verb_of (Receipt _ _) = verb.Receipt
 verb_of (Settled _ _ _) = verb.Settled
+verb_of Audit = verb.Audit
 
 -- the first word of the line of an event, and the words behind it
 pub record Row : Type 1 where
@@ -302,6 +307,7 @@ row_of verb.Join = row (codes "join") join
 row_of verb.Stop = row (codes "stop") stop
 row_of verb.Receipt = row (codes "receipt") receipt
 row_of verb.Settled = row (codes "settled") settled
+row_of verb.Audit = row (codes "audit") audit
 
 abbrev pub name_of : Verb → List ℕ
 name_of v = (row_of v).name

@@ -69,6 +69,7 @@ label_made (event.Join label _ _) = Some (label, made.Plain)
 label_made (event.Stop _ _ _) = None
 label_made (event.Receipt _ _) = None
 label_made (event.Settled _ _ _) = None
+label_made event.Audit = None
 
 -- what this label names, if it is that one
 abbrev pub if_named : List ℕ → Option (List ℕ × Made) → Option Made

@@ -96,6 +96,7 @@ fn label_made(event: &Event) -> Option<(&Label, Made)>
         Event::Stop { .. } => None,
         Event::Receipt { .. } => None,
         Event::Settled { .. } => None,
+        Event::Audit => None,
     }
 }
 

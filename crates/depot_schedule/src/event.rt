@@ -158,6 +158,8 @@ pub enum Event {
         reference: Ref,
         k: u32,
     },
+    /// What all correct nodes did is audited, from their journals and reads alone.
+    Audit,
 }
 
 impl Event {
@@ -189,6 +191,7 @@ impl Event {
             Event::Stop { .. } => Verb::Stop,
             Event::Receipt { .. } => Verb::Receipt,
             Event::Settled { .. } => Verb::Settled,
+            Event::Audit => Verb::Audit,
         }
     }
 }

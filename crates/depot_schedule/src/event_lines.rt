@@ -3,8 +3,9 @@ ghost use Rattle.std.specs.Prelude.{◌==◌, length, Ok, Err, if◌then◌else�
 ghost use Rattle.depot_schedule.specs.declared.line_fault.LineFault.TheVariants as is;
 ghost use Rattle.depot_schedule.specs.Language.{nothing, last};
 ghost use Rattle.depot_schedule.specs.Vocabulary.{piece_size};
-ghost use Rattle.depot_schedule.specs.EventLines.{put, puts, get, hello, bundle, give, restart, update, updates, voucher, proof, hollow, judge, raw, cut, flip, join, stop, receipt, settled, line_of};
+ghost use Rattle.depot_schedule.specs.EventLines.{put, puts, get, hello, bundle, give, restart, update, updates, voucher, proof, hollow, judge, raw, cut, flip, join, stop, receipt, settled, audit, line_of};
 ghost use Rattle.depot_schedule.specs.Readers.{Gives, Counts};
+ghost use Rattle.depot_schedule.specs.declared.schedule.Schedule.{Schedule};
 
 use crate::changes::{Keys, changes};
 use crate::draft::Draft;
@@ -373,6 +374,15 @@ fn settled(alloc: Global, words: &mut Parts<'_>, behind: &Draft) -> Result<Event
     made(words, Event::Settled { node, reference, k })
 }
 
+/// `audit`
+#[tactic(auto, unfolding(crate::specs::EventLines::audit))]
+fn audit(words: &Parts<'_>) -> Result<Event, LineError>
+    ensures { (behind : Schedule) → Gives result (audit.read behind words.now) }
+{
+    counted(words, 0, 0)?;
+    made(words, Event::Audit)
+}
+
 /// The event of the words behind its name.
 pub fn event_of(
     alloc: Global,
@@ -403,5 +413,6 @@ pub fn event_of(
         Verb::Stop => stop(words, behind),
         Verb::Receipt => receipt(alloc, words, behind),
         Verb::Settled => settled(alloc, words, behind),
+        Verb::Audit => audit(words),
     }
 }

@@ -3,7 +3,7 @@ ghost use Rattle.std.specs.Prelude.{◌≡◌, [], ◌∷◌, ◌++◌, OnOk};
 ghost use Rattle.std.specs.Fmt.{decimal};
 ghost use Rattle.hex.specs.Hex.{encode_lower};
 ghost use Rattle.depot_schedule.specs.Language.{text_if_any};
-ghost use Rattle.depot_schedule.specs.EventLines.{put, puts, get, hello, bundle, give, restart, update, updates, voucher, proof, hollow, judge, raw, cut, flip, join, stop, receipt, settled, line_of, verb_of};
+ghost use Rattle.depot_schedule.specs.EventLines.{put, puts, get, hello, bundle, give, restart, update, updates, voucher, proof, hollow, judge, raw, cut, flip, join, stop, receipt, settled, audit, line_of, verb_of};
 ghost use Rattle.depot_schedule.specs.Readers.{behind_spaces};
 
 use crate::change_writers::writes;
@@ -302,6 +302,7 @@ fn settled(alloc: Global, out: &mut Bytes, id: NodeId, update: &Ref, k: u32) -> 
 }
 
 /// The words behind the name of an event.
+#[tactic(auto, unfolding(crate::specs::EventLines::audit))]
 pub fn words_of_event(alloc: Global, out: &mut Bytes, event: &Event) -> Result<(), Memory>
     ensures { OnOk result (out.new ≡ out.old ++ behind_spaces ((line_of (verb_of event.now)).text event.now)) }
 {
@@ -379,5 +380,6 @@ pub fn words_of_event(alloc: Global, out: &mut Bytes, event: &Event) -> Result<(
         Event::Stop { node, call, image } => stop(alloc, out, *node, *call, *image),
         Event::Receipt { node, refs } => receipt(alloc, out, *node, refs),
         Event::Settled { node, reference, k } => settled(alloc, out, *node, reference, *k),
+        Event::Audit => Ok(()),
     }
 }

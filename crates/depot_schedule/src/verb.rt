@@ -47,10 +47,12 @@ pub enum Verb {
     Receipt,
     /// `settled N REF K`
     Settled,
+    /// `audit`
+    Audit,
 }
 
 /// Each kind of event once.
-pub const VERBS: [Verb; 20] = [
+pub const VERBS: [Verb; 21] = [
     Verb::Put,
     Verb::Puts,
     Verb::Get,
@@ -71,6 +73,7 @@ pub const VERBS: [Verb; 20] = [
     Verb::Stop,
     Verb::Receipt,
     Verb::Settled,
+    Verb::Audit,
 ];
 
 impl Verb {
@@ -99,6 +102,7 @@ impl Verb {
             Verb::Stop => "stop",
             Verb::Receipt => "receipt",
             Verb::Settled => "settled",
+            Verb::Audit => "audit",
         }
     }
 

@@ -7,7 +7,7 @@ use Rattle.depot_schedule.specs.declared.changes.Keys.TheVariants as keys
 use Rattle.depot_schedule.specs.Language.{Words, word, made, counted}
 use Rattle.depot_schedule.specs.Vocabulary.{key, put_key, value, digest, node_count, changes}
 use Rattle.depot_script.specs.declared.command.Command.{Command}
-use Rattle.depot_script.specs.declared.command.Command.TheVariants.{Put, Puts, Get, Hello, Bundle, Take, Receipt, Settled}
+use Rattle.depot_script.specs.declared.command.Command.TheVariants.{Put, Puts, Get, Hello, Bundle, Take, Receipt, Settled, Export}
 use Rattle.depot_script.specs.declared.command_verb.Verb.{Verb}
 use Rattle.depot_script.specs.declared.command_verb.Verb.TheVariants as verb
 use Rattle.depot_script.specs.declared.command_verb.TheConstants.{VERBS}
@@ -34,6 +34,7 @@ abbrev pub file_of : Command → List ℕ
 file_of (Hello file) = file
 file_of (Bundle _ file) = file
 file_of (Take file) = file
+file_of (Export file) = file
 file_of _ = []
 
 -- the file of the hello that a bundle answers
@@ -89,6 +90,10 @@ receipt = counted 1 1 (word digest id_of λ id. made (Receipt id))
 unfoldable pub settled : Form
 settled = counted 2 2 (word digest id_of λ id. word node_count nodes_asked λ k. made (Settled id k))
 
+-- `export FILE`
+unfoldable pub export : Form
+export = counted 1 1 (word file_name file_of λ file. made (Export file))
+
 -- ---- all kinds of commands
 
 abbrev pub verb_of : Command → Verb
@@ -100,6 +105,7 @@ verb_of (Bundle _ _) = verb.Bundle
 verb_of (Take _) = verb.Take
 verb_of (Receipt _) = verb.Receipt
 verb_of (Settled _ _) = verb.Settled
+verb_of (Export _) = verb.Export
 
 -- the first word of the line of a command
 abbrev pub name_of : Verb → List ℕ
@@ -111,6 +117,7 @@ name_of verb.Bundle = codes "bundle"
 name_of verb.Take = codes "take"
 name_of verb.Receipt = codes "receipt"
 name_of verb.Settled = codes "settled"
+name_of verb.Export = codes "export"
 
 -- the words behind it
 abbrev pub form_of : Verb → Form
@@ -122,6 +129,7 @@ form_of verb.Bundle = bundle
 form_of verb.Take = take
 form_of verb.Receipt = receipt
 form_of verb.Settled = settled
+form_of verb.Export = export
 
 -- the kind of command of this name
 unfoldable pub verb_named : List ℕ → Option Verb

@@ -23,6 +23,8 @@ pub enum Command {
     Receipt { id: Hash32 },
     /// Whether at least `k` nodes, 1 to 256, gave receipts for the update with this id that the node has accepted.
     Settled { id: Hash32, k: u32 },
+    /// The node's trace, with the reads of this script so far, becomes the file.
+    Export { file: FileName },
 }
 
 impl Command {
@@ -42,6 +44,7 @@ impl Command {
             Command::Take { .. } => Verb::Take,
             Command::Receipt { .. } => Verb::Receipt,
             Command::Settled { .. } => Verb::Settled,
+            Command::Export { .. } => Verb::Export,
         }
     }
 }

@@ -2,7 +2,7 @@
 ghost use Rattle.depot_schedule.specs.Language.{nothing, next};
 ghost use Rattle.depot_schedule.specs.Readers.{Gives, Reads};
 ghost use Rattle.depot_script.specs.Names.{file_name};
-ghost use Rattle.depot_script.specs.Commands.{put, puts, get, hello, bundle, take, receipt, settled, form_of};
+ghost use Rattle.depot_script.specs.Commands.{put, puts, get, hello, bundle, take, receipt, settled, export, form_of};
 
 use crate::command_verb::Verb;
 use crate::{Command, FileName};
@@ -106,6 +106,16 @@ fn settled(alloc: Global, words: &mut Parts<'_>) -> Result<Command, LineError>
     made(words, Command::Settled { id, k })
 }
 
+/// `export FILE`
+#[tactic(auto, unfolding(crate::specs::Commands::export))]
+fn export(alloc: Global, words: &mut Parts<'_>) -> Result<Command, LineError>
+    ensures { Gives result (export.read nothing words.old) }
+{
+    counted(words, 1, 1)?;
+    let file = file_name(alloc, words)?;
+    made(words, Command::Export { file })
+}
+
 /// The command of the words behind its name.
 pub fn command_of(alloc: Global, verb: Verb, words: &mut Parts<'_>) -> Result<Command, LineError>
     ensures { Gives result ((form_of verb).read nothing words.old) }
@@ -119,5 +129,6 @@ pub fn command_of(alloc: Global, verb: Verb, words: &mut Parts<'_>) -> Result<Co
         Verb::Take => take(alloc, words),
         Verb::Receipt => receipt(alloc, words),
         Verb::Settled => settled(alloc, words),
+        Verb::Export => export(alloc, words),
     }
 }

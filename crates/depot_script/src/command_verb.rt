@@ -23,10 +23,12 @@ pub enum Verb {
     Receipt,
     /// `settled ID K`
     Settled,
+    /// `export FILE`
+    Export,
 }
 
 /// Each kind of command once.
-pub const VERBS: [Verb; 8] = [
+pub const VERBS: [Verb; 9] = [
     Verb::Put,
     Verb::Puts,
     Verb::Get,
@@ -35,6 +37,7 @@ pub const VERBS: [Verb; 8] = [
     Verb::Take,
     Verb::Receipt,
     Verb::Settled,
+    Verb::Export,
 ];
 
 impl Verb {
@@ -51,6 +54,7 @@ impl Verb {
             Verb::Take => "take",
             Verb::Receipt => "receipt",
             Verb::Settled => "settled",
+            Verb::Export => "export",
         }
     }
 

@@ -1,7 +1,7 @@
 //! Writes the words behind the name of a command, each behind a space: one function a line of the table.
 ghost use Rattle.std.specs.Prelude.{◌≡◌, ◌++◌, OnOk};
 ghost use Rattle.depot_schedule.specs.Readers.{behind_spaces};
-ghost use Rattle.depot_script.specs.Commands.{put, puts, get, hello, bundle, take, receipt, settled, form_of, verb_of};
+ghost use Rattle.depot_script.specs.Commands.{put, puts, get, hello, bundle, take, receipt, settled, export, form_of, verb_of};
 
 use crate::{Command, FileName};
 use depot_base::{Bytes, Change, Hash32, Key, Memory, Value};
@@ -74,6 +74,14 @@ fn settled(alloc: Global, out: &mut Bytes, id: &Hash32, k: u32) -> Result<(), Me
     number(alloc, out, k as u64)
 }
 
+/// `export FILE`
+#[tactic(auto, using(depot_base::proofs::Writing::texts), unfolding(crate::specs::Commands::export))]
+fn export(out: &mut Bytes, file: &FileName) -> Result<(), Memory>
+    ensures { OnOk result (out.new ≡ out.old ++ behind_spaces (export.text (Command.Export file.now))) }
+{
+    word(out, file.text().as_bytes())
+}
+
 /// The words behind the name of a command.
 pub fn words_of_command(alloc: Global, out: &mut Bytes, command: &Command) -> Result<(), Memory>
     ensures { OnOk result (out.new ≡ out.old ++ behind_spaces ((form_of (verb_of command.now)).text command.now)) }
@@ -87,5 +95,6 @@ pub fn words_of_command(alloc: Global, out: &mut Bytes, command: &Command) -> Re
         Command::Take { file } => take(out, file),
         Command::Receipt { id } => receipt(alloc, out, id),
         Command::Settled { id, k } => settled(alloc, out, id, *k),
+        Command::Export { file } => export(out, file),
     }
 }

@@ -22,7 +22,7 @@ use Rattle.depot_world.specs.ScheduleStops.{Deed}
 use Rattle.depot_world.proofs.GoodDeeds.{read_is, never_falls}
 use Rattle.depot_world.proofs.GoodNodes.{begun_grows, read_grows}
 use Rattle.depot_session.specs.SessionRuns.{world_at}
-use Rattle.depot_session.specs.Sessions.{Session, bundle_step, bundle_to, step_of, take_from}
+use Rattle.depot_session.specs.Sessions.{Session, bundle_step, bundle_to, export_by, step_of, take_from}
 use Rattle.depot_session.proofs.StepGrowth.{step_grows, step_stays}
 
 -- ---- what is read
@@ -95,44 +95,34 @@ read_is_correct here c key is = record {
 
 -- ---- a step
 
+-- the command isn't a read
+abbrev pub IsNoGet : Command → Type 0
+IsNoGet (command.Get key) = ⊥
+IsNoGet other = Unit {0}
+
+-- it leaves what the node has read
+pub step_reads : (here : Setting) (sign : Signs) (s : Session) (c : Command) → IsNoGet c → (step_of here sign s c).session.correct.reads ≡ s.correct.reads
+unfolding step_of export_by
+step_reads here sign s (command.Put key value) other = put_reads here s.correct (one_change key value)
+step_reads here sign s (command.Puts changes) other = put_reads here s.correct changes
+step_reads here sign s (command.Get key) other = absurd other
+step_reads here sign s (command.Hello file) other = hello_reads here s.correct
+step_reads here sign s (command.Bundle hello file) other = by_file (s.files hello) where
+  by_file : (o : Option (List ℕ)) → (bundle_to here sign s hello file o).session.correct.reads ≡ s.correct.reads
+  by_file None = refl
+  by_file (Some bytes) = bundle_step_reads s hello file (bundle_by here sign s.correct bytes) (bundle_answer here sign s.correct.journal bytes) (bundle_reads here sign s.correct bytes)
+step_reads here sign s (command.Take file) other = by_file (s.files file) where
+  by_file : (o : Option (List ℕ)) → (take_from here s file o).session.correct.reads ≡ s.correct.reads
+  by_file None = refl
+  by_file (Some bytes) = give_reads here s.correct bytes
+step_reads here sign s (command.Receipt id) other = receipt_reads here s.correct (id ∷ [])
+step_reads here sign s (command.Settled id k) other = settled_reads s.correct id k
+step_reads here sign s (command.Export file) other = refl
+
 module _ (here : Setting) (sign : Signs) (s : Session) (correct : IsCorrect (world_at here) s.correct) (at : s.correct.node ≡ here.me) where
   -- a command that leaves the reads
-  by_reads : (c : Command) → (step_of here sign s c).session.correct.reads ≡ s.correct.reads → IsLawful here (step_of here sign s c).session.correct.journal → IsCorrect (world_at here) (step_of here sign s c).session.correct
-  by_reads c reads lawful = more_is_correct here s.correct (step_of here sign s c).session.correct correct (step_stays here sign s c) (step_stays here sign s c ∙ at) (step_grows here sign s c) reads lawful
-
-  put_step : (key value : List ℕ) → (step_of here sign s (command.Put key value)).session.correct.reads ≡ s.correct.reads
-  unfolding step_of
-  put_step key value = put_reads here s.correct (one_change key value)
-
-  puts_step : (changes : List Change) → (step_of here sign s (command.Puts changes)).session.correct.reads ≡ s.correct.reads
-  unfolding step_of
-  puts_step changes = put_reads here s.correct changes
-
-  receipt_made : (id : List ℕ) → (step_of here sign s (command.Receipt id)).session.correct.reads ≡ s.correct.reads
-  unfolding step_of
-  receipt_made id = receipt_reads here s.correct (id ∷ [])
-
-  settled_step : (id : List ℕ) (k : ℕ) → (step_of here sign s (command.Settled id k)).session.correct.reads ≡ s.correct.reads
-  unfolding step_of
-  settled_step id k = settled_reads s.correct id k
-
-  hello_step : (file : List ℕ) → (step_of here sign s (command.Hello file)).session.correct.reads ≡ s.correct.reads
-  unfolding step_of
-  hello_step file = hello_reads here s.correct
-
-  bundle_made : (hello file : List ℕ) → (step_of here sign s (command.Bundle hello file)).session.correct.reads ≡ s.correct.reads
-  unfolding step_of
-  bundle_made hello file = by_file (s.files hello) where
-    by_file : (o : Option (List ℕ)) → (bundle_to here sign s hello file o).session.correct.reads ≡ s.correct.reads
-    by_file None = refl
-    by_file (Some bytes) = bundle_step_reads s hello file (bundle_by here sign s.correct bytes) (bundle_answer here sign s.correct.journal bytes) (bundle_reads here sign s.correct bytes)
-
-  take_step : (file : List ℕ) → (step_of here sign s (command.Take file)).session.correct.reads ≡ s.correct.reads
-  unfolding step_of
-  take_step file = by_file (s.files file) where
-    by_file : (o : Option (List ℕ)) → (take_from here s file o).session.correct.reads ≡ s.correct.reads
-    by_file None = refl
-    by_file (Some bytes) = give_reads here s.correct bytes
+  by_reads : (c : Command) → IsNoGet c → IsLawful here (step_of here sign s c).session.correct.journal → IsCorrect (world_at here) (step_of here sign s c).session.correct
+  by_reads c other lawful = more_is_correct here s.correct (step_of here sign s c).session.correct correct (step_stays here sign s c) (step_stays here sign s c ∙ at) (step_grows here sign s c) (step_reads here sign s c other) lawful
 
   get_step : (key : List ℕ) → IsCorrect (world_at here) (step_of here sign s (command.Get key)).session.correct
   unfolding step_of get_by
@@ -140,11 +130,5 @@ module _ (here : Setting) (sign : Signs) (s : Session) (correct : IsCorrect (wor
 
   -- a correct node is one after any command, if its journal is lawful
   pub step_is_correct : (c : Command) → IsLawful here (step_of here sign s c).session.correct.journal → IsCorrect (world_at here) (step_of here sign s c).session.correct
-  step_is_correct (command.Put key value) lawful = by_reads (command.Put key value) (put_step key value) lawful
-  step_is_correct (command.Puts changes) lawful = by_reads (command.Puts changes) (puts_step changes) lawful
   step_is_correct (command.Get key) lawful = get_step key
-  step_is_correct (command.Hello file) lawful = by_reads (command.Hello file) (hello_step file) lawful
-  step_is_correct (command.Bundle hello file) lawful = by_reads (command.Bundle hello file) (bundle_made hello file) lawful
-  step_is_correct (command.Take file) lawful = by_reads (command.Take file) (take_step file) lawful
-  step_is_correct (command.Receipt id) lawful = by_reads (command.Receipt id) (receipt_made id) lawful
-  step_is_correct (command.Settled id k) lawful = by_reads (command.Settled id k) (settled_step id k) lawful
+  step_is_correct other lawful = by_reads other tt lawful

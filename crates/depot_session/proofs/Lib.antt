@@ -12,10 +12,12 @@ pub mod ReceiptTurns
 pub mod GetTurns
 pub mod SettledTurns
 pub mod HelloTurns
+pub mod ExportTurns
 pub mod BundleTurns
 pub mod TakeTurns
 pub mod GoingOn
 pub mod CorrectSteps
+pub mod KeptSteps
 pub mod AskedShelves
 pub mod PlayedScripts
 pub mod RunImages

@@ -1,5 +1,5 @@
 -- A script that is played, command by command.
-use Rattle.std.proofs.Common.{◌≡◌, ◌≤◌, ◌<◌, ◌⊎◌, ℕ, suc, ◌+◌, Bool, false, IsTrue, List, [], ◌∷◌, ◌++◌, append_assoc, length, get_or, take, drop, take-append-drop, drop-cons, Some, None, Result, Ok, Err, refl, sym, ap, subst, ◌∙◌, arith, inl, inr}
+use Rattle.std.proofs.Common.{◌≡◌, ◌≤◌, ◌<◌, ◌⊎◌, ℕ, suc, ◌+◌, Bool, false, IsTrue, List, [], ◌∷◌, ◌++◌, append_assoc, length, get_or, take, drop, take-append-drop, drop-cons, Option, Some, None, Result, Ok, Err, refl, sym, ap, subst, ◌∙◌, arith, inl, inr}
 use Rattle.std.proofs.Math.Nat.{eq-or-lt_of_le}
 use Rattle.std.specs.Prelude.{IfSome, is_err}
 use Rattle.std.specs.List.{flat_map}
@@ -18,8 +18,10 @@ use Rattle.depot_outside.specs.Told.{Shelves, Sinks, Wrote, shelves, sinks}
 use Rattle.depot_outside.specs.declared.shelf.Shelf as shelf_of
 use Rattle.depot_outside.specs.declared.sink.Sink as sink_of
 use Rattle.depot_script.specs.declared.command.Command.{Command}
+use Rattle.depot_traces.specs.declared.trace.ReadTrace.{ReadTrace}
 use Rattle.depot_session.specs.declared.ending.Ending.{Ending}
 use Rattle.depot_session.specs.declared.ending.Ending.TheVariants as ending
+use Rattle.depot_session.specs.KeptReads.{AreOfRun, KeepsReads}
 use Rattle.depot_session.specs.Sessions.{Answers, Session, answers_of, loads_of, step_of, stores_of}
 use Rattle.depot_session.specs.SessionRuns.{AsksShort, FailsFor, IsCutBy, IsLast, IsToBeWritten, Pending, pending_for, world_at}
 use Rattle.depot_session.specs.ScriptTelling.{Asked, TellsShelf, asked}
@@ -138,9 +140,9 @@ module _ {N O F K : Type 0} (g : Ghosts N O) (f : shelf_of.Ghosts F) (k : sink_o
   abbrev pub HoldsAt : (Setting → Signs → Session → Type 0) → Setting → Signs → Type 0
   HoldsAt P here sign = (s : Session) → IsTrue (f.tells shelf_mid) → IsAt here (g.records mid) (f.file shelf_mid) s → P here sign s
 
-  -- a command as it goes there
-  abbrev pub TurnsAt : Command → Result (Unit {0}) Ending → Setting → Signs → Type 0
-  TurnsAt c r = HoldsAt (λ here sign s. Turns g mid new c (step_of here sign s c) (shelves f shelf_mid shelf_new) (sinks k out_mid out_new) r)
+  -- a command as it goes there, where these reads of the run are kept
+  abbrev pub TurnsAt : Command → Option (List ReadTrace) → Result (Unit {0}) Ending → Setting → Signs → Type 0
+  TurnsAt c reads r = HoldsAt (λ here sign s. AreOfRun s reads → Turns g mid new c (step_of here sign s c) (shelves f shelf_mid shelf_new) (sinks k out_mid out_new) r)
 
   -- one that ends the run by what it comes to stores nothing
   abbrev pub UnstoredAt : Command → Setting → Signs → Type 0
@@ -255,25 +257,36 @@ module _ {N O F K : Type 0} (g : Ghosts N O) (f : shelf_of.Ghosts F) (k : sink_o
     stopped_at rest e stays loads stores unstored (inr b) = inr (broken rest e (record { loads = inr loads; stores = stores }) b)
 
   module _ (s : Session) (cs : List Command) (i : ℕ) (c : Command) (within : i < length cs) (is : c ≡ get_or cs i c) (kept : IsKeptOn g f k first mid shelf_first shelf_mid out_first out_mid) (told : IsTrue (f.tells shelf_first))
-      (are : AreDone g mid (g.stands first) (g.signature_of first) s (take i cs) (shelves f shelf_first shelf_mid) (sinks k out_first out_mid)) (stays : g.stands new ≡ g.stands mid) where
+      (are : AreDone g mid (g.stands first) (g.signature_of first) s (take i cs) (shelves f shelf_first shelf_mid) (sinks k out_first out_mid)) (stays : g.stands new ≡ g.stands mid)
+      (reads : Option (List ReadTrace)) (of_run : AreOfRun (answers_of (g.stands first) (g.signature_of first) s (take i cs)).session reads) where
     -- what holds where the next command begins
     at_next : (P : Setting → Signs → Session → Type 0) → HoldsAt P (g.stands mid) (g.signature_of mid) → P (g.stands first) (g.signature_of first) (answers_of (g.stands first) (g.signature_of first) s (take i cs)).session
     at_next P holds = from_first P kept holds (answers_of (g.stands first) (g.signature_of first) s (take i cs)).session (subst (λ (x : Bool). IsTrue x) (sym kept.same_shelf) told) are.at
 
     -- what the next command comes to
-    next_turns : (r : Result (Unit {0}) Ending) → TurnsAt c r (g.stands mid) (g.signature_of mid)
+    next_turns : (r : Result (Unit {0}) Ending) → TurnsAt c reads r (g.stands mid) (g.signature_of mid)
         → Turns g mid new c (step_of (g.stands first) (g.signature_of first) (answers_of (g.stands first) (g.signature_of first) s (take i cs)).session c) (shelves f shelf_mid shelf_new) (sinks k out_mid out_new) r
-    next_turns r turns = at_next (λ here sign t. Turns g mid new c (step_of here sign t c) (shelves f shelf_mid shelf_new) (sinks k out_mid out_new) r) turns
+    next_turns r turns = at_next (λ here sign t. AreOfRun t reads → Turns g mid new c (step_of here sign t c) (shelves f shelf_mid shelf_new) (sinks k out_mid out_new) r) turns of_run
 
     -- the next command is done
-    pub are_done_more : TurnsAt c (Ok tt) (g.stands mid) (g.signature_of mid) → AreDone g new (g.stands first) (g.signature_of first) s (take (i + 1) cs) (shelves f shelf_first shelf_new) (sinks k out_first out_new)
+    pub are_done_more : TurnsAt c reads (Ok tt) (g.stands mid) (g.signature_of mid) → AreDone g new (g.stands first) (g.signature_of first) s (take (i + 1) cs) (shelves f shelf_first shelf_new) (sinks k out_first out_new)
     are_done_more turns =
         let t = next_turns (Ok tt) turns in
         subst (λ (done : List Command). AreDone g new (g.stands first) (g.signature_of first) s done (shelves f shelf_first shelf_new) (sinks k out_first out_new)) (sym (take_next cs i c within is)) (done_more s (take i cs) c kept are stays t.0 t.1)
 
+    -- what is kept then are the reads of the run
+    pub of_run_more : (now : Option (List ReadTrace)) → TurnsAt c reads (Ok tt) (g.stands mid) (g.signature_of mid) → KeepsReads (g.stands mid) (g.signature_of mid) (g.records mid) c reads now
+        → AreOfRun (answers_of (g.stands first) (g.signature_of first) s (take (i + 1) cs)).session now
+    of_run_more now turns keeps =
+        let here = g.stands first in
+        let sign = g.signature_of first in
+        let t = (answers_of here sign s (take i cs)).session in
+        let kept_then : KeepsReads here sign (g.records mid) c reads now = subst (λ (x : Signs). KeepsReads here x (g.records mid) c reads now) kept.same.signs (subst (λ (h : Setting). KeepsReads h (g.signature_of mid) (g.records mid) c reads now) kept.same.stands keeps) in
+        subst (λ (a : Answers). AreOfRun a.session now) (sym (ap (answers_of here sign s) (take_next cs i c within is) ∙ more_answers here sign s (take i cs) c are.go_on (next_turns (Ok tt) turns).0)) (kept_then.of_run t are.at.journal of_run)
+
     -- the next command ends the run or is cut short
     pub plays_to : (e : Ending) → f.loads shelf_mid ≡ f.loads shelf_first ++ flat_map loads_of (take i cs) → f.stores shelf_mid ≡ f.stores shelf_first ++ flat_map stores_of (take i cs) → f.loads shelf_new ≡ f.loads shelf_mid ++ loads_of c
-        → (f.stores shelf_new ≡ f.stores shelf_mid) ⊎ (f.stores shelf_new ≡ f.stores shelf_mid ++ stores_of c) → UnstoredAt c (g.stands mid) (g.signature_of mid) → TurnsAt c (Err e) (g.stands mid) (g.signature_of mid)
+        → (f.stores shelf_new ≡ f.stores shelf_mid) ⊎ (f.stores shelf_new ≡ f.stores shelf_mid ++ stores_of c) → UnstoredAt c (g.stands mid) (g.signature_of mid) → TurnsAt c reads (Err e) (g.stands mid) (g.signature_of mid)
         → Plays g first new (g.stands first) (g.signature_of first) s cs (shelves f shelf_first shelf_new) (asked f shelf_first shelf_new) (sinks k out_first out_new) (Err e)
     plays_to e loaded stored loads stores unstored turns =
         let here = g.stands first in

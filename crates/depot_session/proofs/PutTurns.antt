@@ -79,6 +79,7 @@ step_of_put here sign s (command.Bundle hello file) changes is = absurd is
 step_of_put here sign s (command.Take file) changes is = absurd is
 step_of_put here sign s (command.Receipt id) changes is = absurd is
 step_of_put here sign s (command.Settled id k) changes is = absurd is
+step_of_put here sign s (command.Export file) changes is = absurd is
 
 -- the journal after a put that meets this limit, or none
 put_journal : (here : Setting) (s : Session) (c : Command) (changes : List Change) (o : Option Limit) → here.me ≡ s.correct.node → limit_of_put here s.correct.journal changes ≡ o

@@ -1,4 +1,5 @@
 pub mod Sessions
+pub mod KeptReads
 pub mod SessionRuns
 pub mod ScriptTelling
 pub mod Turns

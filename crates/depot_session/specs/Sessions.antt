@@ -1,6 +1,7 @@
 -- What a script makes a node do, command by command: the lines, the journal, the files, and how the run ends.
-use Rattle.std.specs.Prelude.{◌≡◌, ◌⊎◌, ℕ, List, [], ◌∷◌, ◌++◌, take, Option, Some, None, codes, if◌then◌else◌}
+use Rattle.std.specs.Prelude.{◌≡◌, ◌⊎◌, ℕ, List, [], ◌∷◌, ◌++◌, length, take, drop, Option, Some, None, codes, if◌then◌else◌}
 use Rattle.std.specs.Str.{bytes_eq}
+use Rattle.depot_answers.specs.Answers.{spaced, text_of_traced}
 use Rattle.depot_base.specs.Writes.{one_change}
 use Rattle.depot_base.specs.declared.record.Record.{Record}
 use Rattle.depot_base.specs.declared.write.Change.{Change}
@@ -9,11 +10,14 @@ use Rattle.depot_model.specs.Checks.{Setting}
 use Rattle.depot_model.specs.Feeding.{Closing, ill_formed, out_of_room, feed_of}
 use Rattle.depot_model.specs.Limits.{Limit, limit_of_put}
 use Rattle.depot_model.specs.Receipts.{NoReceipt, no_receipt, receipt_changes}
+use Rattle.depot_model.specs.Traces.{Trace}
 use Rattle.depot_model.specs.World.{Correct, Read}
 use Rattle.depot_schedule.specs.Language.{join}
 use Rattle.depot_script.specs.Scripts.{command_words}
 use Rattle.depot_script.specs.declared.command.Command.{Command}
 use Rattle.depot_script.specs.declared.command.Command.TheVariants as command
+use Rattle.depot_traces.specs.ToldTraces.{file_of_trace}
+use Rattle.depot_world.specs.Audits.{trace_with}
 use Rattle.depot_world.specs.Deeds.{put_by, get_by, hello_by, bundle_by, give_by, receipt_by, settled_by}
 use Rattle.depot_world.specs.ScheduleStops.{Deed}
 use Rattle.depot_deeds.specs.Printing.{lines_of_deed}
@@ -31,14 +35,23 @@ Files = List ℕ → Option (List ℕ)
 abbrev pub stored : Files → List ℕ → List ℕ → Files
 stored files name bytes other = if bytes_eq other name then Some bytes else files other
 
--- a node between two commands, and the files
+-- a node between two commands, how many of its reads were made in runs before this one, and the files
 pub record Session : Type 0 where
   pub correct : Correct
+  pub earlier : ℕ
   pub files : Files
 
--- A node as it is started from a journal, which gets a birth where it has no records. Its reads of earlier sessions go on.
+-- A node as it is started from a journal, which gets a birth where it has no records. Its reads of earlier runs go on.
 abbrev pub session_from : Setting → List Record → List Read → Files → Session
-session_from here J reads files = record { correct = record { node = here.me; journal = started here J; reads = reads }; files = files }
+session_from here J reads files = record { correct = record { node = here.me; journal = started here J; reads = reads }; earlier = length reads; files = files }
+
+-- the reads of this run
+abbrev pub reads_of_run : Session → List Read
+reads_of_run s = drop s.earlier s.correct.reads
+
+-- what the node hands in for an audit: its record texts, and the reads of this run
+abbrev pub trace_of_run : Session → Trace
+trace_of_run s = trace_with s.correct (reads_of_run s)
 
 -- ---- one command
 
@@ -63,7 +76,7 @@ lines_of_command c d = join 32 (take (printed_count c) (command_words c)) ++ cod
 abbrev pub carried_out : Session → Command → Deed → Option Ending → Step
 carried_out s c d ends = record {
   text = lines_of_command c d;
-  session = record { correct = record { node = s.correct.node; journal = d.journal; reads = d.reads }; files = s.files };
+  session = record { correct = record { node = s.correct.node; journal = d.journal; reads = d.reads }; earlier = s.earlier; files = s.files };
   ending = ends;
 }
 
@@ -71,7 +84,7 @@ carried_out s c d ends = record {
 abbrev pub carried_out_storing : Session → Command → Deed → List ℕ → Step
 carried_out_storing s c d file = record {
   text = lines_of_command c d;
-  session = record { correct = record { node = s.correct.node; journal = d.journal; reads = d.reads }; files = stored s.files file d.bytes };
+  session = record { correct = record { node = s.correct.node; journal = d.journal; reads = d.reads }; earlier = s.earlier; files = stored s.files file d.bytes };
   ending = None;
 }
 
@@ -79,6 +92,7 @@ carried_out_storing s c d file = record {
 abbrev pub StoresAs : Command → List ℕ → Type 0
 StoresAs (command.Hello file) name = file ≡ name
 StoresAs (command.Bundle hello file) name = file ≡ name
+StoresAs (command.Export file) name = file ≡ name
 StoresAs other name = ⊥
 
 -- the command loads or stores a file of this name
@@ -86,6 +100,7 @@ abbrev pub Names : Command → List ℕ → Type 0
 Names (command.Hello file) name = file ≡ name
 Names (command.Bundle hello file) name = (hello ≡ name) ⊎ (file ≡ name)
 Names (command.Take file) name = file ≡ name
+Names (command.Export file) name = file ≡ name
 Names other name = ⊥
 
 -- the names of the files that a command loads
@@ -98,6 +113,7 @@ loads_of other = []
 abbrev pub stores_of : Command → List (List ℕ)
 stores_of (command.Hello file) = file ∷ []
 stores_of (command.Bundle hello file) = file ∷ []
+stores_of (command.Export file) = file ∷ []
 stores_of other = []
 
 abbrev pub shelf_line : List ℕ → List ℕ
@@ -160,6 +176,17 @@ put_step here s c changes = carried_out s c (put_by here s.correct changes) (end
 abbrev pub receipt_step : Setting → Session → Command → List (List ℕ) → Step
 receipt_step here s c ids = carried_out s c (receipt_by here s.correct ids) (ending_of_receipt (no_receipt s.correct.journal ids) (limit_of_put here s.correct.journal (receipt_changes ids)))
 
+-- the node hands in its trace, and stays as it is
+unfoldable pub export_by : Session → Deed
+export_by s = record {
+  journal = s.correct.journal;
+  reads = s.correct.reads;
+  calls = 0;
+  answer = spaced (text_of_traced (length s.correct.journal) (length (reads_of_run s)));
+  behind = [];
+  bytes = file_of_trace (trace_of_run s);
+}
+
 unfoldable pub step_of : Setting → Signs → Session → Command → Step
 step_of here sign s (command.Put key value) = put_step here s (command.Put key value) (one_change key value)
 step_of here sign s (command.Puts changes) = put_step here s (command.Puts changes) changes
@@ -169,6 +196,7 @@ step_of here sign s (command.Bundle hello file) = bundle_to here sign s hello fi
 step_of here sign s (command.Take file) = take_from here s file (s.files file)
 step_of here sign s (command.Receipt id) = receipt_step here s (command.Receipt id) (id ∷ [])
 step_of here sign s (command.Settled id k) = carried_out s (command.Settled id k) (settled_by s.correct id k) None
+step_of here sign s (command.Export file) = carried_out_storing s (command.Export file) (export_by s) file
 
 -- ---- a script
 

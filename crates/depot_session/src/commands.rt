@@ -1,35 +1,46 @@
 //! The commands of a script.
-ghost use Rattle.std.specs.Prelude.{◌≡◌, ◌↔◌, ◌++◌, ◌∷◌, [], ℕ, List, false, None, IfOk, IfErr, IfSome, IsErrOf, IsTrue, is_ok};
+ghost use Rattle.std.specs.Prelude.{◌≡◌, ◌≤◌, ◌↔◌, ◌++◌, ◌∷◌, [], ℕ, List, false, None, length, map, IfOk, IfErr, IfSome, IsErrOf, IsSome, IsTrue, OnOk, is_ok};
+ghost use Rattle.std.specs.List.{AllByRecursion};
 ghost use Rattle.depot_base.specs.Writes.{one_change};
+ghost use Rattle.depot_base.specs.declared.limits.TheConstants.{MOST_LINES};
 ghost use Rattle.depot_base.specs.declared.record.Record.{Record};
 ghost use Rattle.depot_model.specs.Bundle.{Signs, bundle_answer};
 ghost use Rattle.depot_model.specs.Changes.{AreChanges};
 ghost use Rattle.depot_model.specs.Checks.{Setting};
 ghost use Rattle.depot_model.specs.Feeding.{Feeding};
+ghost use Rattle.depot_model.specs.Records.{text_of_record};
 ghost use Rattle.depot_outside.specs.Told.{Shelves, shelves, sinks};
 ghost use Rattle.depot_gossip.specs.Bundling.{Bundles};
 ghost use Rattle.depot_deeds.specs.Printing.{IsToldOf, SettlesBundle};
 ghost use Rattle.depot_schedule.specs.PutKeys.{WriteNoReceipts};
 ghost use Rattle.depot_script.specs.Scripts.{FitsCommand};
-ghost use Rattle.depot_session.specs.Sessions.{Session, IsPut, loads_of, step_of, stores_of};
+ghost use Rattle.depot_traces.specs.SeenTraces as seen;
+ghost use Rattle.depot_traces.specs.ToldTraces.{file_of_trace};
+ghost use Rattle.depot_traces.specs.TraceTexts.{read_text};
+ghost use Rattle.depot_traces.specs.declared.trace.TheConstants.{MOST_READS};
+ghost use Rattle.depot_world.specs.Audits.{traced_read};
+ghost use Rattle.depot_session.specs.KeptReads.{AreOfRun, FitWithin, KeepsReads, is_export};
+ghost use Rattle.depot_session.specs.Sessions.{Session, IsPut, loads_of, reads_of_run, step_of, stores_of};
 ghost use Rattle.depot_session.specs.Sessions as sessions;
 ghost use Rattle.depot_session.specs.ScriptTelling.{IsUnchanged, StoresUnder, TellsShelf};
 ghost use Rattle.depot_session.specs.Turns.{IsAt, IsRunning, Keeps, Turns, ends_of_receipt};
 
 use crate::ending::Ending;
+use crate::kept_reads::{keep, kept};
 use crate::local::Local;
 use crate::telling::{disk_failed, load, no_file, store_and_tell, tell};
 use depot_answers::Closing;
-use depot_base::{Changes, Hash32, Ids, Key, Memory, Value};
+use depot_base::{Bytes, Changes, Hash32, Ids, Key, Memory, Value};
 use depot_deeds::{
-    Fed, bundle_printed, fed_printed, feed_whole, hello_line, put_printed, receipt_printed,
-    settled_line,
+    Fed, bundle_printed, fed_printed, feed_whole, hello_line, node_trace, put_printed,
+    receipt_printed, settled_line, traced_line,
 };
-use depot_gossip::{BundleError, Bundled, FeedError, bundle, hello};
+use depot_gossip::{BundleError, Bundled, FeedError, bundle, encode_hello, node_hello};
 use depot_node::PutDone;
 use depot_outside::{Shelf, Sink};
 use depot_receipts::GiveError;
 use depot_script::{Command, FileName};
+use depot_traces::{ReadTrace, Reads, encode_trace};
 use std::alloc::Global;
 
 /// Puts these changes, for which the command asks, and tells of it.
@@ -105,12 +116,13 @@ fn put_changes<R: Local, K: Sink>(
     put(alloc, node, command, changes, out)
 }
 
-/// Reads a key, and tells what it reads.
+/// Reads a key, keeps the read if reads are kept, and tells what it reads.
 fn get<R: Local, K: Sink>(
     alloc: Global,
     node: &R,
     command: &Command,
     key: &Key,
+    reads: &mut Option<Reads>,
     out: &mut K,
 ) -> Result<(), Ending>
     requires command { command.now ≡ Command.Get key.now }
@@ -118,8 +130,10 @@ fn get<R: Local, K: Sink>(
     ensures keeps { Keeps R.Replica node.now node.now (sinks K.Sink out.old out.new) result }
     ensures turns { (shelf : Shelves) (s : Session) → IsUnchanged shelf → IsAt (R.stands node.now) (R.records node.now) shelf.file s → Turns R.Replica node.now node.now command.now (step_of (R.stands node.now) (R.signature_of node.now) s command.now) shelf (sinks K.Sink out.old out.new) result }
     ensures same { K.tells out.new ≡ K.tells out.old }
+    ensures reads { OnOk result (KeepsReads (R.stands node.now) (R.signature_of node.now) (R.records node.now) command.now reads.old reads.new) }
 {
     let lines = node.read(alloc, key)?;
+    keep(alloc, node, key, reads)?;
     tell(alloc, command, &lines, None, out)
 }
 
@@ -205,8 +219,9 @@ fn say_hello<R: Local, F: Shelf, K: Sink>(
     ensures same_shelf { F.tells shelf.new ≡ F.tells shelf.old }
     ensures shelf { TellsShelf (F.faults shelf.old) (F.faults shelf.new) (F.failed shelf.old) (F.failed shelf.new) result }
 {
-    let text = hello(alloc, node)?;
-    let lines = hello_line(alloc, text.as_slice())?;
+    let told = node_hello(node)?;
+    let text = encode_hello(alloc, &told)?;
+    let lines = hello_line(alloc, &told)?;
     store_and_tell(alloc, command, &lines, file, &text, shelf, out)
 }
 
@@ -318,18 +333,60 @@ fn take<R: Local, F: Shelf, K: Sink>(
     }
 }
 
-/// Carries out a command of a script. Ok where the run goes on, and else how it ends.
+/// The text of a node's trace with these reads.
+fn trace_text<R: Local>(alloc: Global, node: &R, reads: &[ReadTrace]) -> Result<Bytes, Memory>
+    requires few { length reads.now ≤ MOST_READS }
+    requires fit { AllByRecursion read_text.fits reads.now }
+    ensures { IfOk result (λ text. text ≡ file_of_trace (record { node = (R.stands node.now).me; texts = map text_of_record (R.records node.now); reads = map seen.read_of reads.now })) }
+{
+    let trace = node_trace(alloc, node, reads)?;
+    encode_trace(alloc, &trace)
+}
+
+/// Stores the node's trace with these reads, and tells of it.
+fn export<R: Local, F: Shelf, K: Sink>(
+    alloc: Global,
+    node: &R,
+    command: &Command,
+    file: &FileName,
+    reads: &[ReadTrace],
+    shelf: &mut F,
+    out: &mut K,
+) -> Result<(), Ending>
+    requires command { command.now ≡ Command.Export file.now }
+    requires running { IsRunning R.Replica node.now }
+    requires few { length reads.now ≤ MOST_READS }
+    requires fit { AllByRecursion read_text.fits reads.now }
+    ensures keeps { Keeps R.Replica node.now node.now (sinks K.Sink out.old out.new) result }
+    ensures turns { (s : Session) → IsTrue (F.tells shelf.old) → IsAt (R.stands node.now) (R.records node.now) (F.file shelf.old) s → map seen.read_of reads.now ≡ map traced_read (reads_of_run s) → Turns R.Replica node.now node.now command.now (step_of (R.stands node.now) (R.signature_of node.now) s command.now) (shelves F.Shelf shelf.old shelf.new) (sinks K.Sink out.old out.new) result }
+    ensures same { K.tells out.new ≡ K.tells out.old }
+    ensures loads { F.loads shelf.new ≡ F.loads shelf.old }
+    ensures stores { StoresUnder (F.stores shelf.old) (F.stores shelf.new) (file.now ∷ []) result }
+    ensures same_shelf { F.tells shelf.new ≡ F.tells shelf.old }
+    ensures shelf { TellsShelf (F.faults shelf.old) (F.faults shelf.new) (F.failed shelf.old) (F.failed shelf.new) result }
+{
+    let text = trace_text(alloc, node, reads)?;
+    let lines = traced_line(alloc, node.record_count(), reads.len() as u32)?;
+    store_and_tell(alloc, command, &lines, file, &text, shelf, out)
+}
+
+/// Carries out a command of a script. Ok where the run goes on, and else how it ends. The reads of the run are kept if they were before; one that
+/// hands in a trace wants them.
 pub fn carry_out<R: Local, F: Shelf, K: Sink>(
     alloc: Global,
     node: &mut R,
     command: &Command,
+    reads: &mut Option<Reads>,
     shelf: &mut F,
     out: &mut K,
 ) -> Result<(), Ending>
     requires fits { FitsCommand command.now }
     requires running { IsRunning R.Replica node.old }
+    requires kept { IsTrue (is_export command.now) → IsSome reads.old }
+    requires few { FitWithin MOST_LINES reads.old }
     ensures keeps { Keeps R.Replica node.old node.new (sinks K.Sink out.old out.new) result }
-    ensures turns { (s : Session) → IsTrue (F.tells shelf.old) → IsAt (R.stands node.old) (R.records node.old) (F.file shelf.old) s → Turns R.Replica node.old node.new command.now (step_of (R.stands node.old) (R.signature_of node.old) s command.now) (shelves F.Shelf shelf.old shelf.new) (sinks K.Sink out.old out.new) result }
+    ensures turns { (s : Session) → IsTrue (F.tells shelf.old) → IsAt (R.stands node.old) (R.records node.old) (F.file shelf.old) s → AreOfRun s reads.old → Turns R.Replica node.old node.new command.now (step_of (R.stands node.old) (R.signature_of node.old) s command.now) (shelves F.Shelf shelf.old shelf.new) (sinks K.Sink out.old out.new) result }
+    ensures reads { OnOk result (KeepsReads (R.stands node.old) (R.signature_of node.old) (R.records node.old) command.now reads.old reads.new) }
     ensures same { K.tells out.new ≡ K.tells out.old }
     ensures loads { F.loads shelf.new ≡ F.loads shelf.old ++ loads_of command.now }
     ensures stores { StoresUnder (F.stores shelf.old) (F.stores shelf.new) (stores_of command.now) result }
@@ -340,7 +397,7 @@ pub fn carry_out<R: Local, F: Shelf, K: Sink>(
     match command {
         Command::Put { key, value } => put_value(alloc, node, command, key, value, out),
         Command::Puts { changes } => put_changes(alloc, node, command, changes, out),
-        Command::Get { key } => get(alloc, node, command, key, out),
+        Command::Get { key } => get(alloc, node, command, key, reads, out),
         Command::Hello { file } => say_hello(alloc, node, command, file, shelf, out),
         Command::Bundle { hello, file } => {
             make_bundle(alloc, node, command, hello, file, shelf, out)
@@ -348,5 +405,6 @@ pub fn carry_out<R: Local, F: Shelf, K: Sink>(
         Command::Take { file } => take(alloc, node, command, file, shelf, out),
         Command::Receipt { id } => give_receipt(alloc, node, command, id, out),
         Command::Settled { id, k } => tell_settled(alloc, node, command, id, *k, out),
+        Command::Export { file } => export(alloc, node, command, file, kept(reads), shelf, out),
     }
 }

@@ -7,6 +7,8 @@
 //! Where the receipts of the file's journal are true (`depot_receipts`), so they are in every image of a run: only the command `receipt` writes
 //! their keys. `session_laws` says what stands in each image then.
 //!
+//! Where a script hands in a trace, the reads of the run are kept, as traces tell them (`kept_reads`); a run of another script keeps none.
+//!
 //! The node is known as a `Local`, a `Peer` that writes and reads and gives receipts. `commands` has the commands, each of which changes the node, then the
 //! shelf, and tells of it last; `telling` writes lines, `command_heads` the words of a command, `whole_script` a whole script, and `running` the run with
 //! its start.
@@ -15,6 +17,7 @@
 mod command_heads;
 mod commands;
 mod ending;
+mod kept_reads;
 mod local;
 mod running;
 mod session_laws;

@@ -11,14 +11,19 @@ ghost use Rattle.depot_model.specs.Stops.{Lasts};
 ghost use Rattle.depot_decide.specs.Putting.{Puts, put_records};
 ghost use Rattle.depot_model.specs.ShownWrites.{shown_of};
 ghost use Rattle.depot_receipts.specs.Giving.{Gives, receipt_records};
+ghost use Rattle.depot_traces.specs.SeenTraces as seen;
+ghost use Rattle.depot_traces.specs.TraceTexts.{read_text};
+ghost use Rattle.depot_world.specs.Audits.{traced_read};
+ghost use Rattle.depot_world.specs.Deeds.{read_of};
 ghost use Rattle.depot_world.specs.Transcript.{ended};
 
 use depot_base::{Bytes, Changes, Hash32, Ids, Key, Memory};
-use depot_deeds::{has_receipts, shown_line};
+use depot_deeds::{has_receipts, read_traced, shown_line};
 use depot_model::{Peer, Scheme, Signer};
 use depot_node::{Node, PutDone, PutError};
 use depot_outside::Disk;
 use depot_receipts::{GiveError, give};
+use depot_traces::ReadTrace;
 use std::alloc::Global;
 
 /// A node that is at hand: it writes and reads, too, and gives receipts.
@@ -37,6 +42,11 @@ pub trait Local: Peer {
     fn read(&self, alloc: Global, key: &Key) -> Result<Bytes, Memory>
         requires { Self.stopped self.now ≡ false }
         ensures { IfOk result (λ line. line ≡ ended (shown_text (shown_of (Self.records self.now) key.now))) };
+
+    /// A read of a key, as a trace tells it: as `depot_deeds::read_traced` says.
+    fn traced_read(&self, alloc: Global, key: &Key) -> Result<ReadTrace, Memory>
+        requires { Self.stopped self.now ≡ false }
+        ensures { IfOk result (λ r. read_text.fits r × (seen.read_of r ≡ traced_read (read_of (Self.records self.now) key.now))) };
 
     /// It gives receipts for 1 to 16 ids, rising strictly, as `depot_receipts::give` says.
     fn receipt(&mut self, alloc: Global, ids: &Ids) -> Result<PutDone, GiveError>
@@ -62,6 +72,10 @@ impl<D: Disk, S: Scheme, G: Signer<Of = S>> Local for Node<D, S, G> {
 
     fn read(&self, alloc: Global, key: &Key) -> Result<Bytes, Memory> {
         shown_line(alloc, self, key)
+    }
+
+    fn traced_read(&self, alloc: Global, key: &Key) -> Result<ReadTrace, Memory> {
+        read_traced(alloc, self, key)
     }
 
     fn receipt(&mut self, alloc: Global, ids: &Ids) -> Result<PutDone, GiveError> {

@@ -25,7 +25,7 @@ pub fn event_head(alloc: Global, out: &mut Bytes, event: &Event) -> Result<(), M
 }
 
 /// Writes the words between the name and the arrow, each behind a space.
-#[tactic(auto, unfolding(depot_schedule::specs::EventLines::put, depot_schedule::specs::EventLines::puts, depot_schedule::specs::EventLines::get, depot_schedule::specs::EventLines::hello, depot_schedule::specs::EventLines::bundle, depot_schedule::specs::EventLines::give, depot_schedule::specs::EventLines::restart, depot_schedule::specs::EventLines::update, depot_schedule::specs::EventLines::updates, depot_schedule::specs::EventLines::voucher, depot_schedule::specs::EventLines::proof, depot_schedule::specs::EventLines::hollow, depot_schedule::specs::EventLines::judge, depot_schedule::specs::EventLines::raw, depot_schedule::specs::EventLines::cut, depot_schedule::specs::EventLines::flip, depot_schedule::specs::EventLines::join, depot_schedule::specs::EventLines::stop, depot_schedule::specs::EventLines::receipt, depot_schedule::specs::EventLines::settled))]
+#[tactic(auto, unfolding(depot_schedule::specs::EventLines::put, depot_schedule::specs::EventLines::puts, depot_schedule::specs::EventLines::get, depot_schedule::specs::EventLines::hello, depot_schedule::specs::EventLines::bundle, depot_schedule::specs::EventLines::give, depot_schedule::specs::EventLines::restart, depot_schedule::specs::EventLines::update, depot_schedule::specs::EventLines::updates, depot_schedule::specs::EventLines::voucher, depot_schedule::specs::EventLines::proof, depot_schedule::specs::EventLines::hollow, depot_schedule::specs::EventLines::judge, depot_schedule::specs::EventLines::raw, depot_schedule::specs::EventLines::cut, depot_schedule::specs::EventLines::flip, depot_schedule::specs::EventLines::join, depot_schedule::specs::EventLines::stop, depot_schedule::specs::EventLines::receipt, depot_schedule::specs::EventLines::settled, depot_schedule::specs::EventLines::audit))]
 fn words(alloc: Global, out: &mut Bytes, event: &Event) -> Result<(), Memory>
     ensures { OnOk result (out.new ≡ out.old ++ behind_spaces (drop 1 (take (head_count event.now) (event_words event.now)))) }
 {
@@ -54,6 +54,7 @@ fn words(alloc: Global, out: &mut Bytes, event: &Event) -> Result<(), Memory>
             reference: update,
             k,
         } => settled_words(alloc, out, *id, update, *k),
+        Event::Audit => Ok(()),
     }
 }
 

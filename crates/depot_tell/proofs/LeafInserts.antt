@@ -1,4 +1,4 @@
--- Leaves with the places of their records, one put in after the other.
+-- Leaves with the places of their records, one put in after the other, and how a hello names them.
 use Rattle.std.proofs.Common.{◌≡◌, ℕ, zero, suc, ◌+◌, ◌-◌, ◌<◌, ◌≤◌, Bool, true, false, cond, not, eqb, List, [], ◌∷◌, ◌++◌, length, map, take, drop, Option, Some, unwrap_or, refl, sym, ap, subst, ◌∙◌, arith, inl, inr, ◌⊎◌, nat_lt}
 use Rattle.std.specs.Prelude.{slice_get, Result, Ok, Err, IfOk}
 use Rattle.std.specs.List.{filter, position_or_len}
@@ -13,7 +13,8 @@ use Rattle.std.proofs.lemmas.Map.Lookups.{exact_bytes}
 use Rattle.depot_base.specs.declared.record.Record.{Record}
 use Rattle.depot_base.specs.declared.update.Update.{Update}
 use Rattle.depot_model.specs.Bundle.{records_where}
-use Rattle.depot_model.specs.Hello.{record_place, AreLeafPlaces}
+use Rattle.depot_model.specs.declared.hello.HelloLeaf.{HelloLeaf}
+use Rattle.depot_model.specs.Hello.{record_place, named_leaf, leaves_named, AreLeafPlaces}
 use Rattle.depot_model.specs.History.{is_lower, put_by_id, by_id, leaves_of, is_prev_in}
 use Rattle.depot_model.specs.Items.{children_of}
 use Rattle.depot_model.specs.Journal.{accepted, accepted_by, has_id}
@@ -35,7 +36,7 @@ use Rattle.depot_store.specs.Places.{accepts, accept_places}
 use Rattle.depot_base.proofs.GeneralLaws.{same_test}
 use Rattle.depot_history.proofs.Sorting.{decided}
 use Rattle.depot_graph.proofs.ClockedItems.{place_of}
-use Rattle.depot_tell.specs.Telling.{leaf_in}
+use Rattle.depot_tell.specs.Telling.{leaf_in, name_of}
 use Rattle.depot_tell.specs.declared.leaf_order.Leaf.{Leaf}
 
 -- ---- where a record accepts an update
@@ -219,3 +220,15 @@ pub told_places : {E : Type 0} (here : Setting) (J : List Record) (leaves : List
     → IfOk result (λ places. places ≡ map (λ (l : Leaf). l.place) leaves) → IfOk result (λ places. AreLeafPlaces J places)
 told_places here J leaves (Ok places) l kept are = are_leaf_places here J places leaves l are kept
 told_places here J leaves (Err e) l kept are = tt
+
+-- ---- their names
+
+names_of : (J : List Record) (ts : List Update) → map name_of (map (leaf_in J) ts) ≡ map named_leaf ts
+names_of J [] = refl
+names_of J (t ∷ ts) = ap (λ (ls : List HelloLeaf). named_leaf t ∷ ls) (names_of J ts)
+
+-- so it is with what a call gives
+pub told_names : {E : Type 0} (J : List Record) (leaves : List Leaf) (result : Result (List HelloLeaf) E) → leaves ≡ map (leaf_in J) (by_id (leaves_of (accepted J)))
+    → IfOk result (λ names. names ≡ map name_of leaves) → IfOk result (λ names. names ≡ leaves_named J)
+told_names J leaves (Ok names) kept are = are ∙ ap (map name_of) kept ∙ names_of J (by_id (leaves_of (accepted J)))
+told_names J leaves (Err e) kept are = tt

@@ -5,3 +5,4 @@ mod CoveredItems
 mod BesidePlaces
 mod JoinedRows
 mod LeafInserts
+mod RecordItems

@@ -7,9 +7,7 @@ use Rattle.std.proofs.lemmas.Result.{IfOk-weaker}
 use Rattle.depot_base.specs.Statement.{seq_of}
 use Rattle.depot_base.specs.declared.key.PublicKey.{PublicKey}
 use Rattle.depot_base.specs.declared.update.Update.{Update}
-use Rattle.depot_base.specs.declared.voucher.Voucher.{Voucher}
 use Rattle.depot_base.specs.declared.statement.Statement.{Statement}
-use Rattle.depot_base.specs.declared.statement.Statement.TheVariants as statements
 use Rattle.depot_base.specs.declared.statement.Signed.{Signed}
 use Rattle.depot_base.specs.declared.record.Record.{Record}
 use Rattle.depot_base.specs.declared.record.Record.TheVariants.{Birth, OwnPut, OwnVoucher, Foreign, Conviction, Held}
@@ -21,7 +19,7 @@ use Rattle.depot_model.specs.Lists.{IsIn}
 use Rattle.depot_model.specs.Own.{leaf_count}
 use Rattle.depot_base.specs.Cursor.{numeral}
 use Rattle.depot_base.specs.Format.{number}
-use Rattle.depot_model.specs.Records.{record_text, tagged, IsRecord, text_of_record}
+use Rattle.depot_model.specs.Records.{record_text, tagged, text_of_record}
 use Rattle.depot_model.specs.Roster.{key_of}
 use Rattle.depot_model.specs.Texts.{IsStatement, IsSigned, text_of_statement, text_of_signed}
 use Rattle.depot_model.proofs.Elements.{in_at}

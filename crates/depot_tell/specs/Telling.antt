@@ -1,13 +1,15 @@
--- Numbers that stand beside the accepted updates, the leaf that an update is told as, and the hashes of values that aren't held.
-use Rattle.std.specs.Prelude.{◌≡◌, ℕ, ◌<◌, ◌^◌, List, [], ◌∷◌, Bool, unwrap_or, if◌then◌else◌}
+-- Numbers that stand beside the accepted updates, the update that a record accepts, the leaf that an update is told as, and the hashes
+-- of values that aren't held.
+use Rattle.std.specs.Prelude.{◌≡◌, ℕ, ◌<◌, ◌^◌, List, [], ◌∷◌, Bool, Option, Some, None, unwrap_or, slice_get, if◌then◌else◌}
 use Rattle.depot_base.specs.Statement.{seq_of}
 use Rattle.depot_base.specs.declared.key.PublicKey.{PublicKey}
 use Rattle.depot_base.specs.declared.statement.Statement.{Statement}
 use Rattle.depot_base.specs.declared.update.NamedValue.{NamedValue}
 use Rattle.depot_base.specs.declared.record.Record.{Record}
 use Rattle.depot_base.specs.declared.update.Update.{Update}
+use Rattle.depot_model.specs.declared.hello.HelloLeaf.{HelloLeaf}
 use Rattle.depot_model.specs.Hello.{record_place}
-use Rattle.depot_model.specs.Journal.{holds}
+use Rattle.depot_model.specs.Journal.{accepted, accepted_at, holds}
 use Rattle.depot_model.specs.Texts.{IsStatement, id_of_update, text_of_statement}
 use Rattle.depot_model.specs.Vouching.{put_rising}
 use Rattle.depot_tell.specs.declared.leaf_order.Leaf.{Leaf}
@@ -18,9 +20,18 @@ beside test [] ns = []
 beside test (u ∷ us) [] = []
 beside test (u ∷ us) (n ∷ ns) = if test u then n ∷ beside test us ns else beside test us ns
 
+-- the item of the update that the record of a place accepts, or none where it accepts none
+abbrev pub IsItemAt : List Record → ℕ → Option ℕ → Type 0
+IsItemAt J place None = accepted_at J place ≡ []
+IsItemAt J place (Some item) = (u : Update) × ((slice_get (accepted J) item ≡ Some u) × (accepted_at J place ≡ u ∷ []))
+
 -- an accepted update, with the place of its record
 abbrev pub leaf_in : List Record → Update → Leaf
 leaf_in J t = record { writer = t.writer; id = id_of_update t; place = unwrap_or (record_place J (id_of_update t)) 0 }
+
+-- how a hello names it
+abbrev pub name_of : Leaf → HelloLeaf
+name_of l = record { writer = l.writer; id = l.id }
 
 -- these hashes in rising order, with those of the names whose values aren't held
 abbrev pub with_lacking : List Record → List NamedValue → List (List ℕ) → List (List ℕ)

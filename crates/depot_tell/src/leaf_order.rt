@@ -1,17 +1,17 @@
-//! The leaves of what a node accepted, by the places of their records.
+//! The leaves of what a node accepted, and the places of their records.
 ghost use Rattle.std.specs.Prelude.{◌≡◌, false, ◌<◌, length, map, IfOk};
-ghost use Rattle.depot_model.specs.Hello.{AreLeafPlaces};
+ghost use Rattle.depot_model.specs.Hello.{leaves_named, AreLeafPlaces};
 ghost use Rattle.depot_model.specs.History.{by_id, leaves_of};
 ghost use Rattle.depot_model.specs.Items.{at};
 ghost use Rattle.depot_model.specs.Lawful.{IsLawful};
 ghost use Rattle.depot_model.specs.Texts.{id_of_update};
 ghost use Rattle.depot_model.specs.Journal.{accepted};
-ghost use Rattle.depot_tell.specs.Telling.{leaf_in};
+ghost use Rattle.depot_tell.specs.Telling.{leaf_in, name_of};
 ghost use Rattle.depot_store.specs.Holdings.{standing};
 
 use depot_base::{Hash32, Items, Memory, NodeId};
 use depot_graph::Graph;
-use depot_model::{Past, Scheme};
+use depot_model::{HelloLeaf, HelloLeaves, Past, Scheme};
 use depot_outside::Disk;
 use depot_store::Store;
 use std::alloc::Global;
@@ -31,12 +31,24 @@ pub fn leaf_places<D: Disk, S: Scheme>(alloc: Global, store: &Store<D, S>) -> Re
     requires lawful { IsLawful (standing S.verifies store.now) store.now.records }
     ensures { IfOk result (λ places. AreLeafPlaces store.now.records places) }
 {
-    let leaves = leaves(alloc, store)?;
+    let leaves = leaves_in_order(alloc, store)?;
     places_of(alloc, &leaves)
 }
 
+/// The leaves, in rising order of (writer, id), as a hello names them.
+pub fn leaves<D: Disk, S: Scheme>(alloc: Global, store: &Store<D, S>) -> Result<HelloLeaves, Memory>
+    requires runs { store.now.stopped ≡ false }
+    ensures { IfOk result (λ leaves. leaves ≡ leaves_named store.now.records) }
+{
+    let leaves = leaves_in_order(alloc, store)?;
+    names_of(alloc, &leaves)
+}
+
 /// The leaves in their order.
-fn leaves<D: Disk, S: Scheme>(alloc: Global, store: &Store<D, S>) -> Result<BTreeSet<Leaf>, Memory>
+fn leaves_in_order<D: Disk, S: Scheme>(
+    alloc: Global,
+    store: &Store<D, S>,
+) -> Result<BTreeSet<Leaf>, Memory>
     requires runs { store.now.stopped ≡ false }
     ensures { IfOk result (λ leaves. leaves.keys ≡ map (leaf_in store.now.records) (by_id (leaves_of (accepted store.now.records)))) }
 {
@@ -57,6 +69,20 @@ fn places_of(alloc: Global, leaves: &BTreeSet<Leaf>) -> Result<Items, Memory>
 {
     let places: Vec<u32> = leaves.iter().map(|leaf| leaf.place).collect(alloc)?;
     Ok(Items::from_vec(places))
+}
+
+/// Their names.
+fn names_of(alloc: Global, leaves: &BTreeSet<Leaf>) -> Result<HelloLeaves, Memory>
+    ensures { IfOk result (λ names. names ≡ map name_of leaves.now.keys) }
+{
+    let names: Vec<HelloLeaf> = leaves
+        .iter()
+        .map(|leaf| HelloLeaf {
+            writer: leaf.writer,
+            id: leaf.id,
+        })
+        .collect(alloc)?;
+    Ok(HelloLeaves::from_vec(names))
 }
 
 /// The leaf of an item whose record stands at this place.

@@ -1,5 +1,5 @@
 -- What a schedule says of its events: their keys and values are in their bounds, and all that they bring is bytes.
-use Rattle.std.proofs.Common.{◌≡◌, ℕ, ◌<◌, ◌≤◌, true, leb, List, [], ◌∷◌, length, Option, Some, None, arith}
+use Rattle.std.proofs.Common.{ℕ, ◌<◌, ◌≤◌, List, [], ◌∷◌, length, Option, Some, None, arith}
 use Rattle.std.specs.List.{AllByRecursion}
 use Rattle.std.specs.Option.{option_to_list}
 use Rattle.std.proofs.lemmas.Bool.{leb-true}
@@ -120,3 +120,4 @@ events_bring_bytes s (event.Join label first second) fits = tt
 events_bring_bytes s (event.Stop node call image) fits = tt
 events_bring_bytes s (event.Receipt node refs) fits = receipt_brings s node refs fits
 events_bring_bytes s (event.Settled node reference k) fits = tt
+events_bring_bytes s event.Audit fits = tt

@@ -135,3 +135,4 @@ event_keeps stage run (event.Join label first second) signs only g =
 event_keeps stage run (event.Stop node call image) signs only g = armed_keeps stage run node call image g
 event_keeps stage run (event.Receipt node refs) signs only g = receipts_keep stage run node refs (all_referred run refs) refl only.0 only.1 g
 event_keeps stage run (event.Settled node reference k) signs only g = settled_keeps stage run node k (referred run reference) g
+event_keeps stage run event.Audit signs only g = g

@@ -49,7 +49,7 @@ numbers_born : (stage : Stage) (ms : List Member) → numbers_of (map (λ (m : M
 numbers_born stage [] = refl
 numbers_born stage (m ∷ ms) = ap (λ (ns : List ℕ). m.node ∷ ns) (numbers_born stage ms)
 
-begins_good : (s : Schedule) → IsSchedule s → IsGoodRun (stage_of s) (run_of (stage_of s) s.members)
+pub begins_good : (s : Schedule) → IsSchedule s → IsGoodRun (stage_of s) (run_of (stage_of s) s.members)
 unfolding run_of
 begins_good s is =
     let stage = stage_of s in
@@ -65,7 +65,7 @@ begins_good s is =
 
 -- ---- all events
 
-events_keep : (stage : Stage) (s : Schedule) (run : Run) (es : List Event) → ((node : ℕ) → SignsBytes (signs_on stage node)) → FitEvents s es → IsGoodRun stage run → IsGoodRun stage (run_after stage run es)
+pub events_keep : (stage : Stage) (s : Schedule) (run : Run) (es : List Event) → ((node : ℕ) → SignsBytes (signs_on stage node)) → FitEvents s es → IsGoodRun stage run → IsGoodRun stage (run_after stage run es)
 unfolding run_after
 events_keep stage s run [] signs fit g = g
 events_keep stage s run (e ∷ es) signs fit g = events_keep stage (with_event s e) (done stage run e).run es signs fit.1 (event_keeps stage run e signs (events_bring_bytes s e fit.0) g)
@@ -80,7 +80,7 @@ node_is_correct : (stage : Stage) (run : Run) (c : Correct) → IsGoodNode stage
 unfolding world_by
 node_is_correct stage run c g = record { member = g.member; lawful = g.lawful; begun = g.begun; reads = g.reads; in_order = g.in_order }
 
-run_makes_world : (stage : Stage) (run : Run) → IsGoodRun stage run → IsWorld (world_by stage run)
+pub run_makes_world : (stage : Stage) (run : Run) → IsGoodRun stage run → IsWorld (world_by stage run)
 unfolding world_by
 run_makes_world stage run g = record {
   distinct = subst AreDistinct (sym (same_nodes run.stations)) g.distinct;

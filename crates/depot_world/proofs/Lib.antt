@@ -19,3 +19,6 @@ pub mod GoodEvents
 pub mod GoodWorlds
 pub mod PutAndGet
 pub mod DeedGrowth
+pub mod ReadCounts
+pub mod SoundRuns
+pub mod AuditedRuns

@@ -1,3 +1,4 @@
+pub mod Audits
 pub mod Deeds
 pub mod Run
 pub mod FaultySigning

@@ -5,6 +5,7 @@ use Rattle.depot_base.specs.Writes.{one_change}
 use Rattle.depot_base.specs.declared.proof.Proof.{Proof}
 use Rattle.depot_base.specs.declared.update.Update.{Update}
 use Rattle.depot_base.specs.declared.write.Change.{Change}
+use Rattle.depot_model.specs.Audit.{finding_in}
 use Rattle.depot_model.specs.Bundle.{Signs}
 use Rattle.depot_model.specs.Judgement.{verdict_of}
 use Rattle.depot_model.specs.Lines.{text_of_point, text_of_verdict}
@@ -19,7 +20,8 @@ use Rattle.depot_schedule.specs.declared.event.Event.TheVariants as event
 use Rattle.depot_schedule.specs.declared.event.HistoryWord.{HistoryWord}
 use Rattle.depot_schedule.specs.declared.event.Ref.{Ref}
 use Rattle.depot_schedule.specs.declared.schedule.Schedule.{Schedule}
-use Rattle.depot_answers.specs.Answers.{spaced}
+use Rattle.depot_answers.specs.Answers.{spaced, text_of_finding}
+use Rattle.depot_world.specs.Audits.{audited}
 use Rattle.depot_world.specs.Deeds.{put_by, get_by, hello_by, bundle_by, give_by, restart_by, receipt_by, settled_by}
 use Rattle.depot_world.specs.Run.{Run, Station, run_of, world_by, station_in, bytes_of, referred, seen_with, with_label, with_station}
 use Rattle.depot_world.specs.FaultySigning.{Text, no_reference, counted_bytes, updated, update_text, vouched_text, proof_text, hollow_text, proof_in, point_by, flip_at, all_referred}
@@ -66,6 +68,12 @@ receipt_for stage run node (Some us) = by_node run node None (λ s. receipt_by (
 abbrev pub settled_for : Run → ℕ → ℕ → Option Update → Done
 settled_for run node k None = not_referred run
 settled_for run node k (Some u) = by_node run node None (λ s. settled_by s.correct (id_of_update u) k)
+
+-- ---- the audit
+
+-- all correct nodes are audited, and nothing changes
+abbrev pub audit_by : Stage → Run → Done
+audit_by stage run = record { answer = spaced (text_of_finding (finding_in (audited stage run))); behind = []; run = run }
 
 -- ---- events that no correct node takes part in
 
@@ -117,6 +125,7 @@ done stage run (event.Join label first second) = done_by_text run label (counted
 done stage run (event.Stop node call image) = armed_at run node call image
 done stage run (event.Receipt node refs) = receipt_for stage run node (all_referred run refs)
 done stage run (event.Settled node reference k) = settled_for run node k (referred run reference)
+done stage run event.Audit = audit_by stage run
 
 -- ---- its lines
 

@@ -2,7 +2,8 @@
 //!
 //! What a schedule makes happen is defined in `specs`, event by event over one journal and one list of reads a correct node, and one
 //! list of bytes a label: `world_of` is the world that comes of it, and `transcript_of` is what is printed. `Deeds` says what a
-//! correct node does, `Stops` what a stop of its disk leaves, and `Signing` what faulty nodes sign.
+//! correct node does, `Stops` what a stop of its disk leaves, `Signing` what faulty nodes sign, and `Audits` what its traces are and in
+//! which world an audit looks.
 //!
 //! `laws` says that this is a world, whatever faulty nodes sign and send and wherever disks stop, so that the laws of worlds hold of it.
 #![tactic(auto)]
@@ -10,6 +11,6 @@
 mod world_laws;
 
 pub use world_laws::{
-    latest_writes_are_listed, receipts_of_schedules_are_true, schedules_make_worlds,
-    worlds_of_schedules_are_causal,
+    audits_of_runs, latest_writes_are_listed, receipts_of_schedules_are_true,
+    runs_of_schedules_are_sound, schedules_make_worlds, worlds_of_schedules_are_causal,
 };

@@ -1,5 +1,5 @@
 //! What holds of the worlds of schedules. Each law is a function that does nothing; its contract is the law.
-ghost use Rattle.std.specs.Prelude.{◌≡◌, ℕ, List, []};
+ghost use Rattle.std.specs.Prelude.{◌≡◌, ℕ, List, [], map, take};
 ghost use Rattle.depot_base.specs.Statement.{writer_of};
 ghost use Rattle.depot_base.specs.declared.proof.Kind.{Kind};
 ghost use Rattle.depot_base.specs.declared.proof.Proof.TheVariants.{Pair};
@@ -9,12 +9,17 @@ ghost use Rattle.depot_model.specs.Causality.{IsForkJoinCausal, ConvictsNoCorrec
 ghost use Rattle.depot_model.specs.Lists.{IsIn};
 ghost use Rattle.depot_model.specs.Order.{IsCausal, AreLatestIn};
 ghost use Rattle.depot_model.specs.Receipts.{AreReceiptsTrue};
+ghost use Rattle.depot_model.specs.Audit.{Finding, finding_in};
 ghost use Rattle.depot_model.specs.Texts.{IsRoster};
+ghost use Rattle.depot_model.specs.Traces.{IsFindingOf};
 ghost use Rattle.depot_model.specs.World.{Correct, IsWorld, IsAuthentic, IsCollisionFree, proofs_of};
 ghost use Rattle.depot_schedule.specs.Schedules.{IsSchedule};
 ghost use Rattle.depot_schedule.specs.declared.schedule.Schedule.{Schedule};
 ghost use Rattle.depot_model.specs.LatestList.{latest_in};
-ghost use Rattle.depot_world.specs.Transcript.{world_of};
+ghost use Rattle.depot_world.specs.Audits.{IsSound, audited, trace_by};
+ghost use Rattle.depot_world.specs.Run.{Run, run_of, world_by};
+ghost use Rattle.depot_world.specs.Suite.{Stage, stage_of};
+ghost use Rattle.depot_world.specs.Transcript.{run_after, world_of};
 
 /// In a list of updates in which each parent stands before its children, the list `latest_in` of a key has the latest writes of
 /// that key, in the listed order.
@@ -43,4 +48,15 @@ pub fn worlds_of_schedules_are_causal()
 /// wherever its disk stopped.
 pub fn receipts_of_schedules_are_true()
     ensures { (s : Schedule) (c : Correct) → IsSchedule s → IsIn c (world_of s).nodes → AreReceiptsTrue c.journal }
+{}
+
+/// At each point of a schedule its correct nodes may be audited: they make a world, they are 1 to 32, and none has more reads than a
+/// schedule has lines.
+pub fn runs_of_schedules_are_sound()
+    ensures { (s : Schedule) (n : ℕ) → IsSchedule s → IsSound (stage_of s) (run_after (stage_of s) (run_of (stage_of s) s.members) (take n s.events)) }
+{}
+
+/// Where the correct nodes of a run make a world, what is found in their traces is what is found in that world.
+pub fn audits_of_runs()
+    ensures { (stage : Stage) (run : Run) (found : Finding) → IsWorld (world_by stage run) → IsFindingOf stage.suite.verifies stage.listed (map trace_by (map (λ s. s.correct) run.stations)) found → found ≡ finding_in (audited stage run) }
 {}

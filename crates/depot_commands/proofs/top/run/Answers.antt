@@ -41,3 +41,11 @@ returns-in-Load-clause-results g c =
     let command = Some (asked.Load c.in-Load.number) in
     let answered = IfOk-weaker c.summed_up.result _ _ (λ o is. (sym (append-nil (g.F.Shelf.loads c.args.shelf.now)), is)) c.summed_up.ensures in
     rw c.in-Load.is ((refl {a = c.args.disk.now}, (refl {a = g.F.Shelf.file c.args.shelf.now}, refl {a = g.F.Shelf.stores c.args.shelf.now})), finished (Answers shelf loaded command) (Begins shelf loaded command) (sinks g.S.Sink c.args.out.now c.finish-in-Load.new.out) c.summed_up.result c.finish-in-Load.result answered (sym (append-nil (g.F.Shelf.loads c.args.shelf.now)), refl) c.finish-in-Load.ensures.finishes)
+
+pub returns-in-Audit-clause-results : goal.returns-in-Audit-clause-results
+returns-in-Audit-clause-results g c =
+    let shelf = shelves g.F.Shelf c.args.shelf.now c.audit.new.shelf in
+    let loaded = loads g.F.Shelf c.args.shelf.now c.audit.new.shelf in
+    let command = Some (asked.Audit c.in-Audit.roster c.in-Audit.traces) in
+    let answered = rw c.text-in-Audit.ensures at c.audit.ensures.audits in
+    rw c.in-Audit.is ((refl {a = c.args.disk.now}, (c.audit.ensures.files, c.audit.ensures.stores)), finished (Answers shelf loaded command) (Begins shelf loaded command) (sinks g.S.Sink c.args.out.now c.finish-in-Audit.new.out) c.audit.result c.finish-in-Audit.result answered (rw c.text-in-Audit.ensures at c.audit.ensures.loads, refl) c.finish-in-Audit.ensures.finishes)

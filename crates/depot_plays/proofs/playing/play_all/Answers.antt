@@ -14,32 +14,29 @@ event-requires-clause-may g c = c.requires.may c.event-item.result (on_at c.args
 pub event-requires-clause-played : goal.event-requires-clause-played
 event-requires-clause-played g c =
     let p = c.requires.played in
-    record { stage = p.stage; run = run_after p.stage p.run (take c.loop-event.event-index c.args.events.now); at = c.loop-event.invariant.at p.stage p.run p.on p.at }
-
-pub event-requires-clause-scene : goal.event-requires-clause-scene
-event-requires-clause-scene g c = (c.requires.played.stage, c.requires.played.on)
+    record { stage = p.stage; run = run_after p.stage p.run (take c.loop-event.event-index c.args.events.now); on = p.on; sound = p.sound c.loop-event.event-index; at = c.loop-event.invariant.at p.stage p.run p.on p.sound p.at }
 
 pub loop-event-init : goal.loop-event-init
 unfolding run_after printed
 loop-event-init g c = record {
-  at = λ stage run on at. at;
-  written = λ stage run on at tells. sym (append-nil (g.K.Sink.written c.args.out.now));
+  at = λ stage run on sound at. at;
+  written = λ stage run on sound at tells. sym (append-nil (g.K.Sink.written c.args.out.now));
   tells = refl;
   faults = refl;
   faultless = λ is. is;
 }
 
 pub returns-in_err-lines-clause-front : goal.returns-in_err-lines-clause-front
-returns-in_err-lines-clause-front g c = λ stage run on at tells. on_err_from c.from_residual.result (
-    front_before stage run c.args.events.now c.loop-event.event-index (g.K.Sink.written c.args.out.now) (g.K.Sink.written c.loop-event.out) (c.loop-event.invariant.written stage run on at tells))
+returns-in_err-lines-clause-front g c = λ stage run on sound at tells. on_err_from c.from_residual.result (
+    front_before stage run c.args.events.now c.loop-event.event-index (g.K.Sink.written c.args.out.now) (g.K.Sink.written c.loop-event.out) (c.loop-event.invariant.written stage run on sound at tells))
 
 pub returns-in_err-write-clause-front : goal.returns-in_err-write-clause-front
-returns-in_err-write-clause-front g c = λ stage run on at tells. on_err_from c.from_residual-in_err-write.result (
+returns-in_err-write-clause-front g c = λ stage run on sound at tells. on_err_from c.from_residual-in_err-write.result (
     let inv = c.loop-event.invariant in
-    let told = c.in_ok-lines.ensures stage (run_after stage run (take c.loop-event.event-index c.args.events.now)) on (inv.at stage run on at) in
+    let told = c.in_ok-lines.ensures stage (run_after stage run (take c.loop-event.event-index c.args.events.now)) on (sound c.loop-event.event-index) (inv.at stage run on sound at) in
     let still = subst IsTrue (sym inv.tells) tells in
     front_within stage run c.args.events.now c.loop-event.event-index c.event-item.result (g.K.Sink.written c.args.out.now) (g.K.Sink.written c.loop-event.out) c.as_slice.result.now (g.K.Sink.written c.write.new.out)
-    c.loop-event-test.true c.event-item.is (inv.written stage run on at tells) (c.as_slice.ensures ∙ told.lines_are) (c.in_err-write.ensures.front still))
+    c.loop-event-test.true c.event-item.is (inv.written stage run on sound at tells) (c.as_slice.ensures ∙ told.lines_are) (c.in_err-write.ensures.front still))
 
 pub loop-event-preserved : goal.loop-event-preserved
 loop-event-preserved g c =
@@ -50,13 +47,13 @@ loop-event-preserved g c =
     let then : Stage → Run → Run = λ stage run. run_after stage run (take i es) in
     let wrote = c.in_ok-write.ensures in
     record {
-      at = λ stage run on at.
-          let told = c.in_ok-lines.ensures stage (then stage run) on (inv.at stage run on at) in
+      at = λ stage run on sound at.
+          let told = c.in_ok-lines.ensures stage (then stage run) on (sound i) (inv.at stage run on sound at) in
           subst (λ (r : Run). IsAtPlay g.A.Actor.view stage r c.event.new.self) (run_more stage run es i e c.loop-event-test.true c.event-item.is) told.at;
-      written = λ stage run on at tells.
-          let told = c.in_ok-lines.ensures stage (then stage run) on (inv.at stage run on at) in
+      written = λ stage run on sound at tells.
+          let told = c.in_ok-lines.ensures stage (then stage run) on (sound i) (inv.at stage run on sound at) in
           printed_more stage run es i e (g.K.Sink.written c.args.out.now) (g.K.Sink.written c.loop-event.out) c.as_slice.result.now (g.K.Sink.written c.write.new.out) c.loop-event-test.true c.event-item.is
-          (inv.written stage run on at tells) (c.as_slice.ensures ∙ told.lines_are) (wrote.done (subst IsTrue (sym inv.tells) tells));
+          (inv.written stage run on sound at tells) (c.as_slice.ensures ∙ told.lines_are) (wrote.done (subst IsTrue (sym inv.tells) tells));
       tells = wrote.tells ∙ inv.tells;
       faults = no_fault (g.K.Sink.faults c.loop-event.out) (g.K.Sink.faults c.write.new.out) _ wrote.cause (λ is. cc) ∙ inv.faults;
       faultless = λ is. (wrote.faultless (inv.faultless is)).0;

@@ -1,15 +1,19 @@
-use Rattle.std.proofs.Common.{◌≡◌, ◌++◌, ℕ, List, IsTrue, rules, refl, sym, ap, subst}
+use Rattle.std.proofs.Common.{◌≡◌, ◌++◌, ℕ, List, take, IsTrue, rules, refl, sym, ap, subst}
 use Rattle.std.specs.Prelude.{OnOk, OnErr}
 use Rattle.depot_base.specs.Reading.{AddsFrontOf}
 use Rattle.depot_model.specs.Lists.{IsIn}
 use Rattle.depot_schedule.specs.declared.event.Event.{Event}
 use Rattle.depot_schedule.specs.declared.schedule.Schedule.{Schedule}
 use Rattle.depot_schedule.specs.declared.member.Member.{Member}
+use Rattle.depot_schedule.specs.Schedules.{IsSchedule}
+use Rattle.depot_world.specs.Audits.{IsSound}
 use Rattle.depot_world.specs.Run.{run_of}
 use Rattle.depot_world.specs.Suite.{stage_of, suite_of}
-use Rattle.depot_world.specs.Transcript.{printed, transcript_of}
+use Rattle.depot_world.specs.Transcript.{printed, run_after, transcript_of}
+use Rattle.depot_world.proofs.SoundRuns.{runs_are_sound}
 use Rattle.depot_cast.specs.Hands.{AreSigners, hands_of}
 use Rattle.depot_stage.specs.Casting.{IsSet, MayHappen}
+use Rattle.depot_plays.specs.Playing.{StaysSound}
 use Rattle.depot_plays.proofs.BegunRuns.{schedule_may}
 use Rattle.depot_replay.proofs.replaying.replay_with.Given.{Over}
 use Rattle.depot_replay.proofs.replaying.replay_with.Goals as goal
@@ -28,13 +32,25 @@ set_by g c =
       signers_are = subst (λ (ms : List Member). AreSigners (suite_of s.winter) s.height ms hands) (sym c.as_slice.ensures) c.requires.signers;
     }
 
+-- its nodes may be audited at each point
+stays_sound : (s : Schedule) (events : List Event) → IsSchedule s → events ≡ s.events → StaysSound (stage_of s) (run_of (stage_of s) s.members) events
+stays_sound s events is same = λ n.
+    let stage = stage_of s in
+    subst (λ (es : List Event). IsSound stage (run_after stage (run_of stage s.members) (take n es))) (sym same) (runs_are_sound s n is)
+
 pub begun-requires : goal.begun-requires
 begun-requires g c = let set = set_by g (goal.at.begun-requires g c).After-as_slice in search (rules, set)
 
 pub play_all-requires-clause-played : goal.play_all-requires-clause-played
 play_all-requires-clause-played g c =
     let stage = stage_of c.args.schedule.now in
-    record { stage = stage; run = run_of stage c.args.schedule.now.members; on = set_by g (goal.at.play_all-requires-clause-played g c).After-as_slice; at = c.in_ok-play.ensures }
+    record {
+      stage = stage;
+      run = run_of stage c.args.schedule.now.members;
+      on = set_by g (goal.at.play_all-requires-clause-played g c).After-as_slice;
+      sound = stays_sound c.args.schedule.now c.as_slice-2.result.now c.requires.schedule c.as_slice-2.ensures;
+      at = c.in_ok-play.ensures;
+    }
 
 pub play_all-requires-clause-may : goal.play_all-requires-clause-may
 play_all-requires-clause-may g c = λ e on.
@@ -52,7 +68,7 @@ returns-clause-done g c =
     let stage = stage_of s in
     let set = set_by g (goal.at.returns-clause-done g c).After-as_slice in
     subst (λ (t : List ℕ). IsTrue (g.K.Sink.tells c.args.out.now) → OnOk c.play_all.result (g.K.Sink.written c.play_all.new.out ≡ g.K.Sink.written c.args.out.now ++ t)) (transcript_is s c.as_slice-2.result.now c.as_slice-2.ensures)
-    (c.play_all.ensures.done stage (run_of stage s.members) set c.in_ok-play.ensures)
+    (c.play_all.ensures.done stage (run_of stage s.members) set (stays_sound s c.as_slice-2.result.now c.requires.schedule c.as_slice-2.ensures) c.in_ok-play.ensures)
 
 pub returns-clause-front : goal.returns-clause-front
 returns-clause-front g c =
@@ -60,4 +76,4 @@ returns-clause-front g c =
     let stage = stage_of s in
     let set = set_by g (goal.at.returns-clause-front g c).After-as_slice in
     subst (λ (t : List ℕ). IsTrue (g.K.Sink.tells c.args.out.now) → OnErr c.play_all.result (AddsFrontOf (g.K.Sink.written c.args.out.now) t (g.K.Sink.written c.play_all.new.out))) (transcript_is s c.as_slice-2.result.now c.as_slice-2.ensures)
-    (c.play_all.ensures.front stage (run_of stage s.members) set c.in_ok-play.ensures)
+    (c.play_all.ensures.front stage (run_of stage s.members) set (stays_sound s c.as_slice-2.result.now c.requires.schedule c.as_slice-2.ensures) c.in_ok-play.ensures)

@@ -1,24 +1,27 @@
-use Rattle.std.proofs.Common.{refl, sym, ◌∙◌}
+use Rattle.std.proofs.Common.{refl, sym, ap, ◌∙◌}
 use Rattle.std.proofs.lemmas.List.{append-nil}
 use Rattle.depot_outside.specs.Told.{shelves}
 use Rattle.depot_session.proofs.AskedShelves.{goes_on_anyhow, stored_none, unstored}
+use Rattle.depot_session.proofs.ExportTurns.{export_goes_on}
 use Rattle.depot_session.proofs.HelloTurns.{hello_goes_on}
+use Rattle.depot_session.proofs.KeptSteps.{few_kept, fit_kept, keeps_unread, kept_are, on_ok}
+use Rattle.depot_session.specs.KeptReads.{is_export}
 use Rattle.depot_session.proofs.commands.carry_out.Goals as goal
 
 pub returns-in-Put-clause-turns : goal.returns-in-Put-clause-turns
-returns-in-Put-clause-turns g c = λ s told at. c.put_value.ensures.turns (shelves g.F.Shelf c.args.shelf.now c.args.shelf.now) s (λ name. refl) at
+returns-in-Put-clause-turns g c = λ s told at of_run. c.put_value.ensures.turns (shelves g.F.Shelf c.args.shelf.now c.args.shelf.now) s (λ name. refl) at
 
 pub returns-in-Puts-clause-turns : goal.returns-in-Puts-clause-turns
-returns-in-Puts-clause-turns g c = λ s told at. c.put_changes.ensures.turns (shelves g.F.Shelf c.args.shelf.now c.args.shelf.now) s (λ name. refl) at
+returns-in-Puts-clause-turns g c = λ s told at of_run. c.put_changes.ensures.turns (shelves g.F.Shelf c.args.shelf.now c.args.shelf.now) s (λ name. refl) at
 
 pub returns-in-Get-clause-turns : goal.returns-in-Get-clause-turns
-returns-in-Get-clause-turns g c = λ s told at. c.get.ensures.turns (shelves g.F.Shelf c.args.shelf.now c.args.shelf.now) s (λ name. refl) at
+returns-in-Get-clause-turns g c = λ s told at of_run. c.get.ensures.turns (shelves g.F.Shelf c.args.shelf.now c.args.shelf.now) s (λ name. refl) at
 
 pub returns-in-Receipt-clause-turns : goal.returns-in-Receipt-clause-turns
-returns-in-Receipt-clause-turns g c = λ s told at. c.give_receipt.ensures.turns (shelves g.F.Shelf c.args.shelf.now c.args.shelf.now) s (λ name. refl) at
+returns-in-Receipt-clause-turns g c = λ s told at of_run. c.give_receipt.ensures.turns (shelves g.F.Shelf c.args.shelf.now c.args.shelf.now) s (λ name. refl) at
 
 pub returns-in-Settled-clause-turns : goal.returns-in-Settled-clause-turns
-returns-in-Settled-clause-turns g c = λ s told at. c.tell_settled.ensures.turns (shelves g.F.Shelf c.args.shelf.now c.args.shelf.now) s (λ name. refl) at
+returns-in-Settled-clause-turns g c = λ s told at of_run. c.tell_settled.ensures.turns (shelves g.F.Shelf c.args.shelf.now c.args.shelf.now) s (λ name. refl) at
 
 pub returns-in-Put-clause-loads : goal.returns-in-Put-clause-loads
 returns-in-Put-clause-loads g c = rw c.in-Put.is (sym (append-nil (g.F.Shelf.loads c.args.shelf.now)))
@@ -82,3 +85,57 @@ returns-in-Hello-clause-unstored g c = λ s told at. rw c.in-Hello.is (goes_on_a
 
 pub returns-in-Take-clause-unstored : goal.returns-in-Take-clause-unstored
 returns-in-Take-clause-unstored g c = λ s told at. unstored (g.F.Shelf.stores c.args.shelf.now) (g.F.Shelf.stores c.take.new.shelf) _ c.take.ensures.stores
+
+pub returns-in-Hello-clause-turns : goal.returns-in-Hello-clause-turns
+returns-in-Hello-clause-turns g c = λ s told at of_run. c.say_hello.ensures.turns s told at
+
+pub returns-in-Bundle-clause-turns : goal.returns-in-Bundle-clause-turns
+returns-in-Bundle-clause-turns g c = λ s told at of_run. c.make_bundle.ensures.turns s told at
+
+pub returns-in-Take-clause-turns : goal.returns-in-Take-clause-turns
+returns-in-Take-clause-turns g c = λ s told at of_run. c.take.ensures.turns s told at
+
+pub returns-in-Put-clause-reads : goal.returns-in-Put-clause-reads
+returns-in-Put-clause-reads g c = on_ok c.put_value.result _ (keeps_unread _ _ _ _ _ _ c.in-Put.is tt)
+
+pub returns-in-Puts-clause-reads : goal.returns-in-Puts-clause-reads
+returns-in-Puts-clause-reads g c = on_ok c.put_changes.result _ (keeps_unread _ _ _ _ _ _ c.in-Puts.is tt)
+
+pub returns-in-Receipt-clause-reads : goal.returns-in-Receipt-clause-reads
+returns-in-Receipt-clause-reads g c = on_ok c.give_receipt.result _ (keeps_unread _ _ _ _ _ _ c.in-Receipt.is tt)
+
+pub returns-in-Settled-clause-reads : goal.returns-in-Settled-clause-reads
+returns-in-Settled-clause-reads g c = on_ok c.tell_settled.result _ (keeps_unread _ _ _ _ _ _ c.in-Settled.is tt)
+
+pub returns-in-Hello-clause-reads : goal.returns-in-Hello-clause-reads
+returns-in-Hello-clause-reads g c = on_ok c.say_hello.result _ (keeps_unread _ _ _ _ _ _ c.in-Hello.is tt)
+
+pub returns-in-Bundle-clause-reads : goal.returns-in-Bundle-clause-reads
+returns-in-Bundle-clause-reads g c = on_ok c.make_bundle.result _ (keeps_unread _ _ _ _ _ _ c.in-Bundle.is tt)
+
+pub returns-in-Take-clause-reads : goal.returns-in-Take-clause-reads
+returns-in-Take-clause-reads g c = on_ok c.take.result _ (keeps_unread _ _ _ _ _ _ c.in-Take.is tt)
+
+pub returns-in-Export-clause-reads : goal.returns-in-Export-clause-reads
+returns-in-Export-clause-reads g c = on_ok c.export.result _ (keeps_unread _ _ _ _ _ _ c.in-Export.is tt)
+
+pub kept-requires : goal.kept-requires
+kept-requires g c = c.requires.kept (ap is_export c.in-Export.is)
+
+pub export-requires-clause-few : goal.export-requires-clause-few
+export-requires-clause-few g c = few_kept c.args.reads.now c.kept.result.now c.requires.few c.kept.ensures
+
+pub export-requires-clause-fit : goal.export-requires-clause-fit
+export-requires-clause-fit g c = fit_kept c.args.reads.now c.kept.result.now c.requires.few c.kept.ensures
+
+pub returns-in-Export-clause-turns : goal.returns-in-Export-clause-turns
+returns-in-Export-clause-turns g c = λ s told at of_run. c.export.ensures.turns s told at (kept_are s c.args.reads.now c.kept.result.now of_run c.kept.ensures)
+
+pub returns-in-Export-clause-loads : goal.returns-in-Export-clause-loads
+returns-in-Export-clause-loads g c = rw c.in-Export.is (c.export.ensures.loads ∙ sym (append-nil (g.F.Shelf.loads c.args.shelf.now)))
+
+pub returns-in-Export-clause-stores : goal.returns-in-Export-clause-stores
+returns-in-Export-clause-stores g c = rw c.in-Export.is (c.export.ensures.stores)
+
+pub returns-in-Export-clause-unstored : goal.returns-in-Export-clause-unstored
+returns-in-Export-clause-unstored g c = λ s told at. rw c.in-Export.is (goes_on_anyhow _ _ (export_goes_on (g.R.Replica.stands c.args.node.now) (g.R.Replica.signature_of c.args.node.now) s _))

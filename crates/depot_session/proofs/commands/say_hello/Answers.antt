@@ -1,22 +1,31 @@
-use Rattle.std.proofs.Common.{[], ◌∷◌, refl, ◌∙◌, arith}
-use Rattle.depot_laws.proofs.HelloTexts.{hello_fits}
-use Rattle.depot_model.specs.Hello.{hello_of, text_of_hello}
+use Rattle.std.proofs.Common.{[], ◌∷◌, refl, ap, ◌∙◌, arith}
+use Rattle.depot_answers.specs.Answers.{spaced, text_of_named}
+use Rattle.depot_model.specs.declared.hello.Hello.{Hello}
+use Rattle.depot_model.specs.Hello.{text_of_hello}
 use Rattle.depot_outside.specs.Told.{shelves, sinks}
 use Rattle.depot_session.proofs.AskedShelves.{not_stored, stored_once}
 use Rattle.depot_session.proofs.HelloTurns.{hello_turns}
 use Rattle.depot_session.proofs.ToldFaults.{names_memory, names_stored, never_rose}
 use Rattle.depot_session.proofs.Uncalled.{keeps_uncalled, uncalled_without_memory}
+use Rattle.depot_world.specs.Transcript.{ended}
 use Rattle.depot_session.proofs.commands.say_hello.Goals as goal
 
-pub returns-in_err-text-clause-keeps : goal.returns-in_err-text-clause-keeps
-returns-in_err-text-clause-keeps g c = keeps_uncalled g.R.Replica c.args.node.now c.requires.running (g.met.R.Replica.only_now) (g.met.R.Replica.lawful c.args.node.now) _ _ (names_memory _ _ (omega arith) _ c.from_residual.ensures.1 (never_rose _ _))
+pub returns-in_err-told-clause-keeps : goal.returns-in_err-told-clause-keeps
+returns-in_err-told-clause-keeps g c = keeps_uncalled g.R.Replica c.args.node.now c.requires.running (g.met.R.Replica.only_now) (g.met.R.Replica.lawful c.args.node.now) _ _ (names_memory _ _ (omega arith) _ c.from_residual.ensures.1 (never_rose _ _))
 
-pub returns-in_err-text-clause-turns : goal.returns-in_err-text-clause-turns
-returns-in_err-text-clause-turns g c = λ s tells at.
+pub returns-in_err-told-clause-turns : goal.returns-in_err-told-clause-turns
+returns-in_err-told-clause-turns g c = λ s tells at.
     uncalled_without_memory g.R.Replica c.args.node.now c.requires.running s c.args.command.now (shelves g.F.Shelf c.args.shelf.now c.args.shelf.now) (sinks g.K.Sink c.args.out.now c.args.out.now) at (λ _. refl) c.from_residual.result c.from_residual.ensures.1 refl
+
+pub returns-in_err-text-clause-keeps : goal.returns-in_err-text-clause-keeps
+returns-in_err-text-clause-keeps g c = keeps_uncalled g.R.Replica c.args.node.now c.requires.running (g.met.R.Replica.only_now) (g.met.R.Replica.lawful c.args.node.now) _ _ (names_memory _ _ (omega arith) _ c.from_residual-in_err-text.ensures.1 (never_rose _ _))
 
 pub returns-in_err-lines-clause-keeps : goal.returns-in_err-lines-clause-keeps
 returns-in_err-lines-clause-keeps g c = keeps_uncalled g.R.Replica c.args.node.now c.requires.running (g.met.R.Replica.only_now) (g.met.R.Replica.lawful c.args.node.now) _ _ (names_memory _ _ (omega arith) _ c.from_residual-in_err-lines.ensures.1 (never_rose _ _))
+
+pub returns-in_err-text-clause-turns : goal.returns-in_err-text-clause-turns
+returns-in_err-text-clause-turns g c = λ s tells at.
+    uncalled_without_memory g.R.Replica c.args.node.now c.requires.running s c.args.command.now (shelves g.F.Shelf c.args.shelf.now c.args.shelf.now) (sinks g.K.Sink c.args.out.now c.args.out.now) at (λ _. refl) c.from_residual-in_err-text.result c.from_residual-in_err-text.ensures.1 refl
 
 pub returns-in_err-lines-clause-turns : goal.returns-in_err-lines-clause-turns
 returns-in_err-lines-clause-turns g c = λ s tells at.
@@ -29,14 +38,15 @@ returns-clause-keeps g c =
 pub returns-clause-turns : goal.returns-clause-turns
 returns-clause-turns g c = λ s tells at.
     let n = c.args.node.now in
-    let h = hello_of (g.R.Replica.stands n) (g.R.Replica.records n) in
-    let fits = hello_fits (g.R.Replica.stands n) (g.R.Replica.records n) (g.met.R.Replica.formed n) (g.met.R.Replica.lawful n) (g.met.R.Replica.some n) in
-    let text_is = ◌∙◌ {c = text_of_hello h} c.as_slice.ensures c.in_ok-text.ensures in
-    rw c.requires.command (hello_turns g.R.Replica n s c.args.file.now c.in_ok-text.text c.in_ok-lines.lines (shelves g.F.Shelf c.args.shelf.now c.store_and_tell.new.shelf) (sinks g.K.Sink c.args.out.now c.store_and_tell.new.out) c.store_and_tell.result c.requires.running at c.in_ok-text.ensures
-    (c.in_ok-lines.ensures h fits text_is) tells (rw c.requires.command at c.store_and_tell.ensures.stores))
+    let told_is = c.in_ok-told.ensures.told in
+    rw c.requires.command (hello_turns g.R.Replica n s c.args.file.now c.in_ok-text.text c.in_ok-lines.lines (shelves g.F.Shelf c.args.shelf.now c.store_and_tell.new.shelf) (sinks g.K.Sink c.args.out.now c.store_and_tell.new.out) c.store_and_tell.result c.requires.running at (c.in_ok-text.ensures ∙ ap text_of_hello told_is)
+    (c.in_ok-lines.ensures ∙ ap (λ (h : Hello). ended (spaced (text_of_named h))) told_is) tells (rw c.requires.command at c.store_and_tell.ensures.stores))
+
+pub returns-in_err-told-clause-stores : goal.returns-in_err-told-clause-stores
+returns-in_err-told-clause-stores g c = not_stored (g.F.Shelf.stores c.args.shelf.now) (g.F.Shelf.stores c.args.shelf.now) (c.args.file.now ∷ []) c.from_residual.result c.from_residual.ensures.1 refl
 
 pub returns-in_err-text-clause-stores : goal.returns-in_err-text-clause-stores
-returns-in_err-text-clause-stores g c = not_stored (g.F.Shelf.stores c.args.shelf.now) (g.F.Shelf.stores c.args.shelf.now) (c.args.file.now ∷ []) c.from_residual.result c.from_residual.ensures.1 refl
+returns-in_err-text-clause-stores g c = not_stored (g.F.Shelf.stores c.args.shelf.now) (g.F.Shelf.stores c.args.shelf.now) (c.args.file.now ∷ []) c.from_residual-in_err-text.result c.from_residual-in_err-text.ensures.1 refl
 
 pub returns-in_err-lines-clause-stores : goal.returns-in_err-lines-clause-stores
 returns-in_err-lines-clause-stores g c = not_stored (g.F.Shelf.stores c.args.shelf.now) (g.F.Shelf.stores c.args.shelf.now) (c.args.file.now ∷ []) c.from_residual-in_err-lines.result c.from_residual-in_err-lines.ensures.1 refl

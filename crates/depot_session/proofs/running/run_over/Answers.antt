@@ -106,7 +106,7 @@ returns-clause-answers g c = record {
       let told_then = subst (λ (b : Bool). IsTrue b) (sym e.tells) told in
       let told_now = subst (λ (b : Bool). IsTrue b) (sym keeps.lasts.lasts.told) told_then in
       let same = lawful_file_is_read here (g.D.Disk.seen c.args.disk) J c.in-Ok.node.store.records has lawful (e.records told) in
-      let plays = c.play-played.ensures.plays s shelf_told (record { node = sym (ap (λ (h : Setting). h.me) e.stands); journal = sym same; same_files = λ name. refl }) in
+      let plays = c.play-played.ensures.plays s shelf_told (record { node = sym (ap (λ (h : Setting). h.me) e.stands); journal = sym same; same_files = λ name. refl }) refl in
       rw c.as_slice.ensures at (answered _ c.in-Ok.node c.play-played.new.node _ here _ (g.G.Signer.signature_of c.args.signer) J s c.as_slice.result.now (disks g.D.Disk c.args.disk c.into_disk.result) (shelves g.F.Shelf c.args.shelf.now c.play-played.new.shelf) (asked g.F.Shelf c.args.shelf.now c.play-played.new.shelf) (sinks g.K.Sink c.args.out.now c.play-played.new.out)
       c.play-played.result c.ended.result e.stands e.signs c.ended.ensures told_then (λ image left. subst (λ d. g.D.Disk.may_leave d image) c.into_disk.ensures left)
       (subst (λ d. g.D.Disk.may_leave d (g.D.Disk.seen d)) (sym c.into_disk.ensures) (g.met.D.Disk.reads_as_image now told_now))

@@ -1,4 +1,3 @@
-use Rattle.std.proofs.Common.{sym, ap, ◌∙◌}
 use Rattle.depot_store.specs.Holdings.{standing}
 use Rattle.depot_store.specs.RecordTexts.{IsTextOf}
 use Rattle.depot_tell.proofs.StatementTexts.{text_of_place, own_body, own_leaf_text, told_by_another, told_own, told_foreign}

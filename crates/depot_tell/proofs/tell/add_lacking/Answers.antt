@@ -1,6 +1,4 @@
-use Rattle.std.proofs.Common.{refl, sym, ap, ◌∙◌, arith}
-use Rattle.depot_base.specs.Writes.{value_in}
-use Rattle.depot_base.specs.declared.write.Write.{Write}
+use Rattle.std.proofs.Common.{refl, sym, ◌∙◌, arith}
 use Rattle.depot_tell.proofs.LackingValues.{writes_begin, writes_end, write_skipped, write_held, write_lacked}
 use Rattle.depot_tell.proofs.tell.add_lacking.Goals as goal
 

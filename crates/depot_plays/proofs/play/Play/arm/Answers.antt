@@ -7,7 +7,7 @@ use Rattle.depot_plays.proofs.play.Play.arm.Goals as goal
 pub come_back-requires-clause-place : goal.come_back-requires-clause-place
 come_back-requires-clause-place g c =
     let l = c.requires.left.1 in
-    omega (arith, place_within _ g.A.Actor.view c.requires.left.0 l.before c.args.self.now c.args.away l.left, c.args.self.now.actors.ok.0)
+    omega (arith, place_within _ g.A.Actor.view c.requires.left.0 l.before c.args.self.now c.args.away l.left, c.args.self.now.parts.ok.0)
 
 pub come_back-requires-clause-seen : goal.come_back-requires-clause-seen
 come_back-requires-clause-seen g c =
@@ -23,5 +23,5 @@ returns g c = λ node before left. λ stage run at.
     let i = left_is _ view stage run node before c.args.self.now c.args.away left at in
     let after = c.in_ok-actor.actor in
     let set = stop_set _ view stage run node c.args.call c.args.image before c.args.self.now c.come_back.new.self c.args.away after (g.met.A.Actor.lawful after) at i c.in_ok-actor.ensures
-    c.in_ok-come_back.ensures.actors c.in_ok-come_back.ensures.seen c.in_ok-come_back.ensures.labels in
+    c.in_ok-come_back.ensures.parts c.in_ok-come_back.ensures.seen c.in_ok-come_back.ensures.labels in
     subst (λ (lines : List ℕ). HasDone g.row.A.Denot view stage (armed_at run node c.args.call c.args.image) lines c.come_back.new.self) (sym c.in_ok-from_slice.ensures) set

@@ -6,7 +6,7 @@ use Rattle.depot_plays.proofs.play.Play.count_receipts.Goals as goal
 pub come_back-requires-clause-place : goal.come_back-requires-clause-place
 come_back-requires-clause-place g c =
     let l = c.requires.left.1 in
-    omega (arith, place_within _ g.A.Actor.view c.requires.left.0 l.before c.args.self.now c.args.away l.left, c.args.self.now.actors.ok.0)
+    omega (arith, place_within _ g.A.Actor.view c.requires.left.0 l.before c.args.self.now c.args.away l.left, c.args.self.now.parts.ok.0)
 
 pub come_back-requires-clause-seen : goal.come_back-requires-clause-seen
 come_back-requires-clause-seen g c =
@@ -22,4 +22,4 @@ returns g c = λ node before left. λ stage run at.
     let t = c.in_ok-actor.field-0 in
     let i = left_is _ g.A.Actor.view stage run node before c.args.self.now c.args.away left at in
     settled_told _ g.A.Actor.view stage run node c.args.id.now c.args.k before c.args.self.now c.come_back.new.self c.args.away t.actor t.lines t.bytes (g.met.A.Actor.lawful t.actor) at i (c.in_ok-actor.ensures stage i.station i.seated)
-    c.in_ok-come_back.ensures.actors c.in_ok-come_back.ensures.seen c.in_ok-come_back.ensures.labels
+    c.in_ok-come_back.ensures.parts c.in_ok-come_back.ensures.seen c.in_ok-come_back.ensures.labels

@@ -4,9 +4,9 @@ use Rattle.depot_plays.proofs.SignedUpdates.{lines_told}
 use Rattle.depot_plays.proofs.play.Play.event.Goals as goal
 
 pub returns : goal.returns
-returns g c = λ stage run on at.
+returns g c = λ stage run on sound at.
     let e = c.args.event.now in
-    let d = c.in_ok-behind.ensures stage run on at in
+    let d = c.in_ok-behind.ensures stage run on sound at in
     record {
       lines_are = lines_told e (done stage run e) c.new-lines.result c.event_head.new.out c.in_ok-behind.behind c.push_all.new.self c.new-lines.ensures c.in_ok-event_head.ensures d.lines_are
           (c.in_ok-push_all.ensures.ok ∙ ap (λ (t : List ℕ). c.event_head.new.out ++ t) c.as_slice.ensures);

@@ -1,4 +1,3 @@
-use Rattle.std.proofs.Common.{List, ℕ, Option, Some, option_map, ap, ◌∙◌}
 use Rattle.std.proofs.lemmas.Result.{IfOk-weaker}
 use Rattle.depot_plays.proofs.LabelledUpdates.{id_of_plain, id_of_named}
 use Rattle.depot_plays.proofs.play.Play.id_referred.Goals as goal

@@ -1,4 +1,4 @@
-use Rattle.std.proofs.Common.{◌++◌, ◌∷◌, [], sym, ◌∙◌}
+use Rattle.std.proofs.Common.{sym, ◌∙◌}
 use Rattle.depot_plays.proofs.LabelledUpdates.{all_ids, no_id, no_ids, one_id}
 use Rattle.depot_plays.proofs.play.Play.ids_of.Goals as goal
 

@@ -24,12 +24,12 @@ stop-requires-clause-image g c =
 
 pub returns-in-Judge : goal.returns-in-Judge
 unfolding done
-returns-in-Judge g c = IfOk-weaker c.judge.result _ _ (λ lines told stage run on at.
+returns-in-Judge g c = IfOk-weaker c.judge.result _ _ (λ lines told stage run on sound at.
     subst (λ (e : Event). HasDone g.row.A.Denot g.A.Actor.view stage (done stage run e) lines c.args.self.now) (sym c.in-Judge.is) (told stage run on at)) c.judge.ensures
 
 pub returns-in-Stop : goal.returns-in-Stop
 unfolding done
-returns-in-Stop g c = IfOk-weaker c.stop.result _ _ (λ lines told stage run on at.
+returns-in-Stop g c = IfOk-weaker c.stop.result _ _ (λ lines told stage run on sound at.
     subst (λ (e : Event). HasDone g.row.A.Denot g.A.Actor.view stage (done stage run e) lines c.stop.new.self) (sym c.in-Stop.is) (told stage run at)) c.stop.ensures
 
 pub deed-requires-clause-changes : goal.deed-requires-clause-changes
@@ -45,10 +45,15 @@ receipt-requires-clause-few g c =
 
 pub returns-in-Receipt : goal.returns-in-Receipt
 unfolding done
-returns-in-Receipt g c = IfOk-weaker c.receipt.result _ _ (λ lines told stage run on at.
+returns-in-Receipt g c = IfOk-weaker c.receipt.result _ _ (λ lines told stage run on sound at.
     subst (λ (e : Event). HasDone g.row.A.Denot g.A.Actor.view stage (done stage run e) lines c.receipt.new.self) (sym c.in-Receipt.is) (rw c.as_slice.ensures at (told stage run at))) c.receipt.ensures
 
 pub returns-in-Settled : goal.returns-in-Settled
 unfolding done
-returns-in-Settled g c = IfOk-weaker c.settled.result _ _ (λ lines told stage run on at.
+returns-in-Settled g c = IfOk-weaker c.settled.result _ _ (λ lines told stage run on sound at.
     subst (λ (e : Event). HasDone g.row.A.Denot g.A.Actor.view stage (done stage run e) lines c.settled.new.self) (sym c.in-Settled.is) (told stage run at)) c.settled.ensures
+
+pub returns-in-Audit : goal.returns-in-Audit
+unfolding done
+returns-in-Audit g c = IfOk-weaker c.audit.result _ _ (λ lines told stage run on sound at.
+    subst (λ (e : Event). HasDone g.row.A.Denot g.A.Actor.view stage (done stage run e) lines c.args.self.now) (sym c.in-Audit.is) (told stage run on sound at)) c.audit.ensures

@@ -10,7 +10,7 @@ use Rattle.depot_plays.proofs.play.Play.see.Goals as goal
 
 pub loop-item-init : goal.loop-item-init
 loop-item-init g c = record {
-  actors = refl;
+  parts = refl;
   labels = refl;
   seen = sym (seen_add_nothing (updates_in c.args.self.now.seen.graph.items.entries) (take c.args.count (accepted (g.A.Actor.view c.args.actor.now).journal)) c.requires);
 }
@@ -32,7 +32,7 @@ loop-item-preserved g c =
     let old = updates_in c.args.self.now.seen.graph.items.entries in
     let next = adding_goes_on us c.loop-item.item c.update.result.now old c.update.ensures in
     record {
-      actors = c.loop-item.invariant.actors;
+      parts = c.loop-item.invariant.parts;
       labels = c.loop-item.invariant.labels;
       seen = c.in_ok-add.ensures.ok ∙ ap (λ (xs : List Update). seen_with xs (c.update.result.now ∷ [])) c.loop-item.invariant.seen ∙ next;
     }

@@ -6,7 +6,7 @@ use Rattle.depot_plays.proofs.play.Play.see.Given as goal
 
 abbrev pub invariant-loop-item : goal.invariant-loop-item
 invariant-loop-item g l = record {
-  actors : l.self.actors ≡ l.initial.self.actors;
+  parts : l.self.parts ≡ l.initial.self.parts;
   labels : l.self.labels ≡ l.initial.self.labels;
   seen : updates_in l.self.seen.graph.items.entries ≡ seen_with (updates_in l.initial.self.seen.graph.items.entries) (take l.item (accepted (g.A.Actor.view l.actor).journal));
 }

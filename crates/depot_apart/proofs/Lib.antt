@@ -1,0 +1,6 @@
+pub mod ListLaws
+pub mod TableLaws
+pub mod NodesOfTraces
+pub mod WrongReads
+pub mod MetRecords
+pub mod NamedNodes

@@ -1,0 +1,4 @@
+pub mod Tables
+pub mod MetTexts
+pub mod TracedWorlds
+pub mod Lookups

@@ -1,0 +1,20 @@
+//! Texts of lawful records, as values.
+ghost use Rattle.std.specs.Prelude.{◌≡◌, IfOk};
+ghost use Rattle.depot_base.specs.declared.record.Record.{Record};
+ghost use Rattle.depot_apart.specs.MetTexts.{IsTextOf};
+
+use depot_base::{DecodeError, Memory, Record};
+use depot_update::decode_record;
+use std::alloc::Global;
+
+/// The record with this text, which is one's: nothing but memory can be wanting.
+pub fn record_of(alloc: Global, text: &[u8]) -> Result<Record, Memory>
+    requires { (r : Record) × IsTextOf r text.now }
+    ensures { IfOk result (λ item. (r : Record) → IsTextOf r text.now → item ≡ r) }
+{
+    match decode_record(alloc, text) {
+        Ok(item) => Ok(item),
+        Err(DecodeError::Memory) => Err(Memory),
+        Err(DecodeError::IllFormed(_)) => unreachable!(),
+    }
+}

@@ -1,0 +1,5 @@
+pub mod ReadSteps
+pub mod ShownReads
+pub mod TurnLaws
+pub mod TracedNodes
+pub mod WorldFindings

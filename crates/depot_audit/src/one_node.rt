@@ -1,0 +1,107 @@
+//! One node: its records are taken one behind the other, and its reads held against them as they come.
+ghost use Rattle.std.specs.Prelude.{◌≡◌, ◌+◌, ◌<◌, ◌≤◌, ◌↔◌, [], false, length, map, IfOk, IsTrue};
+ghost use Rattle.depot_model.specs.Lawful.{IsLawful};
+ghost use Rattle.depot_store.specs.Holdings.{standing, IsWhole};
+ghost use Rattle.depot_traces.specs.SeenTraces.{read_of, trace_of};
+ghost use Rattle.depot_traces.specs.declared.trace.TheConstants.{MOST_READS};
+ghost use Rattle.depot_audit.specs.OneNode.{AreRightUpTo, IsNodeAnswer};
+ghost use Rattle.depot_audit.specs.Shows.{IsShown};
+
+use crate::shows::shows;
+use depot_base::{Bytes, Memory};
+use depot_model::Scheme;
+use depot_outside::Nowhere;
+use depot_records::{PlaceFault, ReadError, take_text, unwritten_store};
+use depot_sign::Roster;
+use depot_store::Store;
+use depot_traces::{ReadTrace, Trace};
+use std::alloc::Global;
+
+/// What is found of one node. Places are from 0.
+#[derive(Clone, Copy, Debug, PartialEq, Eq)]
+pub enum NodeAnswer {
+    /// Its records aren't those of a lawful journal: the first fault.
+    Unlawful(PlaceFault),
+    /// Its records are lawful, and this is its first read that isn't what they then showed.
+    WrongRead(u32),
+    /// Its records are lawful, and its reads are what they showed.
+    Right,
+}
+
+/// Looks at a node of a roster: at all its records, and then at its reads, none of which was made at fewer records than the one before it.
+pub fn look_at<S: Scheme>(
+    alloc: Global,
+    roster: &Roster,
+    scheme: &S,
+    trace: &Trace,
+) -> Result<NodeAnswer, Memory>
+    requires { length trace.now.reads ≤ MOST_READS }
+    ensures { IfOk result (IsNodeAnswer S.verifies roster.now (trace_of trace.now)) }
+{
+    let mut store = unwritten_store(alloc, trace.node, roster, scheme)?;
+    let found = take_trace(
+        alloc,
+        &mut store,
+        trace.texts.as_slice(),
+        trace.reads.as_slice(),
+    );
+    drop(store);
+    found
+}
+
+/// Takes the records of texts, up to the first that has a fault, and holds reads against them as they come.
+fn take_trace<S: Scheme>(
+    alloc: Global,
+    store: &mut Store<Nowhere, S>,
+    texts: &[Bytes],
+    reads: &[ReadTrace],
+) -> Result<NodeAnswer, Memory>
+    requires whole { IsWhole store.old }
+    requires none { store.old.records ≡ [] }
+    requires few { length reads.now ≤ MOST_READS }
+    ensures { IfOk result (IsNodeAnswer S.verifies store.old.listed (record { node = store.old.me; texts = texts.now; reads = map read_of reads.now })) }
+{
+    let mut right = 0;
+    for text in texts {
+        match take_text(alloc, store, text.as_slice()) {
+            Ok(()) => {}
+            Err(ReadError::Memory) => return Err(Memory),
+            Err(ReadError::Fault(fault)) => {
+                return Ok(NodeAnswer::Unlawful(PlaceFault {
+                    place: store.count(),
+                    fault,
+                }));
+            }
+        }
+        right = right_reads(store, reads, right);
+    }
+    if right < reads.len() {
+        return Ok(NodeAnswer::WrongRead(right as u32));
+    }
+    Ok(NodeAnswer::Right)
+}
+
+/// How many reads are what the records of a store showed, where so many are that were made at fewer.
+fn right_reads<S: Scheme>(store: &Store<Nowhere, S>, reads: &[ReadTrace], right: usize) -> usize
+    requires runs { store.now.stopped ≡ false }
+    requires lawful { IsLawful (standing S.verifies store.now) store.now.records }
+    requires some { 0 < length store.now.records }
+    requires right { AreRightUpTo (length store.now.records) store.now.records (map read_of reads.now) right }
+    ensures { AreRightUpTo (length store.now.records + 1) store.now.records (map read_of reads.now) result }
+{
+    for place in right..reads.len() {
+        if !is_shown(store, &reads[place]) {
+            return place;
+        }
+    }
+    reads.len()
+}
+
+/// Whether a read was made at all records of a store, and lists what they show.
+fn is_shown<S: Scheme>(store: &Store<Nowhere, S>, read: &ReadTrace) -> bool
+    requires runs { store.now.stopped ≡ false }
+    requires lawful { IsLawful (standing S.verifies store.now) store.now.records }
+    ensures { IsTrue result ↔ IsShown store.now.records (read_of read.now) }
+{
+    read.length == store.count() && shows(store, read)
+}

@@ -1,0 +1,15 @@
+//! What is found of nodes in turn, as the finding of their traces. Each law is a function that does nothing; its contract is the law.
+ghost use Rattle.std.specs.Prelude.{List, Some, None};
+ghost use Rattle.depot_base.specs.declared.key.RosterEntry.{RosterEntry};
+ghost use Rattle.depot_model.specs.Roster.{Verifies};
+ghost use Rattle.depot_model.specs.Traces.{Trace, AreTraced, IsFindingOf, by_node};
+ghost use Rattle.depot_model.specs.World.{World};
+ghost use Rattle.depot_traces.specs.SeenTraces.{finding_of};
+ghost use Rattle.depot_traces.specs.declared.finding.Finding.{Finding};
+ghost use Rattle.depot_audit.specs.InTurn.{IsTurnOf};
+
+/// What is found of nodes in turn, in rising order, is the finding of their traces. Where nothing is, the traces make a world.
+pub fn turns_are_findings()
+    ensures found { (verifies : Verifies) (listed : List RosterEntry) (traces : List Trace) (found : Finding) → IsTurnOf verifies listed (by_node traces) (Some found) → IsFindingOf verifies listed traces (finding_of found) }
+    ensures world { (verifies : Verifies) (listed : List RosterEntry) (traces : List Trace) → IsTurnOf verifies listed (by_node traces) None → (W : World) × AreTraced verifies listed traces W }
+{}

@@ -1,0 +1,239 @@
+//! Reads that are what the records then showed, and reads that aren't.
+
+use crate::faults::{Told, bare};
+use crate::journals::{A, B, C, FOREIGN, HELD, ONE, PUT, TWO, hash, node, roster, texts};
+use depot_audit::{
+    Answered, Finding, Listing, MOST_READS, NodeAnswer, PlaceFault, ReadTrace, Reads, Shown, Trace,
+    look_at, look_at_all,
+};
+use depot_base::{Key, Value};
+use depot_sign::PlainScheme;
+use std::alloc::Global;
+use std::test::Fail;
+
+/// What a read shows of a write.
+#[derive(Clone, Copy, Debug)]
+enum Sight {
+    NotHeld,
+    Held(&'static [u8]),
+    Gone,
+}
+
+/// A read: at how many records, of which key, and the writes that it lists, each by the id of its update.
+type Read = (u32, &'static [u8], &'static [(&'static str, Sight)]);
+
+/// Node 1 before and behind its put.
+static OF_ONE: [Read; 2] = [(1, b"k", &[]), (2, b"k", &[(A, Sight::Held(b"a"))])];
+
+/// Node 2 behind each of its records.
+static OF_TWO: [Read; 7] = [
+    (1, b"k", &[]),
+    (2, b"k", &[(B, Sight::Held(b"b"))]),
+    (3, b"k", &[(A, Sight::NotHeld), (B, Sight::Held(b"b"))]),
+    (4, b"k", &[(A, Sight::Held(b"a")), (B, Sight::Held(b"b"))]),
+    (4, b"l", &[]),
+    (5, b"k", &[(C, Sight::Gone)]),
+    (5, b"k", &[(C, Sight::Gone)]),
+];
+
+/// Reads of node 2, and the place of the first that isn't what its records showed.
+static WRONG: [(&str, &[Read], u32); 15] = [
+    ("lost a write", &[(4, b"k", &[(B, Sight::Held(b"b"))])], 0),
+    (
+        "lists what is superseded",
+        &[(5, b"k", &[(A, Sight::Held(b"a")), (B, Sight::Held(b"b"))])],
+        0,
+    ),
+    (
+        "lacks a value that is held",
+        &[(4, b"k", &[(A, Sight::NotHeld), (B, Sight::Held(b"b"))])],
+        0,
+    ),
+    (
+        "shows a value that isn't held yet",
+        &[(3, b"k", &[(A, Sight::Held(b"a")), (B, Sight::Held(b"b"))])],
+        0,
+    ),
+    (
+        "shows another value",
+        &[(4, b"k", &[(A, Sight::Held(b"b")), (B, Sight::Held(b"b"))])],
+        0,
+    ),
+    (
+        "lists a write that came later",
+        &[(2, b"k", &[(A, Sight::NotHeld), (B, Sight::Held(b"b"))])],
+        0,
+    ),
+    (
+        "lists a write twice",
+        &[(2, b"k", &[(B, Sight::Held(b"b")), (B, Sight::Held(b"b"))])],
+        0,
+    ),
+    (
+        "lists in another order",
+        &[(4, b"k", &[(B, Sight::Held(b"b")), (A, Sight::Held(b"a"))])],
+        0,
+    ),
+    (
+        "takes a deletion for a put",
+        &[(5, b"k", &[(C, Sight::NotHeld)])],
+        0,
+    ),
+    (
+        "takes a put for a deletion",
+        &[(2, b"k", &[(B, Sight::Gone)])],
+        0,
+    ),
+    (
+        "has another key",
+        &[(2, b"l", &[(B, Sight::Held(b"b"))])],
+        0,
+    ),
+    (
+        "goes back",
+        &[(2, b"k", &[(B, Sight::Held(b"b"))]), (1, b"k", &[])],
+        1,
+    ),
+    ("was made before the birth", &[(0, b"k", &[])], 0),
+    (
+        "was made at more records",
+        &[
+            (5, b"k", &[(C, Sight::Gone)]),
+            (6, b"k", &[(C, Sight::Gone)]),
+        ],
+        1,
+    ),
+    (
+        "the second, before a right one",
+        &[
+            (1, b"k", &[]),
+            (2, b"k", &[]),
+            (5, b"k", &[(C, Sight::Gone)]),
+        ],
+        1,
+    ),
+];
+
+/// What is shown, as a trace has it.
+fn shown(alloc: Global, sight: Sight) -> Result<Shown, Fail> {
+    match sight {
+        Sight::NotHeld => Ok(Shown::NotHeld),
+        Sight::Held(value) => Ok(Shown::Held(Value::new(alloc, value)?)),
+        Sight::Gone => Ok(Shown::Gone),
+    }
+}
+
+/// The answer that lists these.
+fn listing(alloc: Global, listed: &[(&'static str, Sight)]) -> Result<Listing, Fail> {
+    let mut answer = Listing::new(alloc);
+    for (id, sight) in listed {
+        answer.push(Answered {
+            id: hash(*id)?,
+            shown: shown(alloc, *sight)?,
+        })?;
+    }
+    Ok(answer)
+}
+
+/// A trace of a node with these records and reads.
+fn trace(alloc: Global, number: u16, journal: &[&str], told: &[Read]) -> Result<Trace, Fail> {
+    let mut reads = Reads::new(alloc);
+    for (length, key, listed) in told {
+        reads.push(ReadTrace {
+            length: *length,
+            key: Key::new(alloc, *key)?,
+            answer: listing(alloc, *listed)?,
+        })?;
+    }
+    Ok(Trace {
+        node: node(number)?,
+        texts: texts(alloc, journal)?,
+        reads,
+    })
+}
+
+/// What is found of nodes.
+#[derive(Clone, Copy, Debug, PartialEq, Eq)]
+enum Found {
+    Right,
+    /// The record of a node at a place isn't lawful.
+    Record(u16, u32, Told),
+    /// The read of a node at a place isn't right.
+    Read(u16, u32),
+    Other,
+}
+
+/// What is found of two nodes of the roster, the lower one first.
+fn found_of(alloc: Global, one: &Trace, two: &Trace) -> Result<Found, Fail> {
+    if one.reads.as_slice().len() > MOST_READS as usize {
+        return Err(Fail::from("too many reads"));
+    }
+    if two.reads.as_slice().len() > MOST_READS as usize {
+        return Err(Fail::from("too many reads"));
+    }
+    let found = look_at_all(alloc, &roster(alloc)?, &PlainScheme, &[one, two])?;
+    match &found {
+        None => Ok(Found::Right),
+        Some(Finding::Unlawful { node, place, fault }) => {
+            Ok(Found::Record(node.number(), *place, bare(fault)))
+        }
+        Some(Finding::Answer { node, place }) => Ok(Found::Read(node.number(), *place)),
+        Some(_) => Ok(Found::Other),
+    }
+}
+
+/// What is found where the second node has these reads, and all else is right.
+fn found_with(alloc: Global, told: &[Read]) -> Result<Found, Fail> {
+    let one = trace(alloc, 1, &ONE, &OF_ONE)?;
+    let two = trace(alloc, 2, &TWO, told)?;
+    found_of(alloc, &one, &two)
+}
+
+/// What is found of node 2 alone, where it has these reads.
+fn found_alone(alloc: Global, told: &[Read]) -> Result<Found, Fail> {
+    let two = trace(alloc, 2, &TWO, told)?;
+    if two.reads.as_slice().len() > MOST_READS as usize {
+        return Err(Fail::from("too many reads"));
+    }
+    match look_at(alloc, &roster(alloc)?, &PlainScheme, &two)? {
+        NodeAnswer::Unlawful(PlaceFault { place, fault }) => {
+            Ok(Found::Record(2, place, bare(&fault)))
+        }
+        NodeAnswer::WrongRead(place) => Ok(Found::Read(2, place)),
+        NodeAnswer::Right => Ok(Found::Right),
+    }
+}
+
+#[test]
+fn right_reads_are_found_right(rt: HostRuntime) -> Result<(), Fail> {
+    assert!(rt; found_with(rt.alloc(), &OF_TWO)? == Found::Right);
+    assert!(rt; found_with(rt.alloc(), &[])? == Found::Right);
+    assert!(rt; found_alone(rt.alloc(), &OF_TWO)? == Found::Right);
+    Ok(())
+}
+
+#[test]
+fn the_first_wrong_read_is_found(rt: HostRuntime) -> Result<(), Fail> {
+    for (name, told, place) in WRONG.iter() {
+        let right = Found::Read(2, *place);
+        assert!(rt; found_with(rt.alloc(), *told)? == right, "{name}");
+        assert!(rt; found_alone(rt.alloc(), *told)? == right, "{name}");
+    }
+    Ok(())
+}
+
+/// What is found where both nodes have a wrong read, and the second has these records.
+fn found_behind(alloc: Global, journal: &[&str]) -> Result<Found, Fail> {
+    let one = trace(alloc, 1, &ONE, &[(2, b"k", &[])])?;
+    let two = trace(alloc, 2, journal, &[(2, b"k", &[])])?;
+    found_of(alloc, &one, &two)
+}
+
+#[test]
+fn records_are_looked_at_before_reads(rt: HostRuntime) -> Result<(), Fail> {
+    assert!(rt; found_behind(rt.alloc(), &TWO)? == Found::Read(1, 0));
+    assert!(rt;
+        found_behind(rt.alloc(), &[PUT, FOREIGN, HELD])? == Found::Record(2, 0, Told::Birth)
+    );
+    Ok(())
+}

@@ -1,0 +1,9 @@
+pub mod Bodies
+pub mod Findings
+pub mod Fronts
+pub mod Journals
+pub mod ReadLaws
+pub mod RecordFits
+pub mod ShownFacts
+pub mod Tables
+pub mod Tests

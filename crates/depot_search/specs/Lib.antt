@@ -1,0 +1,4 @@
+pub mod Read
+pub mod Rows
+pub mod Search
+pub mod Writes

@@ -1,0 +1,123 @@
+//! Loads trace files one by one.
+ghost use Rattle.std.specs.Prelude.{◌≡◌, ◌<◌, ◌≤◌, ◌++◌, ◌∷◌, ℕ, [], length, take, IfOk};
+ghost use Rattle.depot_outside.specs.Told.{loads, HasLoaded};
+ghost use Rattle.depot_trace_files.specs.Handing.{IsCalm, IsGathered, IsTaken, IsTold, has_trace_of};
+
+use depot_base::{Memory, NodeId};
+use depot_outside::{OutError, Shelf};
+use depot_script::FileName;
+use depot_sign::Roster;
+use depot_traces::{Trace, TraceError, Traces, decode_trace};
+use std::alloc::Global;
+
+/// Why a file is no trace for an audit.
+#[derive(Clone, Copy, Debug, PartialEq, Eq)]
+pub enum Refusal {
+    /// It isn't on the shelf, or the shelf failed.
+    Missing,
+    /// It is no trace's text: the offset in bytes, from 0, of its first fault.
+    IllFormed(u64),
+    /// A file before it has this node's trace.
+    Twice(NodeId),
+    /// Its node isn't in the roster.
+    Stranger,
+}
+
+/// What came of some trace files.
+#[derive(Debug, Drop)]
+pub enum Gathered {
+    /// Their traces, in the order of the files, of distinct nodes of the roster.
+    Traces(Traces),
+    /// The first file that is refused: its place among the names, from 0, and why.
+    Refused { place: u32, why: Refusal },
+}
+
+/// What came of one trace file.
+#[derive(Debug, Drop)]
+pub enum Taken {
+    /// Its trace.
+    Trace(Trace),
+    /// It is refused.
+    Refused(Refusal),
+}
+
+/// Whether one of these traces is a node's.
+fn is_handed(traces: &[Trace], node: NodeId) -> bool
+    ensures { result ≡ has_trace_of node traces.now }
+{
+    traces.iter().any(|trace| trace.node == node)
+}
+
+/// The trace of these bytes, held against the roster and the traces before it.
+pub fn take_bytes(
+    alloc: Global,
+    roster: &Roster,
+    earlier: &[Trace],
+    bytes: &[u8],
+) -> Result<Taken, Memory>
+    ensures { IfOk result (IsTaken roster.now earlier.now bytes.now) }
+{
+    let trace = match decode_trace(alloc, bytes) {
+        Ok(trace) => trace,
+        Err(TraceError::Memory) => return Err(Memory),
+        Err(TraceError::IllFormed(at)) => return Ok(Taken::Refused(Refusal::IllFormed(at))),
+    };
+    if is_handed(earlier, trace.node) {
+        return Ok(Taken::Refused(Refusal::Twice(trace.node)));
+    }
+    if !roster.has_node(trace.node) {
+        return Ok(Taken::Refused(Refusal::Stranger));
+    }
+    Ok(Taken::Trace(trace))
+}
+
+/// The same of the file of a name, which is loaded.
+pub fn take_file<F: Shelf>(
+    alloc: Global,
+    shelf: &mut F,
+    roster: &Roster,
+    earlier: &[Trace],
+    name: &FileName,
+) -> Result<Taken, Memory>
+    ensures taken { IfOk result (IsTold (F.tells shelf.old) (F.file shelf.old) (F.faults shelf.old < F.faults shelf.new) roster.now earlier.now name.now) }
+    ensures calm { IfOk result (IsCalm (F.faults shelf.new ≡ F.faults shelf.old)) }
+    ensures loads { HasLoaded (loads F.Shelf shelf.old shelf.new) (name.now ∷ []) }
+    ensures files { F.file shelf.new ≡ F.file shelf.old }
+    ensures stores { F.stores shelf.new ≡ F.stores shelf.old }
+    ensures tells { F.tells shelf.new ≡ F.tells shelf.old }
+{
+    match shelf.load(name.text()) {
+        Ok(Some(bytes)) => take_bytes(alloc, roster, earlier, bytes.as_slice()),
+        Ok(None) => Ok(Taken::Refused(Refusal::Missing)),
+        Err(OutError::Failed) => Ok(Taken::Refused(Refusal::Missing)),
+        Err(OutError::Memory) => Err(Memory),
+    }
+}
+
+/// The traces of these files, loaded one after the other up to the first that is refused.
+pub fn gather<F: Shelf>(
+    alloc: Global,
+    shelf: &mut F,
+    roster: &Roster,
+    names: &[FileName],
+) -> Result<Gathered, Memory>
+    requires { length names.now ≤ 4294967295 }
+    ensures gathered { IfOk result (IsGathered (F.tells shelf.old) (F.file shelf.old) (F.faults shelf.old < F.faults shelf.new) (F.faults shelf.new ≡ F.faults shelf.old) (loads F.Shelf shelf.old shelf.new) roster.now names.now) }
+    ensures loads { (n : ℕ) × HasLoaded (loads F.Shelf shelf.old shelf.new) (take n names.now) }
+    ensures files { F.file shelf.new ≡ F.file shelf.old }
+    ensures stores { F.stores shelf.new ≡ F.stores shelf.old }
+{
+    let mut traces = Traces::new(alloc);
+    for place in 0..names.len() {
+        match take_file(alloc, shelf, roster, traces.as_slice(), &names[place])? {
+            Taken::Trace(trace) => traces.push(trace)?,
+            Taken::Refused(why) => {
+                return Ok(Gathered::Refused {
+                    place: place as u32,
+                    why,
+                });
+            }
+        }
+    }
+    Ok(Gathered::Traces(traces))
+}

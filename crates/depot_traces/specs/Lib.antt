@@ -1,0 +1,4 @@
+pub mod TraceTexts
+pub mod TraceAnswers
+pub mod SeenTraces
+pub mod ToldTraces

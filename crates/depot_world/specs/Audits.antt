@@ -1,0 +1,41 @@
+-- The traces of correct nodes, and the world that an audit of them looks at.
+use Rattle.std.specs.Prelude.{◌<◌, ◌≤◌, List, [], length, map, Bool, not, nat_lt}
+use Rattle.depot_base.specs.declared.limits.TheConstants.{MOST_CORRECT, MOST_LINES}
+use Rattle.depot_model.specs.Insertion.{order_by}
+use Rattle.depot_model.specs.Lists.{IsIn}
+use Rattle.depot_model.specs.Records.{text_of_record}
+use Rattle.depot_model.specs.Traces.{ReadTrace, Trace, answered}
+use Rattle.depot_model.specs.World.{Read, Correct, World, IsWorld}
+use Rattle.depot_world.specs.Run.{Run, Station, world_by}
+use Rattle.depot_world.specs.Suite.{Stage}
+
+-- ---- traces
+
+-- a read as a trace tells it
+abbrev pub traced_read : Read → ReadTrace
+traced_read r = record { length = r.at; key = r.key; answer = map answered r.answer }
+
+-- what a node hands in: its record texts, and these of its reads
+abbrev pub trace_with : Correct → List Read → Trace
+trace_with c reads = record { node = c.node; texts = map text_of_record c.journal; reads = map traced_read reads }
+
+-- the same with all its reads
+abbrev pub trace_by : Correct → Trace
+trace_by c = trace_with c c.reads
+
+-- ---- the audit of a run
+
+-- a node comes before those of higher numbers
+abbrev pub comes_before : Correct → Correct → Bool
+comes_before c d = not (nat_lt d.node c.node)
+
+-- The correct nodes of a run in rising order of their numbers, as an audit looks at them. What was judged is no node's, and isn't handed in.
+unfoldable pub audited : Stage → Run → World
+audited stage run = record { verifies = stage.suite.verifies; listed = stage.listed; nodes = order_by comes_before (map (λ s. s.correct) run.stations); judged = [] }
+
+-- A run whose nodes may be audited: it makes a world of so many nodes, and no node has more reads than a schedule has lines.
+pub record IsSound (stage : Stage) (run : Run) : Type 0 where
+  pub world : IsWorld (world_by stage run)
+  pub few : (s : Station) → IsIn s run.stations → length s.correct.reads ≤ MOST_LINES
+  pub some : 0 < length run.stations
+  pub most : length run.stations ≤ MOST_CORRECT
