@@ -10,9 +10,11 @@ import subprocess
 import sys
 import tempfile
 
-from make_cases import HERE, ZEROS, frame
+from make_cases import HERE, ZEROS, checkpoint, checkpoint_key, frame, history_of, roster, sha, update
 from make_node_cases import JOURNAL, LISTED, words
-from make_replays import REFUSED, REFUSED_ONE, TOOK, TOOK_ONE, branches, doubled, hello_of, members, raw, schedule, signed_update, signed_voucher, transcript
+from make_replays import (
+    REFUSED, REFUSED_ONE, TOOK, TOOK_ONE, branches, doubled, hello_of, id_of, members, raw, root_of, schedule, sign, signed_update, signed_voucher, transcript,
+)
 
 DEPOT = os.path.join(HERE, "..", "depot")
 # The bytes of a frame of an update without entries, under a key of one byte.
@@ -66,6 +68,40 @@ def many_records():
         ("bundle 1 d e", "full records 131072"),
         ("give 1 a", f"accepted 0 known {1 + count} refused 0 bare"),
         ("restart 1", "records 131072"),
+    ]
+
+
+def full_reader(most=131_072):
+    """A reader counts the records of its node when it was made, and what it takes but for values: 131,072 at most."""
+    first = signed_update(34, 0, 1, b"a")
+    leaf = id_of(first)
+    text = checkpoint(sha(roster(*((node, 12, root_of(node)) for node in range(1, 35)))), (34, leaf))
+    past = history_of([(34, 1, leaf)])
+    signing = [(node, 4095, ZEROS, [(34, 1, leaf)]) for node in range(2, 34)] + [(34, 1, leaf, [])]
+    signed = [sign(node, seq, update(node, seq, 2, prev, checkpoint_key(text), text, deps, past)) for node, seq, prev, deps in signing]
+    # The birth, the first update, 34 that sign, and vouchers up to two records less than a journal has.
+    count = most - 2 - 36
+    vouchers = [frame(2, signed_voucher(2 + at // 4095, at % 4095, ZEROS)) for at in range(count)]
+    more = [frame(2, signed_voucher(34, seq, ZEROS)) for seq in range(2, 6)]
+    return WIDE + ["node 1"] + [f"faulty {node}" for node in range(2, 35)], [
+        raw("k", text),
+        raw("a", frame(2, first) + b"".join(frame(2, made) for made in signed) + b"".join(vouchers)),
+        ("give 1 a", f"accepted {34 + count} known 0 refused 0 bare"),
+        ("sign 1 k", "0/3"),
+        ("trim 1 k t", "kept 35 of 35"),
+        raw("b", more[0] + frame(3, b"no") + more[1] + frame(2, first) + more[2] + more[3]),
+        ("tgive t b", f"accepted 2 known 1 refused 1 below 0 full records {most}"),
+        raw("c", more[2]),
+        ("tgive t c", f"accepted 0 known 0 refused 0 below 0 full records {most}"),
+        # What is known, refused or a value still comes to its answer.
+        raw("d", frame(2, first) + frame(3, b"no") + frame(3, b"a") + frame(3, b"a") + more[1] + more[3] + frame(3, b"a")),
+        ("tget t 6b", "34/0/1=?"),
+        ("tgive t d", f"accepted 1 known 3 refused 1 below 0 full records {most}"),
+        ("tget t 6b", "34/0/1=61"),
+        # The node itself has room for two more.
+        ("give 1 b", f"accepted 2 known 1 refused 1 full records {most}", "refused 1 14 Unwanted"),
+        ("restart 1", f"records {most}"),
+        ("tgive t d", f"accepted 0 known 4 refused 1 below 0 full records {most}"),
     ]
 
 
@@ -190,7 +226,8 @@ def is_damaged(name, write):
 
 
 def main():
-    results = [plays(case.__name__, *case()) for case in (long_values, many_branches, many_records, long_bundle, longest_put, many_frames, many_wanted, wide_proof)]
+    cases = (long_values, many_branches, many_records, full_reader, long_bundle, longest_put, many_frames, many_wanted, wide_proof)
+    results = [plays(case.__name__, *case()) for case in cases]
     results += [is_damaged(write.__name__, write) for write in (too_many_records, too_many_bytes)]
     sys.exit(0 if all(results) else 1)
 

@@ -63,6 +63,16 @@ def voucher(node, seq, *ids):
     return b"\x01\x02" + u(2, node) + u(4, seq) + u(2, len(ids)) + b"".join(sorted(ids))
 
 
+def checkpoint(listed, *leaves):
+    """The text of a checkpoint of the roster with this hash; leaves are (writer, id) each, in the order in which they are to stand."""
+    return b"\x01\x06" + listed + u(2, len(leaves)) + b"".join(u(2, writer) + id for writer, id in leaves)
+
+
+def checkpoint_key(text):
+    """The key that a checkpoint's text is put under."""
+    return b"checkpoint:" + sha(text)
+
+
 def history_of(leaves):
     """The history hash of a past with these leaves, (writer, clock, id) each."""
     return sha(b"".join(u(2, w) + u(8, c) + i for w, c, i in sorted(leaves, key=lambda x: (x[0], x[2]))))

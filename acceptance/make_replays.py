@@ -13,7 +13,7 @@ import shutil
 from make_cases import HERE, ZEROS, frame, history_of, proof, roster, sha, signed, u, update
 
 # How many words of an event stand before the arrow.
-HEAD = {"put": 3, "get": 3, "hello": 3, "give": 3, "bundle": 4, "settled": 4}
+HEAD = {"bundle": 4, "settled": 4, **dict.fromkeys(["put", "get", "hello", "give", "checkpoint", "sign", "tgive", "tget"], 3)}
 
 PLAIN = ["depot schedule 1", "scheme plain 4"]
 
@@ -32,7 +32,8 @@ def transcript(events):
     lines = []
     for event, answer, *behind in events:
         words = event.split(" ")
-        head = " ".join(words[: HEAD.get(words[0], 2)])
+        # `trim` prints the node and the name, without the label between them.
+        head = " ".join([*words[:2], words[3]] if words[0] == "trim" else words[: HEAD.get(words[0], 2)])
         lines.append(head + " ->" + (" " + answer if answer else ""))
         lines += [" " + line for line in behind]
     return "".join(line + "\n" for line in lines)

@@ -10,9 +10,9 @@ It has none of the limits of fullness, and no more of a disk than how many of a 
 import os
 import sys
 
-from make_cases import HERE, ZEROS, Signer, frame, hollow, proof, roster, sha, signed, u, update_of, voucher
+from make_cases import HERE, ZEROS, Signer, checkpoint, checkpoint_key, frame, hollow, proof, roster, sha, signed, u, update_of, voucher
 from texts import (
-    KINDS, Fault, Update, Voucher, body_in, contradict, hello_in, is_hollow, kind_of, parents, proof_in, signed_in, statement_in, whole,
+    KINDS, Fault, Update, Voucher, body_in, checkpoint_in, contradict, hello_in, is_hollow, kind_of, parents, proof_in, signed_in, statement_in, whole,
 )
 
 MOST_AHEAD, MOST_ENTRIES, MOST_PAYLOAD, MOST_FRAMES = 65_536, 1024, 131_072, 524_288
@@ -47,6 +47,10 @@ class Limit(Exception):
     pass
 
 
+class Below(Exception):
+    """A statement that names a trimmed update, whose id this is."""
+
+
 def past_of(ids, known):
     """The updates of these ids, and all that precede them, by id."""
     found, open_ids = {}, list(ids)
@@ -65,6 +69,13 @@ def leaves_of(updates):
 
 def history_of(updates):
     return sha(*(u(2, x.writer) + u(8, x.clock) + x.id for x in leaves_of(updates)))
+
+
+def latest_in(key, updates, known):
+    """The updates with this key that precede no other of them with it, in the order in which a read lists them."""
+    writing = [x for x in updates if key in dict(x.writes)]
+    latest = [x for x in writing if not any(x.id in past_of(parents(y), known) for y in writing)]
+    return sorted(latest, key=lambda x: (x.clock, x.writer, x.seq, x.id))
 
 
 class Members:
@@ -202,6 +213,7 @@ class Node:
             raise Refused("3 NotMine")
         if not self.members.is_signed(made):
             raise Refused("4 BadSignature", statement.writer)
+        self.check_below(statement)
         if isinstance(statement, Update):
             self.check_update(made)
         against = next((s for s in self.foreign if kind_of(s.statement, statement)), None)
@@ -215,6 +227,9 @@ class Node:
             raise Refused("13 VoucherConvicted", statement.writer)
         due = [] if against is None else self.conviction(against, made)
         return [*due, ("foreign", made)]
+
+    def check_below(self, statement):
+        """Nothing stands below what a node keeps: it keeps all."""
 
     def conviction(self, one, other):
         """The record that convicts the writer of two statements, if it isn't convicted yet."""
@@ -295,10 +310,54 @@ class Node:
         key = b"receipt:" + some
         return "yes" if len({x.writer for x in self.accepted.values() if dict(x.writes).get(key) is not None}) >= count else "no"
 
+    # ---- checkpoints
+
+    def checkpoint(self):
+        """The text of a checkpoint over all leaves, and the answer to its put."""
+        leaves = leaves_of(self.accepted.values())
+        if not leaves:
+            return b"", "Empty"
+        if len(leaves) > MOST_ENTRIES:
+            return b"", f"Many {len(leaves)}"
+        text = checkpoint(self.members.hash, *((x.writer, x.id) for x in leaves))
+        return text, self.sign(text)
+
+    def opened(self, text):
+        """The ids that a checkpoint lists, or the answer where it can't be signed."""
+        try:
+            listed, leaves = whole(checkpoint_in, text)
+        except Fault as found:
+            raise Limit(f"IllFormed {found.at}") from None
+        if listed != self.members.hash:
+            raise Limit("OtherRoster")
+        if any(some not in self.accepted or self.accepted[some].writer != writer for writer, some in leaves):
+            raise Limit("Unknown")
+        return [some for _, some in leaves]
+
+    def sign(self, text):
+        self.opened(text)
+        return self.put([(checkpoint_key(text), text)])
+
+    def has_signed(self, node, text, ids):
+        """Whether an update of the node puts the text under its key, with all these ids in its past."""
+        return any(
+            x.writer == node and dict(x.writes).get(checkpoint_key(text)) == (sha(text), len(text))
+            and set(ids) <= set(past_of(parents(x), self.accepted))
+            for x in self.accepted.values())
+
+    def trim(self, text):
+        """A reader that gives up what stands below a checkpoint, and what is said of it."""
+        ids = self.opened(text)
+        for node in sorted(self.members.signers):
+            if not self.has_signed(node, text, ids):
+                raise Limit(f"Unsigned {node}")
+        made = Reader(self, ids)
+        return made, f"kept {len(made.kept())} of {len(made.accepted)}"
+
+    # ---- what it reads
+
     def latest(self, key):
-        writing = [x for x in self.accepted.values() if key in dict(x.writes)]
-        latest = [x for x in writing if not any(x.id in past_of(parents(y), self.accepted) for y in writing)]
-        return sorted(latest, key=lambda x: (x.clock, x.writer, x.seq, x.id))
+        return latest_in(key, self.accepted.values(), self.accepted)
 
     def read(self, key):
         return " ".join(self.shown(x, key) for x in self.latest(key))
@@ -400,6 +459,49 @@ class Node:
         return "\n".join([report, *refused])
 
 
+class Reader(Node):
+    """What a node makes where these ids are listed. It goes on with what it takes, and has no disk: what it takes is lost with it."""
+
+    def __init__(self, node, ids):
+        self.me, self.members, self.armed = node.me, node.members, None
+        self.start(list(node.records))
+        below = past_of(ids, self.accepted)
+        stays = {x.id for key in {key for x in below.values() for key, _ in x.writes} for x in latest_in(key, below.values(), self.accepted)}
+        self.trimmed = {some: x for some, x in self.accepted.items() if some in below and some not in stays}
+        self.held = {digest: value for digest, value in self.held.items() if self.is_named(digest, len(value))}
+
+    def kept(self):
+        return [x for x in self.accepted.values() if x.id not in self.trimmed]
+
+    def is_named(self, digest, length):
+        return any(said == (digest, length) for x in self.kept() for _, said in x.writes)
+
+    def check_below(self, statement):
+        for x in self.trimmed.values():
+            is_update = isinstance(statement, Update)
+            is_parent = is_update and x.id in parents(statement)
+            is_beside = statement.writer == x.writer and (statement.seq == x.seq or is_update and statement.prev == x.prev)
+            if is_parent or is_beside:
+                raise Below(x.id)
+
+    def tgive(self, stream):
+        """Takes the frames in front of a stream, up to an End frame or the first that isn't whole."""
+        counts, at, number = {"new": 0, "known": 0, "refused": 0, "below": 0}, 0, 0
+        look = {1: self.look_at_proof, 2: self.look_at_statement, 3: self.look_at_value}
+        while at < len(stream):
+            length = frame_at(stream, at, number, False)
+            if length in ("ill", "open") or stream[at] == 4:
+                break
+            try:
+                counts[self.take(look[stream[at]], stream[at + 5:at + 5 + length])] += 1
+            except Refused:
+                counts["refused"] += 1
+            except Below:
+                counts["below"] += 1
+            at, number = at + 5 + length, number + 1
+        return f"accepted {counts['new']} known {counts['known']} refused {counts['refused']} below {counts['below']}"
+
+
 def frame_at(stream, at, number, is_ended):
     """The length of the payload there, `ill` where no frame can come, or `open` where one may."""
     if is_ended or number == MOST_FRAMES or stream[at] not in (1, 2, 3, 4):
@@ -463,6 +565,15 @@ class NoRef(Exception):
     pass
 
 
+# How many words of an event stand before the arrow.
+HEAD = {"bundle": 4, "settled": 4, **dict.fromkeys(["put", "get", "hello", "give", "checkpoint", "sign", "tgive", "tget"], 3)}
+
+
+def head_of(words):
+    """What stands before the arrow; of `trim` the node and the name."""
+    return " ".join([*words[:2], words[3]] if words[0] == "trim" else words[:HEAD.get(words[0], 2)])
+
+
 class World:
     """What a schedule's events work on: its nodes, and its labels with their bytes and what they are of."""
 
@@ -472,29 +583,31 @@ class World:
         nodes = [line.split() for line in lines[2:] if line.split()[0] in ("node", "faulty")]
         self.members = Members(scheme, int(height), [int(number) for _, number in nodes])
         self.nodes = {int(number): Node(int(number), self.members) for kind, number in nodes if kind == "node"}
-        self.bytes, self.signed, self.plain, self.known = {}, {}, set(), {}
+        self.bytes, self.signed, self.plain, self.known, self.readers = {}, {}, set(), {}, {}
 
     def play(self):
         """The lines of the transcript."""
-        for event in self.events:
-            words = event.split(" ")
-            head = {"put": 3, "get": 3, "hello": 3, "give": 3, "bundle": 4, "settled": 4}.get(words[0], 2)
-            label = {"hello": 2, "bundle": 3}.get(words[0])
-            if label is not None:
-                self.bytes[words[label]] = b""
-            try:
-                answer = getattr(self, words[0])(*words[1:])
-            except Stopped:
-                answer = f"stopped records {len(self.nodes[int(words[1])].records)}"
-            except Limit as limit:
-                answer = str(limit)
-            except NoRef:
-                answer = "NoRef"
-                if words[0] not in ("receipt", "settled"):
-                    self.bytes[words[1]] = b""
-            for node in self.nodes.values():
-                self.known.update(node.accepted)
-            yield " ".join(words[:head]) + " ->" + (" " + answer if answer else "")
+        return (self.line_of(event) for event in self.events)
+
+    def line_of(self, event):
+        """The line of the next event, and those behind it."""
+        words = event.split(" ")
+        label = {"hello": 2, "bundle": 3, "checkpoint": 2}.get(words[0])
+        if label is not None:
+            self.bytes[words[label]] = b""
+        try:
+            answer = getattr(self, words[0])(*words[1:])
+        except Stopped:
+            answer = f"stopped records {len(self.nodes[int(words[1])].records)}"
+        except Limit as limit:
+            answer = str(limit)
+        except NoRef:
+            answer = "NoRef"
+            if words[0] not in ("receipt", "settled"):
+                self.bytes[words[1]] = b""
+        for node in self.nodes.values():
+            self.known.update(node.accepted)
+        return head_of(words) + " ->" + (" " + answer if answer else "")
 
     def put(self, node, key, value):
         return self.nodes[int(node)].put([(bytes.fromhex(key), bytes_of(value))])
@@ -521,6 +634,23 @@ class World:
 
     def settled(self, node, ref, count):
         return self.nodes[int(node)].settled(self.referred(ref).id, int(count))
+
+    def checkpoint(self, node, label):
+        self.bytes[label], answer = self.nodes[int(node)].checkpoint()
+        return answer
+
+    def sign(self, node, label):
+        return self.nodes[int(node)].sign(self.bytes[label])
+
+    def trim(self, node, label, name):
+        self.readers[name], answer = self.nodes[int(node)].trim(self.bytes[label])
+        return answer
+
+    def tgive(self, name, label):
+        return self.readers[name].tgive(self.bytes[label]) if name in self.readers else ""
+
+    def tget(self, name, key):
+        return self.readers[name].read(bytes.fromhex(key)) if name in self.readers else ""
 
     def audit(self):
         """Correct nodes keep the promises, but for texts with one SHA-256."""
@@ -616,7 +746,9 @@ def transcript_of(text):
 
 
 # What fills a list that the model doesn't bound, or takes minutes in it.
-TOO_LARGE = ("replay_as_many_branches_as_entries", "replay_one_branch_too_many", "replay_as_many_frames_as_a_stream_has")
+TOO_LARGE = (
+    "replay_as_many_branches_as_entries", "replay_one_branch_too_many", "replay_as_many_frames_as_a_stream_has", "replay_as_many_leaves_as_a_checkpoint_has",
+    "replay_as_many_frames_as_a_reader_takes")
 
 
 def plays(name):

@@ -13,8 +13,8 @@ import subprocess
 import sys
 import tempfile
 
-from make_cases import HERE
-from model import transcript_of
+from make_cases import HERE, checkpoint_key
+from model import World, transcript_of
 
 DEPOT = os.environ.get("DEPOT", os.path.join(HERE, "..", "depot"))
 KEYS = ["6b", "6b00", "6c", "6d"]
@@ -31,7 +31,7 @@ class Story:
         self.lines = ["depot schedule 1", f"scheme plain {self.height}"]
         self.lines += [f"node {node}" for node in CORRECT] + [f"faulty {node}" for node in FAULTY]
         self.labels = {"update": [], "voucher": [], "plain": [], "hello": [], "bundle": [], "proof": []}
-        self.streams, self.count, self.received = [], 0, []
+        self.streams, self.count, self.received, self.readers = [], 0, [], []
         # The clock and writer of each update, the writer and the named labels of each voucher, and how often each node put.
         self.clocks, self.writers, self.named, self.puts = {}, {}, {}, dict.fromkeys(CORRECT, 0)
         while len(self.lines) < events:
@@ -75,8 +75,8 @@ class Story:
     def add(self):
         event = self.draw.choices(
             [self.put, self.get, self.exchange, self.update, self.voucher, self.give, self.proof, self.hollow, self.bytes, self.restart, self.stop,
-             self.receipt, self.settled],
-            [14, 10, 12, 16, 5, 14, 4, 4, 6, 3, 3, 5, 4])[0]
+             self.receipt, self.settled, self.checkpoint, self.agree, self.trim, self.read],
+            [14, 10, 12, 16, 5, 14, 4, 4, 6, 3, 3, 5, 4, 2, 4, 2, 20 if self.readers else 1])[0]
         event()
 
     def say(self, *words):
@@ -194,6 +194,80 @@ class Story:
         if ref:
             self.say("settled", node, ref, self.draw.choice([1, 1, 1, 2, 3]))
 
+    def checkpoint(self):
+        node, made = self.node(), self.label("hello")
+        self.say("checkpoint", node, made)
+        if self.often(0.5):
+            self.say("sign", self.node(), made)
+        return node, made
+
+    def agree(self):
+        """A node makes a checkpoint that most others sign, the faulty ones too, and a reader."""
+        node, made = self.checkpoint()
+        world = World(self.lines)
+        list(world.play())
+        text, own = world.bytes[made], world.nodes[node].own
+        if not text:
+            return
+        for writer in FAULTY:
+            if self.often(0.95):
+                self.signature(world, node, writer, text)
+        for other in CORRECT:
+            if other != node and self.often(0.95):
+                self.bring(node, other)
+                self.say("sign", other, made)
+                self.bring(other, node)
+        self.reader(node, made)
+        # This one was probably made, so it is read more often than others.
+        self.readers += self.readers[-1:] * 7
+
+    def signature(self, world, node, writer, text):
+        """A faulty node signs the checkpoint that a node made last, above its newest update there. The other one vouches for that, so that it is taken."""
+        accepted, own = world.nodes[node].accepted, world.nodes[node].own
+        mine = [label for label in self.labels["update"] if self.writers[label] == writer and label in world.signed]
+        prevs = [label for label in mine if world.signed[label].statement.id in accepted]
+        clock = 1 + max(x.clock for x in accepted.values())
+        made, vouched, by = self.label("update"), self.label("voucher"), next(other for other in FAULTY if other != writer)
+        self.say("update", made, writer, self.free(writer), clock, max(prevs, key=self.clocks.get) if prevs and self.often(0.9) else "-",
+                 checkpoint_key(text).hex(), text.hex() if self.often(0.95) else "61", f"{node}.{len(own) - 1}", "right")
+        self.say("voucher", vouched, by, self.free(by), made)
+        self.clocks[made], self.writers[made], self.writers[vouched], self.named[vouched] = clock, writer, by, [made]
+        for label in (vouched, made):
+            self.say("give", node, label)
+
+    def free(self, writer):
+        """The greatest number that no statement of a faulty node has yet, if there is one."""
+        signing = [words for words in (line.split(" ") for line in self.lines) if words[0] in ("update", "updates", "voucher")]
+        used = {int(words[3]) for words in signing if words[2] == str(writer)}
+        return next((seq for seq in range(2**self.height - 1, 0, -1) if seq not in used), 0)
+
+    def bring(self, giver, reader):
+        hello, bundle = self.label("hello"), self.label("bundle")
+        self.say("hello", reader, hello)
+        self.say("bundle", giver, hello, bundle)
+        self.say("give", reader, bundle)
+
+    def reader(self, node, made):
+        self.count += 1
+        self.readers.append(f"t{self.count}")
+        self.say("trim", node, made, self.readers[-1])
+
+    def trim(self):
+        made = self.some("hello", "plain")
+        if made:
+            self.reader(self.node(), made)
+
+    def read(self):
+        if not self.readers:
+            return
+        name = self.draw.choice(self.readers[-12:])
+        if self.often(0.3):
+            self.update()
+            self.say("tgive", name, self.labels["update"][-1])
+        elif self.streams and self.often(0.6):
+            self.say("tgive", name, self.draw.choice(self.streams[-12:] if self.often(0.7) else self.streams))
+        self.say("tget", name, self.draw.choice(KEYS))
+
     def restart(self):
         self.say("restart", self.node())
 
@@ -209,7 +283,7 @@ def replayed(text, room):
 
 
 def is_told(seed, room):
-    text = Story(seed, 60).text()
+    text = Story(seed, 90).text()
     made, (status, told) = transcript_of(text), replayed(text, room)
     if (status, told) == (0, made):
         return True

@@ -183,13 +183,24 @@ def record_in(fields):
     return tag, fields.take(len(fields.text) - 1)
 
 
+def leaf_in(fields):
+    return (fields.node(), fields.take(32))
+
+
+def checkpoint_in(fields):
+    """The roster's hash and the leaves, (writer, id) each."""
+    fields.number(1, 1, 1)
+    fields.number(1, 6, 6)
+    return fields.take(32), fields.entries(fields.number(2, 1, 1024), leaf_in, rises)
+
+
 def hello_in(fields):
     """The node, the roster's hash, the convicted nodes, the leaves' ids and the wanted hashes."""
     fields.number(1, 1, 1)
     fields.number(1, 3, 3)
     node, listed = fields.node(), fields.take(32)
     convicted = fields.entries(fields.number(2, 0, 256), Fields.node, rises)
-    leaves = fields.entries(fields.number(2, 0, 4097), lambda inner: (inner.node(), inner.take(32)), rises)
+    leaves = fields.entries(fields.number(2, 0, 4097), leaf_in, rises)
     wanted = fields.entries(fields.number(2, 0, 1024), lambda inner: inner.take(32), rises)
     return node, listed, convicted, [leaf for _, leaf in leaves], wanted
 

@@ -131,6 +131,13 @@ class Hello(NamedTuple):
     wanted: List[bytes]
 
 
+class Checkpoint(NamedTuple):
+    """What all members sign before a reader is made."""
+
+    roster: bytes
+    leaves: List[bytes]  # writer in two bytes, and the id
+
+
 class Birth(NamedTuple):
     node: int
     roster: bytes
@@ -377,6 +384,10 @@ def read_roster(fields: Fields) -> List[Member]:
     return fields.rising(count, member, "a node")
 
 
+def leaf_in(fields: Fields):
+    return same(number(2, fields.node()) + fields.digest("an id"))
+
+
 @whole
 def read_hello(fields: Fields) -> Hello:
     fields.number(1, 1, 1, "the version")
@@ -387,9 +398,22 @@ def read_hello(fields: Fields) -> Hello:
         return fields.rising(fields.number(2, 0, most, "the count"), read, what)
 
     convicted = items(MOST_NODES, lambda fields: same(fields.node()), "a convicted node")
-    leaves = items(MOST_LEAVES, lambda fields: same(number(2, fields.node()) + fields.digest("an id")), "a leaf")
+    leaves = items(MOST_LEAVES, leaf_in, "a leaf")
     wanted = items(MOST_WANTED, lambda fields: same(fields.digest("a hash")), "a wanted value")
     return Hello(node, roster, convicted, leaves, wanted)
+
+
+@whole
+def read_checkpoint(fields: Fields) -> Checkpoint:
+    fields.number(1, 1, 1, "the version")
+    fields.number(1, 6, 6, "the kind")
+    roster = fields.digest("the roster's hash")
+    return Checkpoint(roster, fields.rising(fields.number(2, 1, MOST_ENTRIES, "the number of leaves"), leaf_in, "a leaf"))
+
+
+def checkpoint_key(text: bytes) -> bytes:
+    """The key that a checkpoint's text is put under."""
+    return b"checkpoint:" + sha256(text)
 
 
 def answered_in(fields: Fields) -> Answered:

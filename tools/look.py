@@ -1,5 +1,5 @@
 #!/usr/bin/env python3
-"""Shows what a file of Depot holds, one line a fact: a journal, hello, stream, proof, roster, trace or log.
+"""Shows what a file of Depot holds, one line a fact: a journal, hello, stream, proof, roster, trace, checkpoint or log.
 
     python3 tools/look.py FILE                    the kind is found by reading; --kind KIND says it
     python3 tools/look.py FILE --whole            hashes in full, in place of their first 16 digits
@@ -18,7 +18,7 @@ import sys
 
 import formats as f
 
-KINDS = ["roster", "hello", "journal", "proof", "stream", "trace", "log"]
+KINDS = ["roster", "hello", "journal", "proof", "stream", "trace", "checkpoint", "log"]
 
 
 class Page:
@@ -34,9 +34,11 @@ class Page:
         return digest.hex() if self.whole else digest.hex()[:16]
 
     def key(self, key):
-        """A key; that of a receipt by the id of the update that it is for."""
+        """A key; that of a receipt by the id of the update that it is for, that of a checkpoint by the hash of its text."""
         if len(key) == 40 and key.startswith(b"receipt:"):
             return "receipt:" + self.hash(key[8:])
+        if len(key) == 43 and key.startswith(b"checkpoint:"):
+            return "checkpoint:" + self.hash(key[11:])
         return f.shown(key)
 
 
@@ -99,14 +101,24 @@ def show_roster(data, page, options):
         page.say("member %d: %d statements (height %d), root %s" % (it.node, 2**it.height, it.height, it.root.hex()))
 
 
+def say_leaves(leaves, page, options):
+    records = journal_at(options.journal).records if options.journal else None
+    for leaf in leaves:
+        writer, id = int.from_bytes(leaf[:2], "big"), leaf[2:]
+        page.say("leaf of writer %d: %s%s" % (writer, page.hash(id), had_by(records, writer, id)))
+
+
+def show_checkpoint(data, page, options):
+    checkpoint = f.read_checkpoint(data)
+    page.say("checkpoint for the roster %s, under the key %s" % (page.hash(checkpoint.roster), page.key(f.checkpoint_key(data))))
+    say_leaves(checkpoint.leaves, page, options)
+
+
 def show_hello(data, page, options):
     hello = f.read_hello(data)
     page.say("hello of node %d, for the roster %s" % (hello.node, page.hash(hello.roster)))
     page.say("convicted: %s" % (", ".join(map(str, hello.convicted)) or "none"))
-    records = journal_at(options.journal).records if options.journal else None
-    for leaf in hello.leaves:
-        writer, id = int.from_bytes(leaf[:2], "big"), leaf[2:]
-        page.say("leaf of writer %d: %s%s" % (writer, page.hash(id), had_by(records, writer, id)))
+    say_leaves(hello.leaves, page, options)
     for value in hello.wanted:
         page.say("wants the value %s" % page.hash(value))
 
@@ -268,13 +280,17 @@ SHOW = {
     "proof": show_proof,
     "stream": show_stream,
     "trace": show_trace,
+    "checkpoint": show_checkpoint,
     "log": show_log,
 }
 
 
 # A journal's first record is a birth, of 35 bytes.
 JOURNAL_HEAD = b"\1\0\0\0\43\1"
-WHOLE = [("roster", f.read_roster), ("hello", f.read_hello), ("proof", f.read_proof), ("trace", f.read_trace), ("log", f.read_log)]
+WHOLE = [
+    ("roster", f.read_roster), ("hello", f.read_hello), ("proof", f.read_proof), ("trace", f.read_trace), ("checkpoint", f.read_checkpoint),
+    ("log", f.read_log),
+]
 
 
 def kind_of(data):
@@ -295,7 +311,7 @@ def look(data, options):
     page = Page(options.whole)
     kind = options.kind or kind_of(data)
     if kind is None:
-        page.fault = "it is no roster, hello, journal, proof, stream, trace or log; with --kind KIND it is said where it fails"
+        page.fault = "it is no roster, hello, journal, proof, stream, trace, checkpoint or log; with --kind KIND it is said where it fails"
         return page
     try:
         SHOW[kind](data, page, options)

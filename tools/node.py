@@ -161,7 +161,7 @@ def written_by(record):
 def files_of(line):
     """The files that a line of a script names."""
     verb, *words = line.split(" ")
-    return words if verb in ("hello", "bundle", "take") else []
+    return words if verb in ("hello", "bundle", "take", "export") else []
 
 
 def refuse_own_files(lines, folder):

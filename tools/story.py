@@ -3,7 +3,8 @@
 A story is read off a journal, or off a schedule and the transcript that `depot replay` printed of it. Of the second it
 is found without any bytes: what a node has accepted follows from what the transcript says that it took and refused.
 Frames of `cut` and `flip` are told by their source alone, those of `raw` and vouchers that contradict each other not at
-all, and what a stop left of a stream is told only once the stream is given again.
+all, and what a stop left of a stream is told only once the stream is given again. The text of a checkpoint is told by
+the label that has it: where a faulty member puts the same bytes, they are told as another value. Readers aren't told.
 """
 
 from typing import Dict, List, NamedTuple, Optional
@@ -221,7 +222,7 @@ class Telling:
         """One event of the schedule, with the words of its answer and the checks of refused frames by their place."""
         verb, *rest = words
         is_told = answer not in (["NoRef"], [])
-        if verb in ("put", "puts", "receipt"):
+        if verb in ("put", "puts", "receipt", "checkpoint", "sign"):
             node, writes, values = self.nodes[rest[0]], *written(verb, rest[1:])
             if "/" in "".join(answer[:1]):
                 self.put(node, writes, "%s/%s" % (rest[0], answer[0]), values)
@@ -273,6 +274,8 @@ def written(verb, words):
     """What an event writes, in short, and its values in hex."""
     if verb == "receipt":
         return "receipt for %s" % ", ".join(dict.fromkeys(words[0].split(","))), [""]
+    if verb in ("checkpoint", "sign"):
+        return "checkpoint %s" % words[0], ["checkpoint %s" % words[0]]
     writes = words[0].split(",") if verb == "puts" else ["%s=%s" % (words[0], words[1])]
     shown, values = [], []
     for write in writes:

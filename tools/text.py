@@ -113,10 +113,10 @@ def answer_line(line):
     """A line of answers with its key and its values as text."""
     head, arrow, answer = line.partition(" ->")
     words = head.split(" ")
-    if not arrow or words[0] not in ("put", "get") or len(words) not in (2, 3):
+    if not arrow or words[0] not in ("put", "get", "tget") or len(words) not in (2, 3):
         return line
     answers = answer.split(" ")
-    if words[0] == "get":
+    if words[0] in ("get", "tget"):
         answers = [shown_write(it) for it in answers]
     return " ".join(words[:-1] + [quoted(words[-1])]) + arrow + " ".join(answers)
 

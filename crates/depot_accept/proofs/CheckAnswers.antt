@@ -10,6 +10,8 @@ use Rattle.depot_base.specs.declared.check.Check.TheVariants as check
 use Rattle.depot_base.specs.declared.record.Record.{Record}
 use Rattle.depot_base.specs.declared.statement.Signed.{Signed}
 use Rattle.depot_model.specs.declared.taken.Taken.TheVariants.{Known}
+use Rattle.depot_model.specs.Lists.{first}
+use Rattle.depot_model.specs.Pruning.{checks_to_signature}
 use Rattle.depot_model.specs.Texts.{id_of_statement}
 use Rattle.depot_model.specs.Roster.{Verifies, key_of, has_node, is_signed}
 use Rattle.depot_model.specs.Checks.{Setting, given_statement, is_kept, statement_checks, first_failed_check, is_known, answer_by, answer_to, exposed, growth_by, growth}
@@ -17,6 +19,7 @@ use Rattle.depot_fork.specs.declared.Found.{Found}
 use Rattle.depot_accept.specs.StateView.{View, setting}
 use Rattle.depot_accept.specs.CheckResults.{AreDue, IsNew, IsChecked}
 use Rattle.depot_accept.specs.AfterSignature.{failed_after_signature, Passes, IsCheckedAfterSignature}
+use Rattle.depot_accept.specs.ToSignature.{IsHere, FailsEarly, PassesEarly}
 use Rattle.depot_accept.specs.declared.answer.Pass.{Pass}
 use Rattle.depot_accept.specs.declared.answer.Pass.TheVariants as pass
 use Rattle.depot_accept.specs.declared.answer.CheckError.{CheckError}
@@ -53,11 +56,6 @@ answers_after_signature here J s e kept other verified = rw (e, kept, other, ver
 
 -- ---- the answer with the conviction that is due
 
--- a refusal that leaves nothing behind
-plainly : (here : Setting) (J : List Record) (s : Signed) (c : Check) (e : CheckError) → answer_to here J (given_statement s) ≡ Err c → exposed J (given_statement s) c ≡ [] → e ≡ failed.Refused c None → IsChecked here J s (Err e)
-unfolding growth
-plainly here J s c e answer none is = subst (λ (x : CheckError). IsChecked here J s (Err x)) (sym is) (answer, ap (growth_by J (given_statement s)) answer ∙ none)
-
 -- a statement that passes them is new
 new_by_passing : (here : Setting) (J : List Record) (s : Signed) (found : Option Found) → answer_to here J (given_statement s) ≡ answer_by false (failed_after_signature J s.statement) → Passes J s found → IsNew here J s found
 unfolding growth
@@ -66,7 +64,7 @@ new_by_passing here J s found answer is =
     record { answer = new; due = is.due; grows = ap (growth_by J (given_statement s)) new ∙ is.grows; by = is.by }
 
 -- what the checks after that of the signature make of a statement that comes to them
-by_later_checks : (here : Setting) (J : List Record) (s : Signed) (r : Result Pass CheckError) → answer_to here J (given_statement s) ≡ answer_by false (failed_after_signature J s.statement) → IsCheckedAfterSignature J s r → IsChecked here J s r
+pub by_later_checks : (here : Setting) (J : List Record) (s : Signed) (r : Result Pass CheckError) → answer_to here J (given_statement s) ≡ answer_by false (failed_after_signature J s.statement) → IsCheckedAfterSignature J s r → IsChecked here J s r
 unfolding growth
 by_later_checks here J s (Ok pass.Known) answer is = absurd is
 by_later_checks here J s (Ok (pass.Update found items)) answer is = (is.0, new_by_passing here J s found answer is.1)
@@ -83,32 +81,71 @@ signed_by verifies w s key seq body signature b known number text by e =
     e ∙ ap (λ (n : ℕ). verifies key n body signature) number ∙ ap (λ (t : List ℕ). verifies key (seq_of s.statement) t signature) text ∙ ap (λ (t : List ℕ). verifies key (seq_of s.statement) s.body t) by
     ∙ ap (λ (o : Option PublicKey). option_map_or (λ k. verifies k (seq_of s.statement) s.body s.signature) o false) (sym known)
 
+-- ---- up to the signature
+
+fails_early : (here : Setting) (J : List Record) (s : Signed) (c : Check) → is_known here J (given_statement s) ≡ false → first (checks_to_signature here s) ≡ Some c → answer_to here J (given_statement s) ≡ Err c → exposed J (given_statement s) c ≡ [] → FailsEarly here J s c
+unfolding growth
+fails_early here J s c new failed answer none = record { new = new; failed = failed; answer = answer; grows = ap (growth_by J (given_statement s)) answer ∙ none }
+
+-- it isn't known where its writer is unknown, or it isn't kept
+new_by_writer : (here : Setting) (J : List Record) (s : Signed) → has_node here.listed (writer_of s.statement) ≡ false → is_known here J (given_statement s) ≡ false
+unfolding is_known
+new_by_writer here J s e = rw e refl
+
+new_by_kept : (here : Setting) (J : List Record) (s : Signed) → has_node here.listed (writer_of s.statement) ≡ true → is_kept J s.statement ≡ false → is_known here J (given_statement s) ≡ false
+unfolding is_known
+new_by_kept here J s e kept = rw (e, kept) refl
+
+known_by_kept : (here : Setting) (J : List Record) (s : Signed) → has_node here.listed (writer_of s.statement) ≡ true → is_kept J s.statement ≡ true → is_known here J (given_statement s) ≡ true
+unfolding is_known
+known_by_kept here J s e kept = rw (e, kept) refl
+
 -- ---- of the journal whose state is seen
 
-pub checked_known : {S : Type 0} (verifies : Verifies) (J : List Record) (v w : View S) (s : Signed) (n : ℕ) → v ≡ w → n ≡ writer_of s.statement → has_node v.listed n ≡ true → is_kept J s.statement ≡ true → IsChecked (setting verifies w) J s (Ok pass.Known)
-checked_known {S = S} verifies J v w s n seen is known kept =
-    subst (λ (x : View S). IsChecked (setting verifies x) J s (Ok pass.Known)) seen
-    (answers_known (setting verifies v) J s (ap (has_node v.listed) (sym is) ∙ known) kept)
+pub early_known : {S : Type 0} (verifies : Verifies) (J : List Record) (v w : View S) (s : Signed) (n : ℕ) → v ≡ w → n ≡ writer_of s.statement → has_node v.listed n ≡ true → is_kept J s.statement ≡ true → IsHere (setting verifies w) J s
+early_known {S = S} verifies J v w s n seen is known kept =
+    let node = ap (has_node v.listed) (sym is) ∙ known in
+    subst (λ (x : View S). IsHere (setting verifies x) J s) seen
+    (record { known = known_by_kept (setting verifies v) J s node kept; answer = answers_known (setting verifies v) J s node kept })
 
-pub checked_unknown : {S : Type 0} (verifies : Verifies) (J : List Record) (v w : View S) (s : Signed) (n : ℕ) (e : CheckError) → v ≡ w → n ≡ writer_of s.statement → has_node v.listed n ≡ false → e ≡ failed.Refused (check.UnknownWriter n) None → IsChecked (setting verifies w) J s (Err e)
-checked_unknown {S = S} verifies J v w s n e seen is unknown told =
-    subst (λ (x : View S). IsChecked (setting verifies x) J s (Err e)) seen
-    (plainly (setting verifies v) J s (check.UnknownWriter n) e (unknown_writer (setting verifies v) J s (ap (has_node v.listed) (sym is) ∙ unknown) ∙ ap (λ (m : ℕ). Err (check.UnknownWriter m)) (sym is)) refl told)
+pub early_unknown : {S : Type 0} (verifies : Verifies) (J : List Record) (v w : View S) (s : Signed) (n : ℕ) → v ≡ w → n ≡ writer_of s.statement → has_node v.listed n ≡ false → FailsEarly (setting verifies w) J s (check.UnknownWriter n)
+early_unknown {S = S} verifies J v w s n seen is unknown =
+    let node = ap (has_node v.listed) (sym is) ∙ unknown in
+    subst (λ (x : View S). FailsEarly (setting verifies x) J s (check.UnknownWriter n)) seen
+    (fails_early (setting verifies v) J s (check.UnknownWriter n) (new_by_writer (setting verifies v) J s node) (rw (node, is) refl)
+    (unknown_writer (setting verifies v) J s node ∙ ap (λ (m : ℕ). Err (check.UnknownWriter m)) (sym is)) refl)
 
-pub checked_mine : {S : Type 0} (verifies : Verifies) (J : List Record) (v w : View S) (s : Signed) (n : ℕ) (id : List ℕ) (e : CheckError) → v ≡ w → n ≡ writer_of s.statement → has_node v.listed n ≡ true → is_kept J s.statement ≡ false → eqb n v.me ≡ true → id ≡ id_of_statement s.statement
-    → e ≡ failed.Refused (check.NotMine id) None → IsChecked (setting verifies w) J s (Err e)
-checked_mine {S = S} verifies J v w s n id e seen is known new mine name told =
-    subst (λ (x : View S). IsChecked (setting verifies x) J s (Err e)) seen
-    (plainly (setting verifies v) J s (check.NotMine id) e (not_mine (setting verifies v) J s (ap (has_node v.listed) (sym is) ∙ known) new (ap (λ (m : ℕ). eqb m v.me) (sym is) ∙ mine) ∙ ap (λ (h : List ℕ). Err (check.NotMine h)) (sym name)) refl told)
+pub early_mine : {S : Type 0} (verifies : Verifies) (J : List Record) (v w : View S) (s : Signed) (n : ℕ) (id : List ℕ) → v ≡ w → n ≡ writer_of s.statement → has_node v.listed n ≡ true → is_kept J s.statement ≡ false → eqb n v.me ≡ true → id ≡ id_of_statement s.statement → FailsEarly (setting verifies w) J s (check.NotMine id)
+early_mine {S = S} verifies J v w s n id seen is known new mine name =
+    let node = ap (has_node v.listed) (sym is) ∙ known in
+    let same = ap (λ (m : ℕ). eqb m v.me) (sym is) ∙ mine in
+    subst (λ (x : View S). FailsEarly (setting verifies x) J s (check.NotMine id)) seen
+    (fails_early (setting verifies v) J s (check.NotMine id) (new_by_kept (setting verifies v) J s node new) (rw (node, same, name) refl)
+    (not_mine (setting verifies v) J s node new same ∙ ap (λ (h : List ℕ). Err (check.NotMine h)) (sym name)) refl)
 
-pub checked_unsigned : {S : Type 0} (verifies : Verifies) (J : List Record) (v w : View S) (s : Signed) (n : ℕ) (e : CheckError) → v ≡ w → n ≡ writer_of s.statement → has_node v.listed n ≡ true → is_kept J s.statement ≡ false → eqb n v.me ≡ false → is_signed verifies v.listed s ≡ false
-    → e ≡ failed.Refused (check.BadSignature n) None → IsChecked (setting verifies w) J s (Err e)
-checked_unsigned {S = S} verifies J v w s n e seen is known new other unsigned told =
-    subst (λ (x : View S). IsChecked (setting verifies x) J s (Err e)) seen
-    (plainly (setting verifies v) J s (check.BadSignature n) e (bad_signature (setting verifies v) J s (ap (has_node v.listed) (sym is) ∙ known) new (ap (λ (m : ℕ). eqb m v.me) (sym is) ∙ other) unsigned ∙ ap (λ (m : ℕ). Err (check.BadSignature m)) (sym is)) refl told)
+pub early_unsigned : {S : Type 0} (verifies : Verifies) (J : List Record) (v w : View S) (s : Signed) (n : ℕ) → v ≡ w → n ≡ writer_of s.statement → has_node v.listed n ≡ true → is_kept J s.statement ≡ false → eqb n v.me ≡ false → is_signed verifies v.listed s ≡ false → FailsEarly (setting verifies w) J s (check.BadSignature n)
+early_unsigned {S = S} verifies J v w s n seen is known new other unsigned =
+    let node = ap (has_node v.listed) (sym is) ∙ known in
+    let apart = ap (λ (m : ℕ). eqb m v.me) (sym is) ∙ other in
+    subst (λ (x : View S). FailsEarly (setting verifies x) J s (check.BadSignature n)) seen
+    (fails_early (setting verifies v) J s (check.BadSignature n) (new_by_kept (setting verifies v) J s node new) (rw (node, apart, unsigned, is) refl)
+    (bad_signature (setting verifies v) J s node new apart unsigned ∙ ap (λ (m : ℕ). Err (check.BadSignature m)) (sym is)) refl)
 
-pub checked_after_signature : {S : Type 0} (verifies : Verifies) (J : List Record) (v w : View S) (s : Signed) (n : ℕ) (r : Result Pass CheckError) → v ≡ w → n ≡ writer_of s.statement → has_node v.listed n ≡ true → is_kept J s.statement ≡ false → eqb n v.me ≡ false → is_signed verifies v.listed s ≡ true → IsCheckedAfterSignature J s r
-    → IsChecked (setting verifies w) J s r
-checked_after_signature {S = S} verifies J v w s n r seen is known new other verified behind =
-    subst (λ (x : View S). IsChecked (setting verifies x) J s r) seen
-    (by_later_checks (setting verifies v) J s r (answers_after_signature (setting verifies v) J s (ap (has_node v.listed) (sym is) ∙ known) new (ap (λ (m : ℕ). eqb m v.me) (sym is) ∙ other) verified) behind)
+pub early_passed : {S : Type 0} (verifies : Verifies) (J : List Record) (v w : View S) (s : Signed) (n : ℕ) → v ≡ w → n ≡ writer_of s.statement → has_node v.listed n ≡ true → is_kept J s.statement ≡ false → eqb n v.me ≡ false → is_signed verifies v.listed s ≡ true → PassesEarly (setting verifies w) J s
+early_passed {S = S} verifies J v w s n seen is known new other verified =
+    let node = ap (has_node v.listed) (sym is) ∙ known in
+    let apart = ap (λ (m : ℕ). eqb m v.me) (sym is) ∙ other in
+    subst (λ (x : View S). PassesEarly (setting verifies x) J s) seen
+    (record { new = new_by_kept (setting verifies v) J s node new; passed = rw (node, apart, verified) refl; left = answers_after_signature (setting verifies v) J s node new apart verified })
+
+-- ---- both halves
+
+-- what is told up to the signature is the answer, or the checks after it tell it
+pub checked_known : (here : Setting) (J : List Record) (s : Signed) → IsHere here J s → IsChecked here J s (Ok pass.Known)
+checked_known here J s is = is.answer
+
+pub checked_early : (here : Setting) (J : List Record) (s : Signed) (c : Check) (e : CheckError) → FailsEarly here J s c → e ≡ failed.Refused c None → IsChecked here J s (Err e)
+checked_early here J s c e fails is = subst (λ (x : CheckError). IsChecked here J s (Err x)) (sym is) (fails.answer, fails.grows)
+
+pub checked_later : (here : Setting) (J : List Record) (s : Signed) (r : Result Pass CheckError) → PassesEarly here J s → IsCheckedAfterSignature J s r → IsChecked here J s r
+checked_later here J s r passes is = by_later_checks here J s r passes.left is

@@ -4,3 +4,4 @@ pub mod OwnVouchers
 pub mod Content
 pub mod CheckResults
 pub mod AfterSignature
+pub mod ToSignature

@@ -20,6 +20,17 @@ pub enum Pass {
     Known,
 }
 
+/// What the checks up to that of the signature make of a statement.
+#[derive(Clone, Copy, Debug, PartialEq, Eq)]
+pub enum Front {
+    /// It was here before.
+    Known,
+    /// It is new, and this is the first of them that fails. No conviction is due by it.
+    Refused(Check),
+    /// It is new, and none of them fails: the checks after that of the signature are left.
+    Passed,
+}
+
 /// Why a statement isn't taken.
 #[derive(Clone, Copy, Debug, PartialEq, Eq)]
 pub enum CheckError {

@@ -16,8 +16,9 @@ ghost use Rattle.depot_accept.specs.OwnVouchers.{has_body_of_voucher};
 ghost use Rattle.depot_accept.specs.Content.{TellsNoFork};
 ghost use Rattle.depot_accept.specs.CheckResults.{IsChecked, AreDue};
 ghost use Rattle.depot_accept.specs.AfterSignature.{IsCheckedAfterSignature, IsOpponent};
+ghost use Rattle.depot_accept.specs.ToSignature.{IsCheckedToSignature};
 
-use crate::answer::{CheckError, Pass};
+use crate::answer::{CheckError, Front, Pass};
 use crate::content::failed_content;
 use crate::state::State;
 use depot_base::{Check, Hash32, PublicKey, Signed, Statement, Update, Voucher};
@@ -36,20 +37,34 @@ impl<S: Scheme> State<S> {
         requires id { id.now ≡ id_of_statement signed.now.statement }
         ensures { (J : List Record) → IsStateOf J self.now → IsChecked (setting S.verifies self.now) J signed.now result }
     {
+        match self.check_to_signature(signed, id) {
+            Front::Known => Ok(Pass::Known),
+            Front::Refused(check) => Err(refused(check)),
+            Front::Passed => self.check_after_signature(signed, id),
+        }
+    }
+
+    /// The checks up to that of the signature: whether the statement is known or new, and the first of them that fails. It
+    /// verifies one signature at most, and takes no memory.
+    pub fn check_to_signature(&self, signed: &Signed, id: &Hash32) -> Front
+        requires text { IsSigned signed.now }
+        requires id { id.now ≡ id_of_statement signed.now.statement }
+        ensures { (J : List Record) → IsStateOf J self.now → IsCheckedToSignature (setting S.verifies self.now) J signed.now result }
+    {
         let writer = signed.statement.writer();
         let Some(key) = self.roster.key_of(writer) else {
-            return Err(refused(Check::UnknownWriter(writer)));
+            return Front::Refused(Check::UnknownWriter(writer));
         };
         if self.is_kept(&signed.statement, id) {
-            return Ok(Pass::Known);
+            return Front::Known;
         }
         if writer == self.me {
-            return Err(refused(Check::NotMine(*id)));
+            return Front::Refused(Check::NotMine(*id));
         }
         if !self.verifies(&key, signed) {
-            return Err(refused(Check::BadSignature(writer)));
+            return Front::Refused(Check::BadSignature(writer));
         }
-        self.check_after_signature(signed, id)
+        Front::Passed
     }
 
     /// Whether the signature of a statement verifies under this key, which is that of its writer.
@@ -65,8 +80,9 @@ impl<S: Scheme> State<S> {
         )
     }
 
-    /// The checks after that of the signature.
-    fn check_after_signature(&self, signed: &Signed, id: &Hash32) -> Result<Pass, CheckError>
+    /// The checks after that of the signature, of a statement that passes those up to it and is new: the first that fails, and
+    /// the kept statement by which the conviction of its writer is due, if one is. Memory comes at updates alone.
+    pub fn check_after_signature(&self, signed: &Signed, id: &Hash32) -> Result<Pass, CheckError>
         requires text { IsSigned signed.now }
         requires id { id.now ≡ id_of_statement signed.now.statement }
         ensures { (J : List Record) → IsStateOf J self.now → IsCheckedAfterSignature J signed.now result }

@@ -7,9 +7,10 @@
 //!
 //! `check` answers what the definition does for each journal whose state this is: that the statement is new or known, or the
 //! first check that fails with what it carries, in the order of `depot_base::Check`; and the kept statement by which the
-//! conviction of its writer is due, if one is. `checking.rt` has the order, `content.rt` the checks of an update's content.
-//! A new update comes with the items of its parents, which `add_foreign` and `add_own` take, so that they aren't searched again.
-//! These two and `convict` make it the state of the journal with one record more; what fails changes nothing.
+//! conviction of its writer is due, if one is. Its two halves, up to the signature and after it, are calls of their own, for one
+//! who asks something between them. `checking.rt` has the order, `content.rt` the checks of an update's content.
+//! A new update comes with the items of its parents, which `add_foreign`, `add_own` and `add_accepted` take, so that they aren't
+//! searched again. These and `convict` make it the state of the journal with one record more; what fails changes nothing.
 //! `reserve_vouchers` finds memory, and changes nothing but the room (`IsAsBefore`). A conviction may also come behind the
 //! statement that it was due before (`convictions_may_come_late`).
 //!
@@ -24,6 +25,6 @@ mod content;
 mod state;
 
 pub use accept_laws::convictions_may_come_late;
-pub use answer::{CheckError, Pass};
+pub use answer::{CheckError, Front, Pass};
 pub use depot_fork::Found;
 pub use state::State;

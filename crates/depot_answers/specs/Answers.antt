@@ -1,5 +1,5 @@
 -- What is printed of answers.
-use Rattle.std.specs.Prelude.{ℕ, List, [], ◌∷◌, ◌++◌, length, Bool, true, false, Some, None, codes}
+use Rattle.std.specs.Prelude.{ℕ, List, [], ◌∷◌, ◌++◌, length, Bool, true, false, Option, Some, None, codes}
 use Rattle.std.specs.Fmt.{decimal}
 use Rattle.hex.specs.Hex.{encode_lower}
 use Rattle.depot_base.specs.declared.check.Check.{Check}
@@ -20,7 +20,11 @@ use Rattle.depot_model.specs.Feeding.{Feeding, Closing, ill_formed, out_of_room,
 use Rattle.depot_model.specs.declared.bundle.Ending.{Ending}
 use Rattle.depot_model.specs.declared.bundle.Ending.TheVariants as ending
 use Rattle.depot_model.specs.Limits.{Limit, spent, tips, collides, full}
+use Rattle.depot_model.specs.Journal.{accepted}
 use Rattle.depot_model.specs.Lines.{name_of_kind}
+use Rattle.depot_model.specs.Opening.{Opened, ill_at, of_roster, with_unknown, opened}
+use Rattle.depot_model.specs.ReaderFeeds.{ReaderFeed}
+use Rattle.depot_model.specs.Readers.{kept, TrimAnswer, unopened, unsigned, reading}
 use Rattle.depot_model.specs.Receipts.{NoReceipt, unknown, lacks_value}
 use Rattle.depot_model.specs.World.{Shown}
 use Rattle.depot_schedule.specs.declared.line_fault.LineFault.{LineFault}
@@ -185,6 +189,47 @@ text_of_finding (unseen_found first second) = codes "no fjc 3" ++ text_of_op fir
 text_of_finding (wrong_found node place) = codes "no fjc 4" ++ text_of_op (the_read node place)
 text_of_finding (split_found node place) = codes "no fjc 5" ++ text_of_spot node place
 text_of_finding (named_found node place) = codes "no named" ++ text_of_spot node place
+
+-- ---- checkpoints and readers
+
+-- nothing was accepted that a checkpoint could list
+abbrev pub text_of_empty : List ℕ
+text_of_empty = codes "Empty"
+
+-- there are so many leaves, more than a checkpoint lists
+abbrev pub text_of_many : ℕ → List ℕ
+text_of_many n = numbered (codes "Many") n
+
+-- why a text isn't opened as a checkpoint's, whatever the roster and the id; nothing of one that is
+abbrev pub text_of_unopened : Opened → List ℕ
+text_of_unopened (ill_at at) = numbered (codes "IllFormed") at
+text_of_unopened (of_roster given) = codes "OtherRoster"
+text_of_unopened (with_unknown id) = codes "Unknown"
+text_of_unopened (opened ids) = []
+
+-- the first node of the roster that didn't sign a checkpoint
+abbrev pub text_of_unsigned : ℕ → List ℕ
+text_of_unsigned node = numbered (codes "Unsigned") node
+
+-- how many updates a reader keeps of how many that were accepted, the trimmed ones too
+abbrev pub text_of_kept : ℕ → ℕ → List ℕ
+text_of_kept left all = numbered (codes "kept") left ++ spaced (numbered (codes "of") all)
+
+-- the reader that was made, or why none was
+abbrev pub text_of_trim : TrimAnswer → List ℕ
+text_of_trim (unopened why) = text_of_unopened why
+text_of_trim (unsigned node) = text_of_unsigned node
+text_of_trim (reading R) = text_of_kept (length (kept R)) (length (accepted R.journal))
+
+-- what is full, behind a space, where something is
+abbrev pub text_where_full : Option Full → List ℕ
+text_where_full None = []
+text_where_full (Some f) = spaced (text_of_full f)
+
+-- how many frames of a stream were new, known and refused, and how many stood below; and what was full, where one found no room
+unfoldable pub text_of_reader_feed : ReaderFeed → List ℕ
+text_of_reader_feed s =
+    numbered (codes "accepted") s.accepted ++ spaced (numbered (codes "known") s.known) ++ spaced (numbered (codes "refused") s.refused) ++ spaced (numbered (codes "below") s.below) ++ text_where_full s.full
 
 -- ---- texts of lines
 

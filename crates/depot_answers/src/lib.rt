@@ -4,7 +4,7 @@
 //! gives for that answer, without LF. Where no memory is found, a front of it may have been added.
 //!
 //! `checks` has failed checks and refusals, `limits` the limits that a node meets, `journals` what is put, read and counted of a
-//! journal, `exchanges` hellos, bundles and streams, `receipts` why none is given and whether a put is settled, `judgements` rosters and proofs, `audits` what an audit finds, `record_faults` faulty records, `faults` faulty lines, and `words` what these are made of.
+//! journal, `exchanges` hellos, bundles and streams, `receipts` why none is given and whether a put is settled, `readers` checkpoints and the readers made by them, `judgements` rosters and proofs, `audits` what an audit finds, `record_faults` faulty records, `faults` faulty lines, and `words` what these are made of.
 //!
 //! Nothing here reads, decides or prints.
 #![tactic(auto)]
@@ -16,6 +16,7 @@ mod fault_answers;
 mod journal_answers;
 mod judgement_answers;
 mod limit_answers;
+mod reader_answers;
 mod receipt_answers;
 mod record_faults;
 mod words;
@@ -27,6 +28,7 @@ pub use fault_answers::faulty_line;
 pub use journal_answers::{Seen, put, records, write};
 pub use judgement_answers::{point, roster_error, verdict};
 pub use limit_answers::{collides, full, spent, tips};
+pub use reader_answers::{ReaderCounts, empty, kept, many, reader_feed, unsigned};
 pub use receipt_answers::{no_value, settled, unknown};
 pub use record_faults::record_fault;
 pub use words::numbered;

@@ -34,18 +34,14 @@ accused_in_state J v p n told convicted state name is answer = ap (is_convicted 
 -- ---- what is decided
 
 -- a check fails
-pub proof_refused : (here there : Setting) (J : List Record) (p : Proof) (c : Check) → there ≡ here → Some c ≡ first (proof_checks there p) → IsDecided here J (given_proof p) (Err c) []
-proof_refused here there J p c one failed = decided_by here J (given_proof p) (Err c) [] (when_refused here J p c (ap (λ (x : Setting). first (proof_checks x p)) (sym one) ∙ sym failed)) refl
+pub proof_refused : (here : Setting) (J : List Record) (p : Proof) (c : Check) → Some c ≡ first (proof_checks here p) → IsDecided here J (given_proof p) (Err c) []
+proof_refused here J p c failed = decided_by here J (given_proof p) (Err c) [] (when_refused here J p c (sym failed)) refl
 
--- none fails
-passed : (here there : Setting) (p : Proof) → there ≡ here → None ≡ first (proof_checks there p) → first (proof_checks here p) ≡ None
-passed here there p one passes = ap (λ (x : Setting). first (proof_checks x p)) (sym one) ∙ sym passes
+-- none fails, and the accused is convicted
+pub proof_known : (here : Setting) (J : List Record) (p : Proof) → None ≡ first (proof_checks here p) → is_convicted J (accused p) ≡ true → IsDecided here J (given_proof p) (Ok Known) []
+proof_known here J p passes convicted = decided_by here J (given_proof p) (Ok Known) [] (when_known here J p (sym passes) convicted) refl
 
--- the accused is convicted
-pub proof_known : (here there : Setting) (J : List Record) (p : Proof) → there ≡ here → None ≡ first (proof_checks there p) → is_convicted J (accused p) ≡ true → IsDecided here J (given_proof p) (Ok Known) []
-proof_known here there J p one passes convicted = decided_by here J (given_proof p) (Ok Known) [] (when_known here J p (passed here there p one passes) convicted) refl
-
--- the accused isn't
-pub proof_new : (here there : Setting) (J : List Record) (p : Proof) → there ≡ here → None ≡ first (proof_checks there p) → is_convicted J (accused p) ≡ false → IsDecided here J (given_proof p) (Ok New) (Conviction p ∷ [])
+-- none fails, and the accused isn't
+pub proof_new : (here : Setting) (J : List Record) (p : Proof) → None ≡ first (proof_checks here p) → is_convicted J (accused p) ≡ false → IsDecided here J (given_proof p) (Ok New) (Conviction p ∷ [])
 unfolding added
-proof_new here there J p one passes free = decided_by here J (given_proof p) (Ok New) (Conviction p ∷ []) (when_new here J p (passed here there p one passes) free) refl
+proof_new here J p passes free = decided_by here J (given_proof p) (Ok New) (Conviction p ∷ []) (when_new here J p (sym passes) free) refl

@@ -9,10 +9,14 @@
 //! also says of an id whether another's accepted update has it). By the same calls `depot_records` decides of a record that is
 //! read from a disk, as if it came now.
 //!
+//! What is decided of statements and proofs asks the store for its state alone (`decide_checked`, `decide_judged`), so one who keeps a
+//! state without a store decides the same.
+//!
 //! The store is read alone, and only while it runs: what is decided here a node carries out by `Store::commit`, which looks for
 //! the room.
 #![tactic(auto)]
 
+mod checked;
 mod decision;
 mod proof_decision;
 mod put_answers;
@@ -22,8 +26,9 @@ mod statement_decision;
 mod value;
 mod voucher_decision;
 
+pub use checked::decide_checked;
 pub use decision::{Decision, answered};
-pub use proof_decision::{decide_decoded, decide_proof};
+pub use proof_decision::{decide_decoded, decide_judged, decide_proof};
 pub use put_answers::{PutDone, PutError};
 pub use put_decision::{Next, Plan, decide_put, has_leaf, is_fresh, next_own};
 pub use put_writes::{Written, writes_of};

@@ -1,9 +1,10 @@
 //! What is decided of a proof.
-ghost use Rattle.std.specs.Prelude.{◌≡◌, false, IfOk};
+ghost use Rattle.std.specs.Prelude.{◌≡◌, List, false, IfOk};
+ghost use Rattle.depot_base.specs.declared.record.Record.{Record};
 ghost use Rattle.depot_model.specs.Checks.{check_of_point, given_proof, proof_checks};
 ghost use Rattle.depot_model.specs.Lists.{first};
 ghost use Rattle.depot_model.specs.Texts.{IsProof, text_of_proof};
-ghost use Rattle.depot_accept.specs.StateView.{setting};
+ghost use Rattle.depot_accept.specs.StateView.{IsStateOf, setting};
 ghost use Rattle.depot_store.specs.Holdings.{standing};
 ghost use Rattle.depot_decide.specs.Deciding.{DecidesProof, IsDecided, IsSettled};
 
@@ -45,7 +46,21 @@ pub fn decide_decoded<D: Disk, S: Scheme>(
     requires text { text.now ≡ text_of_proof proof }
     ensures { IfOk result (λ d. IsDecided (standing S.verifies store.now) store.now.records (given_proof proof) d.answer d.growth) }
 {
-    let Ok(answer) = settled(alloc, store, &proof) else {
+    decide_judged(alloc, store.state(), proof, text)
+}
+
+/// What is decided of a proof of this text by what a state keeps, whatever journal it is the state of.
+pub fn decide_judged<S: Scheme>(
+    alloc: Global,
+    state: &State<S>,
+    proof: Proof,
+    text: &[u8],
+) -> Result<Decision, Memory>
+    requires proof { IsProof proof }
+    requires text { text.now ≡ text_of_proof proof }
+    ensures { IfOk result (λ d. (J : List Record) → IsStateOf J state.now → IsDecided (setting S.verifies state.now) J (given_proof proof) d.answer d.growth) }
+{
+    let Ok(answer) = settled(alloc, state, &proof) else {
         drop(proof);
         return Err(Memory);
     };
@@ -66,20 +81,19 @@ pub fn decide_decoded<D: Disk, S: Scheme>(
 
 /// What is answered to a proof that isn't to be kept: the check that fails first, or that its node is convicted already. None where
 /// it is to be kept.
-fn settled<D: Disk, S: Scheme>(
+fn settled<S: Scheme>(
     alloc: Global,
-    store: &Store<D, S>,
+    state: &State<S>,
     proof: &Proof,
 ) -> Result<Option<Result<Taken, Check>>, Memory>
-    requires runs { store.now.stopped ≡ false }
     requires proof { IsProof proof.now }
-    ensures { IfOk result (IsSettled (standing S.verifies store.now) store.now.records proof.now) }
+    ensures { IfOk result (λ o. (J : List Record) → IsStateOf J state.now → IsSettled (setting S.verifies state.now) J proof.now o) }
 {
-    let failed = failed_check(alloc, store.state(), proof)?;
+    let failed = failed_check(alloc, state, proof)?;
     if let Some(check) = failed {
         return Ok(Some(Err(check)));
     }
-    if store.state().is_convicted(proof.accused()) {
+    if state.is_convicted(proof.accused()) {
         return Ok(Some(Ok(Taken::Known)));
     }
     Ok(None)

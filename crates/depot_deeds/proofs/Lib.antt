@@ -6,3 +6,5 @@ pub mod PutTexts
 pub mod ReceiptTexts
 pub mod ShownWrites
 pub mod TracedReads
+pub mod CheckpointTexts
+pub mod FedReaders

@@ -1,3 +1,5 @@
 pub mod Printing
 pub mod PutPrinting
 pub mod ReceiptPrinting
+pub mod CheckpointPrinting
+pub mod ReaderPrinting

@@ -28,7 +28,7 @@ pub fn seen<'a>(update: &Update, key: &Key, value: Option<&'a [u8]>) -> Seen<'a>
 }
 
 /// A value that is held, or that none is.
-fn held(value: Option<&[u8]>) -> Seen<'_>
+pub(crate) fn held(value: Option<&[u8]>) -> Seen<'_>
     ensures { sighting_of result ≡ shown_value (option_copied value.entry) }
 {
     match value {
@@ -39,7 +39,12 @@ fn held(value: Option<&[u8]>) -> Seen<'_>
 
 /// Adds a write that a read shows, behind a space.
 #[tactic(auto, using(depot_base::proofs::Writing::texts))]
-fn add_write(alloc: Global, line: &mut Bytes, update: &Update, seen: Seen<'_>) -> Result<(), Memory>
+pub(crate) fn add_write(
+    alloc: Global,
+    line: &mut Bytes,
+    update: &Update,
+    seen: Seen<'_>,
+) -> Result<(), Memory>
     ensures { OnOk result (line.new ≡ line.old ++ spaced (text_of_write (record { update = update.now; seen = sighting_of seen.entry }))) }
 {
     line.push_all(b" ")?;

@@ -17,7 +17,8 @@ const SCHEDULE: &str = "depot schedule 1\nscheme winter 12\nnode 1\nfaulty 9\nno
     5555555555555555555555555555555555555555555555555555555555555555\n\
     voucher x 9 2 u,v\nproof p SamePrev u x\nproof q SameNumber v u\nproof s Backward x z\njudge p\nraw r 00ff\nraw empty -\n\
     cut c r 0 4294967295\nflip f c 1\njoin abcdefghijklmnopqrstuvwxyz012345 c f\n\
-    voucher k 9 5 r,u,1.0,c,f,abcdefghijklmnopqrstuvwxyz012345,empty,z\nhollow m k r\nhollow n x f\n";
+    voucher k 9 5 r,u,1.0,c,f,abcdefghijklmnopqrstuvwxyz012345,empty,z\nhollow m k r\nhollow n x f\n\
+    receipt 1 u,1.0\nsettled 65535 u 256\naudit\ncheckpoint 1 g\nsign 65535 g\ntrim 65535 g t\ntgive t h\ntget t 6b\n";
 
 /// Texts, and the number of the first faulty line of each and its fault.
 static TEXTS: [(&str, u32, LineFault); 22] = [
@@ -86,7 +87,7 @@ static TEXTS: [(&str, u32, LineFault); 22] = [
 ];
 
 /// Lines behind the header, and the same of the text.
-static LINES: [(&str, u32, LineFault); 97] = [
+static LINES: [(&str, u32, LineFault); 112] = [
     ("put 1 6b 61", 6, LineFault::End),
     ("\n", 6, LineFault::Word),
     ("put  1 6b\n", 6, LineFault::Word),
@@ -237,6 +238,29 @@ static LINES: [(&str, u32, LineFault); 97] = [
         9,
         LineFault::Label,
     ),
+    ("checkpoint 1\n", 6, LineFault::Fields),
+    ("checkpoint 9 k\n", 6, LineFault::Node),
+    ("raw k -\ncheckpoint 1 k\n", 7, LineFault::Label),
+    ("sign 1 k\n", 6, LineFault::Label),
+    ("raw k -\nsign 9 k\n", 7, LineFault::Node),
+    ("trim 1 k t\n", 6, LineFault::Label),
+    ("raw k -\ntrim 1 k\n", 7, LineFault::Fields),
+    ("raw k -\ntrim 1 k k\n", 7, LineFault::Label),
+    ("raw k -\ntrim 1 k t\nraw t -\n", 8, LineFault::Label),
+    ("raw k -\ntgive k k\n", 7, LineFault::Label),
+    ("raw k -\ntrim 1 k t\ntgive t t\n", 8, LineFault::Label),
+    ("raw k -\ntget k 6b\n", 7, LineFault::Label),
+    ("raw k -\ntrim 1 k t\ntget t -\n", 8, LineFault::Hex),
+    (
+        "put 1 636865636b706f696e743a0000000000000000000000000000000000000000000000000000000000000000 61\n",
+        6,
+        LineFault::Hex,
+    ),
+    (
+        "puts 1 636865636b706f696e743a0000000000000000000000000000000000000000000000000000000000000000!\n",
+        6,
+        LineFault::Hex,
+    ),
 ];
 
 /// Lines in which a piece stands so many times: a front, the piece, its times, a back, and whether the line is faulty, which is Hex.
@@ -333,7 +357,7 @@ fn is_worked(schedule: &Schedule) -> bool {
     schedule.winter
         && schedule.height == 12
         && schedule.members.as_slice().len() == 3
-        && schedule.events.as_slice().len() == 29
+        && schedule.events.as_slice().len() == 37
 }
 
 /// Whether the worked schedule is read, and printed with the same bytes.

@@ -1,8 +1,9 @@
 //! Each text once, as docs/FORMATS.md or the worked schedules of `depot_world` have it.
 
 use depot_answers::{
-    Closing, Seen, check, collides, counts, faulty_line, full, named, numbered, point, put,
-    record_fault, records, refusal, report, roster_error, spent, tips, verdict, write,
+    Closing, ReaderCounts, Seen, check, collides, counts, empty, faulty_line, full, kept, many,
+    named, numbered, point, put, reader_feed, record_fault, records, refusal, report, roster_error,
+    spent, tips, unsigned, verdict, write,
 };
 use depot_base::{
     Bytes, Check, Deps, Full, FullOf, Hash32, Ids, Kind, Memory, NodeId, Nodes, Update, Writes,
@@ -36,6 +37,11 @@ enum Answer {
     Verdict(Verdict),
     RosterError(RosterError),
     Numbered(&'static str, u64),
+    Empty,
+    Many(u32),
+    Unsigned(NodeId),
+    Kept(u32, u32),
+    ReaderFeed(ReaderCounts, Option<Full>),
 }
 
 /// The update of a node with seq 0 and clock 2; what it writes is no matter.
@@ -127,6 +133,11 @@ fn print(alloc: Global, out: &mut Bytes, answer: &Answer) -> bool {
         Answer::Verdict(found) => verdict(alloc, out, found).is_ok(),
         Answer::RosterError(error) => roster_error(alloc, out, error).is_ok(),
         Answer::Numbered(name, n) => numbered(alloc, out, name, *n).is_ok(),
+        Answer::Empty => empty(out).is_ok(),
+        Answer::Many(count) => many(alloc, out, *count).is_ok(),
+        Answer::Unsigned(node) => unsigned(alloc, out, *node).is_ok(),
+        Answer::Kept(left, all) => kept(alloc, out, *left, *all).is_ok(),
+        Answer::ReaderFeed(found, met) => reader_feed(alloc, out, *found, *met).is_ok(),
     }
 }
 
@@ -151,6 +162,12 @@ fn each_answer_has_its_text(rt: HostRuntime) -> Result<(), Fail> {
         vouchers: 2,
         updates: 3,
         values: 4,
+    };
+    let taken = ReaderCounts {
+        accepted: 1,
+        known: 2,
+        refused: 3,
+        below: 4,
     };
     let forked = Check::Forked {
         kept: hash,
@@ -226,6 +243,18 @@ fn each_answer_has_its_text(rt: HostRuntime) -> Result<(), Fail> {
         ),
         (Answer::RosterError(RosterError::TwiceNode(node)), "twice 9"),
         (Answer::Numbered("stopped records", 2), "stopped records 2"),
+        (Answer::Empty, "Empty"),
+        (Answer::Many(1025), "Many 1025"),
+        (Answer::Unsigned(node), "Unsigned 9"),
+        (Answer::Kept(3, 4), "kept 3 of 4"),
+        (
+            Answer::ReaderFeed(taken, None),
+            "accepted 1 known 2 refused 3 below 4",
+        ),
+        (
+            Answer::ReaderFeed(taken, Some(what)),
+            "accepted 1 known 2 refused 3 below 4 full records 131072",
+        ),
     ];
     for (answer, text) in &rows {
         assert!(rt; has_text(rt.alloc(), answer, text), "{text}");

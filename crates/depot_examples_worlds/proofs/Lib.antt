@@ -1,4 +1,3 @@
-mod DeedReads
 mod StationReads
 mod ReadsTold
 mod SessionReads

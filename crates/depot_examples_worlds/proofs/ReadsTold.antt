@@ -13,6 +13,8 @@ use Rattle.depot_model.specs.Judgement.{first_failed_point, verdict_of}
 use Rattle.depot_model.specs.Lines.{text_of_point, text_of_verdict}
 use Rattle.depot_answers.specs.Answers.{spaced}
 use Rattle.depot_model.specs.Lists.{IsIn}
+use Rattle.depot_model.specs.ReaderFeeds.{reader_feed_of}
+use Rattle.depot_model.specs.Readers.{Reader, trim_of}
 use Rattle.depot_model.specs.Texts.{id_of_update}
 use Rattle.depot_model.specs.Vouching.{rising}
 use Rattle.depot_model.specs.World.{Correct, Read}
@@ -25,15 +27,15 @@ use Rattle.depot_schedule.specs.declared.event.Event.TheVariants as event
 use Rattle.depot_schedule.specs.declared.member.Member.{Member}
 use Rattle.depot_schedule.specs.declared.schedule.Schedule.{Schedule}
 use Rattle.depot_examples_worlds.specs.Asked.{key_read, keys_read, verdict_on, verdicts_on}
-use Rattle.depot_world.specs.Deeds.{put_by, get_by, receipt_by, settled_by, hello_by, bundle_by, give_by, restart_by}
+use Rattle.depot_world.specs.Deeds.{put_by, get_by, receipt_by, settled_by, checkpoint_by, sign_by, hello_by, bundle_by, give_by, restart_by}
 use Rattle.depot_world.specs.FaultySigning.{all_referred, updated, proof_in}
-use Rattle.depot_world.specs.Run.{Run, Station, born, run_of, world_by, station_in, bytes_of, referred, with_station}
+use Rattle.depot_world.specs.Run.{Run, Station, born, run_of, world_by, station_in, bytes_of, reader_in, referred, with_station}
 use Rattle.depot_world.specs.ScheduleStops.{Deed, went}
 use Rattle.depot_world.specs.Suite.{Stage, stage_of, stands_on, signs_on}
-use Rattle.depot_world.specs.Transcript.{Done, done_by_node, by_node, armed_at, receipt_for, settled_for, done_by_update, judged_with, done, run_after, world_of}
+use Rattle.depot_world.specs.Transcript.{Done, done_by_node, by_node, armed_at, receipt_for, settled_for, trimmed_with, trim_at, reader_told, tgive_by, done_by_update, judged_with, done, run_after, world_of}
 use Rattle.depot_world.proofs.GoodRuns.{numbers_of}
 use Rattle.depot_world.proofs.GoodWorlds.{schedule_makes_world}
-use Rattle.depot_examples_worlds.proofs.DeedReads.{put_reads, receipt_reads, settled_reads, bundle_reads}
+use Rattle.depot_world.proofs.ReadCounts.{put_keeps, receipt_keeps, settled_keeps, checkpoint_keeps, sign_keeps, bundle_keeps}
 use Rattle.depot_examples_worlds.proofs.StationReads.{keys_of, Waits, HasRead, no_keys, no_keys_either, Follows, stays, node_follows, stop_follows}
 
 -- ---- the reads of each event
@@ -74,6 +76,9 @@ node_in (event.Restart node) = node
 node_in (event.Stop node call image) = node
 node_in (event.Receipt node refs) = node
 node_in (event.Settled node reference k) = node
+node_in (event.Checkpoint node label) = node
+node_in (event.Sign node label) = node
+node_in (event.Trim node label name) = node
 node_in other = 0
 
 -- the keys that an event reads, whoever reads them
@@ -112,6 +117,11 @@ stops_later s (event.Stop node call image) fits = stop_is s node call image fits
 stops_later s (event.Receipt node refs) fits = tt
 stops_later s (event.Settled node reference k) fits = tt
 stops_later s event.Audit fits = tt
+stops_later s (event.Checkpoint node label) fits = tt
+stops_later s (event.Sign node label) fits = tt
+stops_later s (event.Trim node label name) fits = tt
+stops_later s (event.Tgive name label) fits = tt
+stops_later s (event.Tget name key) fits = tt
 
 update_stays : (sign : Signs) (run : Run) (label : List ℕ) (values : List (List ℕ)) (o : Option Update) → run.stations ≡ (done_by_update sign run label values o).run.stations
 update_stays sign run label values None = refl
@@ -131,19 +141,35 @@ receipts_follow : (stage : Stage) (run : Run) (node : ℕ) (o : Option (List Upd
 receipts_follow stage run node None all = stays run _ node refl
 receipts_follow stage run node (Some us) all =
     let ids = rising (map id_of_update us) in
-    node_follows run node None (λ s. receipt_by (stands_on stage node) s.correct ids) [] all (λ s. silent s _ (receipt_reads (stands_on stage node) s.correct ids)) (λ s. inl refl)
+    node_follows run node None (λ s. receipt_by (stands_on stage node) s.correct ids) [] all (λ s. silent s _ (receipt_keeps (stands_on stage node) s.correct ids)) (λ s. inl refl)
 
 settled_follows : (run : Run) (node k : ℕ) (o : Option Update) → ((s : Station) → IsIn s run.stations → Waits s) → Follows run (settled_for run node k o).run node []
 settled_follows run node k None all = stays run _ node refl
-settled_follows run node k (Some u) all = node_follows run node None (λ s. settled_by s.correct (id_of_update u) k) [] all (λ s. silent s _ (settled_reads s.correct (id_of_update u) k)) (λ s. inl refl)
+settled_follows run node k (Some u) all = node_follows run node None (λ s. settled_by s.correct (id_of_update u) k) [] all (λ s. silent s _ (settled_keeps s.correct (id_of_update u) k)) (λ s. inl refl)
+
+-- a reader is made, or takes a stream: no node has a part in what it reads
+
+trim_stays : (stage : Stage) (run : Run) (node : ℕ) (text name : List ℕ) → run.stations ≡ (trim_at stage run node text name).run.stations
+unfolding trim_at
+trim_stays stage run node text name = by_station (station_in run.stations node) where
+  by_station : (o : Option Station) → run.stations ≡ (elim o as (λ x. Done) [ None ↦ record { answer = []; behind = []; run = run } | Some s ↦ trimmed_with run name (trim_of (stands_on stage node) s.correct.journal text) ]).run.stations
+  by_station None = refl
+  by_station (Some s) = refl
+
+tgive_stays : (run : Run) (name stream : List ℕ) → run.stations ≡ (tgive_by run name stream).run.stations
+unfolding tgive_by
+tgive_stays run name stream = by_reader (reader_in run.readers name) where
+  by_reader : (o : Option Reader) → run.stations ≡ (elim o as (λ x. Done) [ None ↦ record { answer = []; behind = []; run = run } | Some R ↦ reader_told run name (reader_feed_of R stream) ]).run.stations
+  by_reader None = refl
+  by_reader (Some R) = refl
 
 event_follows : (stage : Stage) (run : Run) (e : Event) → ((s : Station) → IsIn s run.stations → Waits s) → StopsLater e → Follows run (done stage run e).run (node_in e) (keys_in e)
 unfolding done
-event_follows stage run (event.Put node key value) all later = node_follows run node None (λ s. put_by (stands_on stage node) s.correct (one_change key value)) [] all (λ s. silent s _ (put_reads (stands_on stage node) s.correct (one_change key value))) (λ s. inl refl)
-event_follows stage run (event.Puts node changes) all later = node_follows run node None (λ s. put_by (stands_on stage node) s.correct changes) [] all (λ s. silent s _ (put_reads (stands_on stage node) s.correct changes)) (λ s. inl refl)
+event_follows stage run (event.Put node key value) all later = node_follows run node None (λ s. put_by (stands_on stage node) s.correct (one_change key value)) [] all (λ s. silent s _ (put_keeps (stands_on stage node) s.correct (one_change key value))) (λ s. inl refl)
+event_follows stage run (event.Puts node changes) all later = node_follows run node None (λ s. put_by (stands_on stage node) s.correct changes) [] all (λ s. silent s _ (put_keeps (stands_on stage node) s.correct changes)) (λ s. inl refl)
 event_follows stage run (event.Get node key) all later = node_follows run node None (λ s. get_by s.correct key) (key ∷ []) all (λ s. get_reads s key) (λ s. inr (get_calls s key))
 event_follows stage run (event.Hello node label) all later = node_follows run node (Some label) (λ s. hello_by (stands_on stage node) s.correct) [] all (λ s. hello_silent (stands_on stage node) s) (λ s. inl refl)
-event_follows stage run (event.Bundle node hello label) all later = node_follows run node (Some label) (λ s. bundle_by (stands_on stage node) (signs_on stage node) s.correct (bytes_of run hello)) [] all (λ s. silent s _ (bundle_reads (stands_on stage node) (signs_on stage node) s.correct (bytes_of run hello))) (λ s. inl refl)
+event_follows stage run (event.Bundle node hello label) all later = node_follows run node (Some label) (λ s. bundle_by (stands_on stage node) (signs_on stage node) s.correct (bytes_of run hello)) [] all (λ s. silent s _ (bundle_keeps (stands_on stage node) (signs_on stage node) s.correct (bytes_of run hello))) (λ s. inl refl)
 event_follows stage run (event.Give node label size) all later = node_follows run node None (λ s. give_by (stands_on stage node) s.correct (bytes_of run label)) [] all (λ s. give_silent (stands_on stage node) s (bytes_of run label)) (λ s. inl refl)
 event_follows stage run (event.Restart node) all later = node_follows run node None (λ s. restart_by s.correct) [] all (λ s. restart_silent s) (λ s. inl refl)
 event_follows stage run (event.Update label writer seq clock prev key value deps history) all later = stays run _ 0 (update_stays (signs_on stage writer) run label _ (updated (signs_on stage writer) run writer seq clock prev (one_change key value) deps history))
@@ -160,6 +186,11 @@ event_follows stage run (event.Stop node call image) all later = stop_follows ru
 event_follows stage run (event.Receipt node refs) all later = receipts_follow stage run node (all_referred run refs) all
 event_follows stage run (event.Settled node reference k) all later = settled_follows run node k (referred run reference) all
 event_follows stage run event.Audit all later = stays run _ 0 refl
+event_follows stage run (event.Checkpoint node label) all later = node_follows run node (Some label) (λ s. checkpoint_by (stands_on stage node) s.correct) [] all (λ s. silent s _ (checkpoint_keeps (stands_on stage node) s.correct)) (λ s. inl refl)
+event_follows stage run (event.Sign node label) all later = node_follows run node None (λ s. sign_by (stands_on stage node) s.correct (bytes_of run label)) [] all (λ s. silent s _ (sign_keeps (stands_on stage node) s.correct (bytes_of run label))) (λ s. inl refl)
+event_follows stage run (event.Trim node label name) all later = stays run _ node (trim_stays stage run node (bytes_of run label) name)
+event_follows stage run (event.Tgive name label) all later = stays run _ 0 (tgive_stays run name (bytes_of run label))
+event_follows stage run (event.Tget name key) all later = stays run _ 0 refl
 
 -- ---- all events
 
@@ -189,6 +220,11 @@ read_here node (event.Stop n call image) = none (eqb n node)
 read_here node (event.Receipt n refs) = none (eqb n node)
 read_here node (event.Settled n reference k) = none (eqb n node)
 read_here node event.Audit = none (eqb 0 node)
+read_here node (event.Checkpoint n label) = none (eqb n node)
+read_here node (event.Sign n label) = none (eqb n node)
+read_here node (event.Trim n label name) = none (eqb n node)
+read_here node (event.Tgive name label) = none (eqb 0 node)
+read_here node (event.Tget name key) = none (eqb 0 node)
 
 record After (stage : Stage) (run : Run) (es : List Event) (node : ℕ) (keys : List (List ℕ)) : Type 0 where
   pub numbers : numbers_of (run_after stage run es).stations ≡ numbers_of run.stations
@@ -317,6 +353,20 @@ settled_judged : (run : Run) (node k : ℕ) (o : Option Update) → (settled_for
 settled_judged run node k None = sym (append-nil run.judged)
 settled_judged run node k (Some u) = node_judged run node None _
 
+trim_judged : (stage : Stage) (run : Run) (node : ℕ) (text name : List ℕ) → (trim_at stage run node text name).run.judged ≡ run.judged ++ []
+unfolding trim_at
+trim_judged stage run node text name = by_station (station_in run.stations node) where
+  by_station : (o : Option Station) → (elim o as (λ x. Done) [ None ↦ record { answer = []; behind = []; run = run } | Some s ↦ trimmed_with run name (trim_of (stands_on stage node) s.correct.journal text) ]).run.judged ≡ run.judged ++ []
+  by_station None = sym (append-nil run.judged)
+  by_station (Some s) = sym (append-nil run.judged)
+
+tgive_judged : (run : Run) (name stream : List ℕ) → (tgive_by run name stream).run.judged ≡ run.judged ++ []
+unfolding tgive_by
+tgive_judged run name stream = by_reader (reader_in run.readers name) where
+  by_reader : (o : Option Reader) → (elim o as (λ x. Done) [ None ↦ record { answer = []; behind = []; run = run } | Some R ↦ reader_told run name (reader_feed_of R stream) ]).run.judged ≡ run.judged ++ []
+  by_reader None = sym (append-nil run.judged)
+  by_reader (Some R) = sym (append-nil run.judged)
+
 event_judges : (stage : Stage) (run : Run) (e : Event) → (done stage run e).run.judged ≡ run.judged ++ verdict_on stage run e
 unfolding done
 event_judges stage run (event.Put node key value) = node_judged run node None _
@@ -340,6 +390,11 @@ event_judges stage run (event.Stop node call image) = stop_judged run node call 
 event_judges stage run (event.Receipt node refs) = receipts_judged stage run node (all_referred run refs)
 event_judges stage run (event.Settled node reference k) = settled_judged run node k (referred run reference)
 event_judges stage run event.Audit = sym (append-nil run.judged)
+event_judges stage run (event.Checkpoint node label) = node_judged run node (Some label) _
+event_judges stage run (event.Sign node label) = node_judged run node None _
+event_judges stage run (event.Trim node label name) = trim_judged stage run node (bytes_of run label) name
+event_judges stage run (event.Tgive name label) = tgive_judged run name (bytes_of run label)
+event_judges stage run (event.Tget name key) = sym (append-nil run.judged)
 
 events_judge : (stage : Stage) (run : Run) (es : List Event) → (run_after stage run es).judged ≡ run.judged ++ verdicts_on stage run es
 unfolding run_after

@@ -11,8 +11,8 @@ use Rattle.depot_session.specs.declared.ending.Ending.{Ending}
 use Rattle.depot_session.specs.Sessions.{Session, Step, Answers, step_of, followed_by, bundle_step, bundle_to, export_by, take_from, answers_of}
 use Rattle.depot_world.specs.Deeds.{get_by, bundle_by, give_by, hello_by}
 use Rattle.depot_world.specs.ScheduleStops.{Deed}
+use Rattle.depot_world.proofs.ReadCounts.{put_keeps, receipt_keeps, settled_keeps, bundle_keeps}
 use Rattle.depot_examples_worlds.specs.Commanded.{key_got, keys_got, going_on, carried_out_of}
-use Rattle.depot_examples_worlds.proofs.DeedReads.{put_reads, receipt_reads, settled_reads, bundle_reads}
 
 -- the keys of the reads of a session's node
 abbrev keys_at : Session → List (List ℕ)
@@ -36,15 +36,15 @@ export_step : (s : Session) → map (λ (r : Read). r.key) (export_by s).reads �
 unfolding export_by
 export_step s = silent s _ refl
 
-bundle_keeps : (s : Session) (hello file : List ℕ) (d : Deed) (a : BundleAnswer) → d.reads ≡ s.correct.reads → keys_at (bundle_step s hello file d a).session ≡ keys_at s ++ []
-bundle_keeps s hello file d (bundled b) same = silent s _ same
-bundle_keeps s hello file d (bad_hello at) same = silent s _ same
-bundle_keeps s hello file d (other_roster given) same = silent s _ same
-bundle_keeps s hello file d (limited l) same = silent s _ same
+bundle_step_keeps : (s : Session) (hello file : List ℕ) (d : Deed) (a : BundleAnswer) → d.reads ≡ s.correct.reads → keys_at (bundle_step s hello file d a).session ≡ keys_at s ++ []
+bundle_step_keeps s hello file d (bundled b) same = silent s _ same
+bundle_step_keeps s hello file d (bad_hello at) same = silent s _ same
+bundle_step_keeps s hello file d (other_roster given) same = silent s _ same
+bundle_step_keeps s hello file d (limited l) same = silent s _ same
 
 bundle_to_keeps : (here : Setting) (sign : Signs) (s : Session) (hello file : List ℕ) (o : Option (List ℕ)) → keys_at (bundle_to here sign s hello file o).session ≡ keys_at s ++ []
 bundle_to_keeps here sign s hello file None = silent s _ refl
-bundle_to_keeps here sign s hello file (Some bytes) = bundle_keeps s hello file (bundle_by here sign s.correct bytes) (bundle_answer here sign s.correct.journal bytes) (bundle_reads here sign s.correct bytes)
+bundle_to_keeps here sign s hello file (Some bytes) = bundle_step_keeps s hello file (bundle_by here sign s.correct bytes) (bundle_answer here sign s.correct.journal bytes) (bundle_keeps here sign s.correct bytes)
 
 take_keeps : (here : Setting) (s : Session) (file : List ℕ) (o : Option (List ℕ)) → keys_at (take_from here s file o).session ≡ keys_at s ++ []
 unfolding give_by
@@ -53,14 +53,14 @@ take_keeps here s file (Some bytes) = silent s _ refl
 
 step_reads : (here : Setting) (sign : Signs) (s : Session) (c : Command) → keys_at (step_of here sign s c).session ≡ keys_at s ++ key_got c
 unfolding step_of
-step_reads here sign s (command.Put key value) = silent s _ (put_reads here s.correct (one_change key value))
-step_reads here sign s (command.Puts changes) = silent s _ (put_reads here s.correct changes)
+step_reads here sign s (command.Put key value) = silent s _ (put_keeps here s.correct (one_change key value))
+step_reads here sign s (command.Puts changes) = silent s _ (put_keeps here s.correct changes)
 step_reads here sign s (command.Get key) = get_step s key
 step_reads here sign s (command.Hello file) = hello_step here s
 step_reads here sign s (command.Bundle hello file) = bundle_to_keeps here sign s hello file (s.files hello)
 step_reads here sign s (command.Take file) = take_keeps here s file (s.files file)
-step_reads here sign s (command.Receipt id) = silent s _ (receipt_reads here s.correct (id ∷ []))
-step_reads here sign s (command.Settled id k) = silent s _ (settled_reads s.correct id k)
+step_reads here sign s (command.Receipt id) = silent s _ (receipt_keeps here s.correct (id ∷ []))
+step_reads here sign s (command.Settled id k) = silent s _ (settled_keeps s.correct id k)
 step_reads here sign s (command.Export file) = export_step s
 
 -- ---- a script

@@ -1,1 +1,2 @@
 pub mod FrameLengths
+pub mod WholeFrames

@@ -5,6 +5,8 @@ use Rattle.depot_base.specs.declared.limits.TheConstants.{MOST_PAYLOAD}
 use Rattle.depot_model.specs.Frames.{FrameAt, whole_frame, open_frame, no_frame}
 use Rattle.depot_frames.specs.declared.frame.Standing.{Standing}
 use Rattle.depot_frames.specs.declared.frame.Standing.TheVariants as standing
+use Rattle.depot_frames.specs.declared.frame.FrameAt.{FrameAt as Place}
+use Rattle.depot_frames.specs.declared.frame.FrameAt.TheVariants as place
 
 -- the most bytes of a frame: its tag, its length and its payload
 abbrev pub most_frame : ℕ
@@ -19,3 +21,9 @@ abbrev pub Tells : FrameAt → Standing → Type 0
 Tells at standing.Open = at ≡ open_frame
 Tells at (standing.Whole tag payload) = (at ≡ whole_frame (record { tag = tag; payload = payload.now })) × ((1 ≤ tag) × (tag ≤ 4))
 Tells at standing.Nothing = at ≡ no_frame
+
+-- what is told of a place of a stream is what stands there: a frame by its tag, and by the place behind its five bytes and its payload
+abbrev pub StandsAt : FrameAt → ℕ → Place → Type 0
+StandsAt found at place.Open = found ≡ open_frame
+StandsAt found at (place.Frame tag end) = (payload : List ℕ) × ((found ≡ whole_frame (record { tag = tag; payload = payload })) × (end ≡ at + (5 + length payload)))
+StandsAt found at place.Ill = found ≡ no_frame

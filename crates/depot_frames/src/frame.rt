@@ -1,8 +1,8 @@
 //! What stands at the start of a frame.
-ghost use Rattle.std.specs.Prelude.{◌≡◌, ◌++◌, ◌-◌, take, drop, length, replicate};
+ghost use Rattle.std.specs.Prelude.{◌≡◌, ◌≤◌, ◌++◌, ◌-◌, take, drop, length, replicate};
 ghost use Rattle.std.specs.Int.{w32, from_be_bytes};
 ghost use Rattle.depot_model.specs.Frames.{Frame, frame_at, whole_frame, is_tag, least_length, most_length, may_be_within, is_no_flag, goes_astray};
-ghost use Rattle.depot_frames.specs.FrameHeads.{missing, Tells};
+ghost use Rattle.depot_frames.specs.FrameHeads.{missing, Tells, StandsAt};
 
 use depot_base::limits::MOST_PAYLOAD;
 
@@ -20,6 +20,22 @@ pub enum Standing<'a> {
     },
     /// The beginning of none, whatever may come.
     Nothing,
+}
+
+/// What stands at a place of a stream of frames.
+#[derive(Clone, Copy, Debug, PartialEq, Eq)]
+pub enum FrameAt {
+    /// A whole frame.
+    Frame {
+        /// Its tag, 1 to 4.
+        tag: u8,
+        /// The place behind it. Its payload begins five bytes behind its start.
+        end: usize,
+    },
+    /// The beginning of a frame, or no byte.
+    Open,
+    /// The beginning of none, whatever may come.
+    Ill,
 }
 
 /// The least and the greatest number whose four bytes begin so.
@@ -98,6 +114,26 @@ pub fn stands(bytes: &[u8]) -> Standing<'_>
             tag: *tag,
             payload: &payload[..count],
         }
+    }
+}
+
+/// What stands at a place of a stream: a frame goes by its tag, its length and the byte of End alone, whatever its payload is. The
+/// place is at most the stream's length. It takes no memory.
+pub fn frame_at(stream: &[u8], at: usize) -> FrameAt
+    requires { at ≤ length stream.now }
+    ensures { StandsAt (frame_at (drop at stream.now)) at result }
+{
+    let bytes = &stream[at..];
+    match stands(bytes) {
+        Standing::Open => FrameAt::Open,
+        Standing::Whole { tag, payload } => {
+            let behind = bytes.len() - 5 - payload.len();
+            FrameAt::Frame {
+                tag,
+                end: stream.len() - behind,
+            }
+        }
+        Standing::Nothing => FrameAt::Ill,
     }
 }
 

@@ -25,9 +25,9 @@ fn nodes_in(alloc: Global, fields: &mut Fields<'_>, count: u16) -> Result<Nodes,
     Ok(Nodes::from_vec(nodes))
 }
 
-/// So many leaves, rising strictly by (writer, id).
+/// Reads so many leaves, rising strictly by (writer, id).
 #[tactic(auto, unfolding(depot_base::specs::Format::list_of))]
-fn leaves_in(alloc: Global, fields: &mut Fields<'_>, count: u16) -> Result<HelloLeaves, Fault>
+pub fn leaves_in(alloc: Global, fields: &mut Fields<'_>, count: u16) -> Result<HelloLeaves, Fault>
     ensures { Reads result fields.new ((list_of count hello_leaf hello_leaf_rises).read fields.old) }
 {
     let leaves = entries_in(alloc, fields, count, 0)?;
@@ -83,9 +83,9 @@ pub fn decode_hello(alloc: Global, text: &[u8]) -> Result<Hello, DecodeError>
     answer(whole_hello(alloc, &mut Fields::new(text)))
 }
 
-/// Writes entries behind their count.
+/// Writes entries behind their count, two bytes.
 #[tactic(auto, using(depot_base::proofs::Writing::texts))]
-fn put_list<E: Entry>(out: &mut Bytes, list: &[E]) -> Result<(), Memory>
+pub fn put_list<E: Entry>(out: &mut Bytes, list: &[E]) -> Result<(), Memory>
     requires { length list.now < 2 ^ 16 }
     ensures { OnOk result (out.new ≡ out.old ++ (numeral w16 (length list.now) ++ flat_map E.text list.now)) }
 {

@@ -16,8 +16,8 @@ mod hello_text;
 mod sending;
 
 pub use depot_base::DecodeError;
-pub use frame::{Standing, missing, stands};
+pub use frame::{FrameAt, Standing, frame_at, missing, stands};
 pub use frame_text::put_frame;
 pub use hello_laws::{hellos_are_prefix_free, hellos_are_read_in_one_way};
-pub use hello_text::{decode_hello, encode_hello};
+pub use hello_text::{decode_hello, encode_hello, leaves_in, put_list};
 pub use sending::Sending;

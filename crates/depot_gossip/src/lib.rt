@@ -16,7 +16,8 @@ mod own_bundle;
 pub use depot_base::DecodeError;
 pub use depot_feeds::{Feed, FeedError, pieces_are_one, streams_tell_all};
 pub use depot_frames::{
-    decode_hello, encode_hello, hellos_are_prefix_free, hellos_are_read_in_one_way, put_frame,
+    FrameAt, decode_hello, encode_hello, frame_at, hellos_are_prefix_free,
+    hellos_are_read_in_one_way, put_frame,
 };
 pub use depot_model::{Counts, Ending, Refusal, Refusals, Report};
 pub use depot_offers::{BundleError, Bundled, hello, node_hello};

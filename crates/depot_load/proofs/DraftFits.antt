@@ -1,5 +1,5 @@
 -- A load as it grows: its events fit, its labels rise, and it stays short.
-use Rattle.std.proofs.Common.{◌≡◌, ℕ, ◌+◌, ◌*◌, ◌^◌, ◌/◌, ◌<◌, ◌≤◌, Bool, true, false, cond, eqb, ltb, leb, List, [], ◌∷◌, ◌++◌, length, Option, Some, None, is_some, refl, arith, length-append}
+use Rattle.std.proofs.Common.{◌≡◌, ℕ, ◌+◌, ◌*◌, ◌^◌, ◌/◌, ◌<◌, ◌≤◌, Bool, true, false, cond, eqb, ltb, leb, List, [], ◌∷◌, ◌++◌, length, Option, Some, None, refl, arith, length-append}
 use Rattle.std.proofs.lemmas.Nat.{mod_below}
 use Rattle.depot_schedule.specs.declared.event.Event.{Event}
 use Rattle.depot_schedule.specs.declared.event.Event.TheVariants.{Put, Get, Hello, Bundle, Give, Restart, Update}
@@ -7,11 +7,11 @@ use Rattle.depot_schedule.specs.declared.event.HistoryWord.TheVariants.{Right}
 use Rattle.depot_schedule.specs.declared.verb.Made.{Made}
 use Rattle.depot_schedule.specs.declared.verb.Made.TheVariants as made
 use Rattle.depot_schedule.specs.Spelling.{is_letter}
-use Rattle.depot_schedule.specs.Vocabulary.{label_made, named_by}
+use Rattle.depot_schedule.specs.Vocabulary.{label_made}
 use Rattle.depot_schedule.specs.Schedules.{FitsEvent, FitEvents}
 use Rattle.depot_load.specs.declared.load_draft.Draft.{Draft}
 use Rattle.depot_load.specs.Loads.{number_at, drawn, draw, value_of, label_of, round_hello, round_bundle, round_update, faulty_node, some_node, some_key, other_than, with_event, put_round, get_round, given, bundled, exchange_round, update_round, faulty_round, round_by, round, giver, taker, schedule_with}
-use Rattle.depot_load.proofs.Fresh.{rank, IsFree, free-from, free-more, free-made, made-now, made-before}
+use Rattle.depot_load.proofs.Fresh.{rank, IsFree, NamesBytes, free-from, free-more, free-made, made-now, made-before}
 use Rattle.depot_load.proofs.EventFits.{fits-more, IsCorrect, IsSize, put-fits, get-fits, restart-fits, hello-fits, bundle-fits, give-fits, update-fits}
 
 -- Its events fit; labels from this rank on are free; the faulty node signed at most so many updates; and it has at most so many events.
@@ -68,23 +68,23 @@ other-correct v r is low high = by (leb v r) where
 
 -- A bundle for a hello: both labels are new, and that of the bundle is the higher. The bundle's label is made then.
 pub good-bundled : (k u n v r c b m : ℕ) (d : Draft) → is_letter c ≡ true → is_letter b ≡ true → m < 2 ^ 32 → IsCorrect v → IsCorrect r → k ≤ rank c m → rank c m < rank b m → IsGood k u n d
-    → IsGood (rank b m + 1) u (n + 2) (bundled v r (label_of c m) (label_of b m) d) × (is_some (named_by (bundled v r (label_of c m) (label_of b m) d).events (label_of b m)) ≡ true)
+    → IsGood (rank b m + 1) u (n + 2) (bundled v r (label_of c m) (label_of b m) d) × NamesBytes (bundled v r (label_of c m) (label_of b m) d).events (label_of b m)
 good-bundled k u n v r c b m d one two small giver taker from above good =
     let e = Hello r (label_of c m) in
     let f = Bundle v (label_of c m) (label_of b m) in
     let next : rank c m + 1 ≤ rank b m = below_next (rank c m) (rank b m) above in
     let first = good-made k u n c m d e made.Bytes refl small from (hello-fits d.events r c m one small taker (good.free c m small from)) good in
     let second = good-made (rank c m + 1) u (n + 1) b m (with_event d e) f made.Bytes refl small next
-    (bundle-fits (d.events ++ e ∷ []) v c b m one two small giver (made-now d.events e (label_of c m) made.Bytes refl) (first.free b m small next)) first in (
+    (bundle-fits (d.events ++ e ∷ []) v c b m one two small giver (made-now d.events e (label_of c m) made.Bytes refl refl) (first.free b m small next)) first in (
       good-still (rank b m + 1) (rank b m + 1) u u (n + 1 + 1) (n + 2) (bundled v r (label_of c m) (label_of b m) d) (omega arith) (omega arith) (omega arith) second,
-      made-now (d.events ++ e ∷ []) f (label_of b m) made.Bytes refl,
+      made-now (d.events ++ e ∷ []) f (label_of b m) made.Bytes refl refl,
     ) where
       below_next : (x y : ℕ) → x < y → x + 1 ≤ y
       below_next x y lt = omega arith
 
 -- bytes that a label has are given to a node
-pub good-give : (k u n r c m : ℕ) (size : Option ℕ) (d : Draft) → is_letter c ≡ true → m < 2 ^ 32 → IsCorrect r → IsSize size → is_some (named_by d.events (label_of c m)) ≡ true → IsGood k u n d → IsGood k u (n + 1) (with_event d (Give r (label_of c m) size))
-good-give k u n r c m size d letter small taker fits is good = good-more k u n d (Give r (label_of c m) size) refl (give-fits d.events r c m size letter small taker fits is) good
+pub good-give : (k u n r c m : ℕ) (size : Option ℕ) (d : Draft) → is_letter c ≡ true → m < 2 ^ 32 → IsCorrect r → IsSize size → NamesBytes d.events (label_of c m) → IsGood k u n d → IsGood k u (n + 1) (with_event d (Give r (label_of c m) size))
+good-give k u n r c m size d letter small taker fits names good = good-more k u n d (Give r (label_of c m) size) refl (give-fits d.events r c m size letter small taker fits names) good
 
 -- ---- rounds
 
@@ -92,13 +92,13 @@ either : (k u n : ℕ) (b : Bool) (x y : Draft) → IsGood k u n x → IsGood k 
 either k u n true x y p q = p
 either k u n false x y p q = q
 
-good-given : (k u n c r t : ℕ) (d : Draft) → t < 2 ^ 32 → IsCorrect r → is_some (named_by d.events (round_bundle t)) ≡ true → IsGood k u n d → IsGood k u (n + 2) (given c r (round_bundle t) d)
-good-given k u n c r t d small taker is good =
+good-given : (k u n c r t : ℕ) (d : Draft) → t < 2 ^ 32 → IsCorrect r → NamesBytes d.events (round_bundle t) → IsGood k u n d → IsGood k u (n + 2) (given c r (round_bundle t) d)
+good-given k u n c r t d small taker names good =
     let one = with_event d (Give r (round_bundle t) None) in
     let pieces = with_event d (Give r (round_bundle t) (Some 1460)) in
-    let given_once = good-give k u n r 98 t None d refl small taker tt is good in
-    let given_twice = good-give k u (n + 1) r 98 t None one refl small taker tt (made-before d.events (Give r (round_bundle t) None) (round_bundle t) is) given_once in
-    let in_pieces = good-give k u n r 98 t (Some 1460) d refl small taker (omega arith, omega arith) is good in
+    let given_once = good-give k u n r 98 t None d refl small taker tt names good in
+    let given_twice = good-give k u (n + 1) r 98 t None one refl small taker tt (made-before d.events (Give r (round_bundle t) None) (round_bundle t) refl names) given_once in
+    let in_pieces = good-give k u n r 98 t (Some 1460) d refl small taker (omega arith, omega arith) names good in
     either k u (n + 2) (eqb c 0) _ _ (good-still k k u u n (n + 2) d (omega arith) (omega arith) (omega arith) good)
     (either k u (n + 2) (eqb c 1) _ _ (good-still k k u u (n + 1 + 1) (n + 2) _ (omega arith) (omega arith) (omega arith) given_twice)
     (either k u (n + 2) (eqb c 2) _ _ (good-still k k u u (n + 1) (n + 2) _ (omega arith) (omega arith) (omega arith) in_pieces)
@@ -156,7 +156,7 @@ good-update t n d early taker good =
     let e = Update (round_update t) faulty_node a.updates 1 None (some_key a) (value_of t) [] Right in
     let first = good-made (3 * t) t (4 * t) 102 t a e made.Update refl small (omega arith) (update-fits a.events t a.updates (draw 40 a) small few (ready.free 102 t small (omega arith))) ready in
     let b = with_event a e in
-    let second = good-give (3 * t + 2 + 1) t (4 * t + 1) n 102 t None b refl small taker tt (made-now a.events e (round_update t) made.Update refl) first in
+    let second = good-give (3 * t + 2 + 1) t (4 * t + 1) n 102 t None b refl small taker tt (made-now a.events e (round_update t) made.Update refl refl) first in
     let all = one_update_more (3 * t + 2 + 1) t (4 * t + 1 + 1) (with_event b (Give n (round_update t) None)) second in
     good-still (3 * t + 2 + 1) (3 * t + 3) (t + 1) (t + 1) (4 * t + 1 + 1) (4 * t + 4) (update_round t n d) (omega arith) (omega arith) (omega arith) all
 

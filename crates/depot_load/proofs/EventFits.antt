@@ -1,21 +1,21 @@
 -- The events of a load fit behind those before them.
-use Rattle.std.proofs.Common.{◌≡◌, ℕ, zero, suc, ◌^◌, ◌<◌, ◌≤◌, true, List, [], ◌∷◌, ◌++◌, Option, Some, None, is_some, refl, arith, append_assoc}
+use Rattle.std.proofs.Common.{◌≡◌, ℕ, zero, suc, ◌^◌, ◌<◌, ◌≤◌, true, List, [], ◌∷◌, ◌++◌, Option, Some, None, refl, arith, append_assoc}
 use Rattle.std.specs.Int.{w16, w32}
 use Rattle.std.proofs.lemmas.Bool.{lt-ltb}
 use Rattle.std.proofs.lemmas.List.{append-nil}
 use Rattle.depot_base.specs.Cursor.{numeral}
+use Rattle.depot_model.specs.Checkpoints.{is_checkpoint_key}
 use Rattle.depot_model.specs.Receipts.{receipt_of}
 use Rattle.depot_schedule.specs.declared.event.Event.{Event}
 use Rattle.depot_schedule.specs.declared.event.Event.TheVariants.{Put, Get, Hello, Bundle, Give, Restart, Update}
 use Rattle.depot_schedule.specs.declared.event.HistoryWord.TheVariants.{Right}
 use Rattle.depot_schedule.specs.EventLines.{put, get, hello, bundle, give, restart, update}
-use Rattle.depot_schedule.specs.declared.verb.Made.{Made}
-use Rattle.depot_schedule.specs.declared.verb.Wanted.TheVariants as wanted
 use Rattle.depot_schedule.specs.Spelling.{is_letter}
-use Rattle.depot_schedule.specs.Vocabulary.{correct, key, put_key, value, new_label, made_label, meets, is_correct, named_by}
+use Rattle.depot_schedule.specs.Vocabulary.{correct, key, put_key, value, new_label, made_label, is_correct, named_by}
 use Rattle.depot_schedule.specs.Schedules.{FitsEvent, FitEvents}
 use Rattle.depot_world.proofs.OnlyBytes.{by_places, only_numeral}
 use Rattle.depot_load.specs.Loads.{key_of, value_of, label_of, members, faulty_node, schedule_with, round_update}
+use Rattle.depot_load.proofs.Fresh.{NamesBytes}
 use Rattle.depot_load.proofs.WordLaws.{is_label_of}
 
 -- ---- one event more
@@ -48,9 +48,9 @@ key-fits : (es : List Event) (n : ℕ) → key.fits (schedule_with es) (key_of n
 unfolding numeral
 key-fits es n = (refl, by_places (numeral w16 n) (only_numeral w16 n))
 
--- it has no receipt's form
+-- it has neither a receipt's form nor a checkpoint's
 put-key-fits : (es : List Event) (n : ℕ) → put_key.fits (schedule_with es) (key_of n)
-unfolding numeral receipt_of
+unfolding numeral receipt_of is_checkpoint_key
 put-key-fits es n = (key-fits es n, refl)
 
 value-fits : (es : List Event) (t : ℕ) → value.fits (schedule_with es) (value_of t)
@@ -60,13 +60,8 @@ value-fits es t = (refl, by_places (numeral w32 t) (only_numeral w32 t))
 new-fits : (es : List Event) (c n : ℕ) → is_letter c ≡ true → n < 2 ^ 32 → named_by es (label_of c n) ≡ None → new_label.fits (schedule_with es) (label_of c n)
 new-fits es c n letter small none = (is_label_of c n letter small, rw none refl)
 
--- a label that names something is one that was made
-is_made : (o : Option Made) → is_some o ≡ true → meets wanted.Any o ≡ true
-is_made None e = e
-is_made (Some what) e = refl
-
-made-fits : (es : List Event) (c n : ℕ) → is_letter c ≡ true → n < 2 ^ 32 → is_some (named_by es (label_of c n)) ≡ true → made_label.fits (schedule_with es) (label_of c n)
-made-fits es c n letter small is = (is_label_of c n letter small, is_made (named_by es (label_of c n)) is)
+made-fits : (es : List Event) (c n : ℕ) → is_letter c ≡ true → n < 2 ^ 32 → NamesBytes es (label_of c n) → made_label.fits (schedule_with es) (label_of c n)
+made-fits es c n letter small names = (is_label_of c n letter small, names)
 
 -- ---- events
 
@@ -87,19 +82,19 @@ unfolding hello
 hello-fits es v c n letter small node none = (node-fits es v node, (new-fits es c n letter small none, refl))
 
 pub bundle-fits : (es : List Event) (v c d n : ℕ) → is_letter c ≡ true → is_letter d ≡ true → n < 2 ^ 32 → IsCorrect v
-    → is_some (named_by es (label_of c n)) ≡ true → named_by es (label_of d n) ≡ None → FitsEvent (schedule_with es) (Bundle v (label_of c n) (label_of d n))
+    → NamesBytes es (label_of c n) → named_by es (label_of d n) ≡ None → FitsEvent (schedule_with es) (Bundle v (label_of c n) (label_of d n))
 unfolding bundle
-bundle-fits es v c d n one two small node is none = (node-fits es v node, (made-fits es c n one small is, (new-fits es d n two small none, refl)))
+bundle-fits es v c d n one two small node names none = (node-fits es v node, (made-fits es c n one small names, (new-fits es d n two small none, refl)))
 
 -- whole, or in pieces of some bytes
 abbrev pub IsSize : Option ℕ → Type 0
 IsSize None = Unit {0}
 IsSize (Some size) = (1 ≤ size) × (size ≤ 1000000)
 
-pub give-fits : (es : List Event) (v c n : ℕ) (size : Option ℕ) → is_letter c ≡ true → n < 2 ^ 32 → IsCorrect v → IsSize size → is_some (named_by es (label_of c n)) ≡ true → FitsEvent (schedule_with es) (Give v (label_of c n) size)
+pub give-fits : (es : List Event) (v c n : ℕ) (size : Option ℕ) → is_letter c ≡ true → n < 2 ^ 32 → IsCorrect v → IsSize size → NamesBytes es (label_of c n) → FitsEvent (schedule_with es) (Give v (label_of c n) size)
 unfolding give
-give-fits es v c n None letter small node fits is = (node-fits es v node, (made-fits es c n letter small is, (tt, refl)))
-give-fits es v c n (Some size) letter small node fits is = (node-fits es v node, (made-fits es c n letter small is, (fits, refl)))
+give-fits es v c n None letter small node fits names = (node-fits es v node, (made-fits es c n letter small names, (tt, refl)))
+give-fits es v c n (Some size) letter small node fits names = (node-fits es v node, (made-fits es c n letter small names, (fits, refl)))
 
 pub update-fits : (es : List Event) (t q n : ℕ) → t < 2 ^ 32 → q < 4096 → named_by es (round_update t) ≡ None
     → FitsEvent (schedule_with es) (Update (round_update t) faulty_node q 1 None (key_of n) (value_of t) [] Right)

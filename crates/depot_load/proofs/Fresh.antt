@@ -1,5 +1,5 @@
 -- Labels of a load: each is made once, since they rise in a rank.
-use Rattle.std.proofs.Common.{◌≡◌, ℕ, ◌+◌, ◌*◌, ◌^◌, ◌<◌, ◌≤◌, true, false, cond, eqb, List, [], ◌∷◌, ◌++◌, Option, Some, None, is_some, refl, ap, ◌∙◌, arith}
+use Rattle.std.proofs.Common.{◌≡◌, ℕ, ◌+◌, ◌*◌, ◌^◌, ◌<◌, ◌≤◌, true, false, cond, eqb, List, [], ◌∷◌, ◌++◌, Option, Some, None, refl, ap, ◌∙◌, arith}
 use Rattle.std.specs.Fmt.{decimal}
 use Rattle.std.specs.Str.{bytes_eq}
 use Rattle.std.proofs.lemmas.Bool.{false_from_ne_true}
@@ -7,7 +7,8 @@ use Rattle.std.proofs.lemmas.Fmt.{decimal_injective}
 use Rattle.std.proofs.lemmas.Slice.Eq.{bytes_eq-Decides}
 use Rattle.depot_schedule.specs.declared.event.Event.{Event}
 use Rattle.depot_schedule.specs.declared.verb.Made.{Made}
-use Rattle.depot_schedule.specs.Vocabulary.{label_made, if_named, first_or, named_by}
+use Rattle.depot_schedule.specs.declared.verb.Wanted.TheVariants as wanted
+use Rattle.depot_schedule.specs.Vocabulary.{label_made, if_named, first_or, is_wanted, meets, named_by}
 use Rattle.depot_schedule.proofs.LabelSteps.{named_by-push}
 use Rattle.depot_load.specs.Loads.{label_of}
 
@@ -66,20 +67,17 @@ free-made k es e c m made is little from free letter n small above =
 
 -- ---- labels that were made
 
-some-first : (o p : Option Made) → is_some o ≡ true → is_some (first_or o p) ≡ true
-some-first None p e = absurd cc
-some-first (Some x) p e = refl
+-- a label names bytes, of any kind
+abbrev pub NamesBytes : List Event → List ℕ → Type 0
+NamesBytes es label = meets wanted.Any (named_by es label) ≡ true
 
-some-second : (o p : Option Made) → is_some p ≡ true → is_some (first_or o p) ≡ true
-some-second None p e = e
-some-second (Some x) p e = refl
-
--- a label names something once an event made it
-pub made-now : (es : List Event) (e : Event) (label : List ℕ) (made : Made) → label_made e ≡ Some (label, made) → is_some (named_by (es ++ e ∷ []) label) ≡ true
-made-now es e label made is =
+-- it does once an event made it name some
+pub made-now : (es : List Event) (e : Event) (label : List ℕ) (made : Made) → label_made e ≡ Some (label, made) → is_wanted wanted.Any made ≡ true → NamesBytes (es ++ e ∷ []) label
+made-now es e label made is bytes =
     let same : bytes_eq label label ≡ true = (bytes_eq-Decides label label).1 refl in
-    let named : is_some (if_named label (label_made e)) ≡ true = rw (is, same) refl in
-    rw (named_by-push es e label) (some-first (if_named label (label_made e)) (named_by es label) named)
+    let named : if_named label (label_made e) ≡ Some made = rw (is, same) refl in
+    rw (named_by-push es e label, named) bytes
 
-pub made-before : (es : List Event) (e : Event) (label : List ℕ) → is_some (named_by es label) ≡ true → is_some (named_by (es ++ e ∷ []) label) ≡ true
-made-before es e label is = rw (named_by-push es e label) (some-second (if_named label (label_made e)) (named_by es label) is)
+-- and still behind an event that makes no label
+pub made-before : (es : List Event) (e : Event) (label : List ℕ) → label_made e ≡ None → NamesBytes es label → NamesBytes (es ++ e ∷ []) label
+made-before es e label none names = rw (named_by-push es e label, none) names

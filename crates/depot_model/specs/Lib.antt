@@ -46,3 +46,6 @@ pub mod Trimming
 pub mod Pruning
 pub mod Audit
 pub mod Traces
+pub mod Opening
+pub mod Readers
+pub mod ReaderFeeds

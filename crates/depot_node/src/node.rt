@@ -6,7 +6,7 @@ ghost use Rattle.depot_base.specs.Writes.{one_change};
 ghost use Rattle.depot_base.specs.declared.limits.TheConstants.{MOST_WRITES};
 ghost use Rattle.depot_base.specs.declared.record.Record.{Record};
 ghost use Rattle.depot_base.specs.declared.update.Update.{Update};
-ghost use Rattle.depot_model.specs.Journal.{accepted, seen_under};
+ghost use Rattle.depot_model.specs.Journal.{accepted, held_as, seen_under};
 ghost use Rattle.depot_model.specs.Contents.{Writes};
 ghost use Rattle.depot_model.specs.Lawful.{IsLawful, is_empty};
 ghost use Rattle.depot_model.specs.LawfulFacts.{IsLawful-prop};
@@ -17,6 +17,7 @@ ghost use Rattle.depot_model.specs.Stops.{CallsDisk, Lasts};
 ghost use Rattle.depot_model.specs.TextFacts.{IsRoster-prop};
 ghost use Rattle.depot_model.specs.Texts.{IsRoster};
 ghost use Rattle.depot_model.specs.Items.{updates_at};
+ghost use Rattle.depot_store.specs.Counts.{AreCountsOf};
 ghost use Rattle.depot_store.specs.Holdings.{standing};
 ghost use Rattle.depot_node.specs.ShownValues.{value_seen};
 ghost use Rattle.depot_node.specs.Keyed.{HasKey-prop, AllRead-prop};
@@ -25,12 +26,12 @@ ghost use Rattle.depot_decide.specs.Putting.{Puts, put_records};
 use crate::held::held_as;
 use crate::put::{put, put_all};
 use crate::take::{take_proof, take_statement, take_value};
-use depot_base::{Changes, Hash32, Key, NodeId, Update, Value};
+use depot_base::{Changes, Hash32, Key, NamedValue, NodeId, Update, Value};
 use depot_decide::{PutDone, PutError};
 use depot_graph::Graph;
 use depot_model::{Past, Replica, Scheme, Signer, TakeError, Taken};
 use depot_outside::Disk;
-use depot_store::Store;
+use depot_store::{Counts, Store};
 use std::alloc::Global;
 
 /// A node with its journal on a disk. The journal is lawful, and the roster has the signer's key for the node. Once the disk failed
@@ -103,6 +104,14 @@ impl<D: Disk, S: Scheme, G: Signer<Of = S>> Node<D, S, G> {
         self.store.state().graph().count()
     }
 
+    /// How much its journal takes, of a node that runs. It takes no memory.
+    pub fn counts(&self) -> Counts
+        requires { ⟦<Node<D, S, G> as Replica>⟧.stopped self.now ≡ false }
+        ensures { AreCountsOf (⟦<Node<D, S, G> as Replica>⟧.stands self.now).me (⟦<Node<D, S, G> as Replica>⟧.records self.now) result }
+    {
+        self.store.counts()
+    }
+
     /// The items of the latest writes of a key among the accepted updates, in rising order of clock, writer, seq and id,
     /// and none for a key that no update writes. An item is a place among the accepted updates, from 0. It takes no memory.
     pub fn latest(&self, key: &Key) -> &[u32]
@@ -136,7 +145,15 @@ impl<D: Disk, S: Scheme, G: Signer<Of = S>> Node<D, S, G> {
         let Some(name) = wrote.named() else {
             return None;
         };
-        held_as(&self.store, &name)
+        self.held_as(&name)
+    }
+
+    /// The held value of this hash and of so many bytes, of a node that runs. None exactly where it isn't held. It takes no memory.
+    pub fn held_as(&self, name: &NamedValue) -> Option<&[u8]>
+        requires { ⟦<Node<D, S, G> as Replica>⟧.stopped self.now ≡ false }
+        ensures { option_copied result ≡ held_as (⟦<Node<D, S, G> as Replica>⟧.records self.now) name.now }
+    {
+        held_as(&self.store, name)
     }
 }
 

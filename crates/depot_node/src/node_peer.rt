@@ -6,9 +6,7 @@ use depot_base::{Bytes, Hash32, Ids, Items, Memory, NodeId, Nodes, Update};
 use depot_decide::is_foreign;
 use depot_model::{HelloLeaves, Peer, Scheme, Signer, VoucherError};
 use depot_outside::Disk;
-use depot_tell::{
-    candidates, convicted, id_at, leaf_places, leaves, signed_text, update_at, wanted,
-};
+use depot_tell::{candidates, convicted, id_at, leaf_places, leaves, signed_text, update_at};
 
 impl<D: Disk, S: Scheme, G: Signer<Of = S>> Peer for Node<D, S, G> {
     fn convicted(&self) -> Result<Nodes, Memory> {
@@ -24,7 +22,7 @@ impl<D: Disk, S: Scheme, G: Signer<Of = S>> Peer for Node<D, S, G> {
     }
 
     fn wanted(&self) -> Result<Ids, Memory> {
-        wanted(self.alloc, &self.store)
+        self.store.wanted()
     }
 
     fn candidates(&self, leaves: &Ids, reader: NodeId) -> Result<Items, Memory> {

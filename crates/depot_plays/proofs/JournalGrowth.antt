@@ -3,7 +3,7 @@ use Rattle.std.proofs.Common.{◌-◌, ℕ, Bool, true, false, leb, cond, List, 
 use Rattle.depot_base.specs.declared.write.Change.{Change}
 use Rattle.depot_model.specs.Bundle.{Signs}
 use Rattle.depot_model.specs.Checks.{Setting}
-use Rattle.depot_world.specs.Deeds.{put_by, get_by, receipt_by, settled_by, hello_by, bundle_by, give_by, restart_by}
+use Rattle.depot_world.specs.Deeds.{put_by, get_by, receipt_by, settled_by, checkpoint_by, sign_by, hello_by, bundle_by, give_by, restart_by}
 use Rattle.depot_world.specs.Run.{Armed, Station}
 use Rattle.depot_world.specs.ScheduleStops.{Deed, Went, standing_after, left_of, stopped_with, went_armed, went_by, went}
 use Rattle.depot_model.proofs.FeedGrowth.{IsGrown}
@@ -36,6 +36,12 @@ receipt_grows here s ids = went_grows s (receipt_by here s.correct ids) (deeds.r
 
 pub settled_grows : (s : Station) (id : List ℕ) (k : ℕ) → IsGrown s.correct.journal (went s (settled_by s.correct id k)).station.correct.journal
 settled_grows s id k = went_grows s (settled_by s.correct id k) (deeds.settled_grows s.correct id k)
+
+pub checkpoint_grows : (here : Setting) (s : Station) → IsGrown s.correct.journal (went s (checkpoint_by here s.correct)).station.correct.journal
+checkpoint_grows here s = went_grows s (checkpoint_by here s.correct) (deeds.checkpoint_grows here s.correct)
+
+pub sign_grows : (here : Setting) (s : Station) (text : List ℕ) → IsGrown s.correct.journal (went s (sign_by here s.correct text)).station.correct.journal
+sign_grows here s text = went_grows s (sign_by here s.correct text) (deeds.sign_grows here s.correct text)
 
 pub hello_grows : (here : Setting) (s : Station) → IsGrown s.correct.journal (went s (hello_by here s.correct)).station.correct.journal
 hello_grows here s = went_grows s (hello_by here s.correct) (deeds.hello_grows here s.correct)

@@ -10,11 +10,11 @@ use Rattle.depot_schedule.specs.declared.event.Event.TheVariants as event
 use Rattle.depot_traces.specs.SeenTraces as seen_traces
 use Rattle.depot_traces.specs.declared.trace.ReadTrace.{ReadTrace}
 use Rattle.depot_world.specs.Audits.{traced_read}
-use Rattle.depot_world.specs.Deeds.{read_of, put_by, get_by, hello_by, bundle_by, give_by, restart_by}
+use Rattle.depot_world.specs.Deeds.{read_of, put_by, get_by, hello_by, bundle_by, give_by, restart_by, checkpoint_by, sign_by}
 use Rattle.depot_world.specs.Run.{Armed, Run, Station, bytes_of}
 use Rattle.depot_world.specs.ScheduleStops.{Deed, went}
 use Rattle.depot_world.specs.Suite.{Stage, stands_on, signs_on}
-use Rattle.depot_world.proofs.ReadCounts.{went_reads, went_whole, put_keeps, get_adds, hello_keeps, bundle_keeps, give_keeps, restart_keeps}
+use Rattle.depot_world.proofs.ReadCounts.{went_reads, went_whole, put_keeps, get_adds, hello_keeps, bundle_keeps, give_keeps, restart_keeps, checkpoint_keeps, sign_keeps}
 use Rattle.depot_plays.specs.Acting.{HaveTexts, IsSeated, TellReads, View}
 use Rattle.depot_plays.specs.Doing.{deed_of, reads_by}
 
@@ -58,6 +58,11 @@ deed_reads stage run (event.Stop node call image) s waits = adds_none s (restart
 deed_reads stage run (event.Receipt node refs) s waits = adds_none s (restart_by s.correct) (restart_keeps s.correct)
 deed_reads stage run (event.Settled node reference k) s waits = adds_none s (restart_by s.correct) (restart_keeps s.correct)
 deed_reads stage run event.Audit s waits = adds_none s (restart_by s.correct) (restart_keeps s.correct)
+deed_reads stage run (event.Checkpoint node label) s waits = adds_none s (checkpoint_by (stands_on stage s.correct.node) s.correct) (checkpoint_keeps (stands_on stage s.correct.node) s.correct)
+deed_reads stage run (event.Sign node label) s waits = adds_none s (sign_by (stands_on stage s.correct.node) s.correct (bytes_of run label)) (sign_keeps (stands_on stage s.correct.node) s.correct (bytes_of run label))
+deed_reads stage run (event.Trim node label name) s waits = adds_none s (restart_by s.correct) (restart_keeps s.correct)
+deed_reads stage run (event.Tgive name label) s waits = adds_none s (restart_by s.correct) (restart_keeps s.correct)
+deed_reads stage run (event.Tget name key) s waits = adds_none s (restart_by s.correct) (restart_keeps s.correct)
 
 -- so what is kept of them goes on with it
 pub tells_on : (stage : Stage) (run : Run) (e : Event) (s : Station) (v : View) (old new : List ReadTrace) → IsSeated stage s v → IsToCome v → TellReads s.correct.reads old → map seen_traces.read_of new ≡ map seen_traces.read_of old ++ reads_by v.journal e → HaveTexts new

@@ -24,6 +24,7 @@ use Rattle.depot_laws.proofs.OwnTexts.{accepted_fit}
 use Rattle.depot_schedule.specs.Vocabulary.{first_or}
 use Rattle.depot_schedule.specs.declared.event.Ref.{Ref}
 use Rattle.depot_schedule.specs.declared.event.Ref.TheVariants as ref
+use Rattle.depot_model.specs.Readers.{Reader}
 use Rattle.depot_world.specs.Run.{Made, Run, Station, first_update, id_referred, made_in, own_update, plain_referred, referred, signed_of, station_in}
 use Rattle.depot_world.specs.FaultySigning.{all_of, all_referred, entries_of}
 use Rattle.depot_world.specs.Suite.{Stage}
@@ -142,12 +143,12 @@ referred_is stage run ps all (ref.Own node seq) u is = own_is stage run ps node 
 lawful_parts : {A : Type 0} (view : A → View) (parts : List (Part A)) → ((a : A) → IsLawful (view a).here (view a).journal) → AreLawful (map (part_by view) parts)
 lawful_parts view parts lawful p on = let a = from_map (part_by view) p parts on in subst (λ (x : PartView). IsLawful x.view.here x.view.journal) a.1.1 (lawful a.0.actor)
 
-pub named_here : {A : Type 0} (view : A → View) (stage : Stage) (run : Run) (play : Play A) → ((a : A) → IsLawful (view a).here (view a).journal) → IsAtPlay view stage run play → AreNamedWell run
-named_here view stage run play lawful at = referred_is stage run (map (part_by view) play.parts.items) (record { seated = at.seated; lawful = lawful_parts view play.parts.items lawful; known = at.remembered })
+pub named_here : {A R : Type 0} (view : A → View) (reads : Reader → R → Type 0) (stage : Stage) (run : Run) (play : Play A R) → ((a : A) → IsLawful (view a).here (view a).journal) → IsAtPlay view reads stage run play → AreNamedWell run
+named_here view reads stage run play lawful at = referred_is stage run (map (part_by view) play.parts.items) (record { seated = at.seated; lawful = lawful_parts view play.parts.items lawful; known = at.remembered })
 
 -- what a reference names has a text
-pub fits_here : {A : Type 0} (view : A → View) (play : Play A) → ((a : A) → IsLawful (view a).here (view a).journal) → IsPlayed view play → (r : Ref) (u : Update) → ((stage : Stage) (run : Run) → IsAtPlay view stage run play → Some u ≡ referred run r) → IsUpdate u
-fits_here view play lawful p r u is = (named_here view p.stage p.run play lawful p.at r u (sym (is p.stage p.run p.at))).fits
+pub fits_here : {A R : Type 0} (view : A → View) (reads : Reader → R → Type 0) (play : Play A R) → ((a : A) → IsLawful (view a).here (view a).journal) → IsPlayed view reads play → (r : Ref) (u : Update) → ((stage : Stage) (run : Run) → IsAtPlay view reads stage run play → Some u ≡ referred run r) → IsUpdate u
+fits_here view reads play lawful p r u is = (named_here view reads p.stage p.run play lawful p.at r u (sym (is p.stage p.run p.at))).fits
 
 -- ---- all of them
 

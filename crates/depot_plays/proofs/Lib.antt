@@ -9,6 +9,8 @@ pub mod NewUpdates
 pub mod NodeEvents
 pub mod PlayedAudits
 pub mod PlayedEvents
+pub mod ReaderEvents
+pub mod ReaderTables
 pub mod ReceiptEvents
 pub mod Remembered
 pub mod RememberedRuns

@@ -29,6 +29,7 @@ use Rattle.depot_schedule.specs.declared.event.HistoryWord.{HistoryWord}
 use Rattle.depot_schedule.specs.declared.event.Ref.{Ref}
 use Rattle.depot_schedule.specs.declared.member.Member.{Member}
 use Rattle.depot_schedule.specs.declared.schedule.Schedule.{Schedule}
+use Rattle.depot_model.specs.Readers.{Reader}
 use Rattle.depot_world.specs.Run.{Made, Run, bytes_of, id_referred, made_in, signed_of}
 use Rattle.depot_world.specs.FaultySigning.{Text, all_of, hollow_text, no_reference, proof_by, proof_text, proof_with, voucher_text, vouched_text}
 use Rattle.depot_world.specs.Suite.{Stage}
@@ -42,6 +43,8 @@ use Rattle.depot_plays.specs.Playing.{IsAtPlay, IsRemembered, WereSeen, part_by}
 use Rattle.depot_stage.specs.StageTexts.{IsText}
 use Rattle.depot_plays.specs.declared.part.Part.{Part}
 use Rattle.depot_plays.specs.declared.play.Play.{Play}
+use Rattle.depot_plays.specs.declared.readers.Readers.{Readers}
+use Rattle.depot_plays.specs.Readers.{AreReaders}
 use Rattle.depot_stage.specs.declared.seen.Seen.{Seen}
 use Rattle.depot_stage.specs.declared.texts.Text as made_text
 use Rattle.depot_plays.proofs.EventFields.{IsFaultySigner, update_signed, updates_signed, voucher_signer}
@@ -206,11 +209,11 @@ update_seen seen u None were is = tt
 update_seen seen u (Some s) were is = subst (λ (st : Statement). WereSeen seen (update_in st)) (sym is) were
 
 -- a label was given a text
-pub text_given : (A : Type 0) (view : A → View) (stage : Stage) (run : Run) (label : List ℕ) (t : Text) (old new : Play A) (made : made_text.Text) (lines : List ℕ) → IsAtPlay view stage run old → IsText made t → IsKept run.seen made.signed
-    → lines ≡ spaced made.answer ++ 10 ∷ [] → new.parts ≡ old.parts → new.seen ≡ old.seen
+pub text_given : (A : Type 0) {R : Type 0} (view : A → View) (reads : Reader → R → Type 0) (stage : Stage) (run : Run) (label : List ℕ) (t : Text) (old new : Play A R) (made : made_text.Text) (lines : List ℕ) → IsAtPlay view reads stage run old → IsText made t → IsKept run.seen made.signed
+    → lines ≡ spaced made.answer ++ 10 ∷ [] → new.parts ≡ old.parts → new.seen ≡ old.seen → new.readers ≡ old.readers
     → ((labels : List Made) → AreLabels old.labels.map.entries labels → AreLabels new.labels.map.entries (labels ++ record { label = label; bytes = made.bytes; signed = made.signed; plain = made.plain } ∷ []))
-    → HasDone A view stage (done_by_text run label t) lines new
-text_given A view stage run label t old new made lines at is kept told parts seen labels = record {
+    → HasDone A view reads stage (done_by_text run label t) lines new
+text_given A {R = R} view reads stage run label t old new made lines at is kept told parts seen readers labels = record {
   lines_are = told ∙ ap (λ (answer : List ℕ). spaced answer ++ 10 ∷ []) is.answer_is ∙ sym (append-nil (spaced t.answer ++ 10 ∷ []));
   at = record {
     seated = subst (λ (v : Vec (Part A) Global). AreSeated stage run.stations (map (part_by view) v.items)) (sym parts) at.seated;
@@ -220,6 +223,7 @@ text_given A view stage run label t old new made lines at is kept told parts see
         ∙ ap (λ (p : Bool). record { label = label; bytes = t.bytes; signed = t.signed; plain = p }) is.plain_is)
         (labels run.labels at.labels_are);
     seen_are = ap (λ (x : Seen). updates_in x.graph.items.entries) seen ∙ at.seen_are;
+    readers_are = subst (λ (rs : Readers R). AreReaders reads rs.map.entries run.readers) (sym readers) at.readers_are;
     remembered = label_remembers run (record { label = label; bytes = t.bytes; signed = t.signed; plain = t.plain }) at.remembered (subst (λ (o : Option Signed). IsKept run.seen o) is.signed_is kept);
   };
 }
@@ -248,3 +252,8 @@ made_is stage run (event.Stop node call image) is = absurd cc
 made_is stage run (event.Receipt node refs) is = absurd cc
 made_is stage run (event.Settled node reference k) is = absurd cc
 made_is stage run event.Audit is = absurd cc
+made_is stage run (event.Checkpoint node label) is = absurd cc
+made_is stage run (event.Sign node label) is = absurd cc
+made_is stage run (event.Trim node label name) is = absurd cc
+made_is stage run (event.Tgive name label) is = absurd cc
+made_is stage run (event.Tget name key) is = absurd cc

@@ -17,6 +17,7 @@ use Rattle.depot_traces.specs.SeenTraces.{finding_of, read_of, trace_of}
 use Rattle.depot_traces.specs.declared.finding.Finding.{Finding}
 use Rattle.depot_traces.specs.declared.trace.ReadTrace.{ReadTrace}
 use Rattle.depot_traces.specs.declared.trace.Trace.{Trace}
+use Rattle.depot_model.specs.Readers.{Reader}
 use Rattle.depot_world.specs.Audits.{IsSound, audited, traced_read, trace_by}
 use Rattle.depot_world.specs.Run.{Run, Station}
 use Rattle.depot_world.specs.Suite.{Stage}
@@ -62,8 +63,8 @@ handed_are stage (s ∷ ss) (p ∷ ps) seated =
 abbrev pub AreTracesOf : Run → List Trace → Type 0
 AreTracesOf run traces = map trace_of traces ≡ traces_by run
 
-pub traces_are : {A : Type 0} (view : A → View) (stage : Stage) (run : Run) (play : Play A) (traces : List Trace) → map trace_of traces ≡ map handed_in (map (part_by view) play.parts.items) → IsAtPlay view stage run play → AreTracesOf run traces
-traces_are view stage run play traces are at = are ∙ handed_are stage run.stations (map (part_by view) play.parts.items) at.seated
+pub traces_are : {A R : Type 0} (view : A → View) (reads : Reader → R → Type 0) (stage : Stage) (run : Run) (play : Play A R) (traces : List Trace) → map trace_of traces ≡ map handed_in (map (part_by view) play.parts.items) → IsAtPlay view reads stage run play → AreTracesOf run traces
+traces_are view reads stage run play traces are at = are ∙ handed_are stage run.stations (map (part_by view) play.parts.items) at.seated
 
 pub many_traces : (run : Run) (traces : List Trace) → AreTracesOf run traces → length traces ≡ length run.stations
 many_traces run traces are =
@@ -93,9 +94,9 @@ found_is stage run verifies listed traces found sound by same are is = run_is_au
     (subst (λ (v : Verifies). audits.IsFindingOf v stage.listed (map trace_of traces) found) (sym by) (subst (λ (es : List RosterEntry). audits.IsFindingOf verifies es (map trace_of traces) found) (sym same) is)))
 
 -- the audit was done
-pub audit_done : (A : Type 0) (view : A → View) (stage : Stage) (run : Run) (verifies : Verifies) (listed : List RosterEntry) (traces : List Trace) (found : Finding) (lines : List ℕ) (play : Play A) → IsSound stage run → stage.suite.verifies ≡ verifies → stage.listed ≡ listed
-    → AreTracesOf run traces → audits.IsFindingOf verifies listed (map trace_of traces) (finding_of found) → lines ≡ ended (spaced (text_of_finding (finding_of found))) → IsAtPlay view stage run play → HasDone A view stage (audit_by stage run) lines play
-audit_done A view stage run verifies listed traces found lines play sound by same are is told at = record {
+pub audit_done : (A : Type 0) {R : Type 0} (view : A → View) (reads : Reader → R → Type 0) (stage : Stage) (run : Run) (verifies : Verifies) (listed : List RosterEntry) (traces : List Trace) (found : Finding) (lines : List ℕ) (play : Play A R) → IsSound stage run → stage.suite.verifies ≡ verifies → stage.listed ≡ listed
+    → AreTracesOf run traces → audits.IsFindingOf verifies listed (map trace_of traces) (finding_of found) → lines ≡ ended (spaced (text_of_finding (finding_of found))) → IsAtPlay view reads stage run play → HasDone A view reads stage (audit_by stage run) lines play
+audit_done A view reads stage run verifies listed traces found lines play sound by same are is told at = record {
   lines_are = told ∙ ap (λ (f : audit.Finding). ended (spaced (text_of_finding f))) (found_is stage run verifies listed traces (finding_of found) sound by same are is) ∙ sym (append-nil (ended (spaced (text_of_finding (finding_in (audited stage run))))));
   at = at;
 }

@@ -20,6 +20,7 @@ use Rattle.depot_model.proofs.FeedGrowth.{IsGrown}
 use Rattle.depot_schedule.specs.declared.event.Ref.{Ref}
 use Rattle.depot_stage.specs.Labels.{AreLabels}
 use Rattle.depot_stage.specs.declared.label_table.Labels.{Labels}
+use Rattle.depot_model.specs.Readers.{Reader}
 use Rattle.depot_world.specs.Deeds.{receipt_by, settled_by}
 use Rattle.depot_world.specs.FaultySigning.{all_referred}
 use Rattle.depot_world.specs.Run.{Run, Station, referred, seen_with}
@@ -73,27 +74,27 @@ due_ids run refs ids few is = of (all_referred run refs) (λ us e. referred_as_m
 -- ---- the event of a node whose bytes no label is given
 
 -- no node is there
-nothing_at : (A : Type 0) (view : A → View) (stage : Stage) (run : Run) (node : ℕ) (deed : Station → Deed) (play : Play A) → position (λ p. eqb (view p.actor).here.me node) play.parts.items ≡ None → IsAtPlay view stage run play → HasDone A view stage (by_node run node None deed) (10 ∷ []) play
-nothing_at A view stage run node deed play none at =
-    subst (λ (d : Done). HasDone A view stage d (10 ∷ []) play) (sym (none_is run node None deed (no_seat (part_by view) stage run.stations play.parts.items node at.seated none))) (record { lines_are = refl; at = at })
+nothing_at : (A : Type 0) {R : Type 0} (view : A → View) (reads : Reader → R → Type 0) (stage : Stage) (run : Run) (node : ℕ) (deed : Station → Deed) (play : Play A R) → position (λ p. eqb (view p.actor).here.me node) play.parts.items ≡ None → IsAtPlay view reads stage run play → HasDone A view reads stage (by_node run node None deed) (10 ∷ []) play
+nothing_at A view reads stage run node deed play none at =
+    subst (λ (d : Done). HasDone A view reads stage d (10 ∷ []) play) (sym (none_is run node None deed (no_seat (part_by view) stage run.stations play.parts.items node at.seated none))) (record { lines_are = refl; at = at })
 
 -- what it had accepted was seen
-seen_before : (A : Type 0) (view : A → View) (stage : Stage) (run : Run) (node : ℕ) (d : Deed) (left : Play A) (away : Away A) (after : A) (lines bytes : List ℕ) → (i : IsLeft A view stage run node left away) → CameTo stage (went i.station d) (view after) lines bytes
+seen_before : (A : Type 0) {R : Type 0} (view : A → View) (reads : Reader → R → Type 0) (stage : Stage) (run : Run) (node : ℕ) (d : Deed) (left : Play A R) (away : Away A) (after : A) (lines bytes : List ℕ) → (i : IsLeft A view reads stage run node left away) → CameTo stage (went i.station d) (view after) lines bytes
     → IsGrown i.station.correct.journal (went i.station d).station.correct.journal → WereSeen (updates_in left.seen.graph.items.entries) (take away.count (accepted (view after).journal))
-seen_before A view stage run node d left away after lines bytes i came grown =
+seen_before A view reads stage run node d left away after lines bytes i came grown =
     let K = (went i.station d).station.correct.journal in
-    subst (λ (x : List Record). WereSeen (updates_in left.seen.graph.items.entries) (take away.count (accepted x))) (sym came.seated.journal) (had_seen A view stage run node left away K i grown)
+    subst (λ (x : List Record). WereSeen (updates_in left.seen.graph.items.entries) (take away.count (accepted x))) (sym came.seated.journal) (had_seen A view reads stage run node left away K i grown)
 
 -- the event was done, once the node is back with the reads that it had
-done_there : (A : Type 0) (view : A → View) (stage : Stage) (run : Run) (node : ℕ) (deed : Station → Deed) (before left new : Play A) (away : Away A) (after : A) (lines bytes : List ℕ) → IsLawful (view after).here (view after).journal → IsAtPlay view stage run before
-    → (i : IsLeft A view stage run node left away) → CameTo stage (went i.station (deed i.station)) (view after) lines bytes → (deed i.station).reads ≡ i.station.correct.reads
-    → new.parts.items ≡ insert left.parts.items away.place (record { actor = after; reads = away.part.reads }) → updates_in new.seen.graph.items.entries ≡ seen_with (updates_in left.seen.graph.items.entries) (accepted (view after).journal) → new.labels ≡ left.labels
-    → HasDone A view stage (by_node run node None deed) lines new
-done_there A view stage run node deed before left new away after lines bytes lawful at i came none parts seen labels =
+done_there : (A : Type 0) {R : Type 0} (view : A → View) (reads : Reader → R → Type 0) (stage : Stage) (run : Run) (node : ℕ) (deed : Station → Deed) (before left new : Play A R) (away : Away A) (after : A) (lines bytes : List ℕ) → IsLawful (view after).here (view after).journal → IsAtPlay view reads stage run before
+    → (i : IsLeft A view reads stage run node left away) → CameTo stage (went i.station (deed i.station)) (view after) lines bytes → (deed i.station).reads ≡ i.station.correct.reads
+    → new.parts.items ≡ insert left.parts.items away.place (record { actor = after; reads = away.part.reads }) → updates_in new.seen.graph.items.entries ≡ seen_with (updates_in left.seen.graph.items.entries) (accepted (view after).journal) → new.labels ≡ left.labels → new.readers ≡ left.readers
+    → HasDone A view reads stage (by_node run node None deed) lines new
+done_there A view reads stage run node deed before left new away after lines bytes lawful at i came none parts seen labels readers =
     let told : TellReads (went i.station (deed i.station)).station.correct.reads away.part.reads = subst (λ (rs : List Read). TellReads rs away.part.reads) (sym (went_reads i.station (deed i.station) none)) i.told in
-    subst (λ (d : Done). HasDone A view stage d lines new) (sym (there_is run node None deed i.station i.found))
-    (comes_back A view stage run node None before left new away (record { actor = after; reads = away.part.reads }) lines bytes (went i.station (deed i.station)) lawful at i came (same_node i.station (deed i.station)) told parts seen
-    (λ ls are. subst (λ (x : Labels). AreLabels x.map.entries ls) (sym labels) are))
+    subst (λ (d : Done). HasDone A view reads stage d lines new) (sym (there_is run node None deed i.station i.found))
+    (comes_back A view reads stage run node None before left new away (record { actor = after; reads = away.part.reads }) lines bytes (went i.station (deed i.station)) lawful at i came (same_node i.station (deed i.station)) told parts seen
+    (λ ls are. subst (λ (x : Labels). AreLabels x.map.entries ls) (sym labels) are) readers)
 
 -- ---- receipts
 
@@ -102,32 +103,32 @@ at_its_number : (stage : Stage) (s : Station) (node : ℕ) (ids : List (List ℕ
     → CameTo stage (went s (receipt_by (stands_on stage node) s.correct ids)) v lines bytes
 at_its_number stage s node ids v lines bytes is came = subst (λ (n : ℕ). CameTo stage (went s (receipt_by (stands_on stage n) s.correct ids)) v lines bytes) is came
 
-pub receipts_had_seen : (A : Type 0) (view : A → View) (stage : Stage) (run : Run) (node : ℕ) (ids : List (List ℕ)) (left : Play A) (away : Away A) (after : A) (lines bytes : List ℕ) → (i : IsLeft A view stage run node left away)
+pub receipts_had_seen : (A : Type 0) {R : Type 0} (view : A → View) (reads : Reader → R → Type 0) (stage : Stage) (run : Run) (node : ℕ) (ids : List (List ℕ)) (left : Play A R) (away : Away A) (after : A) (lines bytes : List ℕ) → (i : IsLeft A view reads stage run node left away)
     → CameTo stage (went i.station (receipt_by (stands_on stage i.station.correct.node) i.station.correct ids)) (view after) lines bytes → WereSeen (updates_in left.seen.graph.items.entries) (take away.count (accepted (view after).journal))
-receipts_had_seen A view stage run node ids left away after lines bytes i came =
+receipts_had_seen A view reads stage run node ids left away after lines bytes i came =
     let here = stands_on stage i.station.correct.node in
-    seen_before A view stage run node (receipt_by here i.station.correct ids) left away after lines bytes i came (receipt_grows here i.station ids)
+    seen_before A view reads stage run node (receipt_by here i.station.correct ids) left away after lines bytes i came (receipt_grows here i.station ids)
 
-pub receipts_given : (A : Type 0) (view : A → View) (stage : Stage) (run : Run) (node : ℕ) (ids : List (List ℕ)) (before left new : Play A) (away : Away A) (after : A) (lines bytes : List ℕ) → IsLawful (view after).here (view after).journal → IsAtPlay view stage run before
-    → (i : IsLeft A view stage run node left away) → CameTo stage (went i.station (receipt_by (stands_on stage i.station.correct.node) i.station.correct ids)) (view after) lines bytes
-    → new.parts.items ≡ insert left.parts.items away.place (record { actor = after; reads = away.part.reads }) → updates_in new.seen.graph.items.entries ≡ seen_with (updates_in left.seen.graph.items.entries) (accepted (view after).journal) → new.labels ≡ left.labels
-    → HasDone A view stage (by_node run node None (λ s. receipt_by (stands_on stage node) s.correct ids)) lines new
-receipts_given A view stage run node ids before left new away after lines bytes lawful at i came parts seen labels =
-    done_there A view stage run node (λ s. receipt_by (stands_on stage node) s.correct ids) before left new away after lines bytes lawful at i (at_its_number stage i.station node ids (view after) lines bytes i.is came)
-    (receipt_keeps (stands_on stage node) i.station.correct ids) parts seen labels
+pub receipts_given : (A : Type 0) {R : Type 0} (view : A → View) (reads : Reader → R → Type 0) (stage : Stage) (run : Run) (node : ℕ) (ids : List (List ℕ)) (before left new : Play A R) (away : Away A) (after : A) (lines bytes : List ℕ) → IsLawful (view after).here (view after).journal → IsAtPlay view reads stage run before
+    → (i : IsLeft A view reads stage run node left away) → CameTo stage (went i.station (receipt_by (stands_on stage i.station.correct.node) i.station.correct ids)) (view after) lines bytes
+    → new.parts.items ≡ insert left.parts.items away.place (record { actor = after; reads = away.part.reads }) → updates_in new.seen.graph.items.entries ≡ seen_with (updates_in left.seen.graph.items.entries) (accepted (view after).journal) → new.labels ≡ left.labels → new.readers ≡ left.readers
+    → HasDone A view reads stage (by_node run node None (λ s. receipt_by (stands_on stage node) s.correct ids)) lines new
+receipts_given A view reads stage run node ids before left new away after lines bytes lawful at i came parts seen labels readers =
+    done_there A view reads stage run node (λ s. receipt_by (stands_on stage node) s.correct ids) before left new away after lines bytes lawful at i (at_its_number stage i.station node ids (view after) lines bytes i.is came)
+    (receipt_keeps (stands_on stage node) i.station.correct ids) parts seen labels readers
 
 -- ---- whether enough were given
 
-pub settled_had_seen : (A : Type 0) (view : A → View) (stage : Stage) (run : Run) (node : ℕ) (id : List ℕ) (k : ℕ) (left : Play A) (away : Away A) (after : A) (lines bytes : List ℕ) → (i : IsLeft A view stage run node left away)
+pub settled_had_seen : (A : Type 0) {R : Type 0} (view : A → View) (reads : Reader → R → Type 0) (stage : Stage) (run : Run) (node : ℕ) (id : List ℕ) (k : ℕ) (left : Play A R) (away : Away A) (after : A) (lines bytes : List ℕ) → (i : IsLeft A view reads stage run node left away)
     → CameTo stage (went i.station (settled_by i.station.correct id k)) (view after) lines bytes → WereSeen (updates_in left.seen.graph.items.entries) (take away.count (accepted (view after).journal))
-settled_had_seen A view stage run node id k left away after lines bytes i came = seen_before A view stage run node (settled_by i.station.correct id k) left away after lines bytes i came (settled_grows i.station id k)
+settled_had_seen A view reads stage run node id k left away after lines bytes i came = seen_before A view reads stage run node (settled_by i.station.correct id k) left away after lines bytes i came (settled_grows i.station id k)
 
-pub settled_told : (A : Type 0) (view : A → View) (stage : Stage) (run : Run) (node : ℕ) (id : List ℕ) (k : ℕ) (before left new : Play A) (away : Away A) (after : A) (lines bytes : List ℕ) → IsLawful (view after).here (view after).journal → IsAtPlay view stage run before
-    → (i : IsLeft A view stage run node left away) → CameTo stage (went i.station (settled_by i.station.correct id k)) (view after) lines bytes
-    → new.parts.items ≡ insert left.parts.items away.place (record { actor = after; reads = away.part.reads }) → updates_in new.seen.graph.items.entries ≡ seen_with (updates_in left.seen.graph.items.entries) (accepted (view after).journal) → new.labels ≡ left.labels
-    → HasDone A view stage (by_node run node None (λ s. settled_by s.correct id k)) lines new
-settled_told A view stage run node id k before left new away after lines bytes lawful at i came parts seen labels =
-    done_there A view stage run node (λ s. settled_by s.correct id k) before left new away after lines bytes lawful at i came (settled_keeps i.station.correct id k) parts seen labels
+pub settled_told : (A : Type 0) {R : Type 0} (view : A → View) (reads : Reader → R → Type 0) (stage : Stage) (run : Run) (node : ℕ) (id : List ℕ) (k : ℕ) (before left new : Play A R) (away : Away A) (after : A) (lines bytes : List ℕ) → IsLawful (view after).here (view after).journal → IsAtPlay view reads stage run before
+    → (i : IsLeft A view reads stage run node left away) → CameTo stage (went i.station (settled_by i.station.correct id k)) (view after) lines bytes
+    → new.parts.items ≡ insert left.parts.items away.place (record { actor = after; reads = away.part.reads }) → updates_in new.seen.graph.items.entries ≡ seen_with (updates_in left.seen.graph.items.entries) (accepted (view after).journal) → new.labels ≡ left.labels → new.readers ≡ left.readers
+    → HasDone A view reads stage (by_node run node None (λ s. settled_by s.correct id k)) lines new
+settled_told A view reads stage run node id k before left new away after lines bytes lawful at i came parts seen labels readers =
+    done_there A view reads stage run node (λ s. settled_by s.correct id k) before left new away after lines bytes lawful at i came (settled_keeps i.station.correct id k) parts seen labels readers
 
 -- ---- what references name
 
@@ -152,31 +153,31 @@ no_settled_of : (run : Run) (node k : ℕ) (o : Option Update) → None ≡ opti
 no_settled_of run node k None is = refl
 no_settled_of run node k (Some u) is = absurd cc
 
-not_told : (A : Type 0) (view : A → View) (stage : Stage) (run : Run) (play : Play A) → IsAtPlay view stage run play → HasDone A view stage (not_referred run) (codes " NoRef" ++ 10 ∷ []) play
-not_told A view stage run play at = record { lines_are = refl; at = at }
+not_told : (A : Type 0) {R : Type 0} (view : A → View) (reads : Reader → R → Type 0) (stage : Stage) (run : Run) (play : Play A R) → IsAtPlay view reads stage run play → HasDone A view reads stage (not_referred run) (codes " NoRef" ++ 10 ∷ []) play
+not_told A view reads stage run play at = record { lines_are = refl; at = at }
 
 -- what each of the two events comes to: of the node that left, of none, and of nothing that was named
 
-pub receipts_done : (A : Type 0) (view : A → View) (stage : Stage) (run : Run) (node : ℕ) (refs : List Ref) (ids : List (List ℕ)) (lines : List ℕ) (play : Play A) → Some ids ≡ option_map (λ us. rising (map id_of_update us)) (all_referred run refs)
-    → HasDone A view stage (by_node run node None (λ s. receipt_by (stands_on stage node) s.correct ids)) lines play → HasDone A view stage (receipt_for stage run node (all_referred run refs)) lines play
-receipts_done A view stage run node refs ids lines play is done = subst (λ (d : Done). HasDone A view stage d lines play) (sym (receipts_for stage run node ids (all_referred run refs) is)) done
+pub receipts_done : (A : Type 0) {R : Type 0} (view : A → View) (reads : Reader → R → Type 0) (stage : Stage) (run : Run) (node : ℕ) (refs : List Ref) (ids : List (List ℕ)) (lines : List ℕ) (play : Play A R) → Some ids ≡ option_map (λ us. rising (map id_of_update us)) (all_referred run refs)
+    → HasDone A view reads stage (by_node run node None (λ s. receipt_by (stands_on stage node) s.correct ids)) lines play → HasDone A view reads stage (receipt_for stage run node (all_referred run refs)) lines play
+receipts_done A view reads stage run node refs ids lines play is done = subst (λ (d : Done). HasDone A view reads stage d lines play) (sym (receipts_for stage run node ids (all_referred run refs) is)) done
 
-pub receipts_of_none : (A : Type 0) (view : A → View) (stage : Stage) (run : Run) (node : ℕ) (refs : List Ref) (ids : List (List ℕ)) (play : Play A) → Some ids ≡ option_map (λ us. rising (map id_of_update us)) (all_referred run refs)
-    → position (λ p. eqb (view p.actor).here.me node) play.parts.items ≡ None → IsAtPlay view stage run play → HasDone A view stage (receipt_for stage run node (all_referred run refs)) (10 ∷ []) play
-receipts_of_none A view stage run node refs ids play is none at = receipts_done A view stage run node refs ids (10 ∷ []) play is (nothing_at A view stage run node (λ s. receipt_by (stands_on stage node) s.correct ids) play none at)
+pub receipts_of_none : (A : Type 0) {R : Type 0} (view : A → View) (reads : Reader → R → Type 0) (stage : Stage) (run : Run) (node : ℕ) (refs : List Ref) (ids : List (List ℕ)) (play : Play A R) → Some ids ≡ option_map (λ us. rising (map id_of_update us)) (all_referred run refs)
+    → position (λ p. eqb (view p.actor).here.me node) play.parts.items ≡ None → IsAtPlay view reads stage run play → HasDone A view reads stage (receipt_for stage run node (all_referred run refs)) (10 ∷ []) play
+receipts_of_none A view reads stage run node refs ids play is none at = receipts_done A view reads stage run node refs ids (10 ∷ []) play is (nothing_at A view reads stage run node (λ s. receipt_by (stands_on stage node) s.correct ids) play none at)
 
-pub receipts_refused : (A : Type 0) (view : A → View) (stage : Stage) (run : Run) (node : ℕ) (refs : List Ref) (play : Play A) → None ≡ option_map (λ us. rising (map id_of_update us)) (all_referred run refs) → IsAtPlay view stage run play
-    → HasDone A view stage (receipt_for stage run node (all_referred run refs)) (codes " NoRef" ++ 10 ∷ []) play
-receipts_refused A view stage run node refs play is at = subst (λ (d : Done). HasDone A view stage d (codes " NoRef" ++ 10 ∷ []) play) (sym (no_receipts_for stage run node (all_referred run refs) is)) (not_told A view stage run play at)
+pub receipts_refused : (A : Type 0) {R : Type 0} (view : A → View) (reads : Reader → R → Type 0) (stage : Stage) (run : Run) (node : ℕ) (refs : List Ref) (play : Play A R) → None ≡ option_map (λ us. rising (map id_of_update us)) (all_referred run refs) → IsAtPlay view reads stage run play
+    → HasDone A view reads stage (receipt_for stage run node (all_referred run refs)) (codes " NoRef" ++ 10 ∷ []) play
+receipts_refused A view reads stage run node refs play is at = subst (λ (d : Done). HasDone A view reads stage d (codes " NoRef" ++ 10 ∷ []) play) (sym (no_receipts_for stage run node (all_referred run refs) is)) (not_told A view reads stage run play at)
 
-pub settled_done : (A : Type 0) (view : A → View) (stage : Stage) (run : Run) (node : ℕ) (r : Ref) (id : List ℕ) (k : ℕ) (lines : List ℕ) (play : Play A) → Some id ≡ option_map id_of_update (referred run r)
-    → HasDone A view stage (by_node run node None (λ s. settled_by s.correct id k)) lines play → HasDone A view stage (settled_for run node k (referred run r)) lines play
-settled_done A view stage run node r id k lines play is done = subst (λ (d : Done). HasDone A view stage d lines play) (sym (settled_of run node id k (referred run r) is)) done
+pub settled_done : (A : Type 0) {R : Type 0} (view : A → View) (reads : Reader → R → Type 0) (stage : Stage) (run : Run) (node : ℕ) (r : Ref) (id : List ℕ) (k : ℕ) (lines : List ℕ) (play : Play A R) → Some id ≡ option_map id_of_update (referred run r)
+    → HasDone A view reads stage (by_node run node None (λ s. settled_by s.correct id k)) lines play → HasDone A view reads stage (settled_for run node k (referred run r)) lines play
+settled_done A view reads stage run node r id k lines play is done = subst (λ (d : Done). HasDone A view reads stage d lines play) (sym (settled_of run node id k (referred run r) is)) done
 
-pub settled_of_none : (A : Type 0) (view : A → View) (stage : Stage) (run : Run) (node : ℕ) (r : Ref) (id : List ℕ) (k : ℕ) (play : Play A) → Some id ≡ option_map id_of_update (referred run r)
-    → position (λ p. eqb (view p.actor).here.me node) play.parts.items ≡ None → IsAtPlay view stage run play → HasDone A view stage (settled_for run node k (referred run r)) (10 ∷ []) play
-settled_of_none A view stage run node r id k play is none at = settled_done A view stage run node r id k (10 ∷ []) play is (nothing_at A view stage run node (λ s. settled_by s.correct id k) play none at)
+pub settled_of_none : (A : Type 0) {R : Type 0} (view : A → View) (reads : Reader → R → Type 0) (stage : Stage) (run : Run) (node : ℕ) (r : Ref) (id : List ℕ) (k : ℕ) (play : Play A R) → Some id ≡ option_map id_of_update (referred run r)
+    → position (λ p. eqb (view p.actor).here.me node) play.parts.items ≡ None → IsAtPlay view reads stage run play → HasDone A view reads stage (settled_for run node k (referred run r)) (10 ∷ []) play
+settled_of_none A view reads stage run node r id k play is none at = settled_done A view reads stage run node r id k (10 ∷ []) play is (nothing_at A view reads stage run node (λ s. settled_by s.correct id k) play none at)
 
-pub settled_refused : (A : Type 0) (view : A → View) (stage : Stage) (run : Run) (node : ℕ) (r : Ref) (k : ℕ) (play : Play A) → None ≡ option_map id_of_update (referred run r) → IsAtPlay view stage run play
-    → HasDone A view stage (settled_for run node k (referred run r)) (codes " NoRef" ++ 10 ∷ []) play
-settled_refused A view stage run node r k play is at = subst (λ (d : Done). HasDone A view stage d (codes " NoRef" ++ 10 ∷ []) play) (sym (no_settled_of run node k (referred run r) is)) (not_told A view stage run play at)
+pub settled_refused : (A : Type 0) {R : Type 0} (view : A → View) (reads : Reader → R → Type 0) (stage : Stage) (run : Run) (node : ℕ) (r : Ref) (k : ℕ) (play : Play A R) → None ≡ option_map id_of_update (referred run r) → IsAtPlay view reads stage run play
+    → HasDone A view reads stage (settled_for run node k (referred run r)) (codes " NoRef" ++ 10 ∷ []) play
+settled_refused A view reads stage run node r k play is at = subst (λ (d : Done). HasDone A view reads stage d (codes " NoRef" ++ 10 ∷ []) play) (sym (no_settled_of run node k (referred run r) is)) (not_told A view reads stage run play at)

@@ -11,7 +11,7 @@ use Rattle.depot_model.specs.Order.{parents, IsCausal}
 use Rattle.depot_model.specs.Texts.{IsSigned}
 use Rattle.depot_model.proofs.Members.{from_map, in_pushed}
 use Rattle.depot_schedule.specs.declared.member.Member.{Member}
-use Rattle.depot_world.specs.Run.{Armed, Station, Made, Run, born, run_of, put_station, seen_with, with_label, with_station}
+use Rattle.depot_world.specs.Run.{Armed, Station, Made, NamedReader, Run, born, run_of, put_station, seen_with, with_label, with_station}
 use Rattle.depot_world.specs.ScheduleStops.{Deed, Went, left_of, stopped_with, went_armed, went_by, went}
 use Rattle.depot_world.specs.Suite.{Stage}
 use Rattle.depot_plays.specs.Playing.{WereSeen, IsRemembered}
@@ -92,6 +92,10 @@ update_remembers run u r were = record {
 -- other proofs that were judged
 pub judged_remembers : (run : Run) (judged : List Proof) → IsRemembered run → IsRemembered (record run { judged = judged })
 judged_remembers run judged r = record { causal = r.causal; accepted_were = r.accepted_were; signed_are = r.signed_are; signed_were = r.signed_were }
+
+-- other readers
+pub readers_remember : (run : Run) (readers : List NamedReader) → IsRemembered run → IsRemembered (record run { readers = readers })
+readers_remember run readers r = record { causal = r.causal; accepted_were = r.accepted_were; signed_are = r.signed_are; signed_were = r.signed_were }
 
 -- ---- events of nodes
 

@@ -1,5 +1,5 @@
 -- Updates that faulty nodes sign, and judgements.
-use Rattle.std.proofs.Common.{◌≡◌, ℕ, List, [], ◌∷◌, ◌++◌, Vec, take, true, codes, map, Option, Some, None, option_map, option_and_then, Result, Ok, Err, refl, sym, ap, subst, ◌∙◌, append_assoc}
+use Rattle.std.proofs.Common.{◌≡◌, ℕ, List, [], ◌∷◌, ◌++◌, Vec, true, codes, map, Option, Some, None, option_map, option_and_then, Result, Ok, Err, refl, sym, ap, subst, ◌∙◌, append_assoc}
 use Rattle.std.specs.declared.alloc.Global.{Global}
 use Rattle.std.specs.List.{flat_map}
 use Rattle.std.specs.Prelude.{OnOk}
@@ -16,16 +16,16 @@ use Rattle.depot_model.specs.Own.{values_of, write_of}
 use Rattle.depot_model.specs.Lines.{text_of_point, text_of_verdict}
 use Rattle.depot_model.specs.declared.judgement.JudgeError.{JudgeError}
 use Rattle.depot_schedule.specs.Language.{join}
-use Rattle.depot_schedule.specs.Schedules.{event_words}
 use Rattle.depot_schedule.specs.EventLines.{changes_in, label_of, node_of}
 use Rattle.depot_schedule.specs.declared.event.Event.{Event}
 use Rattle.depot_schedule.specs.declared.event.Event.TheVariants as event
 use Rattle.depot_schedule.specs.declared.event.HistoryWord.{HistoryWord}
 use Rattle.depot_schedule.specs.declared.event.Ref.{Ref}
+use Rattle.depot_model.specs.Readers.{Reader}
 use Rattle.depot_world.specs.Run.{Run, bytes_of, seen_with}
 use Rattle.depot_world.specs.FaultySigning.{drafted, entries_of, history_by, prev_of, proof_in, updated, update_text, with_history}
 use Rattle.depot_world.specs.Suite.{Stage, signs_on}
-use Rattle.depot_world.specs.Transcript.{Done, done, done_by_text, done_by_update, ended, head_count, judged_with, lines_after_arrow, lines_of}
+use Rattle.depot_world.specs.Transcript.{Done, done, done_by_text, done_by_update, ended, head_words, judged_with, lines_after_arrow, lines_of}
 use Rattle.depot_plays.specs.Acting.{AreSeated, PartView, View}
 use Rattle.depot_plays.specs.Doing.{HasDone, is_signing, signed_text, update_by, with_update}
 use Rattle.depot_stage.specs.Labels.{AreLabels}
@@ -36,6 +36,8 @@ use Rattle.depot_stage.specs.declared.label_table.Given.{Given}
 use Rattle.depot_stage.specs.declared.label_table.Labels.{Labels}
 use Rattle.depot_plays.specs.declared.part.Part.{Part}
 use Rattle.depot_plays.specs.declared.play.Play.{Play}
+use Rattle.depot_plays.specs.declared.readers.Readers.{Readers}
+use Rattle.depot_plays.specs.Readers.{AreReaders}
 use Rattle.depot_plays.proofs.RememberedRuns.{judged_remembers, update_remembers}
 
 -- ---- updates
@@ -63,12 +65,13 @@ on_ok (Ok x) p more = more p
 on_ok (Err e) p more = tt
 
 -- an update was seen
-pub sees_update : (A : Type 0) (view : A → View) (stage : Stage) (run : Run) (u : Update) (old new : Play A) → IsAtPlay view stage run old → HasSeenParents (updates_in old.seen.graph.items.entries) u → new.parts ≡ old.parts → new.labels ≡ old.labels
-    → updates_in new.seen.graph.items.entries ≡ seen_with (updates_in old.seen.graph.items.entries) (u ∷ []) → IsAtPlay view stage (with_update run (Some u)) new
-sees_update A view stage run u old new at parents parts labels seen = record {
+pub sees_update : (A : Type 0) {R : Type 0} (view : A → View) (reads : Reader → R → Type 0) (stage : Stage) (run : Run) (u : Update) (old new : Play A R) → IsAtPlay view reads stage run old → HasSeenParents (updates_in old.seen.graph.items.entries) u → new.parts ≡ old.parts → new.labels ≡ old.labels → new.readers ≡ old.readers
+    → updates_in new.seen.graph.items.entries ≡ seen_with (updates_in old.seen.graph.items.entries) (u ∷ []) → IsAtPlay view reads stage (with_update run (Some u)) new
+sees_update A {R = R} view reads stage run u old new at parents parts labels readers seen = record {
   seated = subst (λ (v : Vec (Part A) Global). AreSeated stage run.stations (map (part_by view) v.items)) (sym parts) at.seated;
   labels_are = subst (λ (x : Labels). AreLabels x.map.entries run.labels) (sym labels) at.labels_are;
   seen_are = seen ∙ ap (λ (us : List Update). seen_with us (u ∷ [])) at.seen_are;
+  readers_are = subst (λ (rs : Readers R). AreReaders reads rs.map.entries run.readers) (sym readers) at.readers_are;
   remembered = update_remembers run u at.remembered (subst (λ (us : List Update). HasSeenParents us u) at.seen_are parents);
 }
 
@@ -102,35 +105,41 @@ update_is stage run (event.Stop node call image) is = absurd cc
 update_is stage run (event.Receipt node refs) is = absurd cc
 update_is stage run (event.Settled node reference k) is = absurd cc
 update_is stage run event.Audit is = absurd cc
+update_is stage run (event.Checkpoint node label) is = absurd cc
+update_is stage run (event.Sign node label) is = absurd cc
+update_is stage run (event.Trim node label name) is = absurd cc
+update_is stage run (event.Tgive name label) is = absurd cc
+update_is stage run (event.Tget name key) is = absurd cc
 
 -- ---- judgements
 
 -- a judgement changes nothing that a play keeps
-judged_at : (stage : Stage) (run : Run) (read : Result Proof ℕ) (parts : List PartView) (entries : List (Vec ℕ Global × Given)) (seen : List Update) → IsAt stage run parts entries seen → IsAt stage (judged_with stage run read).run parts entries seen
-judged_at stage run (Err at) parts entries seen i = i
-judged_at stage run (Ok p) parts entries seen i = by_point (first_failed_point stage.suite.verifies stage.listed p) where
+judged_at : {R : Type 0} (reads : Reader → R → Type 0) (stage : Stage) (run : Run) (read : Result Proof ℕ) (parts : List PartView) (entries : List (Vec ℕ Global × Given)) (seen : List Update) (readers : List (Vec ℕ Global × Option R))
+    → IsAt reads stage run parts entries seen readers → IsAt reads stage (judged_with stage run read).run parts entries seen readers
+judged_at reads stage run (Err at) parts entries seen readers i = i
+judged_at reads stage run (Ok p) parts entries seen readers i = by_point (first_failed_point stage.suite.verifies stage.listed p) where
   by_point : (o : Option JudgeError)
-      → IsAt stage (elim o as (λ x. Done) [ Some f ↦ record { answer = spaced (text_of_point f); behind = []; run = run } | None ↦ record { answer = spaced (text_of_verdict (verdict_of p)); behind = []; run = record run { judged = run.judged ++ p ∷ [] } } ]).run parts entries seen
+      → IsAt reads stage (elim o as (λ x. Done) [ Some f ↦ record { answer = spaced (text_of_point f); behind = []; run = run } | None ↦ record { answer = spaced (text_of_verdict (verdict_of p)); behind = []; run = record run { judged = run.judged ++ p ∷ [] } } ]).run parts entries seen readers
   by_point (Some f) = i
-  by_point None = record { seated = i.seated; labels_are = i.labels_are; seen_are = i.seen_are; remembered = judged_remembers run (run.judged ++ p ∷ []) i.remembered }
+  by_point None = record { seated = i.seated; labels_are = i.labels_are; seen_are = i.seen_are; readers_are = i.readers_are; remembered = judged_remembers run (run.judged ++ p ∷ []) i.remembered }
 
-pub judged_done : (A : Type 0) (view : A → View) (stage : Stage) (run : Run) (label bytes text lines : List ℕ) (play : Play A) → IsAtPlay view stage run play → bytes ≡ bytes_of run label
-    → text ≡ (judged_with stage run (proof_in bytes)).answer → (judged_with stage run (proof_in bytes)).behind ≡ [] → lines ≡ text ++ 10 ∷ [] → HasDone A view stage (judged_with stage run (proof_in (bytes_of run label))) lines play
-judged_done A view stage run label bytes text lines play at same is none told =
+pub judged_done : (A : Type 0) {R : Type 0} (view : A → View) (reads : Reader → R → Type 0) (stage : Stage) (run : Run) (label bytes text lines : List ℕ) (play : Play A R) → IsAtPlay view reads stage run play → bytes ≡ bytes_of run label
+    → text ≡ (judged_with stage run (proof_in bytes)).answer → (judged_with stage run (proof_in bytes)).behind ≡ [] → lines ≡ text ++ 10 ∷ [] → HasDone A view reads stage (judged_with stage run (proof_in (bytes_of run label))) lines play
+judged_done A view reads stage run label bytes text lines play at same is none told =
     let d = judged_with stage run (proof_in bytes) in
-    let done : HasDone A view stage d lines play = record {
+    let done : HasDone A view reads stage d lines play = record {
       lines_are = told ∙ ap (λ (t : List ℕ). t ++ 10 ∷ []) is ∙ sym (append-nil (d.answer ++ 10 ∷ [])) ∙ ap (λ (ls : List (List ℕ)). ended d.answer ++ flat_map ended ls) (sym none);
-      at = judged_at stage run (proof_in bytes) (map (part_by view) play.parts.items) play.labels.map.entries (updates_in play.seen.graph.items.entries) at;
+      at = judged_at reads stage run (proof_in bytes) (map (part_by view) play.parts.items) play.labels.map.entries (updates_in play.seen.graph.items.entries) play.readers.map.entries at;
     } in
-    subst (λ (b : List ℕ). HasDone A view stage (judged_with stage run (proof_in b)) lines play) same done
+    subst (λ (b : List ℕ). HasDone A view reads stage (judged_with stage run (proof_in b)) lines play) same done
 
 -- ---- lines
 
 -- the lines of an event: the front of the first, and those from the arrow on
-pub lines_told : (e : Event) (d : Done) (none front behind whole : List ℕ) → none ≡ [] → front ≡ none ++ (join 32 (take (head_count e) (event_words e)) ++ codes " ->") → behind ≡ lines_after_arrow d.answer d.behind → whole ≡ front ++ behind → whole ≡ lines_of e d
+pub lines_told : (e : Event) (d : Done) (none front behind whole : List ℕ) → none ≡ [] → front ≡ none ++ (join 32 (head_words e) ++ codes " ->") → behind ≡ lines_after_arrow d.answer d.behind → whole ≡ front ++ behind → whole ≡ lines_of e d
 unfolding lines_of
 lines_told e d none front behind whole is_none is_front is_behind is_whole =
-    let words = join 32 (take (head_count e) (event_words e)) in
+    let words = join 32 (head_words e) in
     let arrow = codes " ->" in
     let rest = flat_map ended d.behind in
     is_whole

@@ -8,11 +8,12 @@ use Rattle.depot_model.specs.Bundle.{Signs}
 use Rattle.depot_model.specs.Changes.{AreChanges}
 use Rattle.depot_model.specs.Journal.{accepted}
 use Rattle.depot_model.specs.Own.{values_of}
+use Rattle.depot_model.specs.Readers.{Reader}
 use Rattle.depot_model.specs.Traces.{ReadTrace}
 use Rattle.depot_schedule.specs.declared.event.Event.{Event}
 use Rattle.depot_schedule.specs.declared.event.Event.TheVariants as event
 use Rattle.depot_world.specs.Audits.{traced_read}
-use Rattle.depot_world.specs.Deeds.{read_of, put_by, get_by, hello_by, bundle_by, give_by, restart_by}
+use Rattle.depot_world.specs.Deeds.{read_of, put_by, get_by, hello_by, bundle_by, give_by, restart_by, checkpoint_by, sign_by}
 use Rattle.depot_world.specs.Run.{Run, Station, bytes_of, seen_with}
 use Rattle.depot_world.specs.FaultySigning.{Text, no_reference, counted_bytes, updated, update_text, vouched_text, proof_text, hollow_text, flip_at}
 use Rattle.depot_world.specs.ScheduleStops.{Deed}
@@ -26,14 +27,14 @@ use Rattle.depot_plays.specs.declared.play.Play.{Play}
 -- ---- all events
 
 -- This was done: these lines say so from the arrow on, and the play is at the run after it.
-pub record HasDone (A : Type 0) (view : A → View) (stage : Stage) (d : Done) (lines : List ℕ) (play : Play A) : Type 0 where
+pub record HasDone (A : Type 0) {R : Type 0} (view : A → View) (reads : Reader → R → Type 0) (stage : Stage) (d : Done) (lines : List ℕ) (play : Play A R) : Type 0 where
   pub lines_are : lines ≡ lines_after_arrow d.answer d.behind
-  pub at : IsAtPlay view stage d.run play
+  pub at : IsAtPlay view reads stage d.run play
 
 -- the same of the whole lines of an event
-pub record HasTold (A : Type 0) (view : A → View) (stage : Stage) (e : Event) (d : Done) (lines : List ℕ) (play : Play A) : Type 0 where
+pub record HasTold (A : Type 0) {R : Type 0} (view : A → View) (reads : Reader → R → Type 0) (stage : Stage) (e : Event) (d : Done) (lines : List ℕ) (play : Play A R) : Type 0 where
   pub lines_are : lines ≡ lines_of e d
-  pub at : IsAtPlay view stage d.run play
+  pub at : IsAtPlay view reads stage d.run play
 
 -- ---- events of nodes
 
@@ -46,6 +47,8 @@ is_deed (event.Hello node label) = true
 is_deed (event.Bundle node hello label) = true
 is_deed (event.Give node label size) = true
 is_deed (event.Restart node) = true
+is_deed (event.Checkpoint node label) = true
+is_deed (event.Sign node label) = true
 is_deed e = false
 
 -- what it lets the node put are changes that a node may be asked for
@@ -62,6 +65,8 @@ deed_of stage run (event.Get node key) s = get_by s.correct key
 deed_of stage run (event.Hello node label) s = hello_by (stands_on stage s.correct.node) s.correct
 deed_of stage run (event.Bundle node hello label) s = bundle_by (stands_on stage s.correct.node) (signs_on stage s.correct.node) s.correct (bytes_of run hello)
 deed_of stage run (event.Give node label size) s = give_by (stands_on stage s.correct.node) s.correct (bytes_of run label)
+deed_of stage run (event.Checkpoint node label) s = checkpoint_by (stands_on stage s.correct.node) s.correct
+deed_of stage run (event.Sign node label) s = sign_by (stands_on stage s.correct.node) s.correct (bytes_of run label)
 deed_of stage run e s = restart_by s.correct
 
 -- the read that a node makes in it, as a trace tells it, if it makes one
@@ -70,18 +75,19 @@ reads_by J (event.Get node key) = traced_read (read_of J key) ∷ []
 reads_by J e = []
 
 -- The first node of this number left its place.
-pub record HasLeft (A : Type 0) (view : A → View) (node : ℕ) (old new : Play A) (away : Away A) : Type 0 where
+pub record HasLeft (A : Type 0) {R : Type 0} (view : A → View) (node : ℕ) (old new : Play A R) (away : Away A) : Type 0 where
   pub place_is : position (λ p. (view p.actor).here.me == node) old.parts.items ≡ Some away.place
   pub part_is : slice_get old.parts.items away.place ≡ Some away.part
   pub count_is : away.count ≡ length (accepted (view away.part.actor).journal)
   pub others : new.parts.items ≡ remove old.parts.items away.place
   pub labels_stay : new.labels ≡ old.labels
   pub seen_stays : new.seen ≡ old.seen
+  pub readers_stay : new.readers ≡ old.readers
 
 -- the same, of a play that was at some point of some run
-pub record HasLeftPlay (A : Type 0) (view : A → View) (node : ℕ) (new : Play A) (away : Away A) : Type 0 where
-  pub before : Play A
-  pub played : IsPlayed view before
+pub record HasLeftPlay (A : Type 0) {R : Type 0} (view : A → View) (reads : Reader → R → Type 0) (node : ℕ) (new : Play A R) (away : Away A) : Type 0 where
+  pub before : Play A R
+  pub played : IsPlayed view reads before
   pub left : HasLeft A view node before new away
 
 -- ---- events that only make a label

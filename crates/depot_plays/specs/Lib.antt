@@ -3,3 +3,4 @@ pub mod Auditing
 pub mod Doing
 pub mod Drafts
 pub mod Playing
+pub mod Readers

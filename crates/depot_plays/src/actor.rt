@@ -6,18 +6,21 @@ ghost use Rattle.depot_base.specs.declared.limits.TheConstants.{MOST_STOP_CALL};
 ghost use Rattle.depot_model.specs.Changes.{AreChanges};
 ghost use Rattle.depot_model.specs.Journal.{accepted};
 ghost use Rattle.depot_model.specs.Lawful.{IsLawful};
+ghost use Rattle.depot_model.specs.Readers.{trim_of};
 ghost use Rattle.depot_model.specs.Receipts.{receipt_changes};
 ghost use Rattle.depot_model.specs.Records.{text_of_record};
 ghost use Rattle.depot_traces.specs.SeenTraces as seen_traces;
 ghost use Rattle.depot_traces.specs.TraceTexts.{IsTrace, read_text};
 ghost use Rattle.depot_traces.specs.declared.trace.TheConstants.{MOST_READS};
 ghost use Rattle.depot_world.specs.Audits.{traced_read};
-ghost use Rattle.depot_world.specs.Deeds.{read_of, put_by, get_by, receipt_by, settled_by, hello_by, bundle_by, give_by, restart_by};
+ghost use Rattle.depot_world.specs.Deeds.{read_of, put_by, get_by, receipt_by, settled_by, checkpoint_by, sign_by, hello_by, bundle_by, give_by, restart_by};
 ghost use Rattle.depot_world.specs.Run.{Armed, Station, own_update};
 ghost use Rattle.depot_world.specs.ScheduleStops.{went};
 ghost use Rattle.depot_world.specs.Suite.{Stage, stands_on, signs_on};
 ghost use Rattle.depot_plays.specs.Acting.{CameTo, HaveTexts, IsSeated, View};
+ghost use Rattle.depot_plays.specs.Readers.{HasTrimmed};
 
+use crate::reading::{Reading, Trimming};
 use depot_base::{Bytes, Changes, Hash32, Ids, Key, Memory, Update};
 use depot_cast::Numbered;
 use depot_traces::{ReadTrace, Trace};
@@ -36,6 +39,9 @@ pub struct Told<A> {
 /// A correct node at work, which keeps its journal on a disk in memory. Each event that it takes part in makes of it what the
 /// definitions of runs say (`depot_world`): where a stop falls into it the node is started again. After Memory it is gone.
 pub trait Actor: Drop + Numbered {
+    /// A reader that is made of it.
+    type Reader: Reading;
+
     /// Where it stands, how it signs, its journal, and the stop that waits on its disk.
     ghost view: { Self → View };
 
@@ -80,6 +86,18 @@ pub trait Actor: Drop + Numbered {
     /// It tells whether at least so many nodes gave a receipt for an id, among all updates that it accepted.
     fn settled(self, id: &Hash32, k: u32) -> Result<Told<Self>, Memory>
         ensures { IfOk result (λ t. (stage : Stage) (s : Station) → IsSeated stage s (view self) → CameTo stage (went s (settled_by s.correct id.now k)) (view t.actor) t.lines t.bytes) };
+
+    /// It makes a checkpoint and signs it.
+    fn checkpoint(self) -> Result<Told<Self>, Memory>
+        ensures { IfOk result (λ t. (stage : Stage) (s : Station) → IsSeated stage s (view self) → CameTo stage (went s (checkpoint_by (stands_on stage s.correct.node) s.correct)) (view t.actor) t.lines t.bytes) };
+
+    /// It signs a checkpoint's text.
+    fn sign(self, text: &[u8]) -> Result<Told<Self>, Memory>
+        ensures { IfOk result (λ t. (stage : Stage) (s : Station) → IsSeated stage s (view self) → CameTo stage (went s (sign_by (stands_on stage s.correct.node) s.correct text.now)) (view t.actor) t.lines t.bytes) };
+
+    /// A reader is made of it, below the checkpoint of this text.
+    fn trim(&self, text: &[u8]) -> Result<Trimming<Self::Reader>, Memory>
+        ensures { IfOk result (λ t. HasTrimmed Self.Reader.reads (trim_of (view self.now).here (view self.now).journal text.now) t) };
 
     /// It says hello.
     fn hello(self) -> Result<Told<Self>, Memory>

@@ -26,8 +26,8 @@ use std::alloc::Global;
 impl<A: Actor> Play<A> {
     /// All nodes are audited, by their records and the reads that were kept of them. The lines are those from the arrow on.
     pub fn audit<S: Scheme, G: Signer>(&self, scene: &Scene<'_, S, G>) -> Result<Bytes, Memory>
-        requires { IsPlayedOn S.verifies G.key_of G.signature_of scene.now A.view self.now }
-        ensures { IfOk result (λ lines. (stage : Stage) (run : Run) → IsOn S.verifies G.key_of G.signature_of stage scene.now → IsSound stage run → IsAtPlay A.view stage run self.now → HasDone A A.view stage (audit_by stage run) lines self.now) }
+        requires { IsPlayedOn S.verifies G.key_of G.signature_of scene.now A.view A.Reader.reads self.now }
+        ensures { IfOk result (λ lines. (stage : Stage) (run : Run) → IsOn S.verifies G.key_of G.signature_of stage scene.now → IsSound stage run → IsAtPlay A.view A.Reader.reads stage run self.now → HasDone A A.view A.Reader.reads stage (audit_by stage run) lines self.now) }
     {
         let traces = self.traces()?;
         let found = audit(self.alloc, scene.roster, &scene.scheme, &traces)?;

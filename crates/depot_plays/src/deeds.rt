@@ -26,8 +26,8 @@ impl<A: Actor> Play<A> {
         requires deed { is_deed event.now ≡ true }
         requires changes { PutsChanges event.now }
         requires node { node_of event.now ≡ node }
-        requires played { IsPlayed A.view self.old }
-        ensures { IfOk result (λ lines. (stage : Stage) (run : Run) → IsAtPlay A.view stage run self.old → HasDone A A.view stage (done stage run event.now) lines self.new) }
+        requires played { IsPlayed A.view A.Reader.reads self.old }
+        ensures { IfOk result (λ lines. (stage : Stage) (run : Run) → IsAtPlay A.view A.Reader.reads stage run self.old → HasDone A A.view A.Reader.reads stage (done stage run event.now) lines self.new) }
     {
         match self.leave(node) {
             Some(away) => self.act(away, event),
@@ -39,8 +39,8 @@ impl<A: Actor> Play<A> {
     fn act(&mut self, away: Away<A>, event: &Event) -> Result<Bytes, Memory>
         requires deed { is_deed event.now ≡ true }
         requires changes { PutsChanges event.now }
-        requires left { HasLeftPlay A A.view (node_of event.now) self.old away }
-        ensures { IfOk result (λ lines. (before : Play A) → HasLeft A A.view (node_of event.now) before self.old away → (stage : Stage) (run : Run) → IsAtPlay A.view stage run before → HasDone A A.view stage (done stage run event.now) lines self.new) }
+        requires left { HasLeftPlay A A.view A.Reader.reads (node_of event.now) self.old away }
+        ensures { IfOk result (λ lines. (before : Play A A.Reader) → HasLeft A A.view (node_of event.now) before self.old away → (stage : Stage) (run : Run) → IsAtPlay A.view A.Reader.reads stage run before → HasDone A A.view A.Reader.reads stage (done stage run event.now) lines self.new) }
     {
         let Away { place, count, part } = away;
         let Part { actor, mut reads } = part;
@@ -71,6 +71,8 @@ impl<A: Actor> Play<A> {
             Event::Bundle { hello, .. } => actor.bundle(self.labels.bytes(hello)),
             Event::Give { label, size, .. } => actor.give(self.labels.bytes(label), *size),
             Event::Restart { .. } => actor.restart(),
+            Event::Checkpoint { .. } => actor.checkpoint(),
+            Event::Sign { label, .. } => actor.sign(self.labels.bytes(label)),
             _ => unreachable!(),
         }
     }

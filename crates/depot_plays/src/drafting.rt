@@ -37,9 +37,9 @@ impl<A: Actor> Play<A> {
         deps: &[Ref],
         history: HistoryWord,
     ) -> Result<Option<Update>, Memory>
-        requires played { IsPlayed A.view self.now }
+        requires played { IsPlayed A.view A.Reader.reads self.now }
         requires fits { MaySign writer seq clock changes.now deps.now history }
-        ensures is { IfOk result (λ made. (stage : Stage) (run : Run) (sign : Signs) → IsAtPlay A.view stage run self.now → made ≡ updated sign run writer seq clock prev.now changes.now deps.now history) }
+        ensures is { IfOk result (λ made. (stage : Stage) (run : Run) (sign : Signs) → IsAtPlay A.view A.Reader.reads stage run self.now → made ≡ updated sign run writer seq clock prev.now changes.now deps.now history) }
         ensures text { IfOk result (λ made. IfSome made (λ u. IsUpdate u)) }
         ensures numbered { IfOk result (λ made. IfSome made (λ u. IsNumbered writer seq u)) }
         ensures parents { IfOk result (λ made. IfSome made (λ u. HasSeenParents (⟦<Graph as Past>⟧.updates self.now.seen.graph) u)) }
@@ -57,8 +57,8 @@ impl<A: Actor> Play<A> {
 
     /// The ids that references name for a voucher, in rising order, each once. None exactly where one names nothing.
     pub fn vouched_ids(&self, refs: &[Ref]) -> Result<Option<Ids>, Memory>
-        requires { IsPlayed A.view self.now }
-        ensures is { IfOk result (λ made. (stage : Stage) (run : Run) → IsAtPlay A.view stage run self.now → made ≡ option_map rising (all_of (map (id_referred run) refs.now))) }
+        requires { IsPlayed A.view A.Reader.reads self.now }
+        ensures is { IfOk result (λ made. (stage : Stage) (run : Run) → IsAtPlay A.view A.Reader.reads stage run self.now → made ≡ option_map rising (all_of (map (id_referred run) refs.now))) }
         ensures text { IfOk result (λ made. IfSome made (λ ids. (node seq : ℕ) → MayVouchFor node seq refs.now → IsStatement (statement.Voucher (record { node = node; seq = seq; ids = ids })))) }
     {
         let Some(ids) = self.ids_of(refs)? else {
@@ -69,8 +69,8 @@ impl<A: Actor> Play<A> {
 
     /// The ids that references name for a voucher, in their order. None exactly where one names nothing.
     fn ids_of(&self, refs: &[Ref]) -> Result<Option<Ids>, Memory>
-        requires { IsPlayed A.view self.now }
-        ensures { IfOk result (λ ids. (stage : Stage) (run : Run) → IsAtPlay A.view stage run self.now → ids ≡ all_of (map (id_referred run) refs.now)) }
+        requires { IsPlayed A.view A.Reader.reads self.now }
+        ensures { IfOk result (λ ids. (stage : Stage) (run : Run) → IsAtPlay A.view A.Reader.reads stage run self.now → ids ≡ all_of (map (id_referred run) refs.now)) }
     {
         let mut ids = Ids::new(self.alloc);
         for r in refs {
@@ -84,8 +84,8 @@ impl<A: Actor> Play<A> {
 
     /// The ids of the updates that references name, in rising order, each once. None exactly where one names nothing.
     pub fn receipt_ids(&self, refs: &[Ref]) -> Result<Option<Ids>, Memory>
-        requires { IsPlayed A.view self.now }
-        ensures { IfOk result (λ made. (stage : Stage) (run : Run) → IsAtPlay A.view stage run self.now → made ≡ option_map (λ us. rising (map id_of_update us)) (all_referred run refs.now)) }
+        requires { IsPlayed A.view A.Reader.reads self.now }
+        ensures { IfOk result (λ made. (stage : Stage) (run : Run) → IsAtPlay A.view A.Reader.reads stage run self.now → made ≡ option_map (λ us. rising (map id_of_update us)) (all_referred run refs.now)) }
     {
         let Some(named) = self.named(refs)? else {
             return Ok(None);
@@ -97,8 +97,8 @@ impl<A: Actor> Play<A> {
     /// The id that a reference names for a voucher: SHA-256 of the bytes of a plain label, or an update's. None exactly where it names
     /// nothing.
     fn id_referred(&self, r: &Ref) -> Result<Option<Hash32>, Memory>
-        requires { IsPlayed A.view self.now }
-        ensures { IfOk result (λ id. (stage : Stage) (run : Run) → IsAtPlay A.view stage run self.now → id ≡ id_referred run r.now) }
+        requires { IsPlayed A.view A.Reader.reads self.now }
+        ensures { IfOk result (λ id. (stage : Stage) (run : Run) → IsAtPlay A.view A.Reader.reads stage run self.now → id ≡ id_referred run r.now) }
     {
         match self.plain_referred(r) {
             Some(bytes) => Ok(Some(hash_of(bytes))),
@@ -108,8 +108,8 @@ impl<A: Actor> Play<A> {
 
     /// The id of the update that a reference names. None exactly where it names nothing.
     pub fn update_id(&self, r: &Ref) -> Result<Option<Hash32>, Memory>
-        requires { IsPlayed A.view self.now }
-        ensures { IfOk result (λ id. (stage : Stage) (run : Run) → IsAtPlay A.view stage run self.now → id ≡ option_map id_of_update (referred run r.now)) }
+        requires { IsPlayed A.view A.Reader.reads self.now }
+        ensures { IfOk result (λ id. (stage : Stage) (run : Run) → IsAtPlay A.view A.Reader.reads stage run self.now → id ≡ option_map id_of_update (referred run r.now)) }
     {
         let Some(update) = self.referred(r) else {
             return Ok(None);
@@ -119,8 +119,8 @@ impl<A: Actor> Play<A> {
 
     /// The id that a prev names: zeros where there is none. None exactly where its reference names nothing.
     fn prev_of(&self, prev: &Option<Ref>) -> Result<Option<Hash32>, Memory>
-        requires { IsPlayed A.view self.now }
-        ensures { IfOk result (λ id. (stage : Stage) (run : Run) → IsAtPlay A.view stage run self.now → id ≡ prev_of run prev.now) }
+        requires { IsPlayed A.view A.Reader.reads self.now }
+        ensures { IfOk result (λ id. (stage : Stage) (run : Run) → IsAtPlay A.view A.Reader.reads stage run self.now → id ≡ prev_of run prev.now) }
     {
         match prev {
             Some(r) => self.update_id(r),
@@ -131,8 +131,8 @@ impl<A: Actor> Play<A> {
     /// The entries that references name, in rising order, each once. None exactly where one names nothing, or an update of this
     /// writer.
     fn entries_of(&self, writer: NodeId, refs: &[Ref]) -> Result<Option<Deps>, Memory>
-        requires { IsPlayed A.view self.now }
-        ensures { IfOk result (λ deps. (stage : Stage) (run : Run) → IsAtPlay A.view stage run self.now → deps ≡ option_map (λ us. map entry_of us) (entries_of run writer refs.now)) }
+        requires { IsPlayed A.view A.Reader.reads self.now }
+        ensures { IfOk result (λ deps. (stage : Stage) (run : Run) → IsAtPlay A.view A.Reader.reads stage run self.now → deps ≡ option_map (λ us. map entry_of us) (entries_of run writer refs.now)) }
     {
         let Some(named) = self.named(refs)? else {
             return Ok(None);
@@ -142,8 +142,8 @@ impl<A: Actor> Play<A> {
 
     /// The entries of the updates that references name, in their order. None exactly where one names nothing.
     fn named(&self, refs: &[Ref]) -> Result<Option<Deps>, Memory>
-        requires { IsPlayed A.view self.now }
-        ensures { IfOk result (λ named. (stage : Stage) (run : Run) → IsAtPlay A.view stage run self.now → named ≡ option_map (λ us. map entry_of us) (all_referred run refs.now)) }
+        requires { IsPlayed A.view A.Reader.reads self.now }
+        ensures { IfOk result (λ named. (stage : Stage) (run : Run) → IsAtPlay A.view A.Reader.reads stage run self.now → named ≡ option_map (λ us. map entry_of us) (all_referred run refs.now)) }
     {
         let mut named = Deps::new(self.alloc);
         for r in refs {

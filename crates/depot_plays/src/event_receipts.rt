@@ -26,8 +26,8 @@ impl<A: Actor> Play<A> {
     /// its own updates. The lines are those from the arrow on.
     pub fn receipt(&mut self, node: NodeId, refs: &[Ref]) -> Result<Bytes, Memory>
         requires few { (1 ≤ length refs.now) × (length refs.now ≤ MOST_WRITES) }
-        requires played { IsPlayed A.view self.old }
-        ensures { IfOk result (λ lines. (stage : Stage) (run : Run) → IsAtPlay A.view stage run self.old → HasDone A A.view stage (receipt_for stage run node (all_referred run refs.now)) lines self.new) }
+        requires played { IsPlayed A.view A.Reader.reads self.old }
+        ensures { IfOk result (λ lines. (stage : Stage) (run : Run) → IsAtPlay A.view A.Reader.reads stage run self.old → HasDone A A.view A.Reader.reads stage (receipt_for stage run node (all_referred run refs.now)) lines self.new) }
     {
         let Some(ids) = self.receipt_ids(refs)? else {
             return Ok(Bytes::from_slice(self.alloc, b" NoRef\n")?);
@@ -42,8 +42,8 @@ impl<A: Actor> Play<A> {
     fn give_receipts(&mut self, away: Away<A>, ids: &Ids) -> Result<Bytes, Memory>
         requires changes { AreChanges (receipt_changes ids.now) }
         requires rising { AllPairsByRecursion (λ g h. is_below g h ≡ true) ids.now }
-        requires left { (node : ℕ) × HasLeftPlay A A.view node self.old away }
-        ensures { (node : ℕ) (before : Play A) → HasLeft A A.view node before self.old away → IfOk result (λ lines. (stage : Stage) (run : Run) → IsAtPlay A.view stage run before → HasDone A A.view stage (by_node run node None (λ s. receipt_by (stands_on stage node) s.correct ids.now)) lines self.new) }
+        requires left { (node : ℕ) × HasLeftPlay A A.view A.Reader.reads node self.old away }
+        ensures { (node : ℕ) (before : Play A A.Reader) → HasLeft A A.view node before self.old away → IfOk result (λ lines. (stage : Stage) (run : Run) → IsAtPlay A.view A.Reader.reads stage run before → HasDone A A.view A.Reader.reads stage (by_node run node None (λ s. receipt_by (stands_on stage node) s.correct ids.now)) lines self.new) }
     {
         let Away { place, count, part } = away;
         let Part { actor, reads } = part;
@@ -54,8 +54,8 @@ impl<A: Actor> Play<A> {
 
     /// Whether so many nodes gave receipts for what a reference names, as a node knows. The lines are those from the arrow on.
     pub fn settled(&mut self, node: NodeId, update: &Ref, k: u32) -> Result<Bytes, Memory>
-        requires played { IsPlayed A.view self.old }
-        ensures { IfOk result (λ lines. (stage : Stage) (run : Run) → IsAtPlay A.view stage run self.old → HasDone A A.view stage (settled_for run node k (referred run update.now)) lines self.new) }
+        requires played { IsPlayed A.view A.Reader.reads self.old }
+        ensures { IfOk result (λ lines. (stage : Stage) (run : Run) → IsAtPlay A.view A.Reader.reads stage run self.old → HasDone A A.view A.Reader.reads stage (settled_for run node k (referred run update.now)) lines self.new) }
     {
         let Some(id) = self.update_id(update)? else {
             return Ok(Bytes::from_slice(self.alloc, b" NoRef\n")?);
@@ -68,8 +68,8 @@ impl<A: Actor> Play<A> {
 
     /// The same with the node that left its place for it, and the id.
     fn count_receipts(&mut self, away: Away<A>, id: &Hash32, k: u32) -> Result<Bytes, Memory>
-        requires left { (node : ℕ) × HasLeftPlay A A.view node self.old away }
-        ensures { (node : ℕ) (before : Play A) → HasLeft A A.view node before self.old away → IfOk result (λ lines. (stage : Stage) (run : Run) → IsAtPlay A.view stage run before → HasDone A A.view stage (by_node run node None (λ s. settled_by s.correct id.now k)) lines self.new) }
+        requires left { (node : ℕ) × HasLeftPlay A A.view A.Reader.reads node self.old away }
+        ensures { (node : ℕ) (before : Play A A.Reader) → HasLeft A A.view node before self.old away → IfOk result (λ lines. (stage : Stage) (run : Run) → IsAtPlay A.view A.Reader.reads stage run before → HasDone A A.view A.Reader.reads stage (by_node run node None (λ s. settled_by s.correct id.now k)) lines self.new) }
     {
         let Away { place, count, part } = away;
         let Part { actor, reads } = part;

@@ -20,8 +20,8 @@ impl<A: Actor> Play<A> {
         requires call { 1 ≤ call }
         requires most { call ≤ MOST_STOP_CALL }
         requires image { image ≤ 2 }
-        requires played { IsPlayed A.view self.old }
-        ensures { IfOk result (λ lines. (stage : Stage) (run : Run) → IsAtPlay A.view stage run self.old → HasDone A A.view stage (armed_at run node call image) lines self.new) }
+        requires played { IsPlayed A.view A.Reader.reads self.old }
+        ensures { IfOk result (λ lines. (stage : Stage) (run : Run) → IsAtPlay A.view A.Reader.reads stage run self.old → HasDone A A.view A.Reader.reads stage (armed_at run node call image) lines self.new) }
     {
         match self.leave(node) {
             Some(away) => self.arm(away, call, image),
@@ -34,8 +34,8 @@ impl<A: Actor> Play<A> {
         requires call { 1 ≤ call }
         requires most { call ≤ MOST_STOP_CALL }
         requires image { image ≤ 2 }
-        requires left { (node : ℕ) × HasLeftPlay A A.view node self.old away }
-        ensures { (node : ℕ) (before : Play A) → HasLeft A A.view node before self.old away → IfOk result (λ lines. (stage : Stage) (run : Run) → IsAtPlay A.view stage run before → HasDone A A.view stage (armed_at run node call image) lines self.new) }
+        requires left { (node : ℕ) × HasLeftPlay A A.view A.Reader.reads node self.old away }
+        ensures { (node : ℕ) (before : Play A A.Reader) → HasLeft A A.view node before self.old away → IfOk result (λ lines. (stage : Stage) (run : Run) → IsAtPlay A.view A.Reader.reads stage run before → HasDone A A.view A.Reader.reads stage (armed_at run node call image) lines self.new) }
     {
         let Away { place, count, part } = away;
         let Part { actor, reads } = part;

@@ -24,8 +24,8 @@ impl<A: Actor> Play<A> {
         event: &Event,
     ) -> Result<Bytes, Memory>
         requires may { MayHappen scene.now.height scene.now.members.now event.now }
-        requires played { IsPlayedOn S.verifies G.key_of G.signature_of scene.now A.view self.old }
-        ensures { IfOk result (λ lines. (stage : Stage) (run : Run) → IsOn S.verifies G.key_of G.signature_of stage scene.now → IsSound stage run → IsAtPlay A.view stage run self.old → HasTold A A.view stage event.now (done stage run event.now) lines self.new) }
+        requires played { IsPlayedOn S.verifies G.key_of G.signature_of scene.now A.view A.Reader.reads self.old }
+        ensures { IfOk result (λ lines. (stage : Stage) (run : Run) → IsOn S.verifies G.key_of G.signature_of stage scene.now → IsSound stage run → IsAtPlay A.view A.Reader.reads stage run self.old → HasTold A A.view A.Reader.reads stage event.now (done stage run event.now) lines self.new) }
     {
         let mut lines = Bytes::new(self.alloc);
         event_head(self.alloc, &mut lines, event)?;
@@ -41,8 +41,8 @@ impl<A: Actor> Play<A> {
         event: &Event,
     ) -> Result<Bytes, Memory>
         requires may { MayHappen scene.now.height scene.now.members.now event.now }
-        requires played { IsPlayedOn S.verifies G.key_of G.signature_of scene.now A.view self.old }
-        ensures { IfOk result (λ lines. (stage : Stage) (run : Run) → IsOn S.verifies G.key_of G.signature_of stage scene.now → IsSound stage run → IsAtPlay A.view stage run self.old → HasDone A A.view stage (done stage run event.now) lines self.new) }
+        requires played { IsPlayedOn S.verifies G.key_of G.signature_of scene.now A.view A.Reader.reads self.old }
+        ensures { IfOk result (λ lines. (stage : Stage) (run : Run) → IsOn S.verifies G.key_of G.signature_of stage scene.now → IsSound stage run → IsAtPlay A.view A.Reader.reads stage run self.old → HasDone A A.view A.Reader.reads stage (done stage run event.now) lines self.new) }
     {
         match event {
             Event::Put { node, .. } => self.deed(*node, event),
@@ -66,6 +66,11 @@ impl<A: Actor> Play<A> {
             Event::Receipt { node, refs } => self.receipt(*node, refs.as_slice()),
             Event::Settled { node, reference, k } => self.settled(*node, reference, *k),
             Event::Audit => self.audit(scene),
+            Event::Checkpoint { node, .. } => self.deed(*node, event),
+            Event::Sign { node, .. } => self.deed(*node, event),
+            Event::Trim { node, label, name } => self.trim(*node, label, name),
+            Event::Tgive { name, label } => self.tgive(name, label),
+            Event::Tget { name, key } => self.tget(name, key),
         }
     }
 
@@ -75,7 +80,7 @@ impl<A: Actor> Play<A> {
         scene: &Scene<'_, S, G>,
         label: &Label,
     ) -> Result<Bytes, Memory>
-        ensures { IfOk result (λ lines. (stage : Stage) (run : Run) → IsOn S.verifies G.key_of G.signature_of stage scene.now → IsAtPlay A.view stage run self.now → HasDone A A.view stage (judged_with stage run (proof_in (bytes_of run label.now))) lines self.now) }
+        ensures { IfOk result (λ lines. (stage : Stage) (run : Run) → IsOn S.verifies G.key_of G.signature_of stage scene.now → IsAtPlay A.view A.Reader.reads stage run self.now → HasDone A A.view A.Reader.reads stage (judged_with stage run (proof_in (bytes_of run label.now))) lines self.now) }
     {
         let mut lines = judged(
             self.alloc,

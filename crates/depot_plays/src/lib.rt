@@ -4,11 +4,12 @@
 //! an `Actor`, known by its contract alone: what an event makes of it is what the definitions of runs say, whether a stop falls into it
 //! or not. No disk stands here: what a stop leaves is the actor's to say.
 //!
-//! A `Play` is a run at work (`IsAtPlay`): the correct nodes, each with the reads that it made (`Part`), what labels name, and the
-//! updates that were seen. `events` does one event and gives its lines: `deeds` those that a node acts in, which leaves its place for them
+//! A `Play` is a run at work (`IsAtPlay`): the correct nodes, each with the reads that it made (`Part`), what labels name, the
+//! updates that were seen, and the `Readers` by their names, each known by its contract alone too (`Reading`). `events` does one event and
+//! gives its lines: `deeds` those that a node acts in, which leaves its place for them
 //! (`seat_places`), `event_receipts` those in which it gives receipts or counts them, for what references name, `event_stops` those that
-//! set a stop on a disk, `audits` the audit of all nodes, `updates` and `made` those that only make a label, and `drafting` finds what
-//! their references name. `playing` begins a run and plays all events. What needs no node stands in `depot_stage` and `depot_cast`; the
+//! set a stop on a disk, `event_readers` those of readers, `audits` the audit of all nodes, `updates` and `made` those that only make a
+//! label, and `drafting` finds what their references name. `playing` begins a run and plays all events. What needs no node stands in `depot_stage` and `depot_cast`; the
 //! nodes are `depot_replay`'s.
 #![tactic(auto)]
 
@@ -18,6 +19,7 @@ mod away;
 mod begins;
 mod deeds;
 mod drafting;
+mod event_readers;
 mod event_receipts;
 mod event_stops;
 mod events;
@@ -25,6 +27,8 @@ mod made;
 mod part;
 mod play;
 mod playing;
+mod readers;
+mod reading;
 mod replay_error;
 mod seat_places;
 mod updates;
@@ -34,4 +38,6 @@ pub use begins::Begins;
 pub use part::Part;
 pub use play::Play;
 pub use playing::{begun, play_all, write};
+pub use readers::Readers;
+pub use reading::{Reading, Trimming};
 pub use replay_error::ReplayError;

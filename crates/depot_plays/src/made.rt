@@ -35,8 +35,8 @@ impl<A: Actor> Play<A> {
         requires label { label_of event.now ≡ label.now }
         requires scene { IsOnSome S.verifies G.key_of G.signature_of scene.now }
         requires may { MayHappen scene.now.height scene.now.members.now event.now }
-        requires played { IsPlayed A.view self.old }
-        ensures { IfOk result (λ lines. (stage : Stage) (run : Run) → IsOn S.verifies G.key_of G.signature_of stage scene.now → IsAtPlay A.view stage run self.old → HasDone A A.view stage (done stage run event.now) lines self.new) }
+        requires played { IsPlayed A.view A.Reader.reads self.old }
+        ensures { IfOk result (λ lines. (stage : Stage) (run : Run) → IsOn S.verifies G.key_of G.signature_of stage scene.now → IsAtPlay A.view A.Reader.reads stage run self.old → HasDone A A.view A.Reader.reads stage (done stage run event.now) lines self.new) }
     {
         let text = self.text(scene, event)?;
         let lines = self.labels.give(label, text)?;
@@ -52,8 +52,8 @@ impl<A: Actor> Play<A> {
         requires text { is_text event.now ≡ true }
         requires scene { IsOnSome S.verifies G.key_of G.signature_of scene.now }
         requires may { MayHappen scene.now.height scene.now.members.now event.now }
-        requires played { IsPlayed A.view self.now }
-        ensures is { IfOk result (λ text. (stage : Stage) (run : Run) → IsOn S.verifies G.key_of G.signature_of stage scene.now → IsAtPlay A.view stage run self.now → IsText text (text_by stage run event.now)) }
+        requires played { IsPlayed A.view A.Reader.reads self.now }
+        ensures is { IfOk result (λ text. (stage : Stage) (run : Run) → IsOn S.verifies G.key_of G.signature_of stage scene.now → IsAtPlay A.view A.Reader.reads stage run self.now → IsText text (text_by stage run event.now)) }
         ensures fits { IfOk result (λ text. IfSome text.signed IsSigned) }
         ensures none { IfOk result (λ text. IfSome text.signed (λ s. update_in s.statement ≡ [])) }
     {
@@ -98,8 +98,8 @@ impl<A: Actor> Play<A> {
     ) -> Result<Text, Memory>
         requires scene { IsOnSome S.verifies G.key_of G.signature_of scene.now }
         requires may { (label : List ℕ) × MayHappen scene.now.height scene.now.members.now (event.Voucher label writer seq refs.now) }
-        requires played { IsPlayed A.view self.now }
-        ensures is { IfOk result (λ text. (stage : Stage) (run : Run) → IsOn S.verifies G.key_of G.signature_of stage scene.now → IsAtPlay A.view stage run self.now → IsText text (vouched_text (signs_on stage writer) run writer seq refs.now)) }
+        requires played { IsPlayed A.view A.Reader.reads self.now }
+        ensures is { IfOk result (λ text. (stage : Stage) (run : Run) → IsOn S.verifies G.key_of G.signature_of stage scene.now → IsAtPlay A.view A.Reader.reads stage run self.now → IsText text (vouched_text (signs_on stage writer) run writer seq refs.now)) }
         ensures fits { IfOk result (λ text. IfSome text.signed IsSigned) }
         ensures none { IfOk result (λ text. IfSome text.signed (λ s. update_in s.statement ≡ [])) }
     {
@@ -112,8 +112,8 @@ impl<A: Actor> Play<A> {
     /// The halves of a proof, if both labels name signed statements.
     fn proof(&self, kind: Kind, first: &Label, second: &Label) -> Result<Text, Memory>
         requires kind { IsPairKind kind }
-        requires played { IsPlayed A.view self.now }
-        ensures is { IfOk result (λ text. (stage : Stage) (run : Run) → IsAtPlay A.view stage run self.now → IsText text (proof_text run kind first.now second.now)) }
+        requires played { IsPlayed A.view A.Reader.reads self.now }
+        ensures is { IfOk result (λ text. (stage : Stage) (run : Run) → IsAtPlay A.view A.Reader.reads stage run self.now → IsText text (proof_text run kind first.now second.now)) }
         ensures none { IfOk result (λ text. text.signed ≡ None) }
     {
         let Some(one) = self.signed_of(first) else {
@@ -127,8 +127,8 @@ impl<A: Actor> Play<A> {
 
     /// A voucher and the bytes of a plain label as a hollow proof, if the label of the voucher names one and the bytes aren't too many.
     fn hollow(&self, voucher: &Label, text: &Label) -> Result<Text, Memory>
-        requires { IsPlayed A.view self.now }
-        ensures is { IfOk result (λ made. (stage : Stage) (run : Run) → IsAtPlay A.view stage run self.now → IsText made (hollow_text run voucher.now text.now)) }
+        requires { IsPlayed A.view A.Reader.reads self.now }
+        ensures is { IfOk result (λ made. (stage : Stage) (run : Run) → IsAtPlay A.view A.Reader.reads stage run self.now → IsText made (hollow_text run voucher.now text.now)) }
         ensures none { IfOk result (λ made. made.signed ≡ None) }
     {
         let Some(signed) = self.signed_of(voucher) else {

@@ -15,6 +15,7 @@ use crate::actor::Actor;
 use crate::begins::Begins;
 use crate::part::Part;
 use crate::play::Play;
+use crate::readers::Readers;
 use crate::replay_error::ReplayError;
 use depot_base::Memory;
 use depot_model::{Scheme, Signer};
@@ -33,7 +34,7 @@ pub fn begun<'a, A: Begins<S, &'a G>, S: Scheme + Copy, G: Signer<Of = S>>(
     requires schedule { IsSchedule schedule.now }
     requires members { scene.now.members.now ≡ schedule.now.members }
     requires scene { IsOn S.verifies G.key_of G.signature_of (stage_of schedule.now) scene.now }
-    ensures { IfOk result (λ play. IsAtPlay A.view (stage_of schedule.now) (run_of (stage_of schedule.now) schedule.now.members) play) }
+    ensures { IfOk result (λ play. IsAtPlay A.view A.Reader.reads (stage_of schedule.now) (run_of (stage_of schedule.now) schedule.now.members) play) }
 {
     let mut parts = Vec::new(alloc);
     for place in 0..scene.members.len() {
@@ -53,6 +54,7 @@ pub fn begun<'a, A: Begins<S, &'a G>, S: Scheme + Copy, G: Signer<Of = S>>(
         parts,
         labels: Labels::new(alloc),
         seen: Seen::new(alloc),
+        readers: Readers::new(alloc),
     })
 }
 
@@ -64,9 +66,9 @@ pub fn play_all<A: Actor, S: Scheme, G: Signer, K: Sink>(
     out: &mut K,
 ) -> Result<(), ReplayError>
     requires may { (e : Event) → IsIn e events.now → MayHappen scene.now.height scene.now.members.now e }
-    requires played { MayPlay S.verifies G.key_of G.signature_of scene.now events.now A.view play.old }
-    ensures done { (stage : Stage) (run : Run) → IsOn S.verifies G.key_of G.signature_of stage scene.now → StaysSound stage run events.now → IsAtPlay A.view stage run play.old → IsTrue (K.tells out.old) → OnOk result (K.written out.new ≡ K.written out.old ++ printed stage run events.now) }
-    ensures front { (stage : Stage) (run : Run) → IsOn S.verifies G.key_of G.signature_of stage scene.now → StaysSound stage run events.now → IsAtPlay A.view stage run play.old → IsTrue (K.tells out.old) → OnErr result (AddsFrontOf (K.written out.old) (printed stage run events.now) (K.written out.new)) }
+    requires played { MayPlay S.verifies G.key_of G.signature_of scene.now events.now A.view A.Reader.reads play.old }
+    ensures done { (stage : Stage) (run : Run) → IsOn S.verifies G.key_of G.signature_of stage scene.now → StaysSound stage run events.now → IsAtPlay A.view A.Reader.reads stage run play.old → IsTrue (K.tells out.old) → OnOk result (K.written out.new ≡ K.written out.old ++ printed stage run events.now) }
+    ensures front { (stage : Stage) (run : Run) → IsOn S.verifies G.key_of G.signature_of stage scene.now → StaysSound stage run events.now → IsAtPlay A.view A.Reader.reads stage run play.old → IsTrue (K.tells out.old) → OnErr result (AddsFrontOf (K.written out.old) (printed stage run events.now) (K.written out.new)) }
     ensures tells { K.tells out.new ≡ K.tells out.old }
     ensures cause { HasCause (K.faults out.old) (K.faults out.new) (IsErrOf result ReplayError.Sink) }
     ensures faultless { K.is_faultless out.old → K.is_faultless out.new × (K.faults out.new ≡ K.faults out.old) }

@@ -33,6 +33,7 @@ impl<A: Actor> Play<A> {
         requires seen { WereSeen (⟦<Graph as Past>⟧.updates self.old.seen.graph) (take count (accepted (A.view part.actor).journal)) }
         ensures parts { OnOk result (self.new.parts.items ≡ insert self.old.parts.items place part) }
         ensures labels { self.new.labels ≡ self.old.labels }
+        ensures readers { self.new.readers ≡ self.old.readers }
         ensures seen { OnOk result (⟦<Graph as Past>⟧.updates self.new.seen.graph ≡ seen_with (⟦<Graph as Past>⟧.updates self.old.seen.graph) (accepted (A.view part.actor).journal)) }
     {
         self.see(&part.actor, count)?;
@@ -45,6 +46,7 @@ impl<A: Actor> Play<A> {
         requires { WereSeen (⟦<Graph as Past>⟧.updates self.old.seen.graph) (take count (accepted (A.view actor.now).journal)) }
         ensures parts { self.new.parts ≡ self.old.parts }
         ensures labels { self.new.labels ≡ self.old.labels }
+        ensures readers { self.new.readers ≡ self.old.readers }
         ensures seen { OnOk result (⟦<Graph as Past>⟧.updates self.new.seen.graph ≡ seen_with (⟦<Graph as Past>⟧.updates self.old.seen.graph) (accepted (A.view actor.now).journal)) }
     {
         for item in count..actor.update_count() {

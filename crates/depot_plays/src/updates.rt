@@ -37,8 +37,8 @@ impl<A: Actor> Play<A> {
         requires label { label_of event.now ≡ label.now }
         requires scene { IsOnSome S.verifies G.key_of G.signature_of scene.now }
         requires may { MayHappen scene.now.height scene.now.members.now event.now }
-        requires played { IsPlayed A.view self.old }
-        ensures { IfOk result (λ lines. (stage : Stage) (run : Run) → IsOn S.verifies G.key_of G.signature_of stage scene.now → IsAtPlay A.view stage run self.old → HasDone A A.view stage (done stage run event.now) lines self.new) }
+        requires played { IsPlayed A.view A.Reader.reads self.old }
+        ensures { IfOk result (λ lines. (stage : Stage) (run : Run) → IsOn S.verifies G.key_of G.signature_of stage scene.now → IsAtPlay A.view A.Reader.reads stage run self.old → HasDone A A.view A.Reader.reads stage (done stage run event.now) lines self.new) }
     {
         let text = self.signed(scene, event)?;
         let lines = self.labels.give(label, text)?;
@@ -54,9 +54,9 @@ impl<A: Actor> Play<A> {
         requires signing { is_signing event.now ≡ true }
         requires scene { IsOnSome S.verifies G.key_of G.signature_of scene.now }
         requires may { MayHappen scene.now.height scene.now.members.now event.now }
-        requires played { IsPlayed A.view self.old }
-        ensures is { IfOk result (λ text. (stage : Stage) (run : Run) → IsOn S.verifies G.key_of G.signature_of stage scene.now → IsAtPlay A.view stage run self.old → IsText text (signed_text (signs_on stage (node_of event.now)) (changes_in event.now) (update_by stage run event.now))) }
-        ensures at { OnOk result ((stage : Stage) (run : Run) → IsAtPlay A.view stage run self.old → IsAtPlay A.view stage (with_update run (update_by stage run event.now)) self.new) }
+        requires played { IsPlayed A.view A.Reader.reads self.old }
+        ensures is { IfOk result (λ text. (stage : Stage) (run : Run) → IsOn S.verifies G.key_of G.signature_of stage scene.now → IsAtPlay A.view A.Reader.reads stage run self.old → IsText text (signed_text (signs_on stage (node_of event.now)) (changes_in event.now) (update_by stage run event.now))) }
+        ensures at { OnOk result ((stage : Stage) (run : Run) → IsAtPlay A.view A.Reader.reads stage run self.old → IsAtPlay A.view A.Reader.reads stage (with_update run (update_by stage run event.now)) self.new) }
         ensures fits { IfOk result (λ text. IfSome text.signed IsSigned) }
         ensures were { IfOk result (λ text. IfSome text.signed (λ s. WereSeen (⟦<Graph as Past>⟧.updates self.new.seen.graph) (update_in s.statement))) }
     {
@@ -124,7 +124,7 @@ impl<A: Actor> Play<A> {
         requires leaf { HasLeaf scene.now.height scene.now.members.now writer seq }
         requires scene { IsOnSome S.verifies G.key_of G.signature_of scene.now }
         ensures is { IfOk result (λ text. (stage : Stage) → IsOn S.verifies G.key_of G.signature_of stage scene.now → IsText text (signed_text (signs_on stage writer) changes.now made)) }
-        ensures at { OnOk result ((stage : Stage) (run : Run) → IsAtPlay A.view stage run self.old → IsAtPlay A.view stage (with_update run made) self.new) }
+        ensures at { OnOk result ((stage : Stage) (run : Run) → IsAtPlay A.view A.Reader.reads stage run self.old → IsAtPlay A.view A.Reader.reads stage (with_update run made) self.new) }
         ensures fits { IfOk result (λ text. IfSome text.signed IsSigned) }
         ensures were { IfOk result (λ text. IfSome text.signed (λ s. WereSeen (⟦<Graph as Past>⟧.updates self.new.seen.graph) (update_in s.statement))) }
     {
@@ -149,6 +149,7 @@ impl<A: Actor> Play<A> {
         ensures is { IfOk result (λ text. (stage : Stage) → IsOn S.verifies G.key_of G.signature_of stage scene.now → IsText text (update_text (signs_on stage update.writer) update (values_of changes.now))) }
         ensures parts { self.new.parts ≡ self.old.parts }
         ensures labels { self.new.labels ≡ self.old.labels }
+        ensures readers { self.new.readers ≡ self.old.readers }
         ensures seen { OnOk result (⟦<Graph as Past>⟧.updates self.new.seen.graph ≡ seen_with (⟦<Graph as Past>⟧.updates self.old.seen.graph) (update ∷ [])) }
         ensures fits { IfOk result (λ text. IfSome text.signed IsSigned) }
         ensures were { IfOk result (λ text. IfSome text.signed (λ s. WereSeen (⟦<Graph as Past>⟧.updates self.new.seen.graph) (update_in s.statement))) }

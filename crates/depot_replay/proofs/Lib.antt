@@ -5,7 +5,9 @@ pub mod DiskStarts
 pub mod DiskStops
 pub mod DiskLaws
 pub mod OwnUpdates
+pub mod ReaderTurns
 pub mod SeatCalls
+pub mod SeatCheckpoints
 pub mod SeatEvents
 pub mod SeatLaws
 pub mod SeatPuts

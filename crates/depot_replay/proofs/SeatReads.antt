@@ -32,7 +32,7 @@ pub as_it_was : (v : View) → IsThen v v v.journal v.armed
 as_it_was v = record { here = refl; sign = refl; journal = refl; armed_is = refl }
 
 -- an event that makes no call and leaves the journal
-still_came : (stage : Stage) (x : Station) (d : Deed) (v w : View) (s : State) (lines bytes : List ℕ) → IsSeated stage x v → v.armed ≡ armed_of s.next → IsToCome s → d.calls ≡ 0 → d.journal ≡ v.journal → IsThen v w v.journal v.armed → lines ≡ lines_of_deed d → bytes ≡ d.bytes
+pub still_came : (stage : Stage) (x : Station) (d : Deed) (v w : View) (s : State) (lines bytes : List ℕ) → IsSeated stage x v → v.armed ≡ armed_of s.next → IsToCome s → d.calls ≡ 0 → d.journal ≡ v.journal → IsThen v w v.journal v.armed → lines ≡ lines_of_deed d → bytes ≡ d.bytes
     → CameTo stage (went x d) w lines bytes
 still_came stage x d v w s lines bytes seat armed to_come none same then is gives =
     came_well stage x d v w s s [] lines bytes seat armed to_come refl none (record { here = then.here; sign = then.sign; journal = then.journal ∙ sym same; armed_is = then.armed_is ∙ armed }) is gives

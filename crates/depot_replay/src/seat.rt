@@ -6,6 +6,7 @@ ghost use Rattle.depot_base.specs.declared.record.Record.TheVariants.{Birth};
 ghost use Rattle.depot_answers.specs.Answers.{name_of_settled, numbered, spaced, text_of_named};
 ghost use Rattle.depot_deeds.specs.Printing.{shown_text};
 ghost use Rattle.depot_model.specs.Hello.{hello_of, text_of_hello};
+ghost use Rattle.depot_model.specs.Opening.{made_text, make_of};
 ghost use Rattle.depot_model.specs.Receipts.{receipts};
 ghost use Rattle.depot_model.specs.Roster.{key_of};
 ghost use Rattle.depot_model.specs.Stops.{HasRecords};
@@ -15,29 +16,35 @@ ghost use Rattle.depot_node.specs.declared.start_error.StartError.TheVariants as
 ghost use Rattle.depot_outside.specs.Stopping.{State, Leads, state_of};
 ghost use Rattle.depot_store.specs.Holdings.{standing};
 ghost use Rattle.depot_model.specs.ShownWrites.{shown_of};
-ghost use Rattle.depot_world.specs.Run.{own_update};
+ghost use Rattle.depot_world.specs.Deeds.{checkpoint_by};
+ghost use Rattle.depot_world.specs.Run.{Station, own_update};
+ghost use Rattle.depot_world.specs.ScheduleStops.{went};
+ghost use Rattle.depot_world.specs.Suite.{Stage, stands_on};
 ghost use Rattle.depot_world.specs.Transcript.{ended};
-ghost use Rattle.depot_plays.specs.Acting.{View};
+ghost use Rattle.depot_plays.specs.Acting.{CameTo, IsSeated, View};
 ghost use Rattle.depot_replay.specs.Disks.{armed_of};
 ghost use Rattle.depot_replay.specs.PrintedRuns.{EndsAs};
 ghost use Rattle.depot_replay.specs.SeatFacts.{IsKeptOn-prop, is_node-prop, is_roster-prop, same_signs-prop, lawful_there};
 ghost use Rattle.depot_replay.specs.Seats.{IsBegunOn, IsCalled, IsKeptOn, IsSeatedAgain, WasCalled};
 
-use depot_base::{Bytes, Changes, Hash32, Ids, Items, Key, Memory, NodeId, Update};
+use crate::seat_reader::{SeatReader, trimming};
+use depot_base::{Bytes, Changes, Hash32, Ids, Items, Key, Memory, NodeId, Update, Value};
 use depot_cast::Numbered;
 use depot_deeds::{
-    Printed, bundle_printed, counted_line, fed_printed, feed_all, has_receipts, hello_line,
-    node_trace, put_printed, read_traced, receipt_printed, settled_line, shown_line,
+    Printed, bundle_printed, checkpoint_printed, counted_line, fed_printed, feed_all, has_receipts,
+    hello_line, node_trace, put_printed, read_traced, receipt_printed, settled_line, shown_line,
+    sign_printed, unmade_printed,
 };
 use depot_gossip::{bundle, encode_hello, node_hello};
 use depot_model::{Replica, Scheme, Signer};
 use depot_node::{Node, StartError};
 use depot_outside::{Back, MemDisk};
-use depot_plays::{Actor, Begins, Told};
+use depot_plays::{Actor, Begins, Told, Trimming};
 use depot_receipts::give;
 use depot_sign::Roster;
 use depot_stage::is_by;
 use depot_traces::{ReadTrace, Trace};
+use depot_trim::{checkpoint_key, make_checkpoint, sign_checkpoint, trim};
 use std::alloc::Global;
 
 /// How many calls on a disk start a node from a journal that has begun.
@@ -251,6 +258,19 @@ impl<S: Scheme + Copy, G: Signer<Of = S> + Copy> Seat<S, G> {
             Err(_) => Err(Memory),
         }
     }
+
+    /// Puts the text of the checkpoint that it made under its key.
+    fn put_checkpoint(self, text: Bytes) -> Result<Told<Seat<S, G>>, Memory>
+        requires { make_of (standing S.verifies self.node.store) self.node.store.records ≡ made_text text }
+        ensures { IfOk result (λ t. (stage : Stage) (s : Station) → IsSeated stage s (⟦<Seat<S, G> as Actor>⟧.view self) → CameTo stage (went s (checkpoint_by (stands_on stage s.correct.node) s.correct)) (⟦<Seat<S, G> as Actor>⟧.view t.actor) t.lines t.bytes) }
+    {
+        let Seat { mut node, means } = self;
+        let key = checkpoint_key(means.alloc, text.as_slice())?;
+        let value = Value::from_bytes(text.copy()?);
+        let done = node.put(key, value);
+        let printed = checkpoint_printed(means.alloc, text, done);
+        seated(node, means, printed)
+    }
 }
 
 impl<S: Scheme + Copy, G: Signer<Of = S> + Copy> Numbered for Seat<S, G> {
@@ -262,6 +282,8 @@ impl<S: Scheme + Copy, G: Signer<Of = S> + Copy> Numbered for Seat<S, G> {
 }
 
 impl<S: Scheme + Copy, G: Signer<Of = S> + Copy> Actor for Seat<S, G> {
+    type Reader = SeatReader<S>;
+
     ghost view = { λ a. record { here = record { verifies = S.verifies; me = a.means.me; listed = a.means.roster }; sign = G.signature_of a.means.signer; journal = a.node.store.records; armed = armed_of (state_of a.node.store.disk).next } };
 
     fn update_count(&self) -> u32 {
@@ -312,6 +334,35 @@ impl<S: Scheme + Copy, G: Signer<Of = S> + Copy> Actor for Seat<S, G> {
     fn settled(self, id: &Hash32, k: u32) -> Result<Told<Self>, Memory> {
         let printed = settled_printed(self.means.alloc, &self.node, id, k);
         told(self, printed)
+    }
+
+    fn checkpoint(self) -> Result<Told<Self>, Memory> {
+        match make_checkpoint(self.means.alloc, &self.node) {
+            Ok(text) => self.put_checkpoint(text),
+            Err(refused) => {
+                let printed = unmade_printed(self.means.alloc, refused);
+                told(self, printed)
+            }
+        }
+    }
+
+    fn sign(self, text: &[u8]) -> Result<Told<Self>, Memory> {
+        let Seat { mut node, means } = self;
+        let done = sign_checkpoint(means.alloc, &mut node, text);
+        let printed = sign_printed(means.alloc, done);
+        seated(node, means, printed)
+    }
+
+    fn trim(&self, text: &[u8]) -> Result<Trimming<SeatReader<S>>, Memory> {
+        let roster = self.means.roster.copy()?;
+        let made = trim(
+            self.means.alloc,
+            &self.node,
+            roster,
+            self.means.scheme,
+            text,
+        );
+        trimming(self.means.alloc, made)
     }
 
     fn hello(self) -> Result<Told<Self>, Memory> {

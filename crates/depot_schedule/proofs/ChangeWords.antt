@@ -1,5 +1,5 @@
 -- Words of writes are lawful, and what is read of them are changes that a node may be asked for.
-use Rattle.std.proofs.Common.{◌≡◌, ℕ, ◌<◌, ◌≤◌, ◌⊎◌, Bool, true, false, not, cond, eqb, leb, ltb, ◌&&◌, List, [], ◌∷◌, ◌++◌, length, Option, Some, None, is_some, Result, Ok, Err, refl, sym, ap, subst, ◌∙◌, arith, inl, inr, length-append}
+use Rattle.std.proofs.Common.{◌≡◌, ℕ, ◌<◌, ◌≤◌, ◌⊎◌, Bool, true, false, not, cond, eqb, leb, ltb, ◌&&◌, ◌||◌, List, [], ◌∷◌, ◌++◌, length, Option, Some, None, is_some, Result, Ok, Err, refl, sym, ap, subst, ◌∙◌, arith, inl, inr, length-append}
 use Rattle.std.specs.List.{list_all, AllByRecursion}
 use Rattle.std.specs.Option.{option_to_list}
 use Rattle.std.specs.Ordering.{is_lt}
@@ -15,6 +15,7 @@ use Rattle.depot_base.specs.Writes.{one_change, value_in_change}
 use Rattle.depot_base.specs.declared.write.Change.{Change}
 use Rattle.depot_base.proofs.GeneralLaws.{less_is}
 use Rattle.depot_model.specs.Changes.{AreChanges}
+use Rattle.depot_model.specs.Checkpoints.{is_checkpoint_key}
 use Rattle.depot_model.specs.Receipts.{receipt_of}
 use Rattle.depot_schedule.specs.declared.line_fault.LineFault.{LineFault}
 use Rattle.depot_schedule.specs.declared.line_fault.LineFault.TheVariants as is
@@ -31,7 +32,7 @@ use Rattle.depot_schedule.proofs.LanguageLaws.{LawfulWord, bind_ok, such_that_la
 use Rattle.depot_schedule.proofs.Splitting.{lacks, split_none, split_at, join_split, all_weaker, all_append}
 use Rattle.depot_schedule.proofs.HexWords.{key_lawful, put_key_lawful, value_lawful, lower_encoded, plain_hex}
 use Rattle.depot_schedule.proofs.VocabularyLaws.{parts_lawful}
-use Rattle.depot_schedule.proofs.ReceiptKeys.{plain_key}
+use Rattle.depot_schedule.proofs.KeyForms.{plain_key}
 
 -- ---- keys and values
 
@@ -162,9 +163,9 @@ test_fault false k f e = cc
 
 key_fault : (by : Keys) (word : List ℕ) (f : LineFault) → (key_by {C = Unit {0}} by).read nothing word ≡ Err f → f ≡ is.Hex
 key_fault keys.Any word f e = or_fault_is _ is.Hex f e
-key_fault keys.Put word f e = elim (bind_fault (key.read nothing word) (λ k. cond (not (is_some (receipt_of k))) (Ok k) (Err is.Hex)) f e) [
+key_fault keys.Put word f e = elim (bind_fault (key.read nothing word) (λ k. cond (not (is_some (receipt_of k) || is_checkpoint_key k)) (Ok k) (Err is.Hex)) f e) [
   | inl a ↦ or_fault_is _ is.Hex f a
-  | inr a ↦ test_fault (not (is_some (receipt_of a.0))) a.0 f a.2
+  | inr a ↦ test_fault (not (is_some (receipt_of a.0) || is_checkpoint_key a.0)) a.0 f a.2
 ]
 
 value_fault : (word : List ℕ) (f : LineFault) → (value {C = Unit {0}}).read nothing word ≡ Err f → f ≡ is.Hex

@@ -10,7 +10,7 @@ use Rattle.depot_schedule.specs.declared.changes.Keys.TheVariants as keys
 use Rattle.depot_schedule.specs.declared.verb.Wanted.TheVariants as wanted
 use Rattle.depot_schedule.specs.declared.verb.TheConstants.{VERBS}
 use Rattle.depot_schedule.specs.Spelling.{is_word}
-use Rattle.depot_schedule.specs.EventLines.{node_of, key_of, value_of, changes_in, label_of, source_of, second_of, size_of, seq_of, clock_of, prev_of, refs_of, history_of, kind_of, bytes_of, place_of, count_of, call_of, image_of, reference_of, nodes_asked, put, puts, get, hello, bundle, give, restart, update, updates, voucher, proof, hollow, judge, raw, cut, flip, join, stop, receipt, settled, audit, verb_of, line_of, name_of, verb_named}
+use Rattle.depot_schedule.specs.EventLines.{node_of, key_of, value_of, changes_in, label_of, source_of, second_of, reader_named, size_of, seq_of, clock_of, prev_of, refs_of, history_of, kind_of, bytes_of, place_of, count_of, call_of, image_of, reference_of, nodes_asked, put, puts, get, hello, bundle, give, restart, update, updates, voucher, proof, hollow, judge, raw, cut, flip, join, stop, receipt, settled, audit, checkpoint, sign, trim, tgive, tget, verb_of, line_of, name_of, verb_named}
 use Rattle.depot_schedule.specs.Schedules.{other, head_named}
 use Rattle.depot_schedule.proofs.LanguageLaws.{Lawful, LawfulLine, word_line, made_line, optional_line, counted_line, is_same, if_some}
 use Rattle.depot_schedule.proofs.HexWords.{key_lawful, put_key_lawful, value_lawful, raw_lawful}
@@ -209,6 +209,42 @@ audit_row : LawfulRow verb.Audit
 unfolding verb_named audit
 audit_row = lawful_row verb.Audit 0 0 _ refl refl refl (counted_line 0 0 _ _ (made_line _)) (λ e. refl)
 
+checkpoint_row : LawfulRow verb.Checkpoint
+unfolding verb_named checkpoint
+checkpoint_row = lawful_row verb.Checkpoint 2 2 _ refl refl refl (counted_line 2 2 _ _ (
+    word_line _ node_of _ _ 1 1 correct_lawful (λ a e. refl) λ node.
+    word_line _ label_of _ _ 0 0 new_label_lawful (λ a e. refl) λ label.
+    made_line _)) (λ e. refl)
+
+sign_row : LawfulRow verb.Sign
+unfolding verb_named sign
+sign_row = lawful_row verb.Sign 2 2 _ refl refl refl (counted_line 2 2 _ _ (
+    word_line _ node_of _ _ 1 1 correct_lawful (λ a e. refl) λ node.
+    word_line _ label_of _ _ 0 0 (label_for_lawful wanted.Any) (λ a e. refl) λ label.
+    made_line _)) (λ e. refl)
+
+trim_row : LawfulRow verb.Trim
+unfolding verb_named trim
+trim_row = lawful_row verb.Trim 3 3 _ refl refl refl (counted_line 3 3 _ _ (
+    word_line _ node_of _ _ 2 2 correct_lawful (λ a e. refl) λ node.
+    word_line _ label_of _ _ 1 1 (label_for_lawful wanted.Any) (λ a e. refl) λ label.
+    word_line _ reader_named _ _ 0 0 new_label_lawful (λ a e. refl) λ name.
+    made_line _)) (λ e. refl)
+
+tgive_row : LawfulRow verb.Tgive
+unfolding verb_named tgive
+tgive_row = lawful_row verb.Tgive 2 2 _ refl refl refl (counted_line 2 2 _ _ (
+    word_line _ reader_named _ _ 1 1 (label_for_lawful wanted.Reader) (λ a e. refl) λ name.
+    word_line _ label_of _ _ 0 0 (label_for_lawful wanted.Any) (λ a e. refl) λ label.
+    made_line _)) (λ e. refl)
+
+tget_row : LawfulRow verb.Tget
+unfolding verb_named tget
+tget_row = lawful_row verb.Tget 2 2 _ refl refl refl (counted_line 2 2 _ _ (
+    word_line _ reader_named _ _ 1 1 (label_for_lawful wanted.Reader) (λ a e. refl) λ name.
+    word_line _ key_of _ _ 0 0 key_lawful (λ a e. refl) λ key.
+    made_line _)) (λ e. refl)
+
 -- ---- all of them
 
 pub row_lawful : (v : Verb) → LawfulRow v
@@ -233,6 +269,11 @@ row_lawful verb.Stop = stop_row
 row_lawful verb.Receipt = receipt_row
 row_lawful verb.Settled = settled_row
 row_lawful verb.Audit = audit_row
+row_lawful verb.Checkpoint = checkpoint_row
+row_lawful verb.Sign = sign_row
+row_lawful verb.Trim = trim_row
+row_lawful verb.Tgive = tgive_row
+row_lawful verb.Tget = tget_row
 
 -- what is found passes the test
 pub found_passes : {X : Type 0} (test : X → Bool) (xs : List X) (x : X) → find test xs ≡ Some x → test x ≡ true

@@ -8,6 +8,7 @@ use Rattle.hex.specs.Hex.{encode_lower, encode_with, lower_digits, decode_of, de
 use Rattle.hex.specs.declared.error.FromHexError.{FromHexError}
 use Rattle.hex.specs.declared.error.FromHexError.TheVariants.{OddLength}
 use Rattle.hex.proofs.HexLemmas.{decode_of-encode_lower, decode_pairs-ok, length-encode_with}
+use Rattle.depot_model.specs.Checkpoints.{is_checkpoint_key}
 use Rattle.depot_model.specs.Receipts.{receipt_of}
 use Rattle.depot_schedule.specs.declared.line_fault.LineFault.TheVariants as is
 use Rattle.depot_schedule.specs.Spelling.{is_word, is_word_byte, is_within, is_lower_digit, hex_word, sized}
@@ -145,7 +146,7 @@ pub key_lawful : {C : Type 0} → LawfulWord (key {C = C})
 key_lawful = hex_lawful (is_within 1 255) refl
 
 pub put_key_lawful : {C : Type 0} → LawfulWord (put_key {C = C})
-put_key_lawful = such_that_lawful key (λ c k. not (is_some (receipt_of k))) is.Hex key_lawful
+put_key_lawful = such_that_lawful key (λ c k. not (is_some (receipt_of k) || is_checkpoint_key k)) is.Hex key_lawful
 
 pub value_lawful : {C : Type 0} → LawfulWord (value {C = C})
 value_lawful {C = C} = or_empty_lawful (hex (is_within 1 65536)) (hex_lawful (is_within 1 65536) refl) (λ c fits. never fits.0) (λ c. (is.Hex, refl))

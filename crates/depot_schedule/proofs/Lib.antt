@@ -2,7 +2,7 @@ pub mod Splitting
 pub mod LanguageLaws
 pub mod NumberLaws
 pub mod HexWords
-pub mod ReceiptKeys
+pub mod KeyForms
 pub mod VocabularyLaws
 pub mod ChangeWords
 pub mod EventLineLaws

@@ -7,7 +7,7 @@ use Rattle.depot_base.specs.declared.write.Change.{Change}
 use Rattle.depot_base.specs.declared.proof.Kind.{Kind}
 use Rattle.depot_base.specs.declared.proof.Kind.TheVariants.{SameNumber}
 use Rattle.depot_schedule.specs.declared.event.Event.{Event}
-use Rattle.depot_schedule.specs.declared.event.Event.TheVariants.{Put, Puts, Get, Hello, Bundle, Give, Restart, Update, Updates, Voucher, Proof, Hollow, Judge, Raw, Cut, Flip, Join, Stop, Receipt, Settled, Audit}
+use Rattle.depot_schedule.specs.declared.event.Event.TheVariants.{Put, Puts, Get, Hello, Bundle, Give, Restart, Update, Updates, Voucher, Proof, Hollow, Judge, Raw, Cut, Flip, Join, Stop, Receipt, Settled, Audit, Checkpoint, Sign, Trim, Tgive, Tget}
 use Rattle.depot_schedule.specs.declared.event.Ref.{Ref}
 use Rattle.depot_schedule.specs.declared.event.Ref.TheVariants.{Own}
 use Rattle.depot_schedule.specs.declared.event.HistoryWord.{HistoryWord}
@@ -18,7 +18,7 @@ use Rattle.depot_schedule.specs.declared.verb.Verb.{Verb}
 use Rattle.depot_schedule.specs.declared.verb.Verb.TheVariants as verb
 use Rattle.depot_schedule.specs.declared.verb.TheConstants.{VERBS}
 use Rattle.depot_schedule.specs.Language.{Words, word, made, optional, counted, or_none, or_empty}
-use Rattle.depot_schedule.specs.Vocabulary.{correct, faulty, seq, clock, any_u32, piece_size, stop_call, node_count, image, key, put_key, value, raw_bytes, new_label, made_label, signed_label, voucher_label, plain_label, kind, history, reference, references, vouched, changes}
+use Rattle.depot_schedule.specs.Vocabulary.{correct, faulty, seq, clock, any_u32, piece_size, stop_call, node_count, image, key, put_key, value, raw_bytes, new_label, made_label, signed_label, voucher_label, plain_label, reader_label, kind, history, reference, references, vouched, changes}
 
 -- ---- the parts of events; where an event has no such part, any value serves
 
@@ -36,12 +36,16 @@ node_of (Voucher _ writer _ _) = writer
 node_of (Stop node _ _) = node
 node_of (Receipt node _) = node
 node_of (Settled node _ _) = node
+node_of (Checkpoint node _) = node
+node_of (Sign node _) = node
+node_of (Trim node _ _) = node
 node_of _ = 0
 
 abbrev pub key_of : Event → List ℕ
 key_of (Put _ k _) = k
 key_of (Get _ k) = k
 key_of (Update _ _ _ _ _ k _ _ _) = k
+key_of (Tget _ k) = k
 key_of _ = []
 
 abbrev pub value_of : Event → List ℕ
@@ -71,6 +75,10 @@ label_of (Raw label _) = label
 label_of (Cut label _ _ _) = label
 label_of (Flip label _ _) = label
 label_of (Join label _ _) = label
+label_of (Checkpoint _ label) = label
+label_of (Sign _ label) = label
+label_of (Trim _ label _) = label
+label_of (Tgive _ label) = label
 label_of _ = []
 
 -- the label whose bytes an event starts from
@@ -89,6 +97,13 @@ second_of (Proof _ _ _ second) = second
 second_of (Hollow _ _ text) = text
 second_of (Join _ _ second) = second
 second_of _ = []
+
+-- the name of a reader
+abbrev pub reader_named : Event → List ℕ
+reader_named (Trim _ _ name) = name
+reader_named (Tgive name _) = name
+reader_named (Tget name _) = name
+reader_named _ = []
 
 abbrev pub size_of : Event → Option ℕ
 size_of (Give _ _ size) = size
@@ -253,6 +268,26 @@ settled = counted 3 3 (word correct node_of λ node. word reference reference_of
 unfoldable pub audit : Line
 audit = counted 0 0 (made Audit)
 
+-- `checkpoint N LABEL`
+unfoldable pub checkpoint : Line
+checkpoint = counted 2 2 (word correct node_of λ node. word new_label label_of λ label. made (Checkpoint node label))
+
+-- `sign N LABEL`
+unfoldable pub sign : Line
+sign = counted 2 2 (word correct node_of λ node. word made_label label_of λ label. made (Sign node label))
+
+-- `trim N LABEL NAME`
+unfoldable pub trim : Line
+trim = counted 3 3 (word correct node_of λ node. word made_label label_of λ label. word new_label reader_named λ name. made (Trim node label name))
+
+-- `tgive NAME LABEL`
+unfoldable pub tgive : Line
+tgive = counted 2 2 (word reader_label reader_named λ name. word made_label label_of λ label. made (Tgive name label))
+
+-- `tget NAME KEY`
+unfoldable pub tget : Line
+tget = counted 2 2 (word reader_label reader_named λ name. word key key_of λ k. made (Tget name k))
+
 -- ---- all kinds of events
 
 abbrev pub verb_of : Event → Verb
@@ -277,6 +312,11 @@ verb_of (Stop _ _ _) = verb.Stop
 verb_of (Receipt _ _) = verb.Receipt
 verb_of (Settled _ _ _) = verb.Settled
 verb_of Audit = verb.Audit
+verb_of (Checkpoint _ _) = verb.Checkpoint
+verb_of (Sign _ _) = verb.Sign
+verb_of (Trim _ _ _) = verb.Trim
+verb_of (Tgive _ _) = verb.Tgive
+verb_of (Tget _ _) = verb.Tget
 
 -- the first word of the line of an event, and the words behind it
 pub record Row : Type 1 where
@@ -308,6 +348,11 @@ row_of verb.Stop = row (codes "stop") stop
 row_of verb.Receipt = row (codes "receipt") receipt
 row_of verb.Settled = row (codes "settled") settled
 row_of verb.Audit = row (codes "audit") audit
+row_of verb.Checkpoint = row (codes "checkpoint") checkpoint
+row_of verb.Sign = row (codes "sign") sign
+row_of verb.Trim = row (codes "trim") trim
+row_of verb.Tgive = row (codes "tgive") tgive
+row_of verb.Tget = row (codes "tget") tget
 
 abbrev pub name_of : Verb → List ℕ
 name_of v = (row_of v).name

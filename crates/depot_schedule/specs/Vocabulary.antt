@@ -1,5 +1,5 @@
 -- The words of the lines of schedules.
-use Rattle.std.specs.Prelude.{◌≡◌, ℕ, ◌^◌, ◌≤◌, Bool, true, false, not, ◌&&◌, List, [], ◌∷◌, ◌++◌, length, Option, Some, None, is_some, Result, Ok, Err, nat_lt, nat_le, ◌==◌, codes, if◌then◌else◌}
+use Rattle.std.specs.Prelude.{◌≡◌, ℕ, ◌^◌, ◌≤◌, Bool, true, false, not, ◌&&◌, ◌||◌, List, [], ◌∷◌, ◌++◌, length, Option, Some, None, is_some, Result, Ok, Err, nat_lt, nat_le, ◌==◌, codes, if◌then◌else◌}
 use Rattle.std.specs.List.{list_any}
 use Rattle.std.specs.Fmt.{decimal}
 use Rattle.std.specs.Str.{bytes_eq}
@@ -11,6 +11,7 @@ use Rattle.depot_base.specs.declared.proof.Kind.{Kind}
 use Rattle.depot_base.specs.declared.proof.Kind.TheVariants.{SameNumber, SamePrev, Backward}
 use Rattle.depot_base.specs.declared.write.Change.{Change}
 use Rattle.depot_model.specs.Lists.{when}
+use Rattle.depot_model.specs.Checkpoints.{is_checkpoint_key}
 use Rattle.depot_model.specs.Lines.{name_of_kind}
 use Rattle.depot_model.specs.Receipts.{receipt_of}
 use Rattle.depot_schedule.specs.declared.line_fault.LineFault.{LineFault}
@@ -70,6 +71,11 @@ label_made (event.Stop _ _ _) = None
 label_made (event.Receipt _ _) = None
 label_made (event.Settled _ _ _) = None
 label_made event.Audit = None
+label_made (event.Checkpoint _ label) = Some (label, made.Bytes)
+label_made (event.Sign _ _) = None
+label_made (event.Trim _ _ name) = Some (name, made.Reader)
+label_made (event.Tgive _ _) = None
+label_made (event.Tget _ _) = None
 
 -- what this label names, if it is that one
 abbrev pub if_named : List ℕ → Option (List ℕ × Made) → Option Made
@@ -88,27 +94,41 @@ named_by (e ∷ es) label = first_or (named_by es label) (if_named label (label_
 
 -- whether what a label names is of the kind that is asked for
 abbrev pub is_wanted : Wanted → Made → Bool
-is_wanted wanted.Any m = true
+is_wanted wanted.Any made.Update = true
+is_wanted wanted.Any made.Voucher = true
+is_wanted wanted.Any made.Plain = true
+is_wanted wanted.Any made.Bytes = true
+is_wanted wanted.Any made.Reader = false
 is_wanted wanted.Update made.Update = true
 is_wanted wanted.Update made.Voucher = false
 is_wanted wanted.Update made.Plain = false
 is_wanted wanted.Update made.Bytes = false
+is_wanted wanted.Update made.Reader = false
 is_wanted wanted.Signed made.Update = true
 is_wanted wanted.Signed made.Voucher = true
 is_wanted wanted.Signed made.Plain = false
 is_wanted wanted.Signed made.Bytes = false
+is_wanted wanted.Signed made.Reader = false
 is_wanted wanted.Voucher made.Update = false
 is_wanted wanted.Voucher made.Voucher = true
 is_wanted wanted.Voucher made.Plain = false
 is_wanted wanted.Voucher made.Bytes = false
+is_wanted wanted.Voucher made.Reader = false
 is_wanted wanted.Plain made.Update = false
 is_wanted wanted.Plain made.Voucher = false
 is_wanted wanted.Plain made.Plain = true
 is_wanted wanted.Plain made.Bytes = false
+is_wanted wanted.Plain made.Reader = false
 is_wanted wanted.Vouched made.Update = true
 is_wanted wanted.Vouched made.Voucher = false
 is_wanted wanted.Vouched made.Plain = true
 is_wanted wanted.Vouched made.Bytes = false
+is_wanted wanted.Vouched made.Reader = false
+is_wanted wanted.Reader made.Update = false
+is_wanted wanted.Reader made.Voucher = false
+is_wanted wanted.Reader made.Plain = false
+is_wanted wanted.Reader made.Bytes = false
+is_wanted wanted.Reader made.Reader = true
 
 -- whether a label that names this is what is asked for; one that wasn't made never is
 abbrev pub meets : Wanted → Option Made → Bool
@@ -183,9 +203,9 @@ hex test = record {
 abbrev pub key : {C : Type 0} → Word C (List ℕ)
 key = hex (is_within 1 MOST_KEY)
 
--- a key that a node may be asked to write: none has the form of a receipt's, which receipts alone write
+-- a key that a node may be asked to write: none has the form of a receipt's or of a checkpoint's, which these alone write
 abbrev pub put_key : {C : Type 0} → Word C (List ℕ)
-put_key = such_that key (λ c k. not (is_some (receipt_of k))) is.Hex
+put_key = such_that key (λ c k. not (is_some (receipt_of k) || is_checkpoint_key k)) is.Hex
 
 -- a value: at most 65,536 bytes
 abbrev pub value : {C : Type 0} → Word C (List ℕ)
@@ -216,7 +236,7 @@ new_label = such_that label (λ s l. not (is_some (named_by s.events l))) is.Lab
 abbrev pub label_for : Wanted → Word Schedule (List ℕ)
 label_for asked = such_that label (λ s l. meets asked (named_by s.events l)) is.Label
 
--- a label that an event before made
+-- a label of bytes that an event before made
 abbrev pub made_label : Word Schedule (List ℕ)
 made_label = label_for wanted.Any
 
@@ -231,6 +251,10 @@ voucher_label = label_for wanted.Voucher
 -- the label of plain bytes
 abbrev pub plain_label : Word Schedule (List ℕ)
 plain_label = label_for wanted.Plain
+
+-- the name of a reader that an event before made
+abbrev pub reader_label : Word Schedule (List ℕ)
+reader_label = label_for wanted.Reader
 
 -- ---- names
 

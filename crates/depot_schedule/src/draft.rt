@@ -97,6 +97,11 @@ fn label_made(event: &Event) -> Option<(&Label, Made)>
         Event::Receipt { .. } => None,
         Event::Settled { .. } => None,
         Event::Audit => None,
+        Event::Checkpoint { label, .. } => Some((label, Made::Bytes)),
+        Event::Sign { .. } => None,
+        Event::Trim { name, .. } => Some((name, Made::Reader)),
+        Event::Tgive { .. } => None,
+        Event::Tget { .. } => None,
     }
 }
 

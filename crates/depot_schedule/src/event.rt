@@ -160,6 +160,32 @@ pub enum Event {
     },
     /// What all correct nodes did is audited, from their journals and reads alone.
     Audit,
+    /// The node makes a checkpoint and signs it; its text becomes the bytes of the label.
+    Checkpoint {
+        node: NodeId,
+        label: Label,
+    },
+    /// The node signs the checkpoint whose text the label has.
+    Sign {
+        node: NodeId,
+        label: Label,
+    },
+    /// A reader of this name is made of the node, below the checkpoint whose text the label has.
+    Trim {
+        node: NodeId,
+        label: Label,
+        name: Label,
+    },
+    /// The reader of this name takes the bytes of the label.
+    Tgive {
+        name: Label,
+        label: Label,
+    },
+    /// The reader of this name reads a key.
+    Tget {
+        name: Label,
+        key: Key,
+    },
 }
 
 impl Event {
@@ -192,6 +218,11 @@ impl Event {
             Event::Receipt { .. } => Verb::Receipt,
             Event::Settled { .. } => Verb::Settled,
             Event::Audit => Verb::Audit,
+            Event::Checkpoint { .. } => Verb::Checkpoint,
+            Event::Sign { .. } => Verb::Sign,
+            Event::Trim { .. } => Verb::Trim,
+            Event::Tgive { .. } => Verb::Tgive,
+            Event::Tget { .. } => Verb::Tget,
         }
     }
 }

@@ -3,7 +3,7 @@ ghost use Rattle.std.specs.Prelude.{◌==◌, length, Ok, Err, if◌then◌else�
 ghost use Rattle.depot_schedule.specs.declared.line_fault.LineFault.TheVariants as is;
 ghost use Rattle.depot_schedule.specs.Language.{nothing, last};
 ghost use Rattle.depot_schedule.specs.Vocabulary.{piece_size};
-ghost use Rattle.depot_schedule.specs.EventLines.{put, puts, get, hello, bundle, give, restart, update, updates, voucher, proof, hollow, judge, raw, cut, flip, join, stop, receipt, settled, audit, line_of};
+ghost use Rattle.depot_schedule.specs.EventLines.{put, puts, get, hello, bundle, give, restart, update, updates, voucher, proof, hollow, judge, raw, cut, flip, join, stop, receipt, settled, audit, checkpoint, sign, trim, tgive, tget, line_of};
 ghost use Rattle.depot_schedule.specs.Readers.{Gives, Counts};
 ghost use Rattle.depot_schedule.specs.declared.schedule.Schedule.{Schedule};
 
@@ -383,6 +383,62 @@ fn audit(words: &Parts<'_>) -> Result<Event, LineError>
     made(words, Event::Audit)
 }
 
+/// `checkpoint N LABEL`
+#[tactic(auto, unfolding(crate::specs::EventLines::checkpoint))]
+fn checkpoint(alloc: Global, words: &mut Parts<'_>, behind: &Draft) -> Result<Event, LineError>
+    ensures { Gives result (checkpoint.read behind.now words.old) }
+{
+    counted(words, 2, 2)?;
+    let node = correct(words, behind)?;
+    let label = new_label(alloc, words, behind)?;
+    made(words, Event::Checkpoint { node, label })
+}
+
+/// `sign N LABEL`
+#[tactic(auto, unfolding(crate::specs::EventLines::sign))]
+fn sign(alloc: Global, words: &mut Parts<'_>, behind: &Draft) -> Result<Event, LineError>
+    ensures { Gives result (sign.read behind.now words.old) }
+{
+    counted(words, 2, 2)?;
+    let node = correct(words, behind)?;
+    let label = label_for(alloc, words, behind, Wanted::Any)?;
+    made(words, Event::Sign { node, label })
+}
+
+/// `trim N LABEL NAME`
+#[tactic(auto, unfolding(crate::specs::EventLines::trim))]
+fn trim(alloc: Global, words: &mut Parts<'_>, behind: &Draft) -> Result<Event, LineError>
+    ensures { Gives result (trim.read behind.now words.old) }
+{
+    counted(words, 3, 3)?;
+    let node = correct(words, behind)?;
+    let label = label_for(alloc, words, behind, Wanted::Any)?;
+    let name = new_label(alloc, words, behind)?;
+    made(words, Event::Trim { node, label, name })
+}
+
+/// `tgive NAME LABEL`
+#[tactic(auto, unfolding(crate::specs::EventLines::tgive))]
+fn tgive(alloc: Global, words: &mut Parts<'_>, behind: &Draft) -> Result<Event, LineError>
+    ensures { Gives result (tgive.read behind.now words.old) }
+{
+    counted(words, 2, 2)?;
+    let name = label_for(alloc, words, behind, Wanted::Reader)?;
+    let label = label_for(alloc, words, behind, Wanted::Any)?;
+    made(words, Event::Tgive { name, label })
+}
+
+/// `tget NAME KEY`
+#[tactic(auto, unfolding(crate::specs::EventLines::tget))]
+fn tget(alloc: Global, words: &mut Parts<'_>, behind: &Draft) -> Result<Event, LineError>
+    ensures { Gives result (tget.read behind.now words.old) }
+{
+    counted(words, 2, 2)?;
+    let name = label_for(alloc, words, behind, Wanted::Reader)?;
+    let key = key(alloc, words)?;
+    made(words, Event::Tget { name, key })
+}
+
 /// The event of the words behind its name.
 pub fn event_of(
     alloc: Global,
@@ -414,5 +470,10 @@ pub fn event_of(
         Verb::Receipt => receipt(alloc, words, behind),
         Verb::Settled => settled(alloc, words, behind),
         Verb::Audit => audit(words),
+        Verb::Checkpoint => checkpoint(alloc, words, behind),
+        Verb::Sign => sign(alloc, words, behind),
+        Verb::Trim => trim(alloc, words, behind),
+        Verb::Tgive => tgive(alloc, words, behind),
+        Verb::Tget => tget(alloc, words, behind),
     }
 }

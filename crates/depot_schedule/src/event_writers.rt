@@ -3,7 +3,7 @@ ghost use Rattle.std.specs.Prelude.{◌≡◌, [], ◌∷◌, ◌++◌, OnOk};
 ghost use Rattle.std.specs.Fmt.{decimal};
 ghost use Rattle.hex.specs.Hex.{encode_lower};
 ghost use Rattle.depot_schedule.specs.Language.{text_if_any};
-ghost use Rattle.depot_schedule.specs.EventLines.{put, puts, get, hello, bundle, give, restart, update, updates, voucher, proof, hollow, judge, raw, cut, flip, join, stop, receipt, settled, audit, line_of, verb_of};
+ghost use Rattle.depot_schedule.specs.EventLines.{put, puts, get, hello, bundle, give, restart, update, updates, voucher, proof, hollow, judge, raw, cut, flip, join, stop, receipt, settled, audit, checkpoint, sign, trim, tgive, tget, line_of, verb_of};
 ghost use Rattle.depot_schedule.specs.Readers.{behind_spaces};
 
 use crate::change_writers::writes;
@@ -301,6 +301,58 @@ fn settled(alloc: Global, out: &mut Bytes, id: NodeId, update: &Ref, k: u32) -> 
     number(alloc, out, k as u64)
 }
 
+/// `checkpoint N LABEL`
+#[tactic(auto, using(depot_base::proofs::Writing::texts), unfolding(crate::specs::EventLines::checkpoint))]
+fn checkpoint(alloc: Global, out: &mut Bytes, id: NodeId, name: &Label) -> Result<(), Memory>
+    ensures { OnOk result (out.new ≡ out.old ++ behind_spaces (checkpoint.text (Event.Checkpoint id name.now))) }
+{
+    node(alloc, out, id)?;
+    label(out, name)
+}
+
+/// `sign N LABEL`
+#[tactic(auto, using(depot_base::proofs::Writing::texts), unfolding(crate::specs::EventLines::sign))]
+fn sign(alloc: Global, out: &mut Bytes, id: NodeId, name: &Label) -> Result<(), Memory>
+    ensures { OnOk result (out.new ≡ out.old ++ behind_spaces (sign.text (Event.Sign id name.now))) }
+{
+    node(alloc, out, id)?;
+    label(out, name)
+}
+
+/// `trim N LABEL NAME`
+#[tactic(auto, using(depot_base::proofs::Writing::texts), unfolding(crate::specs::EventLines::trim))]
+fn trim(
+    alloc: Global,
+    out: &mut Bytes,
+    id: NodeId,
+    text: &Label,
+    name: &Label,
+) -> Result<(), Memory>
+    ensures { OnOk result (out.new ≡ out.old ++ behind_spaces (trim.text (Event.Trim id text.now name.now))) }
+{
+    node(alloc, out, id)?;
+    label(out, text)?;
+    label(out, name)
+}
+
+/// `tgive NAME LABEL`
+#[tactic(auto, using(depot_base::proofs::Writing::texts), unfolding(crate::specs::EventLines::tgive))]
+fn tgive(out: &mut Bytes, name: &Label, stream: &Label) -> Result<(), Memory>
+    ensures { OnOk result (out.new ≡ out.old ++ behind_spaces (tgive.text (Event.Tgive name.now stream.now))) }
+{
+    label(out, name)?;
+    label(out, stream)
+}
+
+/// `tget NAME KEY`
+#[tactic(auto, using(depot_base::proofs::Writing::texts), unfolding(crate::specs::EventLines::tget))]
+fn tget(alloc: Global, out: &mut Bytes, name: &Label, key: &Key) -> Result<(), Memory>
+    ensures { OnOk result (out.new ≡ out.old ++ behind_spaces (tget.text (Event.Tget name.now key.now))) }
+{
+    label(out, name)?;
+    hex(alloc, out, key.bytes())
+}
+
 /// The words behind the name of an event.
 #[tactic(auto, unfolding(crate::specs::EventLines::audit))]
 pub fn words_of_event(alloc: Global, out: &mut Bytes, event: &Event) -> Result<(), Memory>
@@ -381,5 +433,10 @@ pub fn words_of_event(alloc: Global, out: &mut Bytes, event: &Event) -> Result<(
         Event::Receipt { node, refs } => receipt(alloc, out, *node, refs),
         Event::Settled { node, reference, k } => settled(alloc, out, *node, reference, *k),
         Event::Audit => Ok(()),
+        Event::Checkpoint { node, label } => checkpoint(alloc, out, *node, label),
+        Event::Sign { node, label } => sign(alloc, out, *node, label),
+        Event::Trim { node, label, name } => trim(alloc, out, *node, label, name),
+        Event::Tgive { name, label } => tgive(out, name, label),
+        Event::Tget { name, key } => tget(alloc, out, name, key),
     }
 }

@@ -1,8 +1,9 @@
 //! How single words are spelled: numbers in decimal, bytes in hexadecimal, names of files, the names of kinds of contradictions, and
-//! the keys that receipts alone write.
+//! the keys that receipts and checkpoints alone write.
 ghost use Rattle.std.specs.Prelude.{◌≡◌, ◌≤◌, length, is_some, IsTrue, IfSome, IfOk};
 ghost use Rattle.std.specs.List.{list_all};
 ghost use Rattle.std.specs.Str.{bytes_eq};
+ghost use Rattle.depot_model.specs.Checkpoints.{is_checkpoint_key};
 ghost use Rattle.depot_model.specs.Lines.{name_of_kind};
 ghost use Rattle.depot_model.specs.Receipts.{receipt_of};
 ghost use Rattle.depot_schedule.specs.Spelling.{is_word_byte, is_within, is_lower_digit, is_digit, hex_word, has_no_leading_zero, is_number, value_behind, number_word, is_name};
@@ -136,12 +137,22 @@ pub fn is_name(bytes: &[u8]) -> bool
 }
 
 /// Whether a key has the form of a receipt's: the 8 bytes `receipt:`, and the 32 of an id.
-#[tactic(auto, using(crate::proofs::ReceiptKeys::key_laws))]
+#[tactic(auto, using(crate::proofs::KeyForms::key_laws))]
 pub fn is_receipt_key(key: &[u8]) -> bool
     ensures { result ≡ is_some (receipt_of key.now) }
 {
     match key.strip_prefix(b"receipt:") {
         Some(id) => id.len() == 32,
+        None => false,
+    }
+}
+
+/// Whether a key has the form of a checkpoint's: the 11 bytes `checkpoint:`, and the 32 of a hash.
+pub fn is_checkpoint_key(key: &[u8]) -> bool
+    ensures { result ≡ is_checkpoint_key key.now }
+{
+    match key.strip_prefix(b"checkpoint:") {
+        Some(hash) => hash.len() == 32,
         None => false,
     }
 }

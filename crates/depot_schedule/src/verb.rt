@@ -49,10 +49,20 @@ pub enum Verb {
     Settled,
     /// `audit`
     Audit,
+    /// `checkpoint N LABEL`
+    Checkpoint,
+    /// `sign N LABEL`
+    Sign,
+    /// `trim N LABEL NAME`
+    Trim,
+    /// `tgive NAME LABEL`
+    Tgive,
+    /// `tget NAME KEY`
+    Tget,
 }
 
 /// Each kind of event once.
-pub const VERBS: [Verb; 21] = [
+pub const VERBS: [Verb; 26] = [
     Verb::Put,
     Verb::Puts,
     Verb::Get,
@@ -74,6 +84,11 @@ pub const VERBS: [Verb; 21] = [
     Verb::Receipt,
     Verb::Settled,
     Verb::Audit,
+    Verb::Checkpoint,
+    Verb::Sign,
+    Verb::Trim,
+    Verb::Tgive,
+    Verb::Tget,
 ];
 
 impl Verb {
@@ -103,6 +118,11 @@ impl Verb {
             Verb::Receipt => "receipt",
             Verb::Settled => "settled",
             Verb::Audit => "audit",
+            Verb::Checkpoint => "checkpoint",
+            Verb::Sign => "sign",
+            Verb::Trim => "trim",
+            Verb::Tgive => "tgive",
+            Verb::Tget => "tget",
         }
     }
 
@@ -124,14 +144,16 @@ pub enum Made {
     Voucher,
     /// Bytes as they are: given, or cut, flipped or joined of others.
     Plain,
-    /// The bytes of a hello, a bundle or a proof.
+    /// The bytes of a hello, a bundle, a proof or a checkpoint.
     Bytes,
+    /// A reader, which is no bytes.
+    Reader,
 }
 
 /// What a word asks of a label that an event before made.
 #[derive(Clone, Copy, Debug, PartialEq, Eq)]
 pub enum Wanted {
-    /// That it was made.
+    /// That it names bytes, of any kind.
     Any,
     /// That it names an update.
     Update,
@@ -143,6 +165,8 @@ pub enum Wanted {
     Plain,
     /// That it names what a voucher may name: an update or plain bytes.
     Vouched,
+    /// That it names a reader.
+    Reader,
 }
 
 impl Wanted {
@@ -161,6 +185,7 @@ impl Wanted {
                 Wanted::Voucher => false,
                 Wanted::Plain => false,
                 Wanted::Vouched => true,
+                Wanted::Reader => false,
             },
             Made::Voucher => match self {
                 Wanted::Any => true,
@@ -169,6 +194,7 @@ impl Wanted {
                 Wanted::Voucher => true,
                 Wanted::Plain => false,
                 Wanted::Vouched => false,
+                Wanted::Reader => false,
             },
             Made::Plain => match self {
                 Wanted::Any => true,
@@ -177,6 +203,7 @@ impl Wanted {
                 Wanted::Voucher => false,
                 Wanted::Plain => true,
                 Wanted::Vouched => true,
+                Wanted::Reader => false,
             },
             Made::Bytes => match self {
                 Wanted::Any => true,
@@ -185,6 +212,16 @@ impl Wanted {
                 Wanted::Voucher => false,
                 Wanted::Plain => false,
                 Wanted::Vouched => false,
+                Wanted::Reader => false,
+            },
+            Made::Reader => match self {
+                Wanted::Any => false,
+                Wanted::Update => false,
+                Wanted::Signed => false,
+                Wanted::Voucher => false,
+                Wanted::Plain => false,
+                Wanted::Vouched => false,
+                Wanted::Reader => true,
             },
         }
     }

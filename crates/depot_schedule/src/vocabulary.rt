@@ -11,7 +11,7 @@ use crate::event::HistoryWord;
 use crate::label::{Label, is_label};
 use crate::line_fault::{LineError, LineFault};
 use crate::parts::Parts;
-use crate::spelling::{has_length, hex_word, is, is_receipt_key, number_word};
+use crate::spelling::{has_length, hex_word, is, is_checkpoint_key, is_receipt_key, number_word};
 use crate::verb::Wanted;
 use depot_base::limits::{MOST_KEY, MOST_NODES, MOST_STOP_CALL, MOST_VALUE};
 use depot_base::{Bytes, Hash32, Key, Kind, NodeId, Value};
@@ -162,12 +162,12 @@ pub fn key_of(alloc: Global, word: &[u8]) -> Result<Key, LineError>
     Ok(Key::from_bytes(bytes))
 }
 
-/// The key that a word is, of those that a node may be asked to write: none is that of a receipt.
+/// The key that a word is, of those that a node may be asked to write: none is that of a receipt or of a checkpoint.
 pub fn put_key_of(alloc: Global, word: &[u8]) -> Result<Key, LineError>
     ensures { Gives result (put_key.read nothing word.now) }
 {
     let key = key_of(alloc, word)?;
-    if is_receipt_key(key.bytes()) {
+    if is_receipt_key(key.bytes()) || is_checkpoint_key(key.bytes()) {
         Err(LineError::In(LineFault::Hex))
     } else {
         Ok(key)

@@ -1,6 +1,6 @@
 -- Labels in a map that keeps them in order, and in a run.
 use Rattle.std.proofs.Common.{◌≡◌, ℕ, List, [], ◌∷◌, ◌++◌, Bool, true, false, cond, Option, Some, None, option_map, option_and_then, is_some, Vec, refl, sym, ap, subst, ◌∙◌}
-use Rattle.std.specs.BTreeMap.{BTreeMap, Updates}
+use Rattle.std.specs.BTreeMap.{BTreeMap, Updates, UpdatesBy}
 use Rattle.std.specs.Cmp.{eq_by_cmp_equiv}
 use Rattle.std.specs.Cmp.Lexicographic.{slice_cmp, nat_list_cmp_total}
 use Rattle.std.specs.Map.{KeepsOthers}
@@ -21,15 +21,16 @@ use Rattle.depot_stage.specs.declared.label_table.Given.{Given}
 -- ---- a label that is put in
 
 -- it names what it was put in with, and others name what they named
-pub named_once_put : (old new : BTreeMap (Vec ℕ Global) Given) (name : Vec ℕ Global) (g : Given) → Updates vec_cmp old new name (Some g) → (label : List ℕ) → named_in label new.entries ≡ cond (bytes_eq name.items label) (Some g) (named_in label old.entries)
+pub named_once_put : {V : Type 0} (old new : BTreeMap (Vec ℕ Global) V) (name : List ℕ) (g : V) → UpdatesBy vec_cmp (λ k. slice_cmp nat_cmp name k.items) old new (Some g) → (label : List ℕ)
+    → named_in label new.entries ≡ cond (bytes_eq name label) (Some g) (named_in label old.entries)
 unfolding KeepsOthers
-named_once_put old new name g u label = choice (bytes_eq name.items label) refl where
-  choice : (b : Bool) → bytes_eq name.items label ≡ b → named_in label new.entries ≡ cond b (Some g) (named_in label old.entries)
-  choice true same = subst (λ (l : List ℕ). named_in l new.entries ≡ Some g) ((bytes_eq-Decides name.items label).0 same) u.1
+named_once_put old new name g u label = choice (bytes_eq name label) refl where
+  choice : (b : Bool) → bytes_eq name label ≡ b → named_in label new.entries ≡ cond b (Some g) (named_in label old.entries)
+  choice true same = subst (λ (l : List ℕ). named_in l new.entries ≡ Some g) ((bytes_eq-Decides name label).0 same) u.1
   choice false other =
       u.3 (λ (k : Vec ℕ Global). is_eq (slice_cmp nat_cmp label k.items)) (λ x y. (eq_by_cmp_equiv nat_list_cmp_total).congr label x.items y.items)
       (λ k at. false_from_ne_true (is_eq (slice_cmp nat_cmp label k.items)) (λ also.
-      let same : bytes_eq name.items label ≡ true = (bytes_eq-Decides name.items label).1 (tells_apart exact_bytes name.items k.items at ∙ sym (tells_apart exact_bytes label k.items also)) in
+      let same : bytes_eq name label ≡ true = (bytes_eq-Decides name label).1 (tells_apart exact_bytes name k.items at ∙ sym (tells_apart exact_bytes label k.items also)) in
       absurd cc))
 
 -- ---- a label more of a run
@@ -80,7 +81,7 @@ labels_stay entries ms m are there label = by_made (made_in ms label) refl where
 pub labels_more : (old new : BTreeMap (Vec ℕ Global) Given) (ms : List Made) (m : Made) (name : Vec ℕ Global) → AreLabels old.entries ms → name.items ≡ m.label → is_some (named_in m.label old.entries) ≡ false
     → Updates vec_cmp old new name (Some (given_by m)) → AreLabels new.entries (ms ++ m ∷ [])
 labels_more old new ms m name are is absent u label =
-    named_once_put old new name (given_by m) u label ∙ (ap (λ (l : List ℕ). cond (bytes_eq l label) (Some (given_by m)) (named_in label old.entries)) is ∙ by_label (bytes_eq m.label label) refl) where
+    named_once_put old new name.items (given_by m) u label ∙ (ap (λ (l : List ℕ). cond (bytes_eq l label) (Some (given_by m)) (named_in label old.entries)) is ∙ by_label (bytes_eq m.label label) refl) where
       by_label : (b : Bool) → bytes_eq m.label label ≡ b → cond b (Some (given_by m)) (named_in label old.entries) ≡ option_map given_by (made_in (ms ++ m ∷ []) label)
       by_label true same =
           let none : made_in ms label ≡ None = nothing_given (named_in label old.entries) (made_in ms label) (are label) (subst (λ (l : List ℕ). is_some (named_in l old.entries) ≡ false) ((bytes_eq-Decides m.label label).0 same) absent) in

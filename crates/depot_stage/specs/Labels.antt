@@ -13,7 +13,7 @@ use Rattle.depot_world.specs.Run.{Made, made_in}
 use Rattle.depot_stage.specs.declared.label_table.Given.{Given}
 
 -- what a label names among these
-abbrev pub named_in : List ℕ → List (Vec ℕ Global × Given) → Option Given
+abbrev pub named_in : {V : Type 0} → List ℕ → List (Vec ℕ Global × V) → Option V
 named_in label entries = lookup (λ k. is_eq (slice_cmp nat_cmp label k.items)) entries
 
 -- what was made under a label, as it is kept
@@ -42,6 +42,7 @@ plain_in labels label = option_and_then (λ m. when m.plain m.bytes) (made_in la
 abbrev pub label_by : Event → Option (List ℕ)
 label_by (event.Hello node label) = Some label
 label_by (event.Bundle node hello label) = Some label
+label_by (event.Checkpoint node label) = Some label
 label_by e = None
 
 -- labels, and that one with these bytes

@@ -1,12 +1,11 @@
 //! The front of an event's line.
-ghost use Rattle.std.specs.Prelude.{◌≡◌, ◌++◌, ◌∷◌, [], OnOk, codes, take, drop};
+ghost use Rattle.std.specs.Prelude.{◌≡◌, ◌++◌, ◌∷◌, [], OnOk, codes, drop};
 ghost use Rattle.std.specs.Fmt.{decimal};
 ghost use Rattle.hex.specs.Hex.{encode_lower};
 ghost use Rattle.depot_schedule.specs.Language.{join};
 ghost use Rattle.depot_schedule.specs.Readers.{behind_spaces};
-ghost use Rattle.depot_schedule.specs.Schedules.{event_words};
 ghost use Rattle.depot_schedule.specs.Vocabulary.{text_of_ref};
-ghost use Rattle.depot_world.specs.Transcript.{head_count};
+ghost use Rattle.depot_world.specs.Transcript.{head_words};
 
 use depot_base::{Bytes, Key, Memory, NodeId};
 use depot_schedule::lines::{hex, label, node, number, reference};
@@ -17,7 +16,7 @@ use std::alloc::Global;
 /// it may have been written.
 #[tactic(auto, using(depot_base::proofs::Writing::texts, depot_schedule::proofs::WrittenSteps::lines))]
 pub fn event_head(alloc: Global, out: &mut Bytes, event: &Event) -> Result<(), Memory>
-    ensures { OnOk result (out.new ≡ out.old ++ (join 32 (take (head_count event.now) (event_words event.now)) ++ codes " ->")) }
+    ensures { OnOk result (out.new ≡ out.old ++ (join 32 (head_words event.now) ++ codes " ->")) }
 {
     out.push_all(event.verb().name().as_bytes())?;
     words(alloc, out, event)?;
@@ -25,9 +24,9 @@ pub fn event_head(alloc: Global, out: &mut Bytes, event: &Event) -> Result<(), M
 }
 
 /// Writes the words between the name and the arrow, each behind a space.
-#[tactic(auto, unfolding(depot_schedule::specs::EventLines::put, depot_schedule::specs::EventLines::puts, depot_schedule::specs::EventLines::get, depot_schedule::specs::EventLines::hello, depot_schedule::specs::EventLines::bundle, depot_schedule::specs::EventLines::give, depot_schedule::specs::EventLines::restart, depot_schedule::specs::EventLines::update, depot_schedule::specs::EventLines::updates, depot_schedule::specs::EventLines::voucher, depot_schedule::specs::EventLines::proof, depot_schedule::specs::EventLines::hollow, depot_schedule::specs::EventLines::judge, depot_schedule::specs::EventLines::raw, depot_schedule::specs::EventLines::cut, depot_schedule::specs::EventLines::flip, depot_schedule::specs::EventLines::join, depot_schedule::specs::EventLines::stop, depot_schedule::specs::EventLines::receipt, depot_schedule::specs::EventLines::settled, depot_schedule::specs::EventLines::audit))]
+#[tactic(auto, unfolding(depot_schedule::specs::EventLines::put, depot_schedule::specs::EventLines::puts, depot_schedule::specs::EventLines::get, depot_schedule::specs::EventLines::hello, depot_schedule::specs::EventLines::bundle, depot_schedule::specs::EventLines::give, depot_schedule::specs::EventLines::restart, depot_schedule::specs::EventLines::update, depot_schedule::specs::EventLines::updates, depot_schedule::specs::EventLines::voucher, depot_schedule::specs::EventLines::proof, depot_schedule::specs::EventLines::hollow, depot_schedule::specs::EventLines::judge, depot_schedule::specs::EventLines::raw, depot_schedule::specs::EventLines::cut, depot_schedule::specs::EventLines::flip, depot_schedule::specs::EventLines::join, depot_schedule::specs::EventLines::stop, depot_schedule::specs::EventLines::receipt, depot_schedule::specs::EventLines::settled, depot_schedule::specs::EventLines::audit, depot_schedule::specs::EventLines::checkpoint, depot_schedule::specs::EventLines::sign, depot_schedule::specs::EventLines::trim, depot_schedule::specs::EventLines::tgive, depot_schedule::specs::EventLines::tget))]
 fn words(alloc: Global, out: &mut Bytes, event: &Event) -> Result<(), Memory>
-    ensures { OnOk result (out.new ≡ out.old ++ behind_spaces (drop 1 (take (head_count event.now) (event_words event.now)))) }
+    ensures { OnOk result (out.new ≡ out.old ++ behind_spaces (drop 1 (head_words event.now))) }
 {
     match event {
         Event::Put { node, key, .. } => node_and_key(alloc, out, *node, key),
@@ -55,6 +54,11 @@ fn words(alloc: Global, out: &mut Bytes, event: &Event) -> Result<(), Memory>
             k,
         } => settled_words(alloc, out, *id, update, *k),
         Event::Audit => Ok(()),
+        Event::Checkpoint { node, label } => node_and_label(alloc, out, *node, label),
+        Event::Sign { node, label } => node_and_label(alloc, out, *node, label),
+        Event::Trim { node, name, .. } => node_and_label(alloc, out, *node, name),
+        Event::Tgive { name, label } => two_labels(out, name, label),
+        Event::Tget { name, key } => label_and_key(alloc, out, name, key),
     }
 }
 
@@ -89,6 +93,24 @@ fn node_and_labels(
 {
     node_and_label(alloc, out, id, first)?;
     label(out, second)
+}
+
+/// Two labels.
+#[tactic(auto, using(depot_base::proofs::Writing::texts))]
+fn two_labels(out: &mut Bytes, first: &Label, second: &Label) -> Result<(), Memory>
+    ensures { OnOk result (out.new ≡ out.old ++ behind_spaces (first.now ∷ second.now ∷ [])) }
+{
+    label(out, first)?;
+    label(out, second)
+}
+
+/// A label and a key.
+#[tactic(auto, using(depot_base::proofs::Writing::texts))]
+fn label_and_key(alloc: Global, out: &mut Bytes, name: &Label, key: &Key) -> Result<(), Memory>
+    ensures { OnOk result (out.new ≡ out.old ++ behind_spaces (name.now ∷ encode_lower key.now ∷ [])) }
+{
+    label(out, name)?;
+    hex(alloc, out, key.bytes())
 }
 
 /// A node's number, a reference, and a number of nodes.

@@ -142,6 +142,7 @@ fn label_of(event: &Event) -> Option<&Label>
     match event {
         Event::Hello { label, .. } => Some(label),
         Event::Bundle { label, .. } => Some(label),
+        Event::Checkpoint { label, .. } => Some(label),
         _ => None,
     }
 }

@@ -1,12 +1,13 @@
 //! What a journal grows by in one call.
-ghost use Rattle.std.specs.Prelude.{◌≡◌, ◌≤◌, ◌+◌, [], ◌∷◌, length, IfOk};
+ghost use Rattle.std.specs.Prelude.{◌≡◌, ◌≤◌, ◌+◌, ◌++◌, ◌^◌, List, [], ◌∷◌, length, IfOk};
 ghost use Rattle.std.specs.List.{AllByRecursion};
 ghost use Rattle.depot_base.specs.declared.limits.TheConstants.{MOST_RECORDS, MOST_RECORD};
+ghost use Rattle.depot_base.specs.declared.record.Record.{Record};
 ghost use Rattle.depot_base.specs.declared.record.Record.TheVariants.{OwnVoucher, Foreign, Conviction};
-ghost use Rattle.depot_model.specs.Records.{IsRecord};
+ghost use Rattle.depot_model.specs.Records.{IsRecord, journal_bytes};
 ghost use Rattle.depot_model.specs.Texts.{IsProof, id_of_statement};
 ghost use Rattle.depot_model.specs.Vouching.{records_of};
-ghost use Rattle.depot_store.specs.NewRecords.{IsHashOf, HasOwnId};
+ghost use Rattle.depot_store.specs.NewRecords.{IsHashOf, HasOwnId, bytes_of};
 ghost use Rattle.depot_store.specs.RecordTexts.{IsTextOf};
 
 use depot_base::{Bytes, Hash32, Memory, Proof, Record, Sequence, Signed, Voucher};
@@ -72,9 +73,19 @@ impl Growth {
 
     /// How many records there are. It takes no memory.
     pub fn count(&self) -> usize
-        ensures { result ≡ length self.now }
+        ensures count { result ≡ length self.now }
+        ensures few { result ≤ MOST_RECORDS }
     {
         self.texts.len()
+    }
+
+    /// How many bytes its records take in a journal. It takes no memory.
+    pub fn bytes(&self) -> u64
+        ensures bytes { result ≡ bytes_of self.now }
+        ensures small { result ≤ 2 ^ 38 }
+        ensures behind { (J : List Record) → journal_bytes (J ++ self.now) ≡ journal_bytes J + result }
+    {
+        self.bytes
     }
 
     /// One record. The hash is the id of a statement, and SHA-256 of a value of others; a birth and a conviction need none, and

@@ -1,12 +1,10 @@
 //! A growth is appended where there is room for it.
-ghost use Rattle.std.specs.Prelude.{◌≡◌, ◌≢◌, ◌↔◌, ◌≤◌, ◌+◌, ◌^◌, [], length, true, false, Some, IfErr, IsErrOf};
-ghost use Rattle.depot_base.specs.declared.limits.TheConstants.{MOST_RECORDS, MOST_JOURNAL};
+ghost use Rattle.std.specs.Prelude.{◌≡◌, ◌≢◌, ◌↔◌, [], length, true, false, Some, IfErr, IsErrOf};
 ghost use Rattle.depot_base.specs.declared.check.Full.{Full};
 ghost use Rattle.depot_model.specs.Journal.{accepted};
 ghost use Rattle.depot_model.specs.Lawful.{IsLawful, is_empty};
-ghost use Rattle.depot_model.specs.Records.{journal_bytes};
 ghost use Rattle.depot_model.specs.Replicas.{KeepsDisk};
-ghost use Rattle.depot_model.specs.Room.{full_by, foreign_leaves, limit_passed};
+ghost use Rattle.depot_model.specs.Room.{full_by, foreign_leaves};
 ghost use Rattle.depot_model.specs.Stops.{CallsDisk, Lasts};
 ghost use Rattle.depot_store.specs.NewRecords.{AreNew, MayGrow};
 ghost use Rattle.depot_store.specs.RoomByCounts.{Commits, leaves_with};
@@ -15,8 +13,7 @@ ghost use Rattle.depot_store.specs.Holdings.{standing, IsWhole};
 use crate::append::WriteError;
 use crate::growth::Growth;
 use crate::store::Store;
-use depot_base::limits::{MOST_FOREIGN_LEAVES, MOST_JOURNAL, MOST_RECORDS};
-use depot_base::{Full, FullOf};
+use depot_base::Full;
 use depot_model::Scheme;
 use depot_outside::Disk;
 
@@ -76,40 +73,6 @@ impl<D: Disk, S: Scheme> Store<D, S> {
         requires leaves { leaves ≡ leaves_with (accepted self.now.records) (length (foreign_leaves self.now.me self.now.records)) new.now }
         ensures { result ≡ full_by self.now.me self.now.records new.now }
     {
-        if new.texts.is_empty() {
-            return None;
-        }
-        self.limit(new.texts.len() as u64, new.bytes, leaves)
+        self.counts().limit(new, leaves)
     }
-
-    /// The first limit that so many records more, of so many bytes, pass, where there are so many leaves of other writers then.
-    fn limit(&self, records: u64, bytes: u64, leaves: Option<u32>) -> Option<Full>
-        requires whole { IsWhole self.now }
-        requires records { length self.now.records ≤ MOST_RECORDS }
-        requires bytes { journal_bytes self.now.records ≤ MOST_JOURNAL }
-        requires few { records ≤ 2 ^ 40 }
-        requires small { bytes ≤ 2 ^ 40 }
-        ensures { result ≡ limit_passed (length self.now.records) (journal_bytes self.now.records) (length (foreign_leaves self.now.me self.now.records)) (length self.now.records + records) (journal_bytes self.now.records + bytes) leaves }
-    {
-        let count = self.count() as u64;
-        if count + records > MOST_RECORDS as u64 {
-            return Some(full(FullOf::Records, count as u32));
-        }
-        let size = self.journal.size() as u64;
-        if size + bytes > MOST_JOURNAL as u64 {
-            return Some(full(FullOf::Bytes, size as u32));
-        }
-        match leaves {
-            Some(leaves) if leaves > MOST_FOREIGN_LEAVES => {
-                Some(full(FullOf::Writers, self.readings.kept.totals.leaves))
-            }
-            _ => None,
-        }
-    }
-}
-
-fn full(what: FullOf, number: u32) -> Full
-    ensures { result ≡ record { what = what; number = number } }
-{
-    Full { what, number }
 }

@@ -1,6 +1,7 @@
 //! A journal on a disk, with what is read off it.
-ghost use Rattle.std.specs.Prelude.{◌≡◌, ◌<◌, ◌≤◌, List, ℕ, [], ◌∷◌, false, IsTrue, Some, None, length, option_copied, map, slice_get};
+ghost use Rattle.std.specs.Prelude.{◌≡◌, ◌<◌, ◌≤◌, List, ℕ, [], ◌∷◌, false, IsTrue, Some, None, length, option_copied, map, slice_get, IfOk};
 ghost use Rattle.depot_base.specs.declared.limits.TheConstants.{MOST_RECORDS};
+ghost use Rattle.depot_model.specs.Hello.{wanted_of};
 ghost use Rattle.depot_model.specs.Journal.{accepted, held, is_wanted, value_with};
 ghost use Rattle.depot_model.specs.Records.{text_of_record};
 ghost use Rattle.depot_model.specs.Room.{foreign_leaves};
@@ -8,15 +9,18 @@ ghost use Rattle.depot_model.specs.Stops.{LeavesAll};
 ghost use Rattle.depot_model.specs.Vouching.{is_mine_vouched};
 ghost use Rattle.depot_accept.specs.StateView.{IsStateOf, setting};
 ghost use Rattle.depot_store.specs.RoomByCounts.{leaves_with};
-ghost use Rattle.depot_store.specs.Holdings.{standing};
+ghost use Rattle.depot_store.specs.Counts.{AreCountsOf};
+ghost use Rattle.depot_store.specs.Holdings.{standing, IsWhole};
 ghost use Rattle.depot_store.specs.Places.{accept_places};
 ghost use Rattle.depot_store.specs.Totals.{AreTotals};
 
+use crate::counts::Counts;
 use crate::growth::Growth;
+use crate::leaves::leaves_with;
 use crate::readings::Readings;
 use crate::totals::Totals;
 use depot_accept::State;
-use depot_base::{Hash32, NodeId};
+use depot_base::{Hash32, Ids, Memory, NodeId};
 use depot_journal::Journal;
 use depot_model::Scheme;
 use depot_outside::Disk;
@@ -46,7 +50,7 @@ impl<D: Disk, S: Scheme> Model for Store<D, S> {
     ghost view = { λ s. record { me = s.readings.kept.state.me; listed = s.readings.kept.state.listed; records = records_of (take s.read s.journal.records); unread = drop s.read s.journal.records; stopped = s.journal.is_stopped; disk = s.journal.disk } };
 
     ghost invariant = { λ s. AreTexts (take s.read s.journal.records) × (s.read ≤ length s.journal.records)
-        × (s.journal.is_stopped ≡ false → AreReadings (records_of (take s.read s.journal.records)) s.readings.kept.state s.readings.kept.values s.readings.kept.totals s.readings.named s.readings.places.places s.readings.mine.ids) };
+        × (s.journal.is_stopped ≡ false → AreReadings (records_of (take s.read s.journal.records)) s.readings.kept.state s.readings.kept.values s.readings.kept.totals s.readings.named s.readings.lacking s.readings.places.places s.readings.mine.ids) };
 }
 
 impl<D: Disk, S: Scheme> Store<D, S> {
@@ -165,6 +169,14 @@ impl<D: Disk, S: Scheme> Store<D, S> {
         self.readings.named.names(hash, size)
     }
 
+    /// The hashes of the values that accepted updates name and that aren't held in their length, the first 1,024 in rising order.
+    pub fn wanted(&self) -> Result<Ids, Memory>
+        requires { self.now.stopped ≡ false }
+        ensures { IfOk result (λ hashes. hashes ≡ wanted_of self.now.records) }
+    {
+        self.readings.lacking.first_hashes()
+    }
+
     /// Whether one of the node's own vouchers names this id. It takes no memory.
     pub fn is_mine_vouched(&self, id: &Hash32) -> bool
         requires { self.now.stopped ≡ false }
@@ -173,14 +185,25 @@ impl<D: Disk, S: Scheme> Store<D, S> {
         self.readings.mine.contains(id)
     }
 
+    /// How much the journal takes. It takes no memory.
+    pub fn counts(&self) -> Counts
+        requires { IsWhole self.now }
+        ensures { AreCountsOf self.now.me self.now.records result }
+    {
+        Counts {
+            records: self.read,
+            bytes: self.journal.size(),
+            leaves: self.readings.kept.totals.leaves,
+        }
+    }
+
     /// How many leaves of other writers there are with a growth, where it takes an update of another. It takes no memory.
     pub(crate) fn leaves_with(&self, new: &Growth) -> Option<u32>
         requires runs { self.now.stopped ≡ false }
         requires short { length self.now.records ≤ MOST_RECORDS }
         ensures { result ≡ leaves_with (accepted self.now.records) (length (foreign_leaves self.now.me self.now.records)) new.now }
     {
-        self.readings
-            .kept
-            .leaves_with(&new.news, new.parents.as_slice())
+        let kept = &self.readings.kept;
+        leaves_with(kept.state.graph(), kept.totals.leaves, new)
     }
 }

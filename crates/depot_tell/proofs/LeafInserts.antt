@@ -1,5 +1,5 @@
 -- Leaves with the places of their records, one put in after the other, and how a hello names them.
-use Rattle.std.proofs.Common.{◌≡◌, ℕ, zero, suc, ◌+◌, ◌-◌, ◌<◌, ◌≤◌, Bool, true, false, cond, not, eqb, List, [], ◌∷◌, ◌++◌, length, map, take, drop, Option, Some, unwrap_or, refl, sym, ap, subst, ◌∙◌, arith, inl, inr, ◌⊎◌, nat_lt}
+use Rattle.std.proofs.Common.{◌≡◌, ℕ, zero, suc, ◌+◌, ◌<◌, ◌≤◌, Bool, true, false, cond, not, List, [], ◌∷◌, ◌++◌, length, map, take, get_or, Option, Some, unwrap_or, refl, sym, ap, subst, ◌∙◌, arith, inl, inr, ◌⊎◌, nat_lt}
 use Rattle.std.specs.Prelude.{slice_get, Result, Ok, Err, IfOk}
 use Rattle.std.specs.List.{filter, position_or_len}
 use Rattle.std.specs.BTreeSet.{insert_key}
@@ -8,33 +8,35 @@ use Rattle.std.specs.Ordering.{nat_cmp, ordering_then, ordering_reverse, match_o
 use Rattle.std.specs.declared.cmp.Ordering.{Ordering}
 use Rattle.std.proofs.lemmas.Bool.{lt-ltb, false_from_ne_true}
 use Rattle.std.proofs.lemmas.Cmp.{nat_cmp_total}
-use Rattle.std.proofs.lemmas.List.{take-append-drop, drop_all}
+use Rattle.std.proofs.lemmas.List.{take_all}
 use Rattle.std.proofs.lemmas.Map.Lookups.{exact_bytes}
+use Rattle.std.proofs.lemmas.Option.{slice_get-get_or}
 use Rattle.depot_base.specs.declared.record.Record.{Record}
 use Rattle.depot_base.specs.declared.update.Update.{Update}
 use Rattle.depot_model.specs.Bundle.{records_where}
 use Rattle.depot_model.specs.declared.hello.HelloLeaf.{HelloLeaf}
 use Rattle.depot_model.specs.Hello.{record_place, named_leaf, leaves_named, AreLeafPlaces}
-use Rattle.depot_model.specs.History.{is_lower, put_by_id, by_id, leaves_of, is_prev_in}
-use Rattle.depot_model.specs.Items.{children_of}
+use Rattle.depot_model.specs.History.{is_lower, put_by_id, by_id, leaves_of}
+use Rattle.depot_model.specs.Items.{AreDistinct, AreLeaves, updates_at}
 use Rattle.depot_model.specs.Journal.{accepted, accepted_by, has_id}
 use Rattle.depot_model.specs.Checks.{Setting}
 use Rattle.depot_model.specs.Lawful.{IsLawful}
-use Rattle.depot_model.specs.Lists.{IsIn}
+use Rattle.depot_model.specs.Lists.{IsIn, is_among}
 use Rattle.depot_model.specs.Order.{IsCausal}
 use Rattle.depot_model.specs.Texts.{id_of_update}
-use Rattle.depot_model.proofs.Elements.{in_at, from_place}
-use Rattle.depot_model.proofs.Members.{from_filter, in_filter}
+use Rattle.depot_model.proofs.Elements.{in_at, of_place, one_more}
+use Rattle.depot_model.proofs.Members.{all_at, all_from, in_left, in_parts, in_right}
 use Rattle.depot_model.proofs.Orders.{fresh, causal_behind}
-use Rattle.depot_graph.proofs.Front.{apart, in_take}
-use Rattle.depot_graph.proofs.ItemPlaces.{own_place}
+use Rattle.depot_model.proofs.RisingLists.{HaveSame}
+use Rattle.depot_base.proofs.MembershipLaws.{in_read}
+use Rattle.depot_graph.specs.OrderLaws.{one_place}
 use Rattle.depot_laws.proofs.Causes.{none_or_one, leaf_is_on, lawful_is_causal}
-use Rattle.depot_model.proofs.RisingUpdates.{from_by_id}
+use Rattle.depot_model.proofs.RisingUpdates.{HaveOwnIds, from_by_id, own_ids_filter, own_ids_from_causal, same_by_id}
 use Rattle.depot_model.proofs.NamedIds.{has_id_from, has_id_to}
-use Rattle.depot_store.proofs.LeafLaws.{leaf_by_children}
 use Rattle.depot_store.specs.Places.{accepts, accept_places}
-use Rattle.depot_base.proofs.GeneralLaws.{same_test}
-use Rattle.depot_history.proofs.Sorting.{decided}
+use Rattle.depot_history.specs.PastLeaves.{standing}
+use Rattle.depot_history.proofs.ChainLeaves.{leaf_within, leaves_stand}
+use Rattle.depot_history.proofs.Sorting.{decided, is_standing, standing_apart, standing_is}
 use Rattle.depot_graph.proofs.ClockedItems.{place_of}
 use Rattle.depot_tell.specs.Telling.{leaf_in, name_of}
 use Rattle.depot_tell.specs.declared.leaf_order.Leaf.{Leaf}
@@ -134,72 +136,77 @@ insert_leaf J t (u ∷ ts) apart =
       through true later = ap (λ (ls : List Leaf). leaf_in J u ∷ ls) later
       through false later = refl
 
--- ---- which item is a leaf
+-- ---- one leaf after the other
 
--- the update is no prev of these
-abbrev pub is_leaf : List Update → Update → Bool
-is_leaf us t = not (is_prev_in us (id_of_update t))
+-- what an index inside gives for want of an entry doesn't matter
+same_entry : (ns : List ℕ) (i a b : ℕ) → i < length ns → get_or ns i a ≡ get_or ns i b
+same_entry ns i a b low = let both : Some (get_or ns i a) ≡ Some (get_or ns i b) = sym (slice_get-get_or ns i a low) ∙ slice_get-get_or ns i b low in cc
 
-leaf_has_id : (us : List Update) (t : Update) → IsIn t us → has_id (leaves_of us) (id_of_update t) ≡ is_leaf us t
-unfolding leaves_of
-leaf_has_id us t on = same_test (has_id (leaves_of us) (id_of_update t)) (is_leaf us t)
-    (λ yes.
-    let w = has_id_to (leaves_of us) (id_of_update t) yes in
-    ap (λ (h : List ℕ). not (is_prev_in us h)) (sym w.1.1) ∙ (from_filter (is_leaf us) w.0 us w.1.0).1)
-    (λ leaf. has_id_from (leaves_of us) (id_of_update t) t (in_filter (is_leaf us) t us on leaf) refl)
+-- a leaf is one of the items
+pub leaf_inside : (us : List Update) (items : List ℕ) (i : ℕ) → AreLeaves us items → i < length items → get_or items i 0 < length us
+leaf_inside us items i are lt = let n = get_or items i 0 in leaf_within us items n are (in_read n items i lt (same_entry items i n 0 lt))
 
--- an item without children is a leaf, and one with children is none
-pub leaf_by_count : (us : List Update) (i : ℕ) (t : Update) (children : List ℕ) → IsCausal [] us → slice_get us i ≡ Some t → children ≡ children_of us i → is_leaf us t ≡ eqb (length children) 0
-leaf_by_count us i t children c at are =
-    sym (leaf_has_id us t (in_at us i t at))
-    ∙ leaf_by_children us (id_of_update t) i (own_place us i t c at)
-    ∙ ap (λ (ns : List ℕ). eqb (length ns) 0) (sym are)
+-- numbers of which no two are one: the next is none of those before
+none_before : (ns : List ℕ) (i n : ℕ) → AreDistinct ns → i < length ns → n ≡ get_or ns i 0 → IsIn n (take i ns) → ⊥
+none_before [] i n once lt is on = absurd (omega (arith, lt))
+none_before (m ∷ ns) zero n once lt is never = absurd never
+none_before (m ∷ ns) (suc i) n once lt is (inl here) = all_at (λ (k : ℕ). k ≡ m → ⊥) ns n once.0 (in_read n ns i (omega (arith, lt)) (same_entry ns i n 0 (omega (arith, lt)) ∙ sym is)) (sym here)
+none_before (m ∷ ns) (suc i) n once lt is (inr there) = none_before ns i n once.1 (omega (arith, lt)) is there
 
--- ---- from the last item to the first
+-- the members, with the update of one place more
+one_stands : (us : List Update) (front more : List ℕ) (t : Update) → IsCausal [] us → updates_at us more ≡ updates_at us front ++ t ∷ [] → HaveSame (t ∷ standing us front) (standing us more)
+one_stands us front more t c are = record {
+  to = λ u on. is_standing us more u (subst (λ (ts : List Update). IsIn u ts) (sym are) (elim on [
+    | inl here ↦ in_right u (updates_at us front) (t ∷ []) (inl here)
+    | inr old ↦ in_left u (updates_at us front) (t ∷ []) (standing_is us front u c old)
+  ]));
+  back = λ u on. elim (in_parts u (updates_at us front) (t ∷ []) (subst (λ (ts : List Update). IsIn u ts) are (standing_is us more u c on))) [
+    | inl old ↦ inr (is_standing us front u old)
+    | inr new ↦ elim new [ inl here ↦ inl here | inr never ↦ absurd never ]
+  ];
+}
 
--- the leaves of all among these, in their order
-abbrev pub leaves_behind : List Record → List Update → List Update → List Leaf
-leaves_behind J all us = map (leaf_in J) (by_id (filter (is_leaf all) us))
-
-leaves_at : (J : List Record) (us : List Update) (n : ℕ) (t : Update) (b : Bool) → slice_get us n ≡ Some t → is_leaf us t ≡ b
-    → filter (is_leaf us) (drop n us) ≡ cond b (t ∷ filter (is_leaf us) (drop (n + 1) us)) (filter (is_leaf us) (drop (n + 1) us))
-leaves_at J us n t b at is = rw (from_place us n t at) (ap (λ (c : Bool). cond c (t ∷ filter (is_leaf us) (drop (n + 1) us)) (filter (is_leaf us) (drop (n + 1) us))) is)
-
--- the ids behind a place are others than the id there
-apart_behind : (us : List Update) (n : ℕ) (t : Update) → IsCausal [] us → slice_get us n ≡ Some t → (u : Update) → IsIn u (drop (n + 1) us) → id_of_update u ≡ id_of_update t → ⊥
-apart_behind us n t c at u on same =
-    apart [] (take (n + 1) us) (drop (n + 1) us) t u (subst (IsCausal []) (sym (take-append-drop (n + 1) us)) c) (in_take us (n + 1) n t at (omega arith)) on (sym same)
-
-pub leaves_begin : (J : List Record) (us : List Update) (n : ℕ) (keys : List Leaf) → keys ≡ [] → n ≡ length us → keys ≡ leaves_behind J us (drop n us)
+pub leaves_begin : (J : List Record) (us : List Update) (keys : List Leaf) → keys ≡ [] → keys ≡ map (leaf_in J) (by_id (standing us []))
 unfolding by_id
-leaves_begin J us n keys none is = rw (drop_all n us (omega (arith, is))) none
+leaves_begin J us keys none = none ∙ ap (λ (ts : List Update). map (leaf_in J) (by_id ts)) (sym (none_stands us)) where
+  none_stands : (ts : List Update) → filter (λ (u : Update). is_among (id_of_update u) []) ts ≡ []
+  none_stands [] = refl
+  none_stands (t ∷ ts) = none_stands ts
 
--- a leaf is put in
-pub leaves_more : (J : List Record) (us : List Update) (places : List ℕ) (i : ℕ) (t : Update) (place : ℕ) (leaf : Leaf) (keys new : List Leaf) → accepted J ≡ us → IsCausal [] us → places ≡ accept_places J → 0 < i → slice_get us (i - 1) ≡ Some t
-    → slice_get places (i - 1) ≡ Some place → leaf ≡ record { writer = t.writer; id = id_of_update t; place = place } → is_leaf us t ≡ true → keys ≡ leaves_behind J us (drop i us) → new ≡ insert_key leaf_cmp keys leaf → new ≡ leaves_behind J us (drop (i - 1) us)
+-- the leaf that is put in is that of the update there
+made_leaf : (J : List Record) (us : List Update) (places : List ℕ) (n : ℕ) (t : Update) (place : ℕ) (leaf : Leaf) → accepted J ≡ us → IsCausal [] us → places ≡ accept_places J → slice_get us n ≡ Some t → slice_get places n ≡ Some place
+    → leaf ≡ record { writer = t.writer; id = id_of_update t; place = place } → leaf ≡ leaf_in J t
+made_leaf J us places n t place leaf all c are at there made =
+    let kept : place ≡ unwrap_or (record_place J (id_of_update t)) 0 = ap (λ (o : Option ℕ). unwrap_or o 0) (sym (place_at J us places n t place all c are at there)) in
+    made ∙ ap (λ (p : ℕ). record { writer = t.writer; id = id_of_update t; place = p }) kept
+
+-- with the next leaf
+pub leaves_more : (J : List Record) (us : List Update) (places items : List ℕ) (i n : ℕ) (t : Update) (place : ℕ) (leaf : Leaf) (keys new : List Leaf) → accepted J ≡ us → IsCausal [] us → places ≡ accept_places J → AreDistinct items → i < length items → n ≡ get_or items i 0 → slice_get us n ≡ Some t
+    → slice_get places n ≡ Some place → leaf ≡ record { writer = t.writer; id = id_of_update t; place = place } → keys ≡ map (leaf_in J) (by_id (standing us (take i items))) → new ≡ insert_key leaf_cmp keys leaf → new ≡ map (leaf_in J) (by_id (standing us (take (i + 1) items)))
 unfolding by_id
-leaves_more J us places i t place leaf keys new all c are pos at there made is kept now =
-    let next : i ≡ i - 1 + 1 = omega arith in
-    let behind = filter (is_leaf us) (drop (i - 1 + 1) us) in
-    let these : keys ≡ map (leaf_in J) (by_id behind) = subst (λ (k : ℕ). keys ≡ leaves_behind J us (drop k us)) next kept in
-    let found : record_place J (id_of_update t) ≡ Some place = place_at J us places (i - 1) t place all c are at there in
-    let kept_place : place ≡ unwrap_or (record_place J (id_of_update t)) 0 = ap (λ (o : Option ℕ). unwrap_or o 0) (sym found) in
-    let row : leaf ≡ leaf_in J t = made ∙ ap (λ (p : ℕ). record { writer = t.writer; id = id_of_update t; place = p }) kept_place in
-    now ∙ ap (insert_key leaf_cmp keys) row ∙ ap (λ (ls : List Leaf). insert_key leaf_cmp ls (leaf_in J t)) these
-    ∙ insert_leaf J t (by_id behind) (λ u on same. apart_behind us (i - 1) t c at u (from_filter (is_leaf us) u (drop (i - 1 + 1) us) (from_by_id u behind on)).0 same)
-    ∙ ap (λ (ts : List Update). map (leaf_in J) (by_id ts)) (sym (leaves_at J us (i - 1) t true at is))
+leaves_more J us places items i n t place leaf keys new all c are once lt is at there made kept now =
+    now ∙ ap (insert_key leaf_cmp keys) (made_leaf J us places n t place leaf all c are at there made) ∙ ap (λ (ls : List Leaf). insert_key leaf_cmp ls (leaf_in J t)) kept
+    ∙ insert_leaf J t (by_id old) (λ u on. apart_from u (from_by_id u old on))
+    ∙ ap (map (leaf_in J)) (same_by_id (t ∷ old) (standing us (take (i + 1) items)) (all_from (λ (u : Update). id_of_update u ≡ id_of_update t → ⊥) old apart_from, standing_apart us (take i items) c) (standing_apart us (take (i + 1) items) c)
+    (one_stands us (take i items) (take (i + 1) items) t c (one_more us items i n t lt is at))) where
+      old : List Update
+      old = standing us (take i items)
 
--- an item that is no leaf is left out
-pub leaves_same : (J : List Record) (us : List Update) (i : ℕ) (t : Update) (keys : List Leaf) → 0 < i → slice_get us (i - 1) ≡ Some t → is_leaf us t ≡ false → keys ≡ leaves_behind J us (drop i us) → keys ≡ leaves_behind J us (drop (i - 1) us)
-leaves_same J us i t keys pos at is kept =
-    let next : i ≡ i - 1 + 1 = omega arith in
-    subst (λ (k : ℕ). keys ≡ leaves_behind J us (drop k us)) next kept ∙ ap (λ (ts : List Update). map (leaf_in J) (by_id ts)) (sym (leaves_at J us (i - 1) t false at is))
+      apart_from : (u : Update) → IsIn u old → id_of_update u ≡ id_of_update t → ⊥
+      apart_from u on same =
+          let p = of_place us (take i items) u (standing_is us (take i items) u c on) in
+          none_before items i n once lt is (subst (λ (k : ℕ). IsIn k (take i items)) (one_place [] us p.0 n u t c p.1.1 at same) p.1.0)
 
-pub leaves_end : (J : List Record) (us : List Update) (i : ℕ) (keys : List Leaf) → accepted J ≡ us → i ≤ 0 → keys ≡ leaves_behind J us (drop i us) → keys ≡ map (leaf_in J) (by_id (leaves_of (accepted J)))
+leaves_apart : (us : List Update) → HaveOwnIds us → HaveOwnIds (leaves_of us)
 unfolding leaves_of
-leaves_end J us i keys all none kept =
-    let at_start : i ≡ 0 = omega arith in
-    subst (λ (k : ℕ). keys ≡ leaves_behind J us (drop k us)) at_start kept ∙ ap (λ (ts : List Update). leaves_behind J ts ts) (sym all)
+leaves_apart us apart = own_ids_filter _ us apart
+
+-- with all leaves
+pub leaves_end : (J : List Record) (us : List Update) (items : List ℕ) (i : ℕ) (keys : List Leaf) → accepted J ≡ us → IsCausal [] us → AreLeaves us items → length items ≤ i → keys ≡ map (leaf_in J) (by_id (standing us (take i items))) → keys ≡ map (leaf_in J) (by_id (leaves_of (accepted J)))
+leaves_end J us items i keys all c are past kept =
+    kept ∙ ap (λ (ns : List ℕ). map (leaf_in J) (by_id (standing us ns))) (take_all i items past)
+    ∙ ap (map (leaf_in J)) (same_by_id (standing us items) (leaves_of us) (standing_apart us items c) (leaves_apart us (own_ids_from_causal [] us c)) (leaves_stand us items c are))
+    ∙ ap (λ (ts : List Update). map (leaf_in J) (by_id (leaves_of ts))) (sym all)
 
 -- ---- their places
 

@@ -1,17 +1,14 @@
--- Numbers that stand beside the accepted updates, the update that a record accepts, the leaf that an update is told as, and the hashes
--- of values that aren't held.
+-- Numbers that stand beside the accepted updates, the update that a record accepts, and the leaf that an update is told as.
 use Rattle.std.specs.Prelude.{◌≡◌, ℕ, ◌<◌, ◌^◌, List, [], ◌∷◌, Bool, Option, Some, None, unwrap_or, slice_get, if◌then◌else◌}
 use Rattle.depot_base.specs.Statement.{seq_of}
 use Rattle.depot_base.specs.declared.key.PublicKey.{PublicKey}
 use Rattle.depot_base.specs.declared.statement.Statement.{Statement}
-use Rattle.depot_base.specs.declared.update.NamedValue.{NamedValue}
 use Rattle.depot_base.specs.declared.record.Record.{Record}
 use Rattle.depot_base.specs.declared.update.Update.{Update}
 use Rattle.depot_model.specs.declared.hello.HelloLeaf.{HelloLeaf}
 use Rattle.depot_model.specs.Hello.{record_place}
-use Rattle.depot_model.specs.Journal.{accepted, accepted_at, holds}
+use Rattle.depot_model.specs.Journal.{accepted, accepted_at}
 use Rattle.depot_model.specs.Texts.{IsStatement, id_of_update, text_of_statement}
-use Rattle.depot_model.specs.Vouching.{put_rising}
 use Rattle.depot_tell.specs.declared.leaf_order.Leaf.{Leaf}
 
 -- the numbers that stand beside the updates that pass a test
@@ -32,11 +29,6 @@ leaf_in J t = record { writer = t.writer; id = id_of_update t; place = unwrap_or
 -- how a hello names it
 abbrev pub name_of : Leaf → HelloLeaf
 name_of l = record { writer = l.writer; id = l.id }
-
--- these hashes in rising order, with those of the names whose values aren't held
-abbrev pub with_lacking : List Record → List NamedValue → List (List ℕ) → List (List ℕ)
-with_lacking J [] hashes = hashes
-with_lacking J (n ∷ ns) hashes = if holds J n.hash n.size then with_lacking J ns hashes else put_rising n.hash (with_lacking J ns hashes)
 
 -- The text is the body of this statement, and one of the key's leaves signs it.
 pub record IsLeafText (key : PublicKey) (s : Statement) (text : List ℕ) : Type 0 where

@@ -44,7 +44,7 @@ pub fn leaves<D: Disk, S: Scheme>(alloc: Global, store: &Store<D, S>) -> Result<
     names_of(alloc, &leaves)
 }
 
-/// The leaves in their order.
+/// The leaves in their order. No other item is looked at.
 fn leaves_in_order<D: Disk, S: Scheme>(
     alloc: Global,
     store: &Store<D, S>,
@@ -54,11 +54,10 @@ fn leaves_in_order<D: Disk, S: Scheme>(
 {
     let graph = store.state().graph();
     let places = store.places();
+    let items = graph.leaves();
     let mut leaves = BTreeSet::new(alloc);
-    for item in (0..graph.count()).rev() {
-        if graph.children(item).is_empty() {
-            leaves.insert(leaf_at(graph, item, places[item as usize]))?;
-        }
+    for item in items {
+        leaves.insert(leaf_at(graph, *item, places[*item as usize]))?;
     }
     Ok(leaves)
 }

@@ -1,9 +1,9 @@
 //! What a node tells others of what it has, read off its `Store`.
 //!
 //! A store is seen as the list of the records of its journal (`depot_store`), and each answer is the definition's of that list: whom
-//! the node convicted and which values it lacks (`tell`), its leaves and the places of their records (`leaf_order`), the places of the
-//! updates that a reader with given leaves lacks (`candidate_places`), the update that the record of a place accepts (`record_items`),
-//! and the signed statement of a place (`signed_places`).
+//! the node convicted (`tell`), its leaves and the places of their records (`leaf_order`), the places of the updates that a reader with
+//! given leaves lacks (`candidate_places`), the update that the record of a place accepts (`record_items`), and the signed statement
+//! of a place (`signed_places`).
 //!
 //! Each call reads a store that runs and leaves it as it is. Nothing is decided here and nothing is sent: which of what is told goes
 //! into a bundle is `depot_offers`'s to say.
@@ -13,10 +13,11 @@ mod candidate_places;
 mod leaf_order;
 mod record_items;
 mod signed_places;
+mod tails;
 mod tell;
 
-pub use candidate_places::candidates;
+pub use candidate_places::{candidates, items_named};
 pub use leaf_order::{leaf_places, leaves};
 pub use record_items::{id_at, update_at};
 pub use signed_places::signed_text;
-pub use tell::{convicted, wanted};
+pub use tell::convicted;

@@ -19,6 +19,7 @@ use Rattle.depot_base.specs.declared.statement.Statement.TheVariants as statemen
 use Rattle.depot_base.specs.declared.statement.Signed.{Signed}
 use Rattle.depot_base.specs.declared.proof.Kind.{Kind}
 use Rattle.depot_base.specs.declared.proof.Proof.TheVariants.{Pair, Hollow}
+use Rattle.depot_model.specs.Checkpoints.{Checkpoint, checkpoint, text_of_checkpoint}
 use Rattle.depot_model.specs.declared.hello.Hello.{Hello}
 use Rattle.depot_model.specs.declared.hello.HelloLeaf.{HelloLeaf}
 use Rattle.depot_model.specs.Frames.{Frame, text_of_frame}
@@ -250,6 +251,13 @@ only_hello h roster leaves wanted = only_joined
         ),
       ),
     )
+
+-- ---- checkpoints
+
+pub only_checkpoint : (c : Checkpoint) → OnlyBytes c.roster → ((l : HelloLeaf) → IsIn l c.leaves → OnlyBytes l.id) → OnlyBytes (text_of_checkpoint c)
+unfolding checkpoint number bytes_of list_of
+only_checkpoint c roster leaves = only_joined (numeral w8 1 ∷ numeral w8 6 ∷ c.roster ∷ numeral w16 (length c.leaves) ∷ flat_map hello_leaf.text c.leaves ∷ [])
+    (only_numeral w8 1, (only_numeral w8 6, (roster, (only_numeral w16 (length c.leaves), (only_flat hello_leaf.text c.leaves (λ l on. only_leaf l (leaves l on)), tt)))))
 
 -- ---- frames
 

@@ -18,6 +18,7 @@ use Rattle.depot_model.specs.Journal.{accepted, seen_under}
 use Rattle.depot_model.specs.Lawful.{IsLawful, is_empty}
 use Rattle.depot_model.specs.Limits.{Limit, limit_of_own, limit_of_put}
 use Rattle.depot_model.specs.Lists.{IsIn}
+use Rattle.depot_model.specs.Opening.{MadeCheckpoint, no_leaves, many_leaves, made_text, make_of, Opened, ill_at, of_roster, with_unknown, opened, opened_text}
 use Rattle.depot_model.specs.Order.{AreLatestIn}
 use Rattle.depot_model.specs.Own.{next_own, values_of}
 use Rattle.depot_model.specs.Receipts.{NoReceipt, no_receipt, AreReceiptsTrue, receipt_changes}
@@ -35,7 +36,7 @@ use Rattle.depot_laws.proofs.TrueReceipts.{silent_is_true, vouchers_put_none}
 use Rattle.depot_answers.specs.Answers.{text_of_limit, text_of_put}
 use Rattle.depot_base.proofs.GeneralLaws.{all_both}
 use Rattle.depot_model.specs.ShownWrites.{shown_of}
-use Rattle.depot_world.specs.Deeds.{idle, grown, put_by, read_of, get_by, hello_by, bundle_with, bundle_by, fed_by, give_by, restart_by, receipt_with, receipt_by, settled_by}
+use Rattle.depot_world.specs.Deeds.{idle, grown, put_by, read_of, get_by, hello_by, bundle_with, bundle_by, fed_by, give_by, restart_by, receipt_with, receipt_by, settled_by, checkpoint_changes, giving_unless, checkpoint_with, checkpoint_by, sign_with, sign_by}
 use Rattle.depot_model.specs.LatestList.{latest_in}
 use Rattle.depot_world.specs.ScheduleStops.{Deed}
 use Rattle.depot_world.specs.Suite.{Stage, stands_on}
@@ -46,8 +47,9 @@ use Rattle.depot_world.proofs.ByteFeeds.{feed_grows}
 use Rattle.depot_world.proofs.ByteJournals.{HoldsBytes, AllHold}
 use Rattle.depot_world.proofs.ByteOwn.{IsByteChange, only_change_values, only_next_own, only_own_hello}
 use Rattle.depot_world.proofs.ByteSignatures.{SignsBytes}
+use Rattle.depot_world.proofs.CheckpointChanges.{checkpoint_is_change, checkpoint_is_bytes, checkpoint_gives_none, IsGoodText, made_is_good, opened_is_good}
 use Rattle.depot_world.proofs.ReceiptChanges.{ids_of, receipts_are_changes, receipts_are_bytes}
-use Rattle.depot_world.proofs.TrueReceipts.{feed_stays_true, receipts_put_stays_true}
+use Rattle.depot_world.proofs.TrueReceipts.{put_stays_true, feed_stays_true, receipts_put_stays_true}
 use Rattle.depot_world.proofs.GoodNodes.{IsGoodNode, IsGoodDeed, read_grows}
 use Rattle.depot_model.proofs.LatestWrites.{latest_are_listed}
 
@@ -109,6 +111,42 @@ receipts_are_good stage c us g some few = receipt_is_good stage c (ids_of us) g 
 pub settled_is_good : (stage : Stage) (c : Correct) (id : List ℕ) (k : ℕ) → IsGoodNode stage c → IsGoodDeed stage c (settled_by c id k)
 unfolding settled_by
 settled_is_good stage c id k g = same_is_good stage c 0 _ [] g tt
+
+-- ---- checkpoints
+
+-- a put of a checkpoint's text under its key
+signing_is_good : (stage : Stage) (c : Correct) (text : List ℕ) → IsGoodNode stage c → IsGoodText text → IsGoodDeed stage c (put_by (stands_on stage c.node) c (checkpoint_changes text))
+signing_is_good stage c text g good =
+    put_is_good stage c (checkpoint_changes text) g (checkpoint_is_change text good.short) (checkpoint_is_bytes text good.only) (put_stays_true c.node c.journal (checkpoint_changes text) (checkpoint_gives_none text) g.receipts)
+
+giving_is_good : (stage : Stage) (c : Correct) (o : Option Limit) (bytes : List ℕ) (d : Deed) → OnlyBytes bytes → IsGoodDeed stage c d → IsGoodDeed stage c (giving_unless o bytes d)
+giving_is_good stage c (Some limit) bytes d only deed = deed
+giving_is_good stage c None bytes d only deed = record { grown = deed.grown; lawful = deed.lawful; reads = deed.reads; in_order = deed.in_order; holds = deed.holds; receipts = deed.receipts; bytes = only }
+
+pub checkpoint_is_good : (stage : Stage) (c : Correct) → IsGoodNode stage c → IsGoodDeed stage c (checkpoint_by (stands_on stage c.node) c)
+unfolding checkpoint_by
+checkpoint_is_good stage c g = by_made (make_of here c.journal) refl where
+  here : Setting
+  here = stands_on stage c.node
+
+  by_made : (m : MadeCheckpoint) → make_of here c.journal ≡ m → IsGoodDeed stage c (checkpoint_with here c m)
+  by_made no_leaves is = same_is_good stage c 0 _ [] g tt
+  by_made (many_leaves n) is = same_is_good stage c 0 _ [] g tt
+  by_made (made_text text) is =
+      let good = made_is_good here c.journal text is in
+      giving_is_good stage c (limit_of_put here c.journal (checkpoint_changes text)) text (put_by here c (checkpoint_changes text)) good.only (signing_is_good stage c text g good)
+
+pub sign_is_good : (stage : Stage) (c : Correct) (text : List ℕ) → IsGoodNode stage c → OnlyBytes text → IsGoodDeed stage c (sign_by (stands_on stage c.node) c text)
+unfolding sign_by
+sign_is_good stage c text g only = by_opened (opened_text here c.journal text) refl where
+  here : Setting
+  here = stands_on stage c.node
+
+  by_opened : (o : Opened) → opened_text here c.journal text ≡ o → IsGoodDeed stage c (sign_with here c text o)
+  by_opened (ill_at at) is = same_is_good stage c 0 _ [] g tt
+  by_opened (of_roster given) is = same_is_good stage c 0 _ [] g tt
+  by_opened (with_unknown id) is = same_is_good stage c 0 _ [] g tt
+  by_opened (opened ids) is = signing_is_good stage c text g (opened_is_good here c.journal text ids only is)
 
 -- ---- reads
 

@@ -10,6 +10,8 @@ use Rattle.depot_model.specs.Bundle.{Signs}
 use Rattle.depot_model.specs.Judgement.{first_failed_point, verdict_of}
 use Rattle.depot_model.specs.Lines.{text_of_point, text_of_verdict}
 use Rattle.depot_model.specs.Own.{values_of}
+use Rattle.depot_model.specs.ReaderFeeds.{reader_feed_of}
+use Rattle.depot_model.specs.Readers.{Reader, trim_of}
 use Rattle.depot_model.specs.Texts.{IsProof, proof, id_of_update}
 use Rattle.depot_model.specs.declared.judgement.JudgeError.{JudgeError}
 use Rattle.depot_model.proofs.Members.{in_pushed}
@@ -19,22 +21,22 @@ use Rattle.depot_schedule.specs.declared.event.Event.TheVariants as event
 use Rattle.depot_schedule.specs.declared.event.HistoryWord.{HistoryWord}
 use Rattle.depot_schedule.specs.declared.event.Ref.{Ref}
 use Rattle.depot_answers.specs.Answers.{spaced}
-use Rattle.depot_world.specs.Deeds.{put_by, get_by, hello_by, bundle_by, give_by, restart_by, receipt_by, settled_by}
-use Rattle.depot_world.specs.Run.{Station, Run, station_in, bytes_of, referred, seen_with, with_station}
+use Rattle.depot_world.specs.Deeds.{put_by, get_by, hello_by, bundle_by, give_by, restart_by, receipt_by, settled_by, checkpoint_by, sign_by}
+use Rattle.depot_world.specs.Run.{Station, Run, station_in, bytes_of, reader_in, put_reader, referred, seen_with, with_station}
 use Rattle.depot_world.specs.FaultySigning.{counted_bytes, no_reference, update_text, updated, vouched_text, proof_text, hollow_text, proof_in, flip_at, all_referred}
 use Rattle.depot_world.specs.ScheduleStops.{Deed}
 use Rattle.depot_world.specs.Suite.{Stage, stands_on, signs_on}
-use Rattle.depot_world.specs.Transcript.{Done, armed_at, done_by_update, done_by_changes, judged_with, receipt_for, settled_for, done}
+use Rattle.depot_world.specs.Transcript.{Done, armed_at, done_by_update, done_by_changes, judged_with, receipt_for, settled_for, reader_made, trimmed_with, trim_at, reader_told, tgive_by, done}
 use Rattle.depot_world.proofs.OnlyBytes.{OnlyBytes, by_places, only_both, only_take, only_drop}
 use Rattle.depot_world.proofs.ByteLabels.{IsByteUpdate, bytes_hold, updated_holds, none_holds, counted_holds, update_text_holds, vouched_text_holds, proof_text_holds, hollow_text_holds, flip_holds}
 use Rattle.depot_world.proofs.ByteOwn.{only_change_values}
 use Rattle.depot_world.proofs.ByteSignatures.{SignsBytes}
 use Rattle.depot_world.proofs.EventFacts.{AreByteChanges, IsByteHistory, BringsBytes}
-use Rattle.depot_world.proofs.GoodDeeds.{put_is_good, get_is_good, hello_is_good, bundle_is_good, give_is_good, restart_is_good, receipts_are_good, settled_is_good}
+use Rattle.depot_world.proofs.GoodDeeds.{put_is_good, get_is_good, hello_is_good, bundle_is_good, give_is_good, restart_is_good, receipts_are_good, settled_is_good, checkpoint_is_good, sign_is_good}
 use Rattle.depot_world.proofs.ReceiptChanges.{ids_of, referred_as_many}
 use Rattle.depot_world.proofs.TrueReceipts.{put_stays_true}
 use Rattle.depot_world.proofs.GoodNodes.{IsGoodDeed}
-use Rattle.depot_world.proofs.GoodRuns.{IsGoodRun, IsJudged, found_is, station_keeps, text_keeps, seen_keeps, node_keeps}
+use Rattle.depot_world.proofs.GoodRuns.{IsGoodRun, IsJudged, found_is, station_keeps, text_keeps, seen_keeps, readers_keep, node_keeps}
 
 -- ---- stops
 
@@ -101,6 +103,21 @@ settled_keeps : (stage : Stage) (run : Run) (node k : ℕ) (o : Option Update) �
 settled_keeps stage run node k None g = g
 settled_keeps stage run node k (Some u) g = node_keeps stage run node None (λ s. settled_by s.correct (id_of_update u) k) g (λ s same good. settled_is_good stage s.correct (id_of_update u) k good)
 
+-- a reader that is made, or goes on
+trim_keeps : (stage : Stage) (run : Run) (node : ℕ) (text name : List ℕ) → IsGoodRun stage run → IsGoodRun stage (trim_at stage run node text name).run
+unfolding trim_at
+trim_keeps stage run node text name g = by_station (station_in run.stations node) where
+  by_station : (o : Option Station) → IsGoodRun stage (elim o as (λ x. Done) [ None ↦ record { answer = []; behind = []; run = run } | Some s ↦ trimmed_with run name (trim_of (stands_on stage node) s.correct.journal text) ]).run
+  by_station None = g
+  by_station (Some s) = readers_keep stage run (run.readers ++ record { name = name; reader = reader_made (trim_of (stands_on stage node) s.correct.journal text) } ∷ []) g
+
+tgive_keeps : (stage : Stage) (run : Run) (name stream : List ℕ) → IsGoodRun stage run → IsGoodRun stage (tgive_by run name stream).run
+unfolding tgive_by
+tgive_keeps stage run name stream g = by_reader (reader_in run.readers name) where
+  by_reader : (o : Option Reader) → IsGoodRun stage (elim o as (λ x. Done) [ None ↦ record { answer = []; behind = []; run = run } | Some R ↦ reader_told run name (reader_feed_of R stream) ]).run
+  by_reader None = g
+  by_reader (Some R) = readers_keep stage run (put_reader name (reader_feed_of R stream).reader run.readers) g
+
 -- each event, on a stage whose members sign bytes
 pub event_keeps : (stage : Stage) (run : Run) (e : Event) → ((node : ℕ) → SignsBytes (signs_on stage node)) → BringsBytes e → IsGoodRun stage run → IsGoodRun stage (done stage run e).run
 unfolding done
@@ -136,3 +153,10 @@ event_keeps stage run (event.Stop node call image) signs only g = armed_keeps st
 event_keeps stage run (event.Receipt node refs) signs only g = receipts_keep stage run node refs (all_referred run refs) refl only.0 only.1 g
 event_keeps stage run (event.Settled node reference k) signs only g = settled_keeps stage run node k (referred run reference) g
 event_keeps stage run event.Audit signs only g = g
+event_keeps stage run (event.Checkpoint node label) signs only g = node_keeps stage run node (Some label) (λ s. checkpoint_by (stands_on stage node) s.correct) g
+    (λ s same good. at_number stage s node (λ n. checkpoint_by (stands_on stage n) s.correct) same (checkpoint_is_good stage s.correct good))
+event_keeps stage run (event.Sign node label) signs only g = node_keeps stage run node None (λ s. sign_by (stands_on stage node) s.correct (bytes_of run label)) g
+    (λ s same good. at_number stage s node (λ n. sign_by (stands_on stage n) s.correct (bytes_of run label)) same (sign_is_good stage s.correct (bytes_of run label) good (bytes_hold run label g.labels)))
+event_keeps stage run (event.Trim node label name) signs only g = trim_keeps stage run node (bytes_of run label) name g
+event_keeps stage run (event.Tgive name label) signs only g = tgive_keeps stage run name (bytes_of run label) g
+event_keeps stage run (event.Tget name key) signs only g = g

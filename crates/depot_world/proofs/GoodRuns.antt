@@ -8,7 +8,7 @@ use Rattle.depot_model.specs.Judgement.{first_failed_point}
 use Rattle.depot_model.specs.Lists.{IsIn}
 use Rattle.depot_model.specs.Texts.{IsProof}
 use Rattle.depot_model.proofs.Members.{in_pushed}
-use Rattle.depot_world.specs.Run.{Station, Made, Run, station_in, put_station, with_label, with_station}
+use Rattle.depot_world.specs.Run.{Station, Made, NamedReader, Run, station_in, put_station, with_label, with_station}
 use Rattle.depot_world.specs.FaultySigning.{Text}
 use Rattle.depot_world.specs.ScheduleStops.{Deed, Went, went}
 use Rattle.depot_world.specs.Suite.{Stage}
@@ -101,6 +101,10 @@ text_keeps stage run label t g only = label_keeps stage run (record { label = la
 -- other updates that were seen
 pub seen_keeps : (stage : Stage) (run : Run) (seen : List Update) → IsGoodRun stage run → IsGoodRun stage (record run { seen = seen })
 seen_keeps stage run seen g = record { distinct = g.distinct; stations = g.stations; labels = g.labels; judged = g.judged }
+
+-- other readers
+pub readers_keep : (stage : Stage) (run : Run) (readers : List NamedReader) → IsGoodRun stage run → IsGoodRun stage (record run { readers = readers })
+readers_keep stage run readers g = record { distinct = g.distinct; stations = g.stations; labels = g.labels; judged = g.judged }
 
 -- ---- events of nodes
 

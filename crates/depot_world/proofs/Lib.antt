@@ -1,4 +1,5 @@
 pub mod WorkedSchedules
+pub mod WorkedReaders
 pub mod OnlyBytes
 pub mod ByteTexts
 pub mod ByteJournals
@@ -7,6 +8,7 @@ pub mod ByteSignatures
 pub mod ByteOwn
 pub mod ByteBundles
 pub mod ReceiptChanges
+pub mod CheckpointChanges
 pub mod TrueReceipts
 pub mod GoodNodes
 pub mod GoodDeeds

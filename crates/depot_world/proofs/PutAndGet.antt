@@ -7,6 +7,7 @@ use Rattle.depot_base.specs.Parts.{dep, roster_entry}
 use Rattle.depot_base.specs.Zeros.{zeros}
 use Rattle.depot_base.specs.declared.update.Update.{Update}
 use Rattle.depot_model.specs.Causality.{IsForkJoinCausal, ConvictsNoCorrectNode}
+use Rattle.depot_model.specs.Checkpoints.{is_checkpoint_key}
 use Rattle.depot_model.specs.History.{leaves_of, put_by_id, by_id, history_text, history_hash}
 use Rattle.depot_model.specs.Journal.{has_id, prev_of, named, first_values}
 use Rattle.depot_model.specs.Limits.{spent_by, tips_of, collides_by, limit_of_own, limit_of_put}
@@ -41,7 +42,7 @@ abbrev pub put_and_get : Schedule
 put_and_get = record { winter = false; height = 4; members = record { node = 1; correct = true } ∷ []; events = event.Put 1 (107 ∷ []) (97 ∷ []) ∷ event.Get 1 (107 ∷ []) ∷ [] }
 
 is_schedule : IsSchedule put_and_get
-unfolding put get receipt_of
+unfolding put get receipt_of is_checkpoint_key
 is_schedule = record {
   low = omega arith;
   high = omega arith;

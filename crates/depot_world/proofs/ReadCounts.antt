@@ -11,7 +11,10 @@ use Rattle.depot_model.specs.Judgement.{first_failed_point, verdict_of}
 use Rattle.depot_model.specs.Limits.{Limit, limit_of_put}
 use Rattle.depot_model.specs.Lines.{text_of_point, text_of_verdict}
 use Rattle.depot_model.specs.Lists.{IsIn}
+use Rattle.depot_model.specs.Opening.{MadeCheckpoint, no_leaves, many_leaves, made_text, make_of, Opened, ill_at, of_roster, with_unknown, opened, opened_text}
 use Rattle.depot_model.specs.Own.{next_own, values_of}
+use Rattle.depot_model.specs.ReaderFeeds.{reader_feed_of}
+use Rattle.depot_model.specs.Readers.{Reader, trim_of}
 use Rattle.depot_model.specs.Receipts.{NoReceipt, no_receipt, receipt_changes}
 use Rattle.depot_model.specs.Texts.{id_of_update}
 use Rattle.depot_model.specs.World.{Correct, Read}
@@ -19,12 +22,12 @@ use Rattle.depot_model.specs.declared.judgement.JudgeError.{JudgeError}
 use Rattle.depot_answers.specs.Answers.{spaced, text_of_limit, text_of_put}
 use Rattle.depot_schedule.specs.declared.event.Event.{Event}
 use Rattle.depot_schedule.specs.declared.event.Event.TheVariants as event
-use Rattle.depot_world.specs.Deeds.{idle, grown, read_of, put_by, get_by, receipt_with, receipt_by, settled_by, hello_by, bundle_with, bundle_by, give_by, restart_by}
+use Rattle.depot_world.specs.Deeds.{idle, grown, read_of, put_by, get_by, receipt_with, receipt_by, settled_by, checkpoint_changes, giving_unless, checkpoint_with, checkpoint_by, sign_with, sign_by, hello_by, bundle_with, bundle_by, give_by, restart_by}
 use Rattle.depot_world.specs.FaultySigning.{updated, proof_in, all_referred}
-use Rattle.depot_world.specs.Run.{Armed, Station, Run, bytes_of, referred, station_in, put_station, with_station}
+use Rattle.depot_world.specs.Run.{Armed, Station, Run, bytes_of, reader_in, referred, station_in, put_station, with_station}
 use Rattle.depot_world.specs.ScheduleStops.{Deed, Went, left_of, stopped_with, went_by, went_armed, went}
 use Rattle.depot_world.specs.Suite.{Stage, stands_on, signs_on}
-use Rattle.depot_world.specs.Transcript.{Done, armed_at, by_node, done_by_node, done_by_update, done, judged_with, receipt_for, run_after, settled_for}
+use Rattle.depot_world.specs.Transcript.{Done, armed_at, by_node, done_by_node, done_by_update, done, judged_with, receipt_for, run_after, settled_for, trimmed_with, trim_at, reader_told, tgive_by}
 use Rattle.depot_world.proofs.GoodRuns.{numbers_of, found_is, from_put_station, same_numbers}
 use Rattle.depot_world.proofs.ReceiptChanges.{ids_of}
 
@@ -95,6 +98,27 @@ receipt_keeps here c ids = by_why (no_receipt c.journal ids) where
 pub settled_keeps : (c : Correct) (id : List ℕ) (k : ℕ) → (settled_by c id k).reads ≡ c.reads
 unfolding settled_by
 settled_keeps c id k = refl
+
+giving_keeps : (c : Correct) (o : Option Limit) (bytes : List ℕ) (d : Deed) → d.reads ≡ c.reads → (giving_unless o bytes d).reads ≡ c.reads
+giving_keeps c (Some limit) bytes d same = same
+giving_keeps c None bytes d same = same
+
+pub checkpoint_keeps : (here : Setting) (c : Correct) → (checkpoint_by here c).reads ≡ c.reads
+unfolding checkpoint_by
+checkpoint_keeps here c = by_made (make_of here c.journal) where
+  by_made : (m : MadeCheckpoint) → (checkpoint_with here c m).reads ≡ c.reads
+  by_made no_leaves = refl
+  by_made (many_leaves n) = refl
+  by_made (made_text text) = giving_keeps c (limit_of_put here c.journal (checkpoint_changes text)) text (put_by here c (checkpoint_changes text)) (put_keeps here c (checkpoint_changes text))
+
+pub sign_keeps : (here : Setting) (c : Correct) (text : List ℕ) → (sign_by here c text).reads ≡ c.reads
+unfolding sign_by
+sign_keeps here c text = by_opened (opened_text here c.journal text) where
+  by_opened : (o : Opened) → (sign_with here c text o).reads ≡ c.reads
+  by_opened (ill_at at) = refl
+  by_opened (of_roster given) = refl
+  by_opened (with_unknown id) = refl
+  by_opened (opened ids) = put_keeps here c (checkpoint_changes text)
 
 pub hello_keeps : (here : Setting) (c : Correct) → (hello_by here c).reads ≡ c.reads
 unfolding hello_by
@@ -192,6 +216,21 @@ settled_add : (run : Run) (node k : ℕ) (o : Option Update) → AddsReads run.s
 settled_add run node k None = none_added run.stations
 settled_add run node k (Some u) = node_adds run node None (λ s. settled_by s.correct (id_of_update u) k) (λ s. none_more s.correct (settled_by s.correct (id_of_update u) k) (settled_keeps s.correct (id_of_update u) k))
 
+trim_adds : (stage : Stage) (run : Run) (node : ℕ) (text name : List ℕ) → AddsReads run.stations (trim_at stage run node text name).run.stations
+unfolding trim_at
+trim_adds stage run node text name = by_station (station_in run.stations node) where
+  by_station : (o : Option Station)
+      → AddsReads run.stations (elim o as (λ x. Done) [ None ↦ record { answer = []; behind = []; run = run } | Some s ↦ trimmed_with run name (trim_of (stands_on stage node) s.correct.journal text) ]).run.stations
+  by_station None = none_added run.stations
+  by_station (Some s) = none_added run.stations
+
+tgive_adds : (run : Run) (name stream : List ℕ) → AddsReads run.stations (tgive_by run name stream).run.stations
+unfolding tgive_by
+tgive_adds run name stream = by_reader (reader_in run.readers name) where
+  by_reader : (o : Option Reader) → AddsReads run.stations (elim o as (λ x. Done) [ None ↦ record { answer = []; behind = []; run = run } | Some R ↦ reader_told run name (reader_feed_of R stream) ]).run.stations
+  by_reader None = none_added run.stations
+  by_reader (Some R) = none_added run.stations
+
 update_adds : (sign : Signs) (run : Run) (label : List ℕ) (values : List (List ℕ)) (o : Option Update) → AddsReads run.stations (done_by_update sign run label values o).run.stations
 update_adds sign run label values None = none_added run.stations
 update_adds sign run label values (Some u) = none_added run.stations
@@ -228,6 +267,11 @@ event_adds stage run (event.Stop node call image) = armed_adds run node call ima
 event_adds stage run (event.Receipt node refs) = receipts_add stage run node (all_referred run refs)
 event_adds stage run (event.Settled node reference k) = settled_add run node k (referred run reference)
 event_adds stage run event.Audit = none_added run.stations
+event_adds stage run (event.Checkpoint node label) = node_adds run node (Some label) (λ s. checkpoint_by (stands_on stage node) s.correct) (λ s. none_more s.correct (checkpoint_by (stands_on stage node) s.correct) (checkpoint_keeps (stands_on stage node) s.correct))
+event_adds stage run (event.Sign node label) = node_adds run node None (λ s. sign_by (stands_on stage node) s.correct (bytes_of run label)) (λ s. none_more s.correct (sign_by (stands_on stage node) s.correct (bytes_of run label)) (sign_keeps (stands_on stage node) s.correct (bytes_of run label)))
+event_adds stage run (event.Trim node label name) = trim_adds stage run node (bytes_of run label) name
+event_adds stage run (event.Tgive name label) = tgive_adds run name (bytes_of run label)
+event_adds stage run (event.Tget name key) = none_added run.stations
 
 -- ---- all events
 

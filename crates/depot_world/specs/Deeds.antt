@@ -3,17 +3,20 @@ use Rattle.std.specs.Prelude.{ℕ, ◌-◌, List, [], ◌∷◌, ◌++◌, lengt
 use Rattle.std.specs.List.{flat_map}
 use Rattle.depot_base.specs.declared.record.Record.{Record}
 use Rattle.depot_base.specs.declared.record.Record.TheVariants.{OwnPut}
+use Rattle.depot_base.specs.Writes.{one_change}
 use Rattle.depot_base.specs.declared.write.Change.{Change}
 use Rattle.depot_model.specs.Bundle.{Signs, BundleAnswer, bundled, bad_hello, other_roster, limited, bundle_answer, bytes_of_bundle}
+use Rattle.depot_model.specs.Checkpoints.{checkpoint_key}
 use Rattle.depot_model.specs.Checks.{Setting}
 use Rattle.depot_model.specs.Feeding.{Feeding, feed_of}
 use Rattle.depot_model.specs.Hello.{hello_of, text_of_hello}
-use Rattle.depot_model.specs.Limits.{limit_of_put}
+use Rattle.depot_model.specs.Limits.{Limit, limit_of_put}
+use Rattle.depot_model.specs.Opening.{MadeCheckpoint, no_leaves, many_leaves, made_text, make_of, Opened, opened, opened_text}
 use Rattle.depot_model.specs.Own.{next_own, values_of}
 use Rattle.depot_model.specs.Receipts.{NoReceipt, receipt_changes, receipts, no_receipt}
 use Rattle.depot_model.specs.Vouching.{records_of}
 use Rattle.depot_model.specs.World.{Correct, Read}
-use Rattle.depot_answers.specs.Answers.{spaced, numbered, text_of_limit, text_of_no_receipt, name_of_settled, text_of_put, text_of_write, text_of_records, text_of_named, text_of_counts, name_of_more, text_of_report, text_of_refusal}
+use Rattle.depot_answers.specs.Answers.{spaced, numbered, text_of_limit, text_of_no_receipt, name_of_settled, text_of_empty, text_of_many, text_of_unopened, text_of_put, text_of_write, text_of_records, text_of_named, text_of_counts, name_of_more, text_of_report, text_of_refusal}
 use Rattle.depot_model.specs.ShownWrites.{shown_of}
 use Rattle.depot_world.specs.ScheduleStops.{Deed, calls_to_append}
 
@@ -63,6 +66,37 @@ receipt_by here c ids = receipt_with here c ids (no_receipt c.journal ids)
 -- a node tells whether so many nodes gave receipts for an id, among all updates that it has accepted; it keeps no read of it
 unfoldable pub settled_by : Correct → List ℕ → ℕ → Deed
 settled_by c id k = idle c (name_of_settled (nat_le k (length (receipts c.journal id))))
+
+-- ---- checkpoints
+
+-- a checkpoint's text is put under its key
+abbrev pub checkpoint_changes : List ℕ → List Change
+checkpoint_changes text = one_change (checkpoint_key text) text
+
+-- the deed of a put gives a label these bytes, unless the put met a limit
+abbrev pub giving_unless : Option Limit → List ℕ → Deed → Deed
+giving_unless (Some limit) bytes d = d
+giving_unless None bytes d = record d { bytes = bytes }
+
+-- what a node does with the checkpoint that it makes, or where it makes none
+abbrev pub checkpoint_with : Setting → Correct → MadeCheckpoint → Deed
+checkpoint_with here c no_leaves = idle c text_of_empty
+checkpoint_with here c (many_leaves n) = idle c (text_of_many n)
+checkpoint_with here c (made_text text) = giving_unless (limit_of_put here c.journal (checkpoint_changes text)) text (put_by here c (checkpoint_changes text))
+
+-- A node makes a checkpoint and signs it: its text is put, and given a label, unless nothing was accepted, its leaves are too many, or
+-- the put meets a limit.
+unfoldable pub checkpoint_by : Setting → Correct → Deed
+checkpoint_by here c = checkpoint_with here c (make_of here c.journal)
+
+-- what a node does with what it makes of a checkpoint's text
+abbrev pub sign_with : Setting → Correct → List ℕ → Opened → Deed
+sign_with here c text (opened ids) = put_by here c (checkpoint_changes text)
+sign_with here c text other = idle c (text_of_unopened other)
+
+-- a node signs a checkpoint's text: it is put, unless it isn't opened or the put meets a limit
+unfoldable pub sign_by : Setting → Correct → List ℕ → Deed
+sign_by here c text = sign_with here c text (opened_text here c.journal text)
 
 -- ---- telling and taking
 

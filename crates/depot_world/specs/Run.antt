@@ -11,6 +11,7 @@ use Rattle.depot_base.specs.declared.record.Record.{Record}
 use Rattle.depot_base.specs.declared.record.Record.TheVariants.{Birth}
 use Rattle.depot_model.specs.Journal.{accepted, own, update_in, has_id}
 use Rattle.depot_model.specs.Lists.{when}
+use Rattle.depot_model.specs.Readers.{Reader}
 use Rattle.depot_model.specs.Texts.{id_of_update, hash_of_roster}
 use Rattle.depot_model.specs.World.{World, Correct}
 use Rattle.depot_schedule.specs.declared.event.Ref.{Ref}
@@ -39,13 +40,20 @@ pub record Made : Type 0 where
   pub signed : Option Signed
   pub plain : Bool
 
--- The nodes in the order of their lines, the labels, the proofs that were judged with a verdict, and the updates that a right history is
--- computed over: those that events made and those that correct nodes accepted, each id once, in the order in which they came.
+-- What an event made under the name of a reader: the reader, or none where it was refused.
+pub record NamedReader : Type 0 where
+  pub name : List ℕ
+  pub reader : Option Reader
+
+-- The nodes in the order of their lines, the labels, the proofs that were judged with a verdict, the updates that a right history is
+-- computed over: those that events made and those that correct nodes accepted, each id once, in the order in which they came; and the
+-- readers, in the order in which they were made. A reader is in memory alone, but outlives what happens to its node.
 pub record Run : Type 0 where
   pub stations : List Station
   pub labels : List Made
   pub judged : List Proof
   pub seen : List Update
+  pub readers : List NamedReader
 
 -- a node that was just started on an empty disk
 abbrev pub born : Stage → ℕ → Station
@@ -53,7 +61,7 @@ born stage node = record { correct = record { node = node; journal = Birth node 
 
 -- the run before its first event
 unfoldable pub run_of : Stage → List Member → Run
-run_of stage members = record { stations = map (λ m. born stage m.node) (filter (λ m. m.correct) members); labels = []; judged = []; seen = [] }
+run_of stage members = record { stations = map (λ m. born stage m.node) (filter (λ m. m.correct) members); labels = []; judged = []; seen = []; readers = [] }
 
 -- the world that a run has made so far
 unfoldable pub world_by : Stage → Run → World
@@ -70,6 +78,11 @@ station_in (s ∷ ss) node = if s.correct.node == node then Some s else station_
 unfoldable pub made_in : List Made → List ℕ → Option Made
 made_in [] label = None
 made_in (m ∷ ms) label = if bytes_eq m.label label then Some m else made_in ms label
+
+-- the reader of a name, if there is one
+unfoldable pub reader_in : List NamedReader → List ℕ → Option Reader
+reader_in [] name = None
+reader_in (r ∷ rs) name = if bytes_eq r.name name then r.reader else reader_in rs name
 
 -- the bytes of a label
 abbrev pub bytes_of : Run → List ℕ → List ℕ
@@ -116,6 +129,15 @@ seen_with seen (u ∷ us) = seen_with (if has_id seen (id_of_update u) then seen
 -- one more label
 abbrev pub with_label : Run → Made → Run
 with_label run m = record run { labels = run.labels ++ m ∷ [] }
+
+-- one more reader
+abbrev pub with_reader : Run → NamedReader → Run
+with_reader run r = record run { readers = run.readers ++ r ∷ [] }
+
+-- the reader of a name in place of the one before
+unfoldable pub put_reader : List ℕ → Reader → List NamedReader → List NamedReader
+put_reader name R [] = []
+put_reader name R (r ∷ rs) = if bytes_eq r.name name then record { name = r.name; reader = Some R } ∷ rs else r ∷ put_reader name R rs
 
 -- a node's station in place of the one before
 unfoldable pub put_station : Station → List Station → List Station

@@ -1,6 +1,7 @@
 -- What a schedule makes happen, event by event: the world and the transcript.
 use Rattle.std.specs.Prelude.{ℕ, List, [], ◌∷◌, ◌++◌, map, take, drop, false, Option, Some, None, Result, Ok, Err, codes}
 use Rattle.std.specs.List.{flat_map}
+use Rattle.std.specs.Option.{option_map_or}
 use Rattle.depot_base.specs.Writes.{one_change}
 use Rattle.depot_base.specs.declared.proof.Proof.{Proof}
 use Rattle.depot_base.specs.declared.update.Update.{Update}
@@ -10,6 +11,8 @@ use Rattle.depot_model.specs.Bundle.{Signs}
 use Rattle.depot_model.specs.Judgement.{verdict_of}
 use Rattle.depot_model.specs.Lines.{text_of_point, text_of_verdict}
 use Rattle.depot_model.specs.Own.{values_of}
+use Rattle.depot_model.specs.ReaderFeeds.{ReaderFeed, reader_feed_of}
+use Rattle.depot_model.specs.Readers.{Reader, TrimAnswer, unopened, unsigned, reading, trim_of, shown_by_reader}
 use Rattle.depot_model.specs.Texts.{id_of_update}
 use Rattle.depot_model.specs.Vouching.{rising}
 use Rattle.depot_model.specs.World.{World}
@@ -20,10 +23,10 @@ use Rattle.depot_schedule.specs.declared.event.Event.TheVariants as event
 use Rattle.depot_schedule.specs.declared.event.HistoryWord.{HistoryWord}
 use Rattle.depot_schedule.specs.declared.event.Ref.{Ref}
 use Rattle.depot_schedule.specs.declared.schedule.Schedule.{Schedule}
-use Rattle.depot_answers.specs.Answers.{spaced, text_of_finding}
+use Rattle.depot_answers.specs.Answers.{spaced, text_of_finding, text_of_trim, text_of_reader_feed, text_of_write}
 use Rattle.depot_world.specs.Audits.{audited}
-use Rattle.depot_world.specs.Deeds.{put_by, get_by, hello_by, bundle_by, give_by, restart_by, receipt_by, settled_by}
-use Rattle.depot_world.specs.Run.{Run, Station, run_of, world_by, station_in, bytes_of, referred, seen_with, with_label, with_station}
+use Rattle.depot_world.specs.Deeds.{put_by, get_by, hello_by, bundle_by, give_by, restart_by, receipt_by, settled_by, checkpoint_by, sign_by}
+use Rattle.depot_world.specs.Run.{Run, Station, run_of, world_by, station_in, bytes_of, referred, reader_in, seen_with, with_label, with_reader, put_reader, with_station}
 use Rattle.depot_world.specs.FaultySigning.{Text, no_reference, counted_bytes, updated, update_text, vouched_text, proof_text, hollow_text, proof_in, point_by, flip_at, all_referred}
 use Rattle.depot_world.specs.ScheduleStops.{Deed, Went, went}
 use Rattle.depot_world.specs.Suite.{Stage, stage_of, stands_on, signs_on}
@@ -74,6 +77,44 @@ settled_for run node k (Some u) = by_node run node None (λ s. settled_by s.corr
 -- all correct nodes are audited, and nothing changes
 abbrev pub audit_by : Stage → Run → Done
 audit_by stage run = record { answer = spaced (text_of_finding (finding_in (audited stage run))); behind = []; run = run }
+
+-- ---- readers
+
+-- the reader that a trim made, if it wasn't refused
+abbrev pub reader_made : TrimAnswer → Option Reader
+reader_made (unopened why) = None
+reader_made (unsigned node) = None
+reader_made (reading R) = Some R
+
+-- what a node answers is told; its reader, if there is one, is that of the name
+abbrev pub trimmed_with : Run → List ℕ → TrimAnswer → Done
+trimmed_with run name answer = record { answer = spaced (text_of_trim answer); behind = []; run = with_reader run (record { name = name; reader = reader_made answer }) }
+
+-- a reader is made of a node and a checkpoint's text; the node and its disk stay as they are
+unfoldable pub trim_at : Stage → Run → ℕ → List ℕ → List ℕ → Done
+trim_at stage run node text name = elim (station_in run.stations node) [
+  | None ↦ record { answer = []; behind = []; run = run }
+  | Some s ↦ trimmed_with run name (trim_of (stands_on stage node) s.correct.journal text)
+]
+
+-- what a reader made of a stream is told, and it goes on so
+abbrev pub reader_told : Run → List ℕ → ReaderFeed → Done
+reader_told run name s = record { answer = spaced (text_of_reader_feed s); behind = []; run = record run { readers = put_reader name s.reader run.readers } }
+
+-- the reader of a name takes a stream; where none was made, nothing is told
+unfoldable pub tgive_by : Run → List ℕ → List ℕ → Done
+tgive_by run name stream = elim (reader_in run.readers name) [
+  | None ↦ record { answer = []; behind = []; run = run }
+  | Some R ↦ reader_told run name (reader_feed_of R stream)
+]
+
+-- what a reader shows of a key, as a read of a node is printed
+abbrev pub answer_of_reader : Reader → List ℕ → List ℕ
+answer_of_reader R key = flat_map (λ w. spaced (text_of_write w)) (shown_by_reader R key)
+
+-- the reader of a name reads a key; where none was made, nothing is told
+abbrev pub tget_by : Run → List ℕ → List ℕ → Done
+tget_by run name key = record { answer = option_map_or (λ R. answer_of_reader R key) (reader_in run.readers name) []; behind = []; run = run }
 
 -- ---- events that no correct node takes part in
 
@@ -126,10 +167,15 @@ done stage run (event.Stop node call image) = armed_at run node call image
 done stage run (event.Receipt node refs) = receipt_for stage run node (all_referred run refs)
 done stage run (event.Settled node reference k) = settled_for run node k (referred run reference)
 done stage run event.Audit = audit_by stage run
+done stage run (event.Checkpoint node label) = by_node run node (Some label) (λ s. checkpoint_by (stands_on stage node) s.correct)
+done stage run (event.Sign node label) = by_node run node None (λ s. sign_by (stands_on stage node) s.correct (bytes_of run label))
+done stage run (event.Trim node label name) = trim_at stage run node (bytes_of run label) name
+done stage run (event.Tgive name label) = tgive_by run name (bytes_of run label)
+done stage run (event.Tget name key) = tget_by run name key
 
 -- ---- its lines
 
--- how many of an event's words stand before the arrow
+-- how many of an event's first words stand before the arrow
 abbrev pub head_count : Event → ℕ
 head_count (event.Put node key value) = 3
 head_count (event.Get node key) = 3
@@ -137,7 +183,16 @@ head_count (event.Hello node label) = 3
 head_count (event.Bundle node hello label) = 4
 head_count (event.Give node label size) = 3
 head_count (event.Settled node reference k) = 4
+head_count (event.Checkpoint node label) = 3
+head_count (event.Sign node label) = 3
+head_count (event.Tgive name label) = 3
+head_count (event.Tget name key) = 3
 head_count other = 2
+
+-- the words that stand before the arrow: of `trim` its label is left out
+abbrev pub head_words : Event → List (List ℕ)
+head_words (event.Trim node label name) = take 2 (event_words (event.Trim node label name)) ++ drop 3 (event_words (event.Trim node label name))
+head_words e = take (head_count e) (event_words e)
 
 -- a line with its LF
 abbrev pub ended : List ℕ → List ℕ
@@ -149,7 +204,7 @@ lines_after_arrow answer behind = ended answer ++ flat_map ended behind
 
 -- the lines of an event
 unfoldable pub lines_of : Event → Done → List ℕ
-lines_of e d = ended (join 32 (take (head_count e) (event_words e)) ++ codes " ->" ++ d.answer) ++ flat_map ended d.behind
+lines_of e d = ended (join 32 (head_words e) ++ codes " ->" ++ d.answer) ++ flat_map ended d.behind
 
 -- ---- all events
 

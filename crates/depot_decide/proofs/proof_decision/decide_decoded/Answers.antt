@@ -1,22 +1,11 @@
-use Rattle.std.proofs.Common.{[], ◌∷◌, Ok, subst}
-use Rattle.depot_base.specs.declared.record.Record.TheVariants.{Conviction}
-use Rattle.depot_model.specs.declared.taken.Taken.TheVariants.{New}
 use Rattle.depot_model.specs.Checks.{given_proof}
-use Rattle.depot_laws.proofs.LawfulRecords.{IsRecord-Conviction}
 use Rattle.depot_store.specs.Holdings.{standing}
-use Rattle.depot_decide.specs.Deciding.{IsSettled}
-use Rattle.depot_decide.proofs.Decided.{made_decision, made_growth}
+use Rattle.depot_accept.specs.StateView.{setting}
+use Rattle.depot_decide.proofs.Decided.{if_decided, decided_here}
 use Rattle.depot_decide.proofs.proof_decision.decide_decoded.Goals as goal
-
-pub returns-in-Some : goal.returns-in-Some
-returns-in-Some g c =
-    let here = standing g.S.Scheme.verifies c.args.store.now in
-    made_decision here c.args.store.now.records (given_proof c.args.proof) c.in-Some.answer [] _ c.of.ensures (subst (IsSettled here c.args.store.now.records c.args.proof) c.in-Some.is c.in-Ok.ensures)
-
-pub of_text-requires-clause-text : goal.of_text-requires-clause-text
-of_text-requires-clause-text g c = record { fits = IsRecord-Conviction c.args.proof c.requires.proof; is = c.in-Ok-conviction_of_text.ensures c.args.proof c.requires.text }
 
 pub returns : goal.returns
 returns g c =
-    let here = standing g.S.Scheme.verifies c.args.store.now in
-    made_growth here c.args.store.now.records (given_proof c.args.proof) (Ok New) (Conviction c.args.proof ∷ []) _ c.in_ok-growth.ensures (subst (IsSettled here c.args.store.now.records c.args.proof) c.in_default-answer.is c.in-Ok.ensures)
+    if_decided c.decide_judged.result
+    (λ d is. decided_here (standing g.S.Scheme.verifies c.args.store.now) (setting g.S.Scheme.verifies c.state.result.now) c.args.store.now.records (given_proof c.args.proof) d c.state.ensures.stands (is c.args.store.now.records c.state.ensures.state))
+    c.decide_judged.ensures

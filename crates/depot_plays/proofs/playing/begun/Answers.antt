@@ -58,5 +58,6 @@ returns g c =
       seated = subst (λ (ms : List Member). AreSeated stage (stations_of stage ms) (map (part_by g.A.Actor.view) c.loop-place.parts.items)) whole c.loop-place.invariant;
       labels_are = c.new-2.ensures;
       seen_are = c.new-3.ensures;
+      readers_are = c.new-4.ensures;
       remembered = begun stage members;
     }

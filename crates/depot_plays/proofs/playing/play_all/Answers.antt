@@ -49,7 +49,7 @@ loop-event-preserved g c =
     record {
       at = λ stage run on sound at.
           let told = c.in_ok-lines.ensures stage (then stage run) on (sound i) (inv.at stage run on sound at) in
-          subst (λ (r : Run). IsAtPlay g.A.Actor.view stage r c.event.new.self) (run_more stage run es i e c.loop-event-test.true c.event-item.is) told.at;
+          subst (λ (r : Run). IsAtPlay g.A.Actor.view g.A.Reader.Reading.reads stage r c.event.new.self) (run_more stage run es i e c.loop-event-test.true c.event-item.is) told.at;
       written = λ stage run on sound at tells.
           let told = c.in_ok-lines.ensures stage (then stage run) on (sound i) (inv.at stage run on sound at) in
           printed_more stage run es i e (g.K.Sink.written c.args.out.now) (g.K.Sink.written c.loop-event.out) c.as_slice.result.now (g.K.Sink.written c.write.new.out) c.loop-event-test.true c.event-item.is

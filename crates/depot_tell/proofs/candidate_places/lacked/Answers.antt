@@ -1,30 +1,23 @@
-use Rattle.std.proofs.Common.{◌+◌, ◌<◌, length, get_or, sym, subst, ◌∙◌, arith}
-use Rattle.std.proofs.lemmas.Option.{slice_get-get_or}
+use Rattle.std.proofs.Common.{◌<◌, ℕ, length, sym, subst}
+use Rattle.std.specs.List.{AllByRecursion}
+use Rattle.std.specs.List.Sorted.{IsNonDecreasing}
+use Rattle.std.proofs.lemmas.List.Sorted.{IsNonDecreasingBy-from_sort, IsPermutation-sym}
+use Rattle.depot_model.specs.Lists.{IsIn}
+use Rattle.depot_model.proofs.Members.{all_at, all_from, in_permuted}
 use Rattle.depot_graph.specs.Kept.{updates_in}
-use Rattle.depot_model.specs.Bundle.{is_candidate}
-use Rattle.depot_base.proofs.GeneralLaws.{at_place}
-use Rattle.depot_tell.proofs.BesidePlaces.{IsSoFar, so_far_more, so_far_same, so_far_all}
 use Rattle.depot_tell.proofs.candidate_places.lacked.Goals as goal
-use Rattle.depot_tell.proofs.candidate_places.lacked.Goals.{then-is_lacked+in_ok-push, else-is_lacked}
 
-pub loop-item-preserved : goal.loop-item-preserved
-loop-item-preserved c = λ ids are.
-    let us = updates_in c.args.graph.now.items.entries in
-    let ns = c.args.places.now in
-    let within : c.loop-item.item < length us = omega (arith, c.loop-item-test.true, c.count-item-end.ensures) in
-    let u = at_place us c.loop-item.item within in
-    let n = get_or ns c.loop-item.item 0 in
-    let also = slice_get-get_or ns c.loop-item.item 0 (omega (arith, within, c.requires.beside)) in
-    let test = is_candidate us ids c.args.reader in
-    let told = sym (c.is_lacked.ensures ids u.0 are u.1) in
-    elim c.if-is_lacked.branch as (λ _. IsSoFar test us ns (c.loop-item.item + 1) c.if-is_lacked.found) [
-      | then-is_lacked+in_ok-push w ↦
-          subst (IsSoFar test us ns (c.loop-item.item + 1)) (sym (w.found-is ∙ w.in_ok-push.ensures.ok)) (so_far_more test us ns c.loop-item.item u.0 n c.loop-item.found u.1 also (told ∙ w.if-is_lacked.true) (c.loop-item.invariant ids are))
-      | else-is_lacked w ↦
-          subst (IsSoFar test us ns (c.loop-item.item + 1)) (sym w.found-is) (so_far_same test us ns c.loop-item.item u.0 n c.loop-item.found u.1 also (told ∙ w.if-is_lacked.false) (c.loop-item.invariant ids are))
-    ]
+pub lacked_among-requires-clause-sorted : goal.lacked_among-requires-clause-sorted
+lacked_among-requires-clause-sorted c = subst IsNonDecreasing (sym c.as_slice.ensures.value) (IsNonDecreasingBy-from_sort (λ x. x) c.sort_unstable.new.self.items c.sort_unstable.ensures.sorted)
 
-pub returns : goal.returns
-returns c = λ ids are.
-    let us = updates_in c.args.graph.now.items.entries in
-    so_far_all (is_candidate us ids c.args.reader) us c.args.places.now c.loop-item.item c.loop-item.found (omega (arith, c.loop-item-test.false, c.count-item-end.ensures)) (c.loop-item.invariant ids are)
+pub lacked_among-requires-clause-inside : goal.lacked_among-requires-clause-inside
+lacked_among-requires-clause-inside c =
+    let old = c.in_ok-items.items.items in
+    let new = c.sort_unstable.new.self.items in
+    let low = λ (item : ℕ). item < length (updates_in c.args.graph.now.items.entries) in
+    subst (AllByRecursion low) (sym c.as_slice.ensures.value)
+    (all_from low new (λ item on. all_at low old item c.in_ok-items.ensures.inside (in_permuted item new old (IsPermutation-sym old new c.sort_unstable.ensures.permutation) on)))
+
+pub lacked_among-requires-clause-behind : goal.lacked_among-requires-clause-behind
+lacked_among-requires-clause-behind c = λ item chain place at high.
+    subst (IsIn item) (sym c.as_slice.ensures.value) (in_permuted item c.in_ok-items.items.items c.sort_unstable.new.self.items c.sort_unstable.ensures.permutation (c.in_ok-items.ensures.all item chain place at high))

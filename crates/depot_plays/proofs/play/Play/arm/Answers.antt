@@ -14,14 +14,15 @@ come_back-requires-clause-seen g c =
     let node = c.requires.left.0 in
     let l = c.requires.left.1 in
     let p = l.played in
-    let i = left_is _ g.A.Actor.view p.stage p.run node l.before c.args.self.now c.args.away l.left p.at in
-    armed_had_seen _ g.A.Actor.view p.stage p.run node c.args.self.now c.args.away c.in_ok-actor.actor c.args.call c.args.image i c.in_ok-actor.ensures
+    let i = left_is _ g.A.Actor.view g.A.Reader.Reading.reads p.stage p.run node l.before c.args.self.now c.args.away l.left p.at in
+    armed_had_seen _ g.A.Actor.view g.A.Reader.Reading.reads p.stage p.run node c.args.self.now c.args.away c.in_ok-actor.actor c.args.call c.args.image i c.in_ok-actor.ensures
 
 pub returns : goal.returns
 returns g c = λ node before left. λ stage run at.
     let view = g.A.Actor.view in
-    let i = left_is _ view stage run node before c.args.self.now c.args.away left at in
+    let reads = g.A.Reader.Reading.reads in
+    let i = left_is _ view reads stage run node before c.args.self.now c.args.away left at in
     let after = c.in_ok-actor.actor in
-    let set = stop_set _ view stage run node c.args.call c.args.image before c.args.self.now c.come_back.new.self c.args.away after (g.met.A.Actor.lawful after) at i c.in_ok-actor.ensures
-    c.in_ok-come_back.ensures.parts c.in_ok-come_back.ensures.seen c.in_ok-come_back.ensures.labels in
-    subst (λ (lines : List ℕ). HasDone g.row.A.Denot view stage (armed_at run node c.args.call c.args.image) lines c.come_back.new.self) (sym c.in_ok-from_slice.ensures) set
+    let set = stop_set _ view reads stage run node c.args.call c.args.image before c.args.self.now c.come_back.new.self c.args.away after (g.met.A.Actor.lawful after) at i c.in_ok-actor.ensures
+    c.in_ok-come_back.ensures.parts c.in_ok-come_back.ensures.seen c.in_ok-come_back.ensures.labels c.in_ok-come_back.ensures.readers in
+    subst (λ (lines : List ℕ). HasDone g.row.A.Denot view reads stage (armed_at run node c.args.call c.args.image) lines c.come_back.new.self) (sym c.in_ok-from_slice.ensures) set

@@ -9,28 +9,28 @@ traces-requires g c = let p = c.requires in parts_may g.A.Actor.view p.stage p.r
 pub audit-requires-clause-some : goal.audit-requires-clause-some
 audit-requires-clause-some g c =
     let p = c.requires in
-    let are = traces_are g.A.Actor.view p.stage p.run c.args.self.now c.in_ok-traces.traces c.in_ok-traces.ensures.are p.at in
+    let are = traces_are g.A.Actor.view g.A.Reader.Reading.reads p.stage p.run c.args.self.now c.in_ok-traces.traces c.in_ok-traces.ensures.are p.at in
     omega (arith, many_traces p.run c.in_ok-traces.traces are, p.sound.some)
 
 pub audit-requires-clause-few : goal.audit-requires-clause-few
 audit-requires-clause-few g c =
     let p = c.requires in
-    let are = traces_are g.A.Actor.view p.stage p.run c.args.self.now c.in_ok-traces.traces c.in_ok-traces.ensures.are p.at in
+    let are = traces_are g.A.Actor.view g.A.Reader.Reading.reads p.stage p.run c.args.self.now c.in_ok-traces.traces c.in_ok-traces.ensures.are p.at in
     omega (arith, many_traces p.run c.in_ok-traces.traces are, p.sound.most)
 
 pub audit-requires-clause-distinct : goal.audit-requires-clause-distinct
 audit-requires-clause-distinct g c =
     let p = c.requires in
-    let are = traces_are g.A.Actor.view p.stage p.run c.args.self.now c.in_ok-traces.traces c.in_ok-traces.ensures.are p.at in
+    let are = traces_are g.A.Actor.view g.A.Reader.Reading.reads p.stage p.run c.args.self.now c.in_ok-traces.traces c.in_ok-traces.ensures.are p.at in
     are_apart p.stage p.run c.in_ok-traces.traces p.sound are
 
 pub audit-requires-clause-members : goal.audit-requires-clause-members
 audit-requires-clause-members g c =
     let p = c.requires in
-    let are = traces_are g.A.Actor.view p.stage p.run c.args.self.now c.in_ok-traces.traces c.in_ok-traces.ensures.are p.at in
+    let are = traces_are g.A.Actor.view g.A.Reader.Reading.reads p.stage p.run c.args.self.now c.in_ok-traces.traces c.in_ok-traces.ensures.are p.at in
     are_members p.stage p.run c.args.scene.now.roster.now c.in_ok-traces.traces p.sound p.on.listed_is are
 
 pub returns : goal.returns
 returns g c = IfOk-weaker c.finding_line.result _ _ (λ lines told stage run on sound at.
-    let are = traces_are g.A.Actor.view stage run c.args.self.now c.in_ok-traces.traces c.in_ok-traces.ensures.are at in
-    audit_done g.row.A.Denot g.A.Actor.view stage run g.S.Scheme.verifies c.args.scene.now.roster.now c.in_ok-traces.traces c.in_ok-found.found lines c.args.self.now sound on.verifies_is on.listed_is are c.in_ok-found.ensures told at) c.finding_line.ensures
+    let are = traces_are g.A.Actor.view g.A.Reader.Reading.reads stage run c.args.self.now c.in_ok-traces.traces c.in_ok-traces.ensures.are at in
+    audit_done g.row.A.Denot g.A.Actor.view g.A.Reader.Reading.reads stage run g.S.Scheme.verifies c.args.scene.now.roster.now c.in_ok-traces.traces c.in_ok-found.found lines c.args.self.now sound on.verifies_is on.listed_is are c.in_ok-found.ensures told at) c.finding_line.ensures

@@ -14,12 +14,12 @@ come_back-requires-clause-seen g c =
     let l = c.requires.left.1 in
     let p = l.played in
     let t = c.in_ok-actor.field-0 in
-    let i = left_is _ g.A.Actor.view p.stage p.run node l.before c.args.self.now c.args.away l.left p.at in
-    settled_had_seen _ g.A.Actor.view p.stage p.run node c.args.id.now c.args.k c.args.self.now c.args.away t.actor t.lines t.bytes i (c.in_ok-actor.ensures p.stage i.station i.seated)
+    let i = left_is _ g.A.Actor.view g.A.Reader.Reading.reads p.stage p.run node l.before c.args.self.now c.args.away l.left p.at in
+    settled_had_seen _ g.A.Actor.view g.A.Reader.Reading.reads p.stage p.run node c.args.id.now c.args.k c.args.self.now c.args.away t.actor t.lines t.bytes i (c.in_ok-actor.ensures p.stage i.station i.seated)
 
 pub returns : goal.returns
 returns g c = λ node before left. λ stage run at.
     let t = c.in_ok-actor.field-0 in
-    let i = left_is _ g.A.Actor.view stage run node before c.args.self.now c.args.away left at in
-    settled_told _ g.A.Actor.view stage run node c.args.id.now c.args.k before c.args.self.now c.come_back.new.self c.args.away t.actor t.lines t.bytes (g.met.A.Actor.lawful t.actor) at i (c.in_ok-actor.ensures stage i.station i.seated)
-    c.in_ok-come_back.ensures.parts c.in_ok-come_back.ensures.seen c.in_ok-come_back.ensures.labels
+    let i = left_is _ g.A.Actor.view g.A.Reader.Reading.reads stage run node before c.args.self.now c.args.away left at in
+    settled_told _ g.A.Actor.view g.A.Reader.Reading.reads stage run node c.args.id.now c.args.k before c.args.self.now c.come_back.new.self c.args.away t.actor t.lines t.bytes (g.met.A.Actor.lawful t.actor) at i (c.in_ok-actor.ensures stage i.station i.seated)
+    c.in_ok-come_back.ensures.parts c.in_ok-come_back.ensures.seen c.in_ok-come_back.ensures.labels c.in_ok-come_back.ensures.readers

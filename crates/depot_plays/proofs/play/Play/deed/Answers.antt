@@ -16,8 +16,9 @@ act-requires-clause-left g c = record {
 pub returns-in_ok-from_slice-in-None : goal.returns-in_ok-from_slice-in-None
 returns-in_ok-from_slice-in-None g c = λ stage run at.
     let view = g.A.Actor.view in
+    let reads = g.A.Reader.Reading.reads in
     let e = c.args.event.now in
     let none = subst (λ (n : ℕ). position (λ p. eqb (view p.actor).here.me n) c.args.self.now.parts.items ≡ None) (sym c.requires.node) c.in-None.ensures.1 in
-    let here = nothing_done g.row.A.Denot view stage run e c.args.self.now c.requires.deed none at in
-    let now = subst (λ (p : Play g.row.A.Denot). HasDone g.row.A.Denot view stage (done stage run e) (10 ∷ []) p) (sym c.in-None.ensures.0) here in
-    subst (λ (lines : List ℕ). HasDone g.row.A.Denot view stage (done stage run e) lines c.leave.new.self) (sym c.in_ok-from_slice-in-None.ensures) now
+    let here = nothing_done g.row.A.Denot view reads stage run e c.args.self.now c.requires.deed none at in
+    let now = subst (λ (p : Play g.row.A.Denot _). HasDone g.row.A.Denot view reads stage (done stage run e) (10 ∷ []) p) (sym c.in-None.ensures.0) here in
+    subst (λ (lines : List ℕ). HasDone g.row.A.Denot view reads stage (done stage run e) lines c.leave.new.self) (sym c.in_ok-from_slice-in-None.ensures) now

@@ -26,5 +26,5 @@ pub returns-in-Some-clause-at : goal.returns-in-Some-clause-at
 returns-in-Some-clause-at g c = on_ok c.sign.result c.sign.ensures.seen (λ seen stage run at.
     let us = updates_in c.args.self.now.seen.graph.items.entries in
     let parents = subst (λ (o : Option Update). IfSome o (λ u. HasSeenParents us u)) c.in-Some.is c.requires.parents in
-    subst (λ (o : Option Update). IsAtPlay g.A.Actor.view stage (with_update run o) c.sign.new.self) (sym c.in-Some.is)
-    (sees_update g.row.A.Denot g.A.Actor.view stage run c.in-Some.update c.args.self.now c.sign.new.self at parents c.sign.ensures.parts c.sign.ensures.labels seen))
+    subst (λ (o : Option Update). IsAtPlay g.A.Actor.view g.A.Reader.Reading.reads stage (with_update run o) c.sign.new.self) (sym c.in-Some.is)
+    (sees_update g.row.A.Denot g.A.Actor.view g.A.Reader.Reading.reads stage run c.in-Some.update c.args.self.now c.sign.new.self at parents c.sign.ensures.parts c.sign.ensures.labels c.sign.ensures.readers seen))

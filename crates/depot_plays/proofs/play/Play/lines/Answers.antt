@@ -25,12 +25,12 @@ stop-requires-clause-image g c =
 pub returns-in-Judge : goal.returns-in-Judge
 unfolding done
 returns-in-Judge g c = IfOk-weaker c.judge.result _ _ (λ lines told stage run on sound at.
-    subst (λ (e : Event). HasDone g.row.A.Denot g.A.Actor.view stage (done stage run e) lines c.args.self.now) (sym c.in-Judge.is) (told stage run on at)) c.judge.ensures
+    subst (λ (e : Event). HasDone g.row.A.Denot g.A.Actor.view g.A.Reader.Reading.reads stage (done stage run e) lines c.args.self.now) (sym c.in-Judge.is) (told stage run on at)) c.judge.ensures
 
 pub returns-in-Stop : goal.returns-in-Stop
 unfolding done
 returns-in-Stop g c = IfOk-weaker c.stop.result _ _ (λ lines told stage run on sound at.
-    subst (λ (e : Event). HasDone g.row.A.Denot g.A.Actor.view stage (done stage run e) lines c.stop.new.self) (sym c.in-Stop.is) (told stage run at)) c.stop.ensures
+    subst (λ (e : Event). HasDone g.row.A.Denot g.A.Actor.view g.A.Reader.Reading.reads stage (done stage run e) lines c.stop.new.self) (sym c.in-Stop.is) (told stage run at)) c.stop.ensures
 
 pub deed-requires-clause-changes : goal.deed-requires-clause-changes
 deed-requires-clause-changes g c = put_changes c.requires.may.before c.args.event.now c.requires.may.fits
@@ -46,14 +46,29 @@ receipt-requires-clause-few g c =
 pub returns-in-Receipt : goal.returns-in-Receipt
 unfolding done
 returns-in-Receipt g c = IfOk-weaker c.receipt.result _ _ (λ lines told stage run on sound at.
-    subst (λ (e : Event). HasDone g.row.A.Denot g.A.Actor.view stage (done stage run e) lines c.receipt.new.self) (sym c.in-Receipt.is) (rw c.as_slice.ensures at (told stage run at))) c.receipt.ensures
+    subst (λ (e : Event). HasDone g.row.A.Denot g.A.Actor.view g.A.Reader.Reading.reads stage (done stage run e) lines c.receipt.new.self) (sym c.in-Receipt.is) (rw c.as_slice.ensures at (told stage run at))) c.receipt.ensures
 
 pub returns-in-Settled : goal.returns-in-Settled
 unfolding done
 returns-in-Settled g c = IfOk-weaker c.settled.result _ _ (λ lines told stage run on sound at.
-    subst (λ (e : Event). HasDone g.row.A.Denot g.A.Actor.view stage (done stage run e) lines c.settled.new.self) (sym c.in-Settled.is) (told stage run at)) c.settled.ensures
+    subst (λ (e : Event). HasDone g.row.A.Denot g.A.Actor.view g.A.Reader.Reading.reads stage (done stage run e) lines c.settled.new.self) (sym c.in-Settled.is) (told stage run at)) c.settled.ensures
 
 pub returns-in-Audit : goal.returns-in-Audit
 unfolding done
 returns-in-Audit g c = IfOk-weaker c.audit.result _ _ (λ lines told stage run on sound at.
-    subst (λ (e : Event). HasDone g.row.A.Denot g.A.Actor.view stage (done stage run e) lines c.args.self.now) (sym c.in-Audit.is) (told stage run on sound at)) c.audit.ensures
+    subst (λ (e : Event). HasDone g.row.A.Denot g.A.Actor.view g.A.Reader.Reading.reads stage (done stage run e) lines c.args.self.now) (sym c.in-Audit.is) (told stage run on sound at)) c.audit.ensures
+
+pub returns-in-Trim : goal.returns-in-Trim
+unfolding done
+returns-in-Trim g c = IfOk-weaker c.trim.result _ _ (λ lines told stage run on sound at.
+    subst (λ (e : Event). HasDone g.row.A.Denot g.A.Actor.view g.A.Reader.Reading.reads stage (done stage run e) lines c.trim.new.self) (sym c.in-Trim.is) (told stage run at)) c.trim.ensures
+
+pub returns-in-Tgive : goal.returns-in-Tgive
+unfolding done
+returns-in-Tgive g c = IfOk-weaker c.tgive.result _ _ (λ lines told stage run on sound at.
+    subst (λ (e : Event). HasDone g.row.A.Denot g.A.Actor.view g.A.Reader.Reading.reads stage (done stage run e) lines c.tgive.new.self) (sym c.in-Tgive.is) (told stage run at)) c.tgive.ensures
+
+pub returns-in-Tget : goal.returns-in-Tget
+unfolding done
+returns-in-Tget g c = IfOk-weaker c.tget.result _ _ (λ lines told stage run on sound at.
+    subst (λ (e : Event). HasDone g.row.A.Denot g.A.Actor.view g.A.Reader.Reading.reads stage (done stage run e) lines c.args.self.now) (sym c.in-Tget.is) (told stage run at)) c.tget.ensures

@@ -7,10 +7,11 @@ use Rattle.depot_plays.proofs.play.Play.make.Goals as goal
 pub returns : goal.returns
 returns g c = λ stage run on at.
     let view = g.A.Actor.view in
+    let reads = g.A.Reader.Reading.reads in
     let e = c.args.event.now in
     let text = c.in_ok-text.text in
     let after = record c.args.self.now { labels = c.give.new.self } in
     let kept = kept_by run.seen text.signed c.in_ok-text.ensures.fits (no_update_seen run.seen text.signed c.in_ok-text.ensures.none) in
-    let given = text_given g.row.A.Denot view stage run c.args.label.now (text_by stage run e) c.args.self.now after text c.in_ok-lines.lines at (c.in_ok-text.ensures.is stage run on at) kept
-    c.in_ok-lines.ensures.lines refl refl c.in_ok-lines.ensures.labels in
-    subst (λ (d : Done). HasDone g.row.A.Denot view stage d c.in_ok-lines.lines after) (ap (λ (l : List ℕ). done_by_text run l (text_by stage run e)) (sym c.requires.label) ∙ made_is stage run e c.requires.text) given
+    let given = text_given g.row.A.Denot view reads stage run c.args.label.now (text_by stage run e) c.args.self.now after text c.in_ok-lines.lines at (c.in_ok-text.ensures.is stage run on at) kept
+    c.in_ok-lines.ensures.lines refl refl refl c.in_ok-lines.ensures.labels in
+    subst (λ (d : Done). HasDone g.row.A.Denot view reads stage d c.in_ok-lines.lines after) (ap (λ (l : List ℕ). done_by_text run l (text_by stage run e)) (sym c.requires.label) ∙ made_is stage run e c.requires.text) given

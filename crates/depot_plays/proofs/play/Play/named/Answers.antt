@@ -10,7 +10,7 @@ pub returns-in_default : goal.returns-in_default
 returns-in_default g c = λ stage run at. nothing_named run c.args.refs.now c.loop-r.r-index c.r-item.result c.loop-r-test.true c.r-item.is (c.in_default.ensures stage run at)
 
 pub entry_of-requires : goal.entry_of-requires
-entry_of-requires g c = fits_here g.A.Actor.view c.args.self.now g.met.A.Actor.lawful c.requires c.r-item.result c.in-Some.update.now c.in-Some.ensures
+entry_of-requires g c = fits_here g.A.Actor.view g.A.Reader.Reading.reads c.args.self.now g.met.A.Actor.lawful c.requires c.r-item.result c.in-Some.update.now c.in-Some.ensures
 
 pub loop-r-preserved : goal.loop-r-preserved
 loop-r-preserved g c = λ stage run at.

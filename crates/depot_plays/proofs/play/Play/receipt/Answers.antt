@@ -22,17 +22,18 @@ give_receipts-requires-clause-left g c = (c.args.node, record { before = c.args.
 
 pub returns-in_default : goal.returns-in_default
 returns-in_default g c = λ stage run at.
-    subst (λ (lines : List ℕ). HasDone g.row.A.Denot g.A.Actor.view stage (receipt_for stage run c.args.node (all_referred run c.args.refs.now)) lines c.args.self.now) (sym c.in_ok-from_slice.ensures)
-    (receipts_refused g.row.A.Denot g.A.Actor.view stage run c.args.node c.args.refs.now c.args.self.now (sym c.in_default.is ∙ c.in_ok-ids.ensures stage run at) at)
+    subst (λ (lines : List ℕ). HasDone g.row.A.Denot g.A.Actor.view g.A.Reader.Reading.reads stage (receipt_for stage run c.args.node (all_referred run c.args.refs.now)) lines c.args.self.now) (sym c.in_ok-from_slice.ensures)
+    (receipts_refused g.row.A.Denot g.A.Actor.view g.A.Reader.Reading.reads stage run c.args.node c.args.refs.now c.args.self.now (sym c.in_default.is ∙ c.in_ok-ids.ensures stage run at) at)
 
 pub returns-in-Some-leave : goal.returns-in-Some-leave
 returns-in-Some-leave g c = IfOk-weaker c.give_receipts.result _ _ (λ lines done stage run at.
-    receipts_done g.row.A.Denot g.A.Actor.view stage run c.args.node c.args.refs.now _ lines c.give_receipts.new.self (sym c.in-Some.is ∙ c.in_ok-ids.ensures stage run at) (done stage run at)) (c.give_receipts.ensures c.args.node c.args.self.now c.in-Some-leave.ensures)
+    receipts_done g.row.A.Denot g.A.Actor.view g.A.Reader.Reading.reads stage run c.args.node c.args.refs.now _ lines c.give_receipts.new.self (sym c.in-Some.is ∙ c.in_ok-ids.ensures stage run at) (done stage run at)) (c.give_receipts.ensures c.args.node c.args.self.now c.in-Some-leave.ensures)
 
 pub returns : goal.returns
 returns g c = λ stage run at.
     let view = g.A.Actor.view in
+    let reads = g.A.Reader.Reading.reads in
     let done = receipt_for stage run c.args.node (all_referred run c.args.refs.now) in
-    let here = receipts_of_none g.row.A.Denot view stage run c.args.node c.args.refs.now _ c.args.self.now (sym c.in-Some.is ∙ c.in_ok-ids.ensures stage run at) c.in-None.ensures.1 at in
-    let now = subst (λ (p : Play g.row.A.Denot). HasDone g.row.A.Denot view stage done (10 ∷ []) p) (sym c.in-None.ensures.0) here in
-    subst (λ (lines : List ℕ). HasDone g.row.A.Denot view stage done lines c.leave.new.self) (sym c.in_ok-from_slice-in-None.ensures) now
+    let here = receipts_of_none g.row.A.Denot view reads stage run c.args.node c.args.refs.now _ c.args.self.now (sym c.in-Some.is ∙ c.in_ok-ids.ensures stage run at) c.in-None.ensures.1 at in
+    let now = subst (λ (p : Play g.row.A.Denot _). HasDone g.row.A.Denot view reads stage done (10 ∷ []) p) (sym c.in-None.ensures.0) here in
+    subst (λ (lines : List ℕ). HasDone g.row.A.Denot view reads stage done lines c.leave.new.self) (sym c.in_ok-from_slice-in-None.ensures) now

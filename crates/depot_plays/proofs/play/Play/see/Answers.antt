@@ -12,6 +12,7 @@ pub loop-item-init : goal.loop-item-init
 loop-item-init g c = record {
   parts = refl;
   labels = refl;
+  readers = refl;
   seen = sym (seen_add_nothing (updates_in c.args.self.now.seen.graph.items.entries) (take c.args.count (accepted (g.A.Actor.view c.args.actor.now).journal)) c.requires);
 }
 
@@ -34,5 +35,6 @@ loop-item-preserved g c =
     record {
       parts = c.loop-item.invariant.parts;
       labels = c.loop-item.invariant.labels;
+      readers = c.loop-item.invariant.readers;
       seen = c.in_ok-add.ensures.ok ∙ ap (λ (xs : List Update). seen_with xs (c.update.result.now ∷ [])) c.loop-item.invariant.seen ∙ next;
     }

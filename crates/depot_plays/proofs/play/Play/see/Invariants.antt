@@ -8,5 +8,6 @@ abbrev pub invariant-loop-item : goal.invariant-loop-item
 invariant-loop-item g l = record {
   parts : l.self.parts ≡ l.initial.self.parts;
   labels : l.self.labels ≡ l.initial.self.labels;
+  readers : l.self.readers ≡ l.initial.self.readers;
   seen : updates_in l.self.seen.graph.items.entries ≡ seen_with (updates_in l.initial.self.seen.graph.items.entries) (take l.item (accepted (g.A.Actor.view l.actor).journal));
 }

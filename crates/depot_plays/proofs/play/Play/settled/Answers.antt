@@ -12,17 +12,18 @@ count_receipts-requires g c = record { left = (c.args.node, record { before = c.
 
 pub returns-in_default : goal.returns-in_default
 returns-in_default g c = λ stage run at.
-    subst (λ (lines : List ℕ). HasDone g.row.A.Denot g.A.Actor.view stage (settled_for run c.args.node c.args.k (referred run c.args.update.now)) lines c.args.self.now) (sym c.in_ok-from_slice.ensures)
-    (settled_refused g.row.A.Denot g.A.Actor.view stage run c.args.node c.args.update.now c.args.k c.args.self.now (sym c.in_default.is ∙ c.in_ok-id.ensures stage run at) at)
+    subst (λ (lines : List ℕ). HasDone g.row.A.Denot g.A.Actor.view g.A.Reader.Reading.reads stage (settled_for run c.args.node c.args.k (referred run c.args.update.now)) lines c.args.self.now) (sym c.in_ok-from_slice.ensures)
+    (settled_refused g.row.A.Denot g.A.Actor.view g.A.Reader.Reading.reads stage run c.args.node c.args.update.now c.args.k c.args.self.now (sym c.in_default.is ∙ c.in_ok-id.ensures stage run at) at)
 
 pub returns-in-Some-leave : goal.returns-in-Some-leave
 returns-in-Some-leave g c = IfOk-weaker c.count_receipts.result _ _ (λ lines done stage run at.
-    settled_done g.row.A.Denot g.A.Actor.view stage run c.args.node c.args.update.now _ c.args.k lines c.count_receipts.new.self (sym c.in-Some.is ∙ c.in_ok-id.ensures stage run at) (done stage run at)) (c.count_receipts.ensures c.args.node c.args.self.now c.in-Some-leave.ensures)
+    settled_done g.row.A.Denot g.A.Actor.view g.A.Reader.Reading.reads stage run c.args.node c.args.update.now _ c.args.k lines c.count_receipts.new.self (sym c.in-Some.is ∙ c.in_ok-id.ensures stage run at) (done stage run at)) (c.count_receipts.ensures c.args.node c.args.self.now c.in-Some-leave.ensures)
 
 pub returns-in_ok-from_slice-in-None : goal.returns-in_ok-from_slice-in-None
 returns-in_ok-from_slice-in-None g c = λ stage run at.
     let view = g.A.Actor.view in
+    let reads = g.A.Reader.Reading.reads in
     let done = settled_for run c.args.node c.args.k (referred run c.args.update.now) in
-    let here = settled_of_none g.row.A.Denot view stage run c.args.node c.args.update.now _ c.args.k c.args.self.now (sym c.in-Some.is ∙ c.in_ok-id.ensures stage run at) c.in-None.ensures.1 at in
-    let now = subst (λ (p : Play g.row.A.Denot). HasDone g.row.A.Denot view stage done (10 ∷ []) p) (sym c.in-None.ensures.0) here in
-    subst (λ (lines : List ℕ). HasDone g.row.A.Denot view stage done lines c.leave.new.self) (sym c.in_ok-from_slice-in-None.ensures) now
+    let here = settled_of_none g.row.A.Denot view reads stage run c.args.node c.args.update.now _ c.args.k c.args.self.now (sym c.in-Some.is ∙ c.in_ok-id.ensures stage run at) c.in-None.ensures.1 at in
+    let now = subst (λ (p : Play g.row.A.Denot _). HasDone g.row.A.Denot view reads stage done (10 ∷ []) p) (sym c.in-None.ensures.0) here in
+    subst (λ (lines : List ℕ). HasDone g.row.A.Denot view reads stage done lines c.leave.new.self) (sym c.in_ok-from_slice-in-None.ensures) now

@@ -14,7 +14,8 @@ returns-in-Some g c = c.arm.ensures c.args.node c.args.self.now c.in-Some.ensure
 pub returns-in_ok-from_slice-in-None : goal.returns-in_ok-from_slice-in-None
 returns-in_ok-from_slice-in-None g c = λ stage run at.
     let view = g.A.Actor.view in
+    let reads = g.A.Reader.Reading.reads in
     let done = armed_at run c.args.node c.args.call c.args.image in
-    let here = nothing_armed g.row.A.Denot view stage run c.args.node c.args.call c.args.image c.args.self.now c.in-None.ensures.1 at in
-    let now = subst (λ (p : Play g.row.A.Denot). HasDone g.row.A.Denot view stage done (10 ∷ []) p) (sym c.in-None.ensures.0) here in
-    subst (λ (lines : List ℕ). HasDone g.row.A.Denot view stage done lines c.leave.new.self) (sym c.in_ok-from_slice-in-None.ensures) now
+    let here = nothing_armed g.row.A.Denot view reads stage run c.args.node c.args.call c.args.image c.args.self.now c.in-None.ensures.1 at in
+    let now = subst (λ (p : Play g.row.A.Denot _). HasDone g.row.A.Denot view reads stage done (10 ∷ []) p) (sym c.in-None.ensures.0) here in
+    subst (λ (lines : List ℕ). HasDone g.row.A.Denot view reads stage done lines c.leave.new.self) (sym c.in_ok-from_slice-in-None.ensures) now

@@ -14,6 +14,7 @@ use Rattle.depot_plays.proofs.play.Play.update.Goals as goal
 pub returns : goal.returns
 returns g c = λ stage run on at.
     let view = g.A.Actor.view in
+    let reads = g.A.Reader.Reading.reads in
     let e = c.args.event.now in
     let text = c.in_ok-text.text in
     let after = record c.signed.new.self { labels = c.give.new.self } in
@@ -22,6 +23,6 @@ returns g c = λ stage run on at.
     let at_then = c.in_ok-text.ensures.at stage run at in
     let were = subst (λ (us : List Update). IfSome text.signed (λ s. WereSeen us (update_in s.statement))) at_then.seen_are c.in_ok-text.ensures.were in
     let kept = kept_by run_then.seen text.signed c.in_ok-text.ensures.fits were in
-    let given = text_given g.row.A.Denot view stage run_then c.args.label.now t c.signed.new.self after text c.in_ok-lines.lines at_then (c.in_ok-text.ensures.is stage run on at) kept
-    c.in_ok-lines.ensures.lines refl refl c.in_ok-lines.ensures.labels in
-    subst (λ (d : Done). HasDone g.row.A.Denot view stage d c.in_ok-lines.lines after) (ap (λ (l : List ℕ). done_by_text run_then l t) (sym c.requires.label) ∙ update_is stage run e c.requires.signing) given
+    let given = text_given g.row.A.Denot view reads stage run_then c.args.label.now t c.signed.new.self after text c.in_ok-lines.lines at_then (c.in_ok-text.ensures.is stage run on at) kept
+    c.in_ok-lines.ensures.lines refl refl refl c.in_ok-lines.ensures.labels in
+    subst (λ (d : Done). HasDone g.row.A.Denot view reads stage d c.in_ok-lines.lines after) (ap (λ (l : List ℕ). done_by_text run_then l t) (sym c.requires.label) ∙ update_is stage run e c.requires.signing) given

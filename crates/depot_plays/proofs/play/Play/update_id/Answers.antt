@@ -4,7 +4,7 @@ use Rattle.depot_plays.proofs.LabelledUpdates.{fits_here}
 use Rattle.depot_plays.proofs.play.Play.update_id.Goals as goal
 
 pub id_of-requires : goal.id_of-requires
-id_of-requires g c = fits_here g.A.Actor.view c.args.self.now g.met.A.Actor.lawful c.requires c.args.r.now c.in-Some.update.now c.in-Some.ensures
+id_of-requires g c = fits_here g.A.Actor.view g.A.Reader.Reading.reads c.args.self.now g.met.A.Actor.lawful c.requires c.args.r.now c.in-Some.update.now c.in-Some.ensures
 
 pub returns-in_default : goal.returns-in_default
 returns-in_default g c = λ stage run at. ap (option_map id_of_update) (c.in_default.ensures stage run at)

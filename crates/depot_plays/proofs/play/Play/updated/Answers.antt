@@ -32,7 +32,7 @@ with_history-requires g c =
     let at = c.requires.played.at in
     subst (λ (us : List Update). HasSeenParents us c.drafted-draft.result) (sym at.seen_are)
     (draft_is_seen run c.args.writer c.args.seq c.args.clock c.args.prev.now c.in-Some.prev c.args.changes.now c.args.deps.now c.args.history c.in-Some-2.deps c.drafted-draft.result
-    (named_here g.A.Actor.view stage run c.args.self.now g.met.A.Actor.lawful at) c.requires.fits (sym c.in-Some.is ∙ c.in_ok-prev.ensures stage run at) (sym c.in-Some-2.is ∙ c.in_ok-deps.ensures stage run at) (made g c))
+    (named_here g.A.Actor.view g.A.Reader.Reading.reads stage run c.args.self.now g.met.A.Actor.lawful at) c.requires.fits (sym c.in-Some.is ∙ c.in_ok-prev.ensures stage run at) (sym c.in-Some-2.is ∙ c.in_ok-deps.ensures stage run at) (made g c))
 
 pub returns-clause-is : goal.returns-clause-is
 returns-clause-is g c = λ stage run sign at.
@@ -49,7 +49,7 @@ seen g c =
     let at = c.requires.played.at in
     subst (λ (us : List Update). IsSeenUpdate us c.in_ok-with_history.field-0) (sym at.seen_are)
     (updated_is_seen run (λ _ _. []) c.args.writer c.args.seq c.args.clock c.args.prev.now c.args.changes.now c.args.deps.now c.args.history c.in_ok-with_history.field-0
-    (named_here g.A.Actor.view stage run c.args.self.now g.met.A.Actor.lawful at) c.requires.fits (returns-clause-is g c stage run (λ _ _. []) at))
+    (named_here g.A.Actor.view g.A.Reader.Reading.reads stage run c.args.self.now g.met.A.Actor.lawful at) c.requires.fits (returns-clause-is g c stage run (λ _ _. []) at))
 
 pub returns-clause-text : goal.returns-clause-text
 returns-clause-text g c = (seen g (goal.at.returns-clause-text g c).In_ok-with_history).fits

@@ -1,0 +1,84 @@
+//! Checkpoints that are made or not, and readers that are made by them.
+ghost use Rattle.std.specs.Prelude.{◌≡◌, ◌++◌, OnOk};
+ghost use Rattle.depot_model.specs.ReaderFeeds.{ReaderFeed};
+ghost use Rattle.depot_answers.specs.Answers.{text_of_empty, text_of_kept, text_of_many, text_of_reader_feed, text_of_unsigned, text_where_full};
+
+use crate::limit_answers::full;
+use crate::words::{numbered, numbered_node, spaced_number, text};
+use depot_base::{Bytes, Full, Memory, NodeId};
+use std::alloc::Global;
+
+/// No checkpoint is made, since nothing was accepted. After Memory a front of that may have been added.
+pub fn empty(out: &mut Bytes) -> Result<(), Memory>
+    ensures { OnOk result (out.new ≡ out.old ++ text_of_empty) }
+{
+    text(out, "Empty")
+}
+
+/// No checkpoint is made, since there are so many leaves, more than 1,024. After Memory a front of that may have been added.
+pub fn many(alloc: Global, out: &mut Bytes, count: u32) -> Result<(), Memory>
+    ensures { OnOk result (out.new ≡ out.old ++ text_of_many count) }
+{
+    numbered(alloc, out, "Many", count as u64)
+}
+
+/// The first node of the roster that didn't sign a checkpoint. After Memory a front of that may have been added.
+pub fn unsigned(alloc: Global, out: &mut Bytes, node: NodeId) -> Result<(), Memory>
+    ensures { OnOk result (out.new ≡ out.old ++ text_of_unsigned node) }
+{
+    numbered_node(alloc, out, "Unsigned", node)
+}
+
+/// How many updates a reader keeps of how many that were accepted. After Memory a front of that may have been added.
+#[tactic(auto, using(depot_base::proofs::Writing::texts))]
+pub fn kept(alloc: Global, out: &mut Bytes, left: u32, all: u32) -> Result<(), Memory>
+    ensures { OnOk result (out.new ≡ out.old ++ text_of_kept left all) }
+{
+    numbered(alloc, out, "kept", left as u64)?;
+    spaced_number(alloc, out, "of", all as u64)
+}
+
+/// How many frames a reader was given that came to the same.
+#[derive(Clone, Copy, Debug)]
+pub struct ReaderCounts {
+    /// Answered New.
+    pub accepted: u32,
+    /// Answered Known.
+    pub known: u32,
+    /// Refused.
+    pub refused: u32,
+    /// Below the checkpoint.
+    pub below: u32,
+}
+
+/// What is full, where something is.
+#[tactic(auto, using(depot_base::proofs::Writing::texts))]
+fn full_behind(alloc: Global, out: &mut Bytes, met: Option<Full>) -> Result<(), Memory>
+    ensures { OnOk result (out.new ≡ out.old ++ text_where_full met) }
+{
+    match met {
+        None => Ok(()),
+        Some(what) => {
+            text(out, " ")?;
+            full(alloc, out, &what)
+        }
+    }
+}
+
+/// How many frames of a stream a reader found new, known, to be refused and below, and what was full where one found no room. After
+/// Memory a front of that may have been added.
+#[tactic(auto, using(depot_base::proofs::Writing::texts), unfolding(crate::specs::Answers::text_of_reader_feed))]
+pub fn reader_feed(
+    alloc: Global,
+    out: &mut Bytes,
+    counts: ReaderCounts,
+    met: Option<Full>,
+) -> Result<(), Memory>
+    ensures { OnOk result ((s : ReaderFeed) → s.accepted ≡ counts.accepted → s.known ≡ counts.known → s.refused ≡ counts.refused → s.below ≡ counts.below → s.full ≡ met → out.new ≡ out.old ++ text_of_reader_feed s) }
+{
+    numbered(alloc, out, "accepted", counts.accepted as u64)?;
+    spaced_number(alloc, out, "known", counts.known as u64)?;
+    spaced_number(alloc, out, "refused", counts.refused as u64)?;
+    spaced_number(alloc, out, "below", counts.below as u64)?;
+    full_behind(alloc, out, met)
+}

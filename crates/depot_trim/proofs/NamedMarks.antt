@@ -1,0 +1,45 @@
+-- A mark is named as its update is, and the first one that is named is that of the first such update.
+use Rattle.std.proofs.Common.{◌≡◌, ℕ, Bool, true, false, cond, ◌||◌, List, [], ◌∷◌, ◌++◌, map, Option, Some, refl, ap, ◌∙◌}
+use Rattle.std.specs.Prelude.{find, option_map}
+use Rattle.std.specs.Str.{bytes_eq}
+use Rattle.std.specs.List.{list_any}
+use Rattle.depot_base.specs.declared.update.Update.{Update}
+use Rattle.depot_base.specs.declared.statement.Statement.{Statement}
+use Rattle.depot_base.specs.declared.statement.Statement.TheVariants as statement
+use Rattle.depot_model.specs.Texts.{id_of_update}
+use Rattle.depot_model.specs.Lists.{is_among}
+use Rattle.depot_model.specs.Order.{prevs, parents}
+use Rattle.depot_model.specs.Trimming.{names}
+use Rattle.depot_trim.specs.declared.marks.Mark.{Mark}
+use Rattle.depot_trim.specs.ReaderView.{mark_of}
+use Rattle.depot_trim.specs.Naming.{names_mark}
+
+pub mark_is_named : (s : Statement) (t : Update) → names_mark s (mark_of t) ≡ names s t
+unfolding names names_mark
+mark_is_named (statement.Update u) t = refl
+mark_is_named (statement.Voucher v) t = refl
+
+-- the id of the first one that is named
+abbrev first_mark : Statement → List Mark → Option (List ℕ)
+first_mark s ms = option_map (λ m. m.id) (find (names_mark s) ms)
+
+pub first_is : (s : Statement) (ts : List Update) → option_map (λ m. m.id) (find (names_mark s) (map mark_of ts)) ≡ option_map id_of_update (find (names s) ts)
+first_is s [] = refl
+first_is s (t ∷ ts) =
+    ap (λ (b : Bool). option_map (λ m. m.id) (cond b (Some (mark_of t)) (find (names_mark s) (map mark_of ts)))) (mark_is_named s t) ∙ by_test (names s t) (first_is s ts) where
+      by_test : (b : Bool) → first_mark s (map mark_of ts) ≡ option_map id_of_update (find (names s) ts) → option_map (λ m. m.id) (cond b (Some (mark_of t)) (find (names_mark s) (map mark_of ts))) ≡ option_map id_of_update (cond b (Some t) (find (names s) ts))
+      by_test true e = refl
+      by_test false e = e
+
+-- ---- parents
+
+any_behind : {X : Type 0} (test : X → Bool) (xs ys : List X) → (list_any test xs || list_any test ys) ≡ list_any test (xs ++ ys)
+any_behind test [] ys = refl
+any_behind test (x ∷ xs) ys = by_test (test x) (any_behind test xs ys) where
+  by_test : (b : Bool) → (list_any test xs || list_any test ys) ≡ list_any test (xs ++ ys) → ((b || list_any test xs) || list_any test ys) ≡ (b || list_any test (xs ++ ys))
+  by_test true e = refl
+  by_test false e = e
+
+-- the prev's id, or an entry's
+pub parent_is : (h : List ℕ) (u : Update) → (is_among h (prevs u) || is_among h (map (λ d. d.id) u.deps)) ≡ is_among h (parents u)
+parent_is h u = any_behind (bytes_eq h) (prevs u) (map (λ d. d.id) u.deps)

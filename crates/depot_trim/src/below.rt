@@ -1,0 +1,92 @@
+//! What stands below a checkpoint.
+ghost use Rattle.std.specs.Prelude.{◌≡◌, ◌<◌, ℕ, List, [], ◌∷◌, ◌++◌, length, map, filter, IfOk, OnOk, Some, slice_get};
+ghost use Rattle.std.specs.List.{list_any};
+ghost use Rattle.depot_base.specs.declared.record.Record.{Record};
+ghost use Rattle.depot_base.specs.declared.update.Update.{Update};
+ghost use Rattle.depot_model.specs.Bundle.{is_covered};
+ghost use Rattle.depot_model.specs.Checks.{Setting};
+ghost use Rattle.depot_model.specs.Journal.{accepted, has_id};
+ghost use Rattle.depot_model.specs.Lawful.{IsLawful};
+ghost use Rattle.depot_model.specs.LatestList.{latest_in};
+ghost use Rattle.depot_model.specs.Order.{IsCausal};
+ghost use Rattle.depot_model.specs.Texts.{IsUpdate, id_of_update};
+ghost use Rattle.depot_trim.specs.Trimmings.{ids_in, is_given_up_below};
+
+use crate::leaf_items::leaf_items;
+use depot_base::{Hash32, Memory, Update, Write};
+use depot_graph::Graph;
+use depot_model::{HelloLeaf, Past};
+use std::alloc::Global;
+
+/// The updates that are, or precede, one of these leaves, in the order in which they came. What an update
+/// names is below where the update is, so they fit behind one another.
+pub(crate) fn graph_below(
+    alloc: Global,
+    graph: &Graph,
+    leaves: &[HelloLeaf],
+) -> Result<Graph, Memory>
+    requires { (here : Setting) × ((J : List Record) × (IsLawful here J × (accepted J ≡ ⟦<Graph as Past>⟧.updates graph.now))) }
+    ensures { IfOk result (λ below. ⟦<Graph as Past>⟧.updates below ≡ filter (is_covered (⟦<Graph as Past>⟧.updates graph.now) (ids_in leaves.now)) (⟦<Graph as Past>⟧.updates graph.now)) }
+{
+    let items = leaf_items(alloc, graph, leaves)?;
+    let row = graph.joined_row(items.as_slice())?;
+    let mut below = Graph::new(alloc);
+    for item in 0..graph.count() {
+        if graph.within(item, row.as_slice()) {
+            add_item(&mut below, graph, item)?;
+        }
+    }
+    Ok(below)
+}
+
+/// Adds the update of an item of a graph to a graph, where it fits.
+fn add_item(below: &mut Graph, graph: &Graph, item: u32) -> Result<(), Memory>
+    requires item { item < length (⟦<Graph as Past>⟧.updates graph.now) }
+    requires text { (u : Update) → slice_get (⟦<Graph as Past>⟧.updates graph.now) item ≡ Some u → IsUpdate u }
+    requires fits { (u : Update) → slice_get (⟦<Graph as Past>⟧.updates graph.now) item ≡ Some u → IsCausal [] (⟦<Graph as Past>⟧.updates below.old ++ u ∷ []) }
+    requires room { length (⟦<Graph as Past>⟧.updates below.old) < 4294967295 }
+    ensures { OnOk result ((u : Update) → slice_get (⟦<Graph as Past>⟧.updates graph.now) item ≡ Some u → ⟦<Graph as Past>⟧.updates below.new ≡ ⟦<Graph as Past>⟧.updates below.old ++ u ∷ []) }
+{
+    let update = graph.update(item).copy()?;
+    below.add_uncounted(update, &[], *graph.id(item))?;
+    Ok(())
+}
+
+/// Of each item of a graph, whether it is below and of none of its keys a latest write there: whether it is trimmed.
+pub(crate) fn trimmed_items(
+    alloc: Global,
+    graph: &Graph,
+    below: &Graph,
+) -> Result<Vec<bool>, Memory>
+    ensures { IfOk result (λ trimmed. trimmed.items ≡ map (is_given_up_below (⟦<Graph as Past>⟧.updates below.now)) (⟦<Graph as Past>⟧.updates graph.now)) }
+{
+    let mut trimmed = Vec::new(alloc);
+    for item in 0..graph.count() {
+        trimmed.push(is_given_up(below, graph.id(item), graph.update(item)))?;
+    }
+    Ok(trimmed)
+}
+
+/// Whether an update with this id is below, and of none of its keys a latest write there.
+fn is_given_up(below: &Graph, id: &Hash32, update: &Update) -> bool
+    requires { id.now ≡ id_of_update update.now }
+    ensures { result ≡ is_given_up_below (⟦<Graph as Past>⟧.updates below.now) update.now }
+{
+    match below.find(id) {
+        Some(item) => !is_latest(below, item, update.writes.as_slice()),
+        None => false,
+    }
+}
+
+/// Whether an item is a latest write of a key of one of these writes.
+fn is_latest(graph: &Graph, item: u32, writes: &[Write]) -> bool
+    requires { item < length (⟦<Graph as Past>⟧.updates graph.now) }
+    ensures { (u : Update) → slice_get (⟦<Graph as Past>⟧.updates graph.now) item ≡ Some u → result ≡ list_any (λ key. has_id (latest_in key (⟦<Graph as Past>⟧.updates graph.now)) (id_of_update u)) (map (λ w. w.key) writes.now) }
+{
+    for write in writes {
+        if graph.latest(&write.key).contains(&item) {
+            return true;
+        }
+    }
+    false
+}

@@ -1,0 +1,75 @@
+//! What is decided of what a reader is given is carried out.
+ghost use Rattle.std.specs.Prelude.{◌≡◌, List, OnOk, OnErr, Option};
+ghost use Rattle.depot_base.specs.declared.record.Record.{Record};
+ghost use Rattle.depot_model.specs.Checks.{Given};
+ghost use Rattle.depot_model.specs.Journal.{accepted};
+ghost use Rattle.depot_model.specs.Readers.{Reader, told_as_node, with_more};
+ghost use Rattle.depot_store.specs.RoomByCounts.{leaves_with};
+ghost use Rattle.depot_trim.specs.ReaderAnswers.{Becomes};
+ghost use Rattle.depot_trim.specs.ReaderDecides.{IsDecidedOf, MayTake, as_told};
+ghost use Rattle.depot_trim.specs.ReaderView.{IsReaderOf};
+
+use crate::trim_error::TrimTake;
+use crate::trimmed::Trimmed;
+use depot_base::{Check, Full, Memory};
+use depot_decide::Decision;
+use depot_model::{Scheme, Taken};
+use depot_store::{Growth, leaves_with};
+
+impl<S: Scheme> Trimmed<S> {
+    /// A decision is carried out where there is room for its growth, and its answer given.
+    pub(crate) fn carry_out(&mut self, decision: Decision) -> Result<Taken, TrimTake>
+        requires { (R : Reader) × (IsReaderOf S.verifies R self.old × ((x : Given) × IsDecidedOf R x decision.answer decision.growth)) }
+        ensures { (R : Reader) (x : Given) → IsReaderOf S.verifies R self.old → IsDecidedOf R x decision.answer decision.growth → Becomes S.verifies R (told_as_node R x) result self.new }
+    {
+        let Decision { answer, growth } = decision;
+        let leaves = self.leaves_with(&growth);
+        if let Some(full) = self.counts.limit(&growth, leaves) {
+            drop(growth);
+            return Err(TrimTake::Full(full));
+        }
+        self.grow(growth, leaves)?;
+        answered(answer)
+    }
+
+    /// How many leaves of other writers there are with a growth, where it takes an update of another.
+    fn leaves_with(&self, growth: &Growth) -> Option<u32>
+        requires { (R : Reader) × IsReaderOf S.verifies R self.now }
+        ensures { (R : Reader) → IsReaderOf S.verifies R self.now → result ≡ leaves_with (accepted R.journal) self.now.counts.leaves growth.now }
+    {
+        leaves_with(self.state.graph(), self.counts.leaves, growth)
+    }
+
+    /// The journal grows. With the growth there are so many leaves of other writers, where it takes an update of another. Memory for the
+    /// values that it names is found first, so that nothing is kept of it where none is left.
+    fn grow(&mut self, growth: Growth, leaves: Option<u32>) -> Result<(), Memory>
+        requires { (R : Reader) × (IsReaderOf S.verifies R self.old × MayTake R growth) }
+        ensures ok { OnOk result ((R : Reader) → IsReaderOf S.verifies R self.old → MayTake R growth → leaves ≡ leaves_with (accepted R.journal) self.old.counts.leaves growth → IsReaderOf S.verifies (with_more R growth) self.new) }
+        ensures err { OnErr result ((R : Reader) → IsReaderOf S.verifies R self.old → IsReaderOf S.verifies R self.new) }
+    {
+        let Ok(names) = self.named.named_by(&growth) else {
+            drop(growth);
+            return Err(Memory);
+        };
+        if self.named.reserve(names.as_slice()).is_err() {
+            drop(growth);
+            return Err(Memory);
+        }
+        let mut counts = self.counts;
+        counts.grow(&growth, leaves);
+        growth.keep_in(&mut self.state)?;
+        self.counts = counts;
+        self.named.add(names.as_slice());
+        Ok(())
+    }
+}
+
+/// The answer of a decision as a reader gives it: a failed check is a refusal.
+fn answered(answer: Result<Taken, Check>) -> Result<Taken, TrimTake>
+    ensures { result ≡ as_told answer }
+{
+    match answer {
+        Ok(taken) => Ok(taken),
+        Err(check) => Err(TrimTake::Refused(check)),
+    }
+}

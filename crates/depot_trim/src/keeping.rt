@@ -1,0 +1,116 @@
+//! The values that a reader keeps of a node.
+ghost use Rattle.std.specs.Prelude.{◌≡◌, ◌||◌, ◌++◌, [], ◌∷◌, ℕ, List, Bool, false, Some, filter, IfOk, OnOk};
+ghost use Rattle.depot_base.specs.Sized.{IsValue};
+ghost use Rattle.depot_base.specs.declared.update.Update.{Update};
+ghost use Rattle.depot_model.specs.Contents.{names_value};
+ghost use Rattle.depot_model.specs.Journal.{accepted, held, value_with};
+ghost use Rattle.depot_model.specs.Readers.{left_of, is_named_by};
+ghost use Rattle.depot_store.specs.Named.{is_named, AreNamed};
+ghost use Rattle.depot_values.specs.Values.{held as held_in};
+ghost use Rattle.depot_trim.specs.Trimmings.{given_up, held_of, kept_of};
+
+use crate::flags::flag_at;
+use depot_base::{Bytes, Memory, NamedValue, Update, Value};
+use depot_graph::Graph;
+use depot_model::{Past, Replica, Scheme, Signer};
+use depot_node::Node;
+use depot_outside::Disk;
+use depot_store::{NamedValues, names_in_update};
+use depot_values::Values;
+use std::alloc::Global;
+
+/// The names of the values that the updates of a graph name which aren't given up: of each item it is told whether it is.
+pub(crate) fn names_left(
+    alloc: Global,
+    graph: &Graph,
+    trimmed: &[bool],
+) -> Result<NamedValues, Memory>
+    requires { (ts : List Update) × (trimmed.now ≡ given_up ts (⟦<Graph as Past>⟧.updates graph.now)) }
+    ensures { IfOk result (λ named. (ts : List Update) → trimmed.now ≡ given_up ts (⟦<Graph as Past>⟧.updates graph.now) → AreNamed (left_of ts (⟦<Graph as Past>⟧.updates graph.now)) named) }
+{
+    let mut named = NamedValues::new(alloc);
+    for item in 0..graph.count() {
+        if !flag_at(trimmed, item) {
+            add_names(alloc, &mut named, graph.update(item))?;
+        }
+    }
+    Ok(named)
+}
+
+/// Adds the names of the values that an update names.
+fn add_names(alloc: Global, named: &mut NamedValues, update: &Update) -> Result<(), Memory>
+    ensures { OnOk result ((us : List Update) → AreNamed us named.old → AreNamed (us ++ update.now ∷ []) named.new) }
+{
+    let names = names_in_update(alloc, update)?;
+    named.reserve(names.as_slice())?;
+    named.add(names.as_slice());
+    Ok(())
+}
+
+/// The held values of a node that runs which its updates name that aren't given up.
+pub(crate) fn values_left<D: Disk, S: Scheme, G: Signer<Of = S>>(
+    alloc: Global,
+    node: &Node<D, S, G>,
+    trimmed: &[bool],
+) -> Result<Values, Memory>
+    requires runs { ⟦<Node<D, S, G> as Replica>⟧.stopped node.now ≡ false }
+    requires flags { (ts : List Update) × (trimmed.now ≡ given_up ts (accepted (⟦<Node<D, S, G> as Replica>⟧.records node.now))) }
+    ensures { IfOk result (λ values. (ts : List Update) (hash : List ℕ) → trimmed.now ≡ given_up ts (accepted (⟦<Node<D, S, G> as Replica>⟧.records node.now)) → held_in values hash ≡ value_with hash (filter (is_named_by (left_of ts (accepted (⟦<Node<D, S, G> as Replica>⟧.records node.now)))) (held (⟦<Node<D, S, G> as Replica>⟧.records node.now)))) }
+{
+    let mut values = Values::new(alloc);
+    for item in 0..node.update_count() {
+        if !flag_at(trimmed, item) {
+            add_values(alloc, &mut values, node, node.update(item))?;
+        }
+    }
+    Ok(values)
+}
+
+/// Adds the values that an update names and that the node holds.
+fn add_values<D: Disk, S: Scheme, G: Signer<Of = S>>(
+    alloc: Global,
+    values: &mut Values,
+    node: &Node<D, S, G>,
+    update: &Update,
+) -> Result<(), Memory>
+    requires { ⟦<Node<D, S, G> as Replica>⟧.stopped node.now ≡ false }
+    ensures { OnOk result ((wants : List ℕ → ℕ → Bool) → ((h : List ℕ) → held_in values.old h ≡ kept_of (held (⟦<Node<D, S, G> as Replica>⟧.records node.now)) wants h) → (h : List ℕ) → held_in values.new h ≡ kept_of (held (⟦<Node<D, S, G> as Replica>⟧.records node.now)) (λ k size. wants k size || names_value update.now k size) h) }
+{
+    let names = names_in_update(alloc, update)?;
+    for name in names.as_slice() {
+        add_name(alloc, values, node, name)?;
+    }
+    Ok(())
+}
+
+/// Adds the value of a name, if the node holds it.
+fn add_name<D: Disk, S: Scheme, G: Signer<Of = S>>(
+    alloc: Global,
+    values: &mut Values,
+    node: &Node<D, S, G>,
+    name: &NamedValue,
+) -> Result<(), Memory>
+    requires { ⟦<Node<D, S, G> as Replica>⟧.stopped node.now ≡ false }
+    ensures { OnOk result ((wants : List ℕ → ℕ → Bool) → ((h : List ℕ) → held_in values.old h ≡ kept_of (held (⟦<Node<D, S, G> as Replica>⟧.records node.now)) wants h) → (h : List ℕ) → held_in values.new h ≡ kept_of (held (⟦<Node<D, S, G> as Replica>⟧.records node.now)) (λ k size. wants k size || is_named name.now k size) h) }
+{
+    match node.held_as(name) {
+        Some(value) => add_value(alloc, values, name, value),
+        None => Ok(()),
+    }
+}
+
+/// Adds the value of a name.
+fn add_value(
+    alloc: Global,
+    values: &mut Values,
+    name: &NamedValue,
+    value: &[u8],
+) -> Result<(), Memory>
+    requires sized { IsValue value.now }
+    requires held { (held : List (List ℕ)) × (held_of held name.now ≡ Some value.now) }
+    ensures { OnOk result ((held : List (List ℕ)) (wants : List ℕ → ℕ → Bool) → held_of held name.now ≡ Some value.now → ((h : List ℕ) → held_in values.old h ≡ kept_of held wants h) → (h : List ℕ) → held_in values.new h ≡ kept_of held (λ k size. wants k size || is_named name.now k size) h) }
+{
+    let value = Value::from_bytes(Bytes::from_slice(alloc, value)?);
+    values.add_hashed(name.hash, value)?;
+    Ok(())
+}

@@ -1,0 +1,122 @@
+//! A node signs a checkpoint.
+ghost use Rattle.std.specs.Prelude.{◌≡◌, ◌≢◌, [], true, false, IfOk, IfErr, IsErrOf};
+ghost use Rattle.depot_base.specs.Sized.{IsValue};
+ghost use Rattle.depot_model.specs.Journal.{accepted};
+ghost use Rattle.depot_model.specs.Replicas.{IsSameNode, StopsBy, KeepsDisk};
+ghost use Rattle.depot_model.specs.Stops.{CallsDisk, Lasts};
+ghost use Rattle.depot_model.specs.Checkpoints.{checkpoint_key};
+ghost use Rattle.depot_trim.specs.Signing.{Signs, IsDue, as_unopened, as_refusal, as_signed, signing_records};
+
+use crate::keys::checkpoint_key;
+use crate::opening::{OpenError, opened};
+use crate::sign_error::CheckpointError;
+use depot_base::{Bytes, Key, Memory, Value};
+use depot_decide::{PutDone, PutError};
+use depot_graph::Graph;
+use depot_model::{Past, Replica, Scheme, Signer};
+use depot_node::Node;
+use depot_outside::Disk;
+use std::alloc::Global;
+
+/// Signs a checkpoint by a put of its text under its key: all that it names is in the past of this update.
+///
+/// `Stopped` comes exactly where the disk failed in an earlier call. `IllFormed` comes exactly where the text is no checkpoint's, with
+/// the offset in bytes of its first fault; else `OtherRoster` exactly where it is of another roster than the node's; else `Unknown`
+/// exactly where a leaf isn't an accepted update of its writer, with the first such id. Then come the answers of
+/// [`put`](Node::put). What stands after each is as there: after `Disk` the node is stopped, and where another error is answered, its
+/// journal is as before.
+pub fn sign_checkpoint<D: Disk, S: Scheme, G: Signer<Of = S>>(
+    alloc: Global,
+    node: &mut Node<D, S, G>,
+    text: &[u8],
+) -> Result<PutDone, CheckpointError>
+    ensures signs { Signs (⟦<Node<D, S, G> as Replica>⟧.stands node.old) (⟦<Node<D, S, G> as Replica>⟧.records node.old) text.now result (⟦<Node<D, S, G> as Replica>⟧.records node.new) }
+    ensures stays { IsSameNode (⟦<Node<D, S, G> as Replica>⟧.stands node.old) (⟦<Node<D, S, G> as Replica>⟧.stands node.new) (⟦<Node<D, S, G> as Replica>⟧.key node.old) (⟦<Node<D, S, G> as Replica>⟧.key node.new) (⟦<Node<D, S, G> as Replica>⟧.signature_of node.old) (⟦<Node<D, S, G> as Replica>⟧.signature_of node.new) }
+    ensures stops { StopsBy (⟦<Node<D, S, G> as Replica>⟧.stopped node.old) (⟦<Node<D, S, G> as Replica>⟧.stopped node.new) (IsErrOf result CheckpointError.Stopped) (IsErrOf result CheckpointError.Disk) }
+    ensures disk { KeepsDisk (⟦<Node<D, S, G> as Replica>⟧.handle node.old) (⟦<Node<D, S, G> as Replica>⟧.handle node.new) (⟦<Node<D, S, G> as Replica>⟧.faults node.old) (⟦<Node<D, S, G> as Replica>⟧.faults node.new) (⟦<Node<D, S, G> as Replica>⟧.is_faultless node.old) (⟦<Node<D, S, G> as Replica>⟧.is_faultless node.new) (IsErrOf result CheckpointError.Disk) }
+    ensures lasts { Lasts ⟦<Node<D, S, G> as Replica>⟧.tells ⟦<Node<D, S, G> as Replica>⟧.stopped ⟦<Node<D, S, G> as Replica>⟧.records ⟦<Node<D, S, G> as Replica>⟧.moment ⟦<Node<D, S, G> as Replica>⟧.left_since ⟦<Node<D, S, G> as Replica>⟧.may_leave node.old node.new (signing_records (⟦<Node<D, S, G> as Replica>⟧.stands node.old) (⟦<Node<D, S, G> as Replica>⟧.records node.old) text.now) }
+    ensures calls { CallsDisk ⟦<Node<D, S, G> as Replica>⟧.after ⟦<Node<D, S, G> as Replica>⟧.reads ⟦<Node<D, S, G> as Replica>⟧.stopped ⟦<Node<D, S, G> as Replica>⟧.records node.old node.new (signing_records (⟦<Node<D, S, G> as Replica>⟧.stands node.old) (⟦<Node<D, S, G> as Replica>⟧.records node.old) text.now) (IsErrOf result CheckpointError.Disk) }
+    ensures idle { IfErr result (λ e. e ≢ CheckpointError.Disk → Lasts ⟦<Node<D, S, G> as Replica>⟧.tells ⟦<Node<D, S, G> as Replica>⟧.stopped ⟦<Node<D, S, G> as Replica>⟧.records ⟦<Node<D, S, G> as Replica>⟧.moment ⟦<Node<D, S, G> as Replica>⟧.left_since ⟦<Node<D, S, G> as Replica>⟧.may_leave node.old node.new []) }
+{
+    if node.is_stopped() {
+        return Err(CheckpointError::Stopped);
+    }
+    match put_due(alloc, node, node.graph(), text) {
+        Ok(made) => as_signed(node.put(made.key, made.value)),
+        Err(refusal) => Err(refusal),
+    }
+}
+
+/// The key and the value of the put by which a checkpoint is signed.
+#[derive(Drop)]
+pub struct SigningPut {
+    pub(crate) key: Key,
+    pub(crate) value: Value,
+}
+
+/// The put by which a text is signed, where it is that of a checkpoint that the node may sign. The graph is the node's.
+fn put_due<R: Replica>(
+    alloc: Global,
+    node: &R,
+    graph: &Graph,
+    text: &[u8],
+) -> Result<SigningPut, CheckpointError>
+    requires graph { ⟦<Graph as Past>⟧.updates graph.now ≡ accepted (R.records node.now) }
+    ensures { IsDue (R.stands node.now) (R.records node.now) text.now result }
+{
+    match opened(alloc, node, graph, text) {
+        Ok(_) => match put_of(alloc, text) {
+            Ok(made) => Ok(made),
+            Err(_) => Err(CheckpointError::Memory),
+        },
+        Err(refusal) => Err(as_unopened(refusal)),
+    }
+}
+
+/// The put of a checkpoint's text under its key.
+fn put_of(alloc: Global, text: &[u8]) -> Result<SigningPut, Memory>
+    requires { IsValue text.now }
+    ensures key { IfOk result (λ made. made.key ≡ checkpoint_key text.now) }
+    ensures value { IfOk result (λ made. made.value ≡ text.now) }
+{
+    let key = checkpoint_key(alloc, text)?;
+    let value = Value::from_bytes(Bytes::from_slice(alloc, text)?);
+    Ok(SigningPut { key, value })
+}
+
+/// Why a text isn't opened, as the refusal to sign it.
+fn as_unopened(refusal: OpenError) -> CheckpointError
+    ensures { result ≡ as_unopened refusal }
+{
+    match refusal {
+        OpenError::Memory => CheckpointError::Memory,
+        OpenError::IllFormed(at) => CheckpointError::IllFormed(at),
+        OpenError::OtherRoster { given, mine } => CheckpointError::OtherRoster { given, mine },
+        OpenError::Unknown(id) => CheckpointError::Unknown(id),
+    }
+}
+
+/// The answer of a put as that of signing.
+fn as_signed(answer: Result<PutDone, PutError>) -> Result<PutDone, CheckpointError>
+    ensures { result ≡ as_signed answer }
+{
+    match answer {
+        Ok(done) => Ok(done),
+        Err(refusal) => Err(as_refusal(refusal)),
+    }
+}
+
+/// The refusal of a put as that of signing.
+fn as_refusal(refusal: PutError) -> CheckpointError
+    ensures { result ≡ as_refusal refusal }
+{
+    match refusal {
+        PutError::Memory => CheckpointError::Memory,
+        PutError::Disk => CheckpointError::Disk,
+        PutError::Stopped => CheckpointError::Stopped,
+        PutError::Spent(count) => CheckpointError::Spent(count),
+        PutError::Tips(count) => CheckpointError::Tips(count),
+        PutError::Collides(id) => CheckpointError::Collides(id),
+        PutError::Full(full) => CheckpointError::Full(full),
+    }
+}

@@ -1,0 +1,100 @@
+//! A reader is made of a node.
+ghost use Rattle.std.specs.Prelude.{◌≡◌, List, false, IfOk};
+ghost use Rattle.depot_base.specs.declared.record.Record.{Record};
+ghost use Rattle.depot_model.specs.Checks.{Setting};
+ghost use Rattle.depot_model.specs.Journal.{accepted};
+ghost use Rattle.depot_model.specs.Lawful.{IsLawful};
+ghost use Rattle.depot_model.specs.Readers.{reader_of};
+ghost use Rattle.depot_model.specs.Trimming.{trimmed};
+ghost use Rattle.depot_trim.specs.ReaderAnswers.{Trims};
+ghost use Rattle.depot_trim.specs.ReaderView.{IsReaderOf};
+ghost use Rattle.depot_trim.specs.Trimmings.{ids_in, given_up, as_untrimmed};
+
+use crate::below::{graph_below, trimmed_items};
+use crate::filling::state_without;
+use crate::keeping::{names_left, values_left};
+use crate::marking::marks_of;
+use crate::opening::{OpenError, opened};
+use crate::trim_error::TrimError;
+use crate::trimmed::Trimmed;
+use crate::unsigned::first_unsigned;
+use depot_base::Memory;
+use depot_graph::Graph;
+use depot_model::{HelloLeaf, Past, Replica, Scheme, Signer};
+use depot_node::Node;
+use depot_outside::Disk;
+use depot_sign::Roster;
+use std::alloc::Global;
+
+/// Makes a reader of a node that runs, where every node of the roster signed the checkpoint of this text. The roster is the node's, and the
+/// reader keeps it and the scheme. `IllFormed` comes exactly where the text is no checkpoint's, with the offset of its first fault; else
+/// `OtherRoster` exactly where it is of another roster than the node's; else `Unknown` exactly where a leaf isn't an accepted update of
+/// its writer, with the first such id; else `Unsigned` exactly where a node of the roster has no accepted update that puts the text under
+/// its key and has all listed ids in its past, with the first such node.
+pub fn trim<D: Disk, S: Scheme, G: Signer<Of = S>>(
+    alloc: Global,
+    node: &Node<D, S, G>,
+    roster: Roster,
+    scheme: S,
+    text: &[u8],
+) -> Result<Trimmed<S>, TrimError>
+    requires runs { ⟦<Node<D, S, G> as Replica>⟧.stopped node.now ≡ false }
+    requires roster { roster ≡ (⟦<Node<D, S, G> as Replica>⟧.stands node.now).listed }
+    ensures { Trims S.verifies (⟦<Node<D, S, G> as Replica>⟧.stands node.now) (⟦<Node<D, S, G> as Replica>⟧.records node.now) text.now result }
+{
+    let checkpoint = match opened(alloc, node, node.graph(), text) {
+        Ok(checkpoint) => checkpoint,
+        Err(refusal) => return Err(as_untrimmed(refusal)),
+    };
+    let leaves = checkpoint.leaves.as_slice();
+    match first_unsigned(alloc, node.graph(), roster.entries(), text, leaves)? {
+        Some(unsigned) => Err(TrimError::Unsigned(unsigned)),
+        None => Ok(reader_of(alloc, node, roster, scheme, leaves)?),
+    }
+}
+
+/// Why a text isn't opened, as the refusal to trim by it.
+fn as_untrimmed(refusal: OpenError) -> TrimError
+    ensures { result ≡ as_untrimmed refusal }
+{
+    match refusal {
+        OpenError::Memory => TrimError::Memory,
+        OpenError::IllFormed(at) => TrimError::IllFormed(at),
+        OpenError::OtherRoster { given, mine } => TrimError::OtherRoster { given, mine },
+        OpenError::Unknown(id) => TrimError::Unknown(id),
+    }
+}
+
+/// The reader of a node that runs below these leaves.
+fn reader_of<D: Disk, S: Scheme, G: Signer<Of = S>>(
+    alloc: Global,
+    node: &Node<D, S, G>,
+    roster: Roster,
+    scheme: S,
+    leaves: &[HelloLeaf],
+) -> Result<Trimmed<S>, Memory>
+    requires runs { ⟦<Node<D, S, G> as Replica>⟧.stopped node.now ≡ false }
+    requires roster { roster ≡ (⟦<Node<D, S, G> as Replica>⟧.stands node.now).listed }
+    ensures { IfOk result (IsReaderOf S.verifies (reader_of (⟦<Node<D, S, G> as Replica>⟧.stands node.now) (⟦<Node<D, S, G> as Replica>⟧.records node.now) (ids_in leaves.now))) }
+{
+    let graph = node.graph();
+    let trimmed = trimmed_below(alloc, graph, leaves)?;
+    let trimmed = trimmed.as_slice();
+    Ok(Trimmed {
+        alloc,
+        state: state_without(alloc, node, graph, trimmed, roster, scheme)?,
+        values: values_left(alloc, node, trimmed)?,
+        named: names_left(alloc, graph, trimmed)?,
+        counts: node.counts(),
+        marks: marks_of(alloc, graph, trimmed)?,
+    })
+}
+
+/// Of each item of a graph, whether it is trimmed below these leaves.
+fn trimmed_below(alloc: Global, graph: &Graph, leaves: &[HelloLeaf]) -> Result<Vec<bool>, Memory>
+    requires { (here : Setting) × ((J : List Record) × (IsLawful here J × (accepted J ≡ ⟦<Graph as Past>⟧.updates graph.now))) }
+    ensures { IfOk result (λ flags. (here : Setting) (J : List Record) → IsLawful here J → accepted J ≡ ⟦<Graph as Past>⟧.updates graph.now → flags.items ≡ given_up (trimmed J (ids_in leaves.now)) (accepted J)) }
+{
+    let below = graph_below(alloc, graph, leaves)?;
+    trimmed_items(alloc, graph, &below)
+}
