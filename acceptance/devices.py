@@ -58,6 +58,14 @@ def a_folder_as_file(room):
     return ends(room, words(1), 3, "put 6b -> 0/1\nshelf H\n")
 
 
+def a_folder_as_checkpoint(room):
+    """The put of a checkpoint comes before its text is stored, and stands."""
+    place(room, folders=["C"], ROSTER=LISTED, SCRIPT=script("put 6b 61", "checkpoint C", "put 6b 62"))
+    first = ends(room, words(1), 3, "put 6b -> 0/1\nshelf C\n")
+    place(room, SCRIPT=script("checkpoint F"))
+    return first and ends(room, words(1), 0, "checkpoint F -> 2/3\n")
+
+
 def a_full_file(room):
     place(room, ROSTER=LISTED, SCRIPT=script("put 6b 61", "hello a"))
     os.symlink("/dev/full", os.path.join(room, "a"))
@@ -102,6 +110,7 @@ CASES = (
     a_full_output,
     a_folder_as_journal,
     a_folder_as_file,
+    a_folder_as_checkpoint,
     a_full_file,
     a_journal_that_is_cut_short,
     a_file_that_is_cut_short,

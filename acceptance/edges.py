@@ -97,6 +97,14 @@ def a_bundle_onto_the_journal(room):
     return ended[0] == 3 and ended[1].endswith("\nshelf link\n") and content(os.path.join(folder, JOURNAL)) == stands(os.path.join(room, "once"), PUT)
 
 
+def a_checkpoint_onto_the_journal(room):
+    """Its put stands, as if it had been stored elsewhere, and nothing of its text does."""
+    folder = place(room, SCRIPT=script(PUT, "checkpoint link", PUT))
+    os.symlink(JOURNAL, os.path.join(folder, "link"))
+    ended = outcome(begins(folder))
+    return ended == (3, SAYS_PUT + "shelf link\n") and content(os.path.join(folder, JOURNAL)) == stands(os.path.join(room, "once"), PUT, "checkpoint C")
+
+
 def two_runs_over_one_journal(room):
     """The second fails at its first call, and the first goes on to its end."""
     once, folder = stands(os.path.join(room, "once"), PUT), place(os.path.join(room, "a"), SCRIPT=script(PUT))
@@ -144,6 +152,7 @@ def a_store_in_place(room):
 CASES = (
     a_store_onto_the_journal,
     a_bundle_onto_the_journal,
+    a_checkpoint_onto_the_journal,
     two_runs_over_one_journal,
     a_store_onto_the_journal_of_another_run,
     a_run_that_is_killed,

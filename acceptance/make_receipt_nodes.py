@@ -1,5 +1,5 @@
 #!/usr/bin/env python3
-"""Writes the cases of `depot node` over receipts, over puts that are settled, and over keys that no put may have.
+"""Writes the cases of `depot node` over receipts, and over puts that are settled.
 
     python3 acceptance/make_receipt_nodes.py
 
@@ -7,7 +7,7 @@ They are told as those of make_node_cases.py are. A receipt for an update is an 
 its value.
 """
 
-from make_cases import checkpoint_key, frame
+from make_cases import frame
 from make_node_cases import END, LISTED, TWO, X, Case, fresh, script, words
 
 RECEIPT = b"receipt:"
@@ -99,23 +99,7 @@ def keys():
         Case("node_script_" + name).data(ROSTER=LISTED, SCRIPT=script(*lines)).run(words(1), ["input SCRIPT line 2 %s" % fault], 2)
 
 
-def keys_of_checkpoints():
-    """No put writes the key of a checkpoint; keys that are like one are free, and each is read."""
-    one = fresh()
-    like = [b"checkpoint:" + bytes(31), b"checkpoint:" + bytes(33), b"checkpoint;" + bytes(32)]
-    for key in like:
-        one.put(key, b"a")
-    taken = checkpoint_key(b"").hex()
-    Case("node_puts_keys_that_are_like_a_checkpoint").data(ROSTER=LISTED, SCRIPT=script(*(f"put {key.hex()} 61" for key in like), f"get {taken}")).after(
-        journal=one.file()).run(words(1), [*(f"put {key.hex()} -> {at}/{at + 1}" for at, key in enumerate(like)), f"get {taken} ->"])
-    lines = [f"put {taken} -", f"put {taken} 61", f"puts {taken}=-", f"puts {taken}!", f"puts 61=61,{taken}!,6b=-"]
-    case = Case("node_script_with_puts_of_checkpoints").data(ROSTER=LISTED, **{f"SCRIPT{at}": script("put 6b 61", line) for at, line in enumerate(lines)})
-    for at in range(len(lines)):
-        case.run(words(1, script=f"SCRIPT{at}"), [f"input SCRIPT{at} line 2 Hex"], 2)
-
-
 if __name__ == "__main__":
     settled()
     not_given()
     keys()
-    keys_of_checkpoints()

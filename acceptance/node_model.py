@@ -196,7 +196,7 @@ class Run:
             raise End(10, "identity OtherKey")
         SIGNERS[me, signer.height, signer.root] = members.signers[me] = signer
         node = Start(me, members, self.files.get(self.path(JOURNAL), b"")).node
-        self.reads = []
+        self.reads, self.reader = [], None
         try:
             for line in lines:
                 self.command(node, *line.split(" "))
@@ -213,7 +213,7 @@ class Run:
             answer, status = getattr(self, "do_" + name)(node, *words), 0
         except Limit as limit:
             answer = str(limit)
-            status = {"IllFormed": 2, "OtherRoster": 10}.get(answer.split()[0], 8)
+            status = {"IllFormed": 2, "OtherRoster": 10, "Unknown": 0, "Unsigned": 0}.get(answer.split()[0], 8)
         if name == "take" and " ill-formed " in answer.splitlines()[0]:
             status = 2
         self.lines.append(head + (" " + answer if answer else ""))
@@ -255,6 +255,25 @@ class Run:
 
     def do_take(self, node, name):
         return node.give(self.load(name))
+
+    def do_checkpoint(self, node, name):
+        text, answer = node.checkpoint()
+        if text:
+            self.files[self.path(name)] = text
+        return answer
+
+    def do_sign(self, node, name):
+        return node.sign(self.load(name))
+
+    def do_trim(self, node, name):
+        self.reader, answer = node.trim(self.load(name))
+        return answer
+
+    def do_tgive(self, node, name):
+        return self.reader.tgive(self.load(name)) if self.reader else ""
+
+    def do_tget(self, node, key):
+        return self.reader.read(bytes.fromhex(key)) if self.reader else ""
 
 
 def files_in(folder):

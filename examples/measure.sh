@@ -1,8 +1,8 @@
-# Read by the scripts that measure the program (with `.`), which name the examples' folder as $here: the program, built, as $depot; the unit of
-# time; and how a run is measured in it. A run that ends otherwise than with status 0 ends the script.
+# Read by the scripts that measure the program (with `.`), which name the examples' folder as $here: the program, built, as $depot, unless DEPOT
+# names one; the unit of time; and how a run is measured in it. A run that ends otherwise than with status 0 ends the script.
 
-"$here/../depot" >/dev/null || true
-depot=$here/../crates/depot_tool/out/depot_tool
+[ -n "${DEPOT:-}" ] || "$here/../depot" >/dev/null || true
+depot=${DEPOT:-$here/../crates/depot_tool/out/depot_tool}
 
 # The processor time of a run, in seconds: the least of three where MANY is 3.
 seconds() {

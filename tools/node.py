@@ -161,7 +161,7 @@ def written_by(record):
 def files_of(line):
     """The files that a line of a script names."""
     verb, *words = line.split(" ")
-    return words if verb in ("hello", "bundle", "take", "export") else []
+    return words if verb in ("hello", "bundle", "take", "export", "checkpoint", "sign", "trim", "tgive") else []
 
 
 def refuse_own_files(lines, folder):
@@ -173,10 +173,23 @@ def refuse_own_files(lines, folder):
                 raise Refused("line %d of the script names %s, which is the node's own" % (number, name))
 
 
+def signs(line):
+    """Whether a line signs a checkpoint, and so may put the text of one under its key."""
+    return line.split(" ")[0] in ("checkpoint", "sign") and len(line.split(" ")) == 2
+
+
+def is_of(line, record):
+    """Whether a line may have made this own update."""
+    if signs(line):
+        [write, *more], values = record.update.writes, record.values
+        return not more and len(values) == 1 and write.key == f.checkpoint_key(values[0])
+    return key_and_values(line) == written_by(record)
+
+
 def is_passed(line, record):
-    """Whether a line stands before the one that made this own update: it puts nothing, or it is a receipt that wasn't given."""
-    made = key_and_values(line)
-    return made is None or (line.startswith("receipt ") and made != written_by(record))
+    """Whether a line stands before the one that made this own update: it puts nothing, or it is a receipt or a signature that wasn't given."""
+    may_fail = line.startswith("receipt ") or signs(line)
+    return not is_of(line, record) if may_fail else key_and_values(line) is None
 
 
 def place_in(lines, kept, journal):
@@ -184,9 +197,12 @@ def place_in(lines, kept, journal):
     done = kept.done
     for record in journal.puts[kept.puts :]:
         following = [at for at in range(done, len(lines)) if not is_passed(lines[at], record)]
-        if not following or key_and_values(lines[following[0]]) != written_by(record):
+        if not following or not is_of(lines[following[0]], record):
             raise Refused("the journal has an update that isn't the script's next put; --anew begins the script again")
         done = following[0] + 1
+    if kept.done < done and lines[done - 1].startswith("checkpoint "):
+        # It wasn't told of: its put stands, and its file may not. It is made again.
+        done -= 1
     return done
 
 
@@ -274,7 +290,7 @@ class Runner:
         """Counts a line that was told as done, and its update where it put one."""
         head, _, answer = line.partition(b" -> ")
         self.kept.done += 1
-        if head.split(b" ")[0] in (b"put", b"puts", b"receipt") and b"/" in answer:
+        if head.split(b" ")[0] in (b"put", b"puts", b"receipt", b"checkpoint", b"sign") and b"/" in answer:
             self.kept.puts += 1
 
 

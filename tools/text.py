@@ -92,7 +92,7 @@ def script_line(line):
     if line.split()[0] == "puts":
         return "puts " + writes_of(words_in(line, PART)[1:])
     verb, *words = words_in(line, WORD)
-    return " ".join([verb] + [hex_of(word) if verb in ("put", "get") else word for word in words])
+    return " ".join([verb] + [hex_of(word) if verb in ("put", "get", "tget") else word for word in words])
 
 
 def quoted(digits):

@@ -192,6 +192,22 @@ class Lines(unittest.TestCase):
             with self.assertRaises(node.Refused):
                 node.place_in(lines, types.SimpleNamespace(done=0, puts=0), types.SimpleNamespace(puts=[own(key)]))
 
+    def test_signatures(self):
+        def own(key, value):
+            return f.OwnPut(f.Update(1, 0, 1, f.NO_UPDATE, [f.Write(key, f.sha256(value), len(value))], [], f.sha256(), b""), [value])
+
+        text = own(f.checkpoint_key(b"text"), b"text")
+        lines = ["sign u", "trim u", "sign v", "put 6b -", "checkpoint w", "get 6b", "put 6c -"]
+        for puts, done in [([], 0), ([text], 1), ([own(b"k", b"")], 4), ([text, own(b"k", b"")], 4), ([text, text, own(b"k", b"")], 4),
+                           # A checkpoint whose line wasn't told of is made again, for its file; not where what follows it was put.
+                           ([own(b"k", b""), text], 4), ([own(b"k", b""), text, own(b"l", b"")], 7)]:
+            journal = types.SimpleNamespace(puts=puts)
+            self.assertEqual(node.place_in(lines, types.SimpleNamespace(done=0, puts=0), journal), done)
+        self.assertEqual(node.place_in(lines, types.SimpleNamespace(done=5, puts=1), types.SimpleNamespace(puts=[text])), 5)
+        for wrong in [own(f.checkpoint_key(b"text"), b"other"), own(b"checkpoint:", b"text"), own(b"l", b"")]:
+            with self.assertRaises(node.Refused):
+                node.place_in(lines[:5], types.SimpleNamespace(done=0, puts=0), types.SimpleNamespace(puts=[wrong]))
+
     def test_several_writes(self):
         writes = [f.Write(b"a", None, None), f.Write(b"b", f.sha256(b"2"), 1), f.Write(b"l", f.sha256(b""), 0)]
         update = f.Update(1, 0, 1, f.NO_UPDATE, writes, [], f.sha256(), b"")

@@ -8,7 +8,7 @@ import unittest
 from cases import ROOT, data_of, path_of
 
 USERS = [
-    "README.md", "CHANGELOG.md", "CONTRIBUTING.md", "tools/README.md", "docs/CLIENT.md", "docs/COOKBOOK.md",
+    "README.md", "CHANGELOG.md", "CONTRIBUTING.md", "tools/README.md", "docs/BENCHMARKS.md", "docs/CLIENT.md", "docs/COOKBOOK.md",
     "docs/FORMATS.md", "docs/GLOSSARY.md", "docs/OPERATING.md", "docs/PROMISED.md", "docs/SIZING.md", "docs/STYLE.md",
     "docs/THREATS.md", "docs/TROUBLESHOOTING.md", "docs/TUTORIAL.md",
 ]

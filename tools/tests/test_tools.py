@@ -5,7 +5,7 @@ import tempfile
 import unittest
 import xml.dom.minidom
 
-from cases import data_of, f, frame, journal, marked, named, path_of, run_tool, signed, update_body, voucher_body
+from cases import data_of, f, frame, journal, marked, path_of, run_tool, signed, update_body, voucher_body
 import story  # noqa: E402
 
 BRANCHED = path_of("acceptance", "node_convicts_a_fork", "after", "two", "depot.journal")
@@ -126,11 +126,11 @@ class Look(InARoom):
         self.assertEqual(self.lines(path_of("examples", "fork", "joined.log"))[1][0], "log: 3 updates")
         traced = self.lines(path_of("acceptance", "node_exports_its_trace", "after", "F"))[1]
         self.assertEqual((traced[0], traced[-2]), ("trace of node 1: 3 records, 4 reads", 'read 3 at 3 records of "l": 1 writes'))
-        leaf = f.number(2, 9) + f.sha256(update_body(b"\1" + named(b"k", b"x"), writer=9))
-        made = self.put("C", b"\1\6" + bytes(32) + f.number(2, 1) + leaf)
-        shown = self.lines(made)[1]
+        made = path_of("acceptance", "node_makes_a_reader", "after", "CHECKPOINT")
+        had = path_of("acceptance", "node_makes_a_reader", "after", "two", "depot.journal")
+        shown = self.lines(made, "--journal", had)[1]
         self.assertTrue(shown[0].startswith("checkpoint for the roster "))
-        self.assertTrue(len(shown) == 2 and shown[1].startswith("leaf of writer 9: "))
+        self.assertTrue(len(shown) == 2 and shown[1].startswith("leaf of writer 1: ") and shown[1].endswith(", which the journal has"))
         members = self.lines(path_of("examples", "fork", "roster"))[1][1:]
         self.assertTrue(members[0].startswith("member 1: 4 statements (height 2)"))
 
@@ -165,13 +165,13 @@ class Text(unittest.TestCase):
     def test_answers(self):
         answers = "put 757365723a31 -> 0/1\nget 6b -> 1/0/1=616263 2/0/1! 3/0/1=? 4/0/1= 5/0/1=ff00\n"
         answers += "get 1 6b -> 9/0/1=61\nget 6b ->\nputs -> 0/1\nhello h -> convicted 0 leaves 1 wanted 0\n"
-        answers += "tget t 6b -> 1/0/1=61\ntget t 6b -> 1/0/1=?\ntget t 6b ->\ntrim 2 t -> kept 1 of 2\n"
+        answers += "tget 6b -> 1/0/1=61\ntget t 6b -> 1/0/1=?\ntget t 6b ->\ntrim ../c -> kept 1 of 2\n"
         answers += " refused 0 5 Missing\nshelf h\n"
         status, out, _ = run_tool("text.py", "answers", data=answers.encode())
         self.assertEqual((status, out.splitlines()), (0, [
             'put "user:1" -> 0/1', 'get "k" -> 1/0/1="abc" 2/0/1! 3/0/1=? 4/0/1="" 5/0/1=ff00',
             'get 1 "k" -> 9/0/1="a"', 'get "k" ->', "puts -> 0/1", "hello h -> convicted 0 leaves 1 wanted 0",
-            'tget t "k" -> 1/0/1="a"', 'tget t "k" -> 1/0/1=?', 'tget t "k" ->', "trim 2 t -> kept 1 of 2",
+            'tget "k" -> 1/0/1="a"', 'tget t "k" -> 1/0/1=?', 'tget t "k" ->', "trim ../c -> kept 1 of 2",
             " refused 0 5 Missing", "shelf h"]))
 
 

@@ -81,12 +81,15 @@ class Walks(InARoom):
         out, why = self.typed("examples/audit.sh")
         self.assertEqual((out, why), (blocks_of("docs/TUTORIAL.md", "An audit")[0].splitlines(), ""))
 
-    def test_the_schedules_of_the_tutorial(self):
-        for title, nodes in (("A checkpoint, and a reader", ["node 1", "node 2"]), ("Several keys, and a deletion", ["node 1"])):
-            block = blocks_of("docs/TUTORIAL.md", title)[0]
-            events, printed = zip(*(re.split(r"\s{3,}", line) for line in block.splitlines()))
-            self.put("schedule", "\n".join(["depot schedule 1", "scheme plain 4", *nodes, *events, ""]).encode())
-            self.assertEqual(self.typed("./depot replay schedule"), (list(printed), ""), title)
+    def test_the_reader_of_the_tutorial(self):
+        out, why = self.typed("examples/checkpoint.sh")
+        self.assertEqual((out, why), (blocks_of("docs/TUTORIAL.md", "A checkpoint, and a reader")[0].splitlines(), ""))
+
+    def test_the_deletion_of_the_tutorial(self):
+        block = blocks_of("docs/TUTORIAL.md", "Several keys, and a deletion")[0]
+        events, printed = zip(*(re.split(r"\s{3,}", line) for line in block.splitlines()))
+        self.put("deletion", "\n".join(["depot schedule 1", "scheme plain 4", "node 1", *events, ""]).encode())
+        self.assertEqual(self.typed("./depot replay deletion"), (list(printed), ""))
 
     def test_three_nodes(self):
         make, mistake, judge = blocks_of("docs/OPERATING.md", "To try it: three nodes, and a mistake")

@@ -1,5 +1,5 @@
 -- Entries of a row, one more at a time.
-use Rattle.std.proofs.Common.{◌≡◌, ◌≢◌, ℕ, ◌+◌, ◌-◌, ◌<◌, ◌≤◌, List, [], ◌∷◌, ◌++◌, length, take, drop, get_or, None, get_or-set_same, get_or-set_other, Some, refl, sym, ap, subst, ◌∙◌, arith, inl, inr, ◌⊎◌, slice_get}
+use Rattle.std.proofs.Common.{◌≡◌, ◌≢◌, ℕ, ◌+◌, ◌-◌, ◌<◌, ◌≤◌, List, [], ◌∷◌, ◌++◌, length, take, drop, max, get_or, None, get_or-set_same, get_or-set_other, Some, refl, sym, ap, subst, ◌∙◌, arith, inl, inr, ◌⊎◌, slice_get}
 use Rattle.std.proofs.Math.ListN.{set}
 use Rattle.std.proofs.lemmas.Bool.{cases_lt, cases_order}
 use Rattle.std.proofs.lemmas.List.{length-drop, take_all, get_or-drop}
@@ -8,7 +8,7 @@ use Rattle.depot_lanes.specs.Lanes.{first_above}
 use Rattle.depot_lanes.proofs.LaneLaws.{first_above-Some, first_above-None, first_above-within}
 use Rattle.depot_base.proofs.GeneralLaws.{from_pushed, to_pushed, get_last, same_at}
 use Rattle.depot_clocks.specs.declared.row.Entry.{Entry}
-use Rattle.depot_clocks.specs.KeptRows.{HasEntry, HasCount, ArePut, AreAbove, NoneAbove, IsFirstFrom}
+use Rattle.depot_clocks.specs.KeptRows.{HasEntry, HasCount, ArePut, IsRaised, AreRaised, AreAbove, NoneAbove, IsFirstFrom}
 
 -- ---- the first entries
 
@@ -60,6 +60,68 @@ put_all entries i old new put all chain = elim (put chain) [
   | inl has ↦ inl has
   | inr none ↦ inr (none_of_all entries i chain none.0 all, none.1)
 ]
+
+-- ---- a row raised to entries
+
+-- n is m or the count of an entry of the chain, and neither m nor one of the first i entries of the chain is above it
+pub record RaisedAt (entries : List Entry) (i chain m n : ℕ) : Type 0 where
+  pub least : m ≤ n
+  pub above : (k : ℕ) (e : Entry) → k < i → slice_get entries k ≡ Some e → e.chain ≡ chain → e.count ≤ n
+  pub reached : (n ≡ m) ⊎ HasCount entries chain n
+
+-- a row raised to the first i entries
+abbrev pub RaisedUpTo : List Entry → ℕ → List ℕ → List ℕ → Type 0
+RaisedUpTo entries i old new = (chain : ℕ) → RaisedAt entries i chain (get_or old chain 0) (get_or new chain 0)
+
+pub raised_none : (entries : List Entry) (old : List ℕ) → RaisedUpTo entries 0 old old
+raised_none entries old chain = record {
+  least = omega arith;
+  above = λ k e low at same. absurd (omega (arith, low));
+  reached = inl refl;
+}
+
+raised_here : (entries : List Entry) (i chain m n : ℕ) (e : Entry) → RaisedAt entries i chain m n → slice_get entries i ≡ Some e → e.chain ≡ chain → RaisedAt entries (i + 1) chain m (max n e.count)
+raised_here entries i chain m n e raised at same = record {
+  least = omega (arith, raised.least);
+  above = λ k f low at_f here. elim (cases_lt k i) [
+    | inl lt ↦ omega (arith, raised.above k f lt at_f here)
+    | inr ge ↦ let count : f.count ≡ e.count = sym (ap (λ (g : Entry). g.count) (same_at entries i k e f (omega (arith, low, ge)) at at_f)) in omega (arith, count)
+  ];
+  reached = elim (cases_lt n e.count) [
+    | inl lt ↦ inr (record { place = i; entry = e; at = at; of_chain = same; counts = omega (arith, lt) })
+    | inr ge ↦ let stays : max n e.count ≡ n = omega (arith, ge) in rw stays raised.reached
+  ];
+}
+
+raised_elsewhere : (entries : List Entry) (i chain m n : ℕ) (e : Entry) → RaisedAt entries i chain m n → slice_get entries i ≡ Some e → (e.chain ≡ chain → ⊥) → RaisedAt entries (i + 1) chain m n
+raised_elsewhere entries i chain m n e raised at other = record {
+  least = raised.least;
+  above = λ k f low at_f here. elim (cases_lt k i) [
+    | inl lt ↦ raised.above k f lt at_f here
+    | inr ge ↦ absurd (other (ap (λ (g : Entry). g.chain) (same_at entries i k e f (omega (arith, low, ge)) at at_f) ∙ here))
+  ];
+  reached = raised.reached;
+}
+
+pub raised_more : (entries : List Entry) (i : ℕ) (old new : List ℕ) (e : Entry) → RaisedUpTo entries i old new → slice_get entries i ≡ Some e → e.chain < length new → RaisedUpTo entries (i + 1) old (set new e.chain (max (get_or new e.chain 0) e.count))
+raised_more entries i old new e raised at inside chain =
+    let value = max (get_or new e.chain 0) e.count in
+    elim (cases_order e.chain chain) [
+      | inl same ↦
+          let read : get_or (set new e.chain value) chain 0 ≡ max (get_or new chain 0) e.count = subst (λ (k : ℕ). get_or (set new e.chain value) k 0 ≡ max (get_or new k 0) e.count) same (rw get_or-set_same refl) in
+          subst (RaisedAt entries (i + 1) chain (get_or old chain 0)) (sym read) (raised_here entries i chain (get_or old chain 0) (get_or new chain 0) e (raised chain) at same)
+      | inr other ↦
+          let apart : chain ≢ e.chain = elim other [ inl lt ↦ omega arith | inr gt ↦ omega arith ] in
+          let read : get_or (set new e.chain value) chain 0 ≡ get_or new chain 0 = rw get_or-set_other refl in
+          subst (RaisedAt entries (i + 1) chain (get_or old chain 0)) (sym read) (raised_elsewhere entries i chain (get_or old chain 0) (get_or new chain 0) e (raised chain) at (λ same. apart (sym same)))
+    ]
+
+pub raised_all : (entries : List Entry) (i : ℕ) (old new : List ℕ) → RaisedUpTo entries i old new → length entries ≤ i → AreRaised entries old new
+raised_all entries i old new raised all chain = let r = raised chain in record {
+  least = r.least;
+  above = λ k e at same. r.above k e (omega (arith, all, slice_get_within entries k e at)) at same;
+  reached = r.reached;
+}
 
 -- ---- entries above those of another row
 

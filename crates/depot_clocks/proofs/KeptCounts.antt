@@ -1,5 +1,5 @@
 -- What is read of the rows that are kept.
-use Rattle.std.proofs.Common.{◌≡◌, ℕ, zero, suc, ◌<◌, ◌≤◌, List, [], ◌∷◌, ◌++◌, length, take, get_or, Bool, false, Some, refl, sym, ap, subst, ◌∙◌, arith, inl, inr, ◌⊎◌, Contains, IsTrue, All, Result, Ok, Err, IfOk, slice_get, true≢false}
+use Rattle.std.proofs.Common.{◌≡◌, ℕ, zero, suc, ◌<◌, ◌≤◌, List, [], ◌∷◌, ◌++◌, length, take, max, get_or, Bool, false, Some, refl, sym, ap, subst, ◌∙◌, arith, inl, inr, ◌⊎◌, Contains, IsTrue, All, Result, Ok, Err, IfOk, slice_get, true≢false}
 use Rattle.std.proofs.lemmas.List.{length-take, get_or-take}
 use Rattle.std.proofs.lemmas.Option.{slice_get_read}
 use Rattle.depot_base.specs.declared.memory.Memory.{Memory}
@@ -10,9 +10,9 @@ use Rattle.depot_clocks.specs.declared.row.Entry.{Entry}
 use Rattle.depot_clocks.specs.declared.row.Row.{Row}
 use Rattle.depot_clocks.specs.declared.row.Row.TheVariants.{Whole, Changed}
 use Rattle.depot_clocks.specs.declared.row.Kept.{Kept}
-use Rattle.depot_clocks.specs.KeptRows.{AreChained, IsNext, HasEntry, HasCount, ArePut, AreWithin, IsNextRow, IsWholeRow, IsChangedRow, KeepsRow, KeepsItem, KeepsItems, IsChangedFrom}
+use Rattle.depot_clocks.specs.KeptRows.{AreChained, IsNext, HasEntry, HasCount, ArePut, AreRaised, IsJoinedCount, AreWithin, IsNextRow, IsWholeRow, IsChangedRow, KeepsRow, KeepsItem, KeepsItems, IsChangedFrom}
 use Rattle.depot_clocks.proofs.ItemPaths.{up_to_trans}
-use Rattle.depot_clocks.proofs.RowCounts.{one_count, counts_by_entry}
+use Rattle.depot_clocks.proofs.RowCounts.{one_count, count_behind, counts_by_entry}
 use Rattle.depot_clocks.proofs.RowMaking.{next_row_changed}
 use Rattle.depot_base.proofs.GeneralLaws.{at_place}
 
@@ -42,6 +42,11 @@ count_put items item behind entries old new chain c row put count = elim (put ch
   | inl has ↦ count_by_entry items item behind entries chain (get_or new chain 0) row has
   | inr none ↦ subst (IsCount items chain item) (sym none.1) (count_from_behind items item behind entries chain (get_or old chain 0) c row none.0 count)
 ]
+
+-- ---- joined with another row
+
+pub joined_whole : (items : List ChainItem) (item : ℕ) (row old new : List ℕ) (chain : ℕ) → IsWholeRow items item row → get_or new chain 0 ≡ max (get_or old chain 0) (get_or row chain 0) → IsJoinedCount items item chain (get_or old chain 0) (get_or new chain 0)
+joined_whole items item row old new chain whole is = record { count = get_or row chain 0; counts = whole.counts chain; greater = is }
 
 -- ---- rows that count all
 
@@ -115,6 +120,32 @@ not_within items item behind entries given result c row told no_ = (
   (λ yes_. absurd (true≢false (sym yes_ ∙ no_))),
   (λ all. told (entries_within items item behind entries given c row all)),
 )
+
+-- what is joined with the row behind and raised to the entries is joined with the row
+pub joined_changed : (items : List ChainItem) (item behind : ℕ) (entries : List Entry) (old joined new : List ℕ) (chain : ℕ) → AreChained items → IsChangedRow items item behind entries → IsJoinedCount items behind chain (get_or old chain 0) (get_or joined chain 0) → AreRaised entries joined new
+    → IsJoinedCount items item chain (get_or old chain 0) (get_or new chain 0)
+joined_changed items item behind entries old joined new chain c row before raised =
+    let r = raised chain in
+    elim (find_entry entries chain) [
+      | inl has ↦
+          let n = has.entry.count in
+          let count = count_by_entry items item behind entries chain n row (record { place = has.place; entry = has.entry; at = has.at; of_chain = has.of_chain; counts = refl }) in
+          let least = count_behind items chain behind item before.count n c row.leads before.counts count in
+          let above = r.above has.place has.entry has.at has.of_chain in
+          let greater : get_or new chain 0 ≡ max (get_or old chain 0) n = elim r.reached [
+            | inl stays ↦ omega (arith, stays, before.greater, least, above, r.least)
+            | inr counts ↦
+                let same = one_count items chain item (get_or new chain 0) n c (count_by_entry items item behind entries chain (get_or new chain 0) row counts) count in
+                omega (arith, same, before.greater, r.least)
+          ] in
+          record { count = n; counts = count; greater = greater }
+      | inr none ↦
+          let greater : get_or new chain 0 ≡ max (get_or old chain 0) before.count = elim r.reached [
+            | inl stays ↦ stays ∙ before.greater
+            | inr counts ↦ absurd (none (record { place = counts.place; entry = counts.entry; at = counts.at; of_chain = counts.of_chain }))
+          ] in
+          record { count = before.count; counts = count_from_behind items item behind entries chain before.count c row none before.counts; greater = greater }
+    ]
 
 count_in_row : (items : List ChainItem) (item : ℕ) (row : Row) → KeepsRow items item row → (chain : ℕ) → (n : ℕ) × IsCount items chain item n
 count_in_row items item (Whole row) kept chain = (get_or row.items chain 0, kept.counts chain)

@@ -5,7 +5,7 @@ use Rattle.std.proofs.lemmas.Option.{slice_get_within}
 use Rattle.depot_base.proofs.GeneralLaws.{from_pushed, get_last}
 use Rattle.depot_clocks.specs.ChainItems.{ChainItem, Precedes, IsUpTo, chain_length, number_of_chains, IsCount, CountsAll, JoinsUpTo}
 use Rattle.depot_clocks.specs.KeptRows.{AreChained, IsNext}
-use Rattle.depot_clocks.proofs.ItemPaths.{standing, contained_at, contains_at, up_to_low, leads_down, up_to_parent, up_to_more, up_to_less, parent_of_last, last_has_parent}
+use Rattle.depot_clocks.proofs.ItemPaths.{standing, contained_at, contains_at, up_to_low, leads_down, up_to_parent, up_to_more, up_to_less, parent_of_last, last_has_parent, up_to_trans}
 use Rattle.depot_clocks.proofs.ChainCounts.{chain_length-more, chain_length-own, chained_next}
 
 -- ---- one count
@@ -34,6 +34,18 @@ one_count items chain item m n c first second = elim (cases_lt m n) [
     | inl more ↦ absurd (count_least items chain item n m c second first more)
     | inr le ↦ omega arith
   ]
+]
+
+-- what an item is up to counts no more
+pub count_behind : (items : List ChainItem) (chain behind item m n : ℕ) → AreChained items → IsUpTo items behind item → IsCount items chain behind m → IsCount items chain item n → m ≤ n
+count_behind items chain behind item m n c leads lower higher = elim (cases_lt n m) [
+  | inl less ↦
+      let r = c.gapless chain n (omega (arith, less, lower.there)) in
+      let x = standing items r.0 chain n r.1 in
+      let up = lower.only r.0 x.it x.at x.of_chain (omega (arith, less, x.at_place)) in
+      let low = higher.counted r.0 x.it x.at x.of_chain (up_to_trans items r.0 behind item up leads) in
+      absurd (omega (arith, low, x.at_place))
+  | inr le ↦ omega (arith, le)
 ]
 
 -- an item precedes another exactly where it is counted and isn't that item

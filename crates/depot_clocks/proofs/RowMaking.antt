@@ -1,10 +1,10 @@
 -- The row of the next item, from those of its parents, and what is kept with one item more.
-use Rattle.std.proofs.Common.{◌≡◌, ◌≢◌, ℕ, ◌+◌, ◌<◌, ◌≤◌, List, [], ◌∷◌, ◌++◌, length, take, drop, get_or, get_or-set_same, get_or-set_other, cond, eqb, true, false, refl, sym, ap, subst, ◌∙◌, arith, inl, inr, Contains}
+use Rattle.std.proofs.Common.{◌≡◌, ◌≢◌, ℕ, ◌+◌, ◌-◌, ◌<◌, ◌≤◌, List, [], ◌∷◌, ◌++◌, length, take, drop, max, get_or, get_or-set_same, get_or-set_other, cond, eqb, true, false, refl, sym, ap, subst, ◌∙◌, arith, inl, inr, Contains}
 use Rattle.std.proofs.Math.ListN.{set, length-set, get_or-append, get_or-eq_default}
 use Rattle.std.proofs.Math.Seq.{get_or-append_seam}
 use Rattle.std.proofs.lemmas.Bool.{cases_lt, cases_order}
 use Rattle.std.proofs.lemmas.Bool.Decides.{nat_tests}
-use Rattle.std.proofs.lemmas.List.{length-append, append-nil, take_all, drop_all}
+use Rattle.std.proofs.lemmas.List.{length-append, length-take, append-nil, take_all, drop_all, get_or-append_right, get_or-drop, get_or-take}
 use Rattle.std.proofs.lemmas.Option.{slice_get_within}
 use Rattle.depot_lanes.specs.Lanes.{greater_of_each}
 use Rattle.depot_lanes.proofs.LaneLaws.{get_or-greater, length-greater}
@@ -14,7 +14,7 @@ use Rattle.depot_clocks.specs.declared.row.Entry.{Entry}
 use Rattle.depot_clocks.specs.declared.row.Row.{Row}
 use Rattle.depot_clocks.specs.declared.row.Row.TheVariants.{Whole, Changed}
 use Rattle.depot_clocks.specs.declared.row.Kept.{Kept}
-use Rattle.depot_clocks.specs.KeptRows.{AreChained, IsNext, IsNextRow, own_entry, HasEntry, AreAbove, IsWholeRow, IsChangedRow, KeepsRow, KeepsItem, KeepsItems}
+use Rattle.depot_clocks.specs.KeptRows.{AreChained, IsNext, IsNextRow, own_entry, HasEntry, AreAbove, IsJoinedCount, IsWholeRow, IsChangedRow, KeepsRow, KeepsItem, KeepsItems}
 use Rattle.depot_clocks.proofs.ItemPaths.{contained_at, up_to_self, up_to_parent, up_to_trans, up_to_more, last_has_parent}
 use Rattle.depot_clocks.proofs.ChainCounts.{number_of_chains-push, number_of_chains-first, number_of_chains-more, starts_next, goes_on, stands_more, chained_next}
 use Rattle.depot_clocks.proofs.RowCounts.{count_past, count_more, count_own, joins_one, count_of_parents}
@@ -25,17 +25,31 @@ lent_whole {X = X} n old new whole same =
     let none : drop (length new) old ≡ [] = drop_all (length new) old (omega (arith, same)) in
     ap (λ (rest : List X). take n (new ++ rest)) none ∙ (ap (take n) (append-nil new) ∙ take_all n new (omega (arith, whole, same)))
 
+-- a front that was lent comes back, joined with another row; behind it that row has no entries
+pub joined_front : (old other new : List ℕ) → length other ≤ length old → new ≡ greater_of_each (take (length other) old) other → (k : ℕ) → get_or (new ++ drop (length other) old) k 0 ≡ max (get_or old k 0) (get_or other k 0)
+joined_front old other new few is k =
+    let n = length other in
+    let same : length (take n old) ≡ n = omega (arith, length-take n old, few) in
+    let long : length new ≡ n = ap (λ (l : List ℕ). length l) is ∙ (length-greater (take n old) other same ∙ same) in
+    elim (cases_lt k n) [
+      | inl low ↦ get_or-append new (drop n old) 0 k (omega (arith, low, long)) ∙ (ap (λ (l : List ℕ). get_or l k 0) is ∙ (get_or-greater (take n old) other k same ∙ ap (λ (m : ℕ). max m (get_or other k 0)) (get_or-take n old k 0 low)))
+      | inr high ↦
+          let here : n + (k - n) ≡ k = omega (arith, high) in
+          let stays : get_or (new ++ drop n old) k 0 ≡ get_or old k 0 = get_or-append_right new (drop n old) n k 0 long high ∙ (get_or-drop n old (k - n) 0 ∙ ap (λ (j : ℕ). get_or old j 0) here) in
+          omega (arith, stays, get_or-eq_default other 0 high)
+    ]
+
 -- ---- the row of the next item
 
 -- the rows of one parent more are joined
-pub joins_row : (items : List ChainItem) (parents : List ℕ) (i : ℕ) (row next : List ℕ) → length row ≡ length next
+pub joins_row : (items : List ChainItem) (parents : List ℕ) (i : ℕ) (row new : List ℕ) → length new ≡ length row
     → ((chain : ℕ) → chain < length row → JoinsUpTo items parents i chain (get_or row chain 0))
-    → ((chain : ℕ) → chain < length next → IsCount items chain (get_or parents i 0) (get_or next chain 0))
-    → (chain : ℕ) → chain < length (greater_of_each row next) → JoinsUpTo items parents (i + 1) chain (get_or (greater_of_each row next) chain 0)
-joins_row items parents i row next len joins counts chain low =
-    let inside : chain < length row = omega (arith, low, length-greater row next len) in
-    subst (JoinsUpTo items parents (i + 1) chain) (sym (get_or-greater row next chain len))
-    (joins_one items parents i chain (get_or row chain 0) (get_or next chain 0) (joins chain inside) (counts chain (omega arith)))
+    → ((chain : ℕ) → chain < length new → IsJoinedCount items (get_or parents i 0) chain (get_or row chain 0) (get_or new chain 0))
+    → (chain : ℕ) → chain < length new → JoinsUpTo items parents (i + 1) chain (get_or new chain 0)
+joins_row items parents i row new len joins counts chain low =
+    let count = counts chain low in
+    subst (JoinsUpTo items parents (i + 1) chain) (sym count.greater)
+    (joins_one items parents i chain (get_or row chain 0) count.count (joins chain (omega (arith, low, len))) count.counts)
 
 starting_row : (items : List ChainItem) (x : ChainItem) (row : List ℕ) → AreChained items → IsNext items x → IsJoined items x.parents row → x.place ≡ 0 → IsNextRow items x (row ++ 1 ∷ [])
 starting_row items x row c next joined first =

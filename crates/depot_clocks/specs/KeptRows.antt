@@ -1,5 +1,5 @@
 -- What is kept of items in chains.
-use Rattle.std.specs.Prelude.{◌≡◌, ◌<◌, ◌≤◌, ◌^◌, ℕ, List, length, [], ◌∷◌, ◌++◌, ◌+◌, ◌==◌, slice_set, if◌then◌else◌, Some, ◌⊎◌, slice_get, slice_index}
+use Rattle.std.specs.Prelude.{◌≡◌, ◌<◌, ◌≤◌, ◌^◌, ℕ, List, length, [], ◌∷◌, ◌++◌, ◌+◌, ◌==◌, max, slice_set, if◌then◌else◌, Some, ◌⊎◌, slice_get, slice_index}
 use Rattle.depot_clocks.specs.ChainItems.{ChainItem, IsUpTo, IsAt, IsLinked, chain_length, number_of_chains, IsCount}
 use Rattle.depot_clocks.specs.declared.row.Entry.{Entry}
 use Rattle.depot_clocks.specs.declared.row.Row.{Row}
@@ -57,6 +57,16 @@ AreInside entries chains = (k : ℕ) (e : Entry) → slice_get entries k ≡ Som
 -- a row with these entries put into it
 abbrev pub ArePut : List Entry → List ℕ → List ℕ → Type 0
 ArePut entries old new = (chain : ℕ) → HasCount entries chain (slice_index new chain) ⊎ ((HasEntry entries chain → ⊥) × (slice_index new chain ≡ slice_index old chain))
+
+-- n is m or the count of an entry of the chain, and neither m nor an entry of the chain is above it
+pub record IsRaised (entries : List Entry) (chain m n : ℕ) : Type 0 where
+  pub least : m ≤ n
+  pub above : (k : ℕ) (e : Entry) → slice_get entries k ≡ Some e → e.chain ≡ chain → e.count ≤ n
+  pub reached : (n ≡ m) ⊎ HasCount entries chain n
+
+-- a row, raised to these entries
+abbrev pub AreRaised : List Entry → List ℕ → List ℕ → Type 0
+AreRaised entries old new = (chain : ℕ) → IsRaised entries chain (slice_index old chain) (slice_index new chain)
 
 -- no entry is above that of the row
 abbrev pub AreWithin : List Entry → List ℕ → Type 0
@@ -117,3 +127,9 @@ pub record KeepsItems (items : List ChainItem) (kept : List Kept) (chains : ℕ)
 abbrev pub IsChangedFrom : List ChainItem → ℕ → List ℕ → Row → Type 0
 IsChangedFrom items behind row (Whole other) = ⊥
 IsChangedFrom items behind row (Changed from entries) = (from ≡ behind) × ((before : List ℕ) × (IsRowOf items behind before × AreAbove row before (length row) entries.items))
+
+-- n is the greater of m and of how many items of the chain are the item or precede it
+pub record IsJoinedCount (items : List ChainItem) (item chain m n : ℕ) : Type 0 where
+  pub count : ℕ
+  pub counts : IsCount items chain item count
+  pub greater : n ≡ max m count

@@ -1,14 +1,15 @@
 //! The clocks, and what they keep of each item.
 ghost use Rattle.std.specs.Prelude.{◌≡◌, ◌<◌, ◌≤◌, ◌+◌, ◌↔◌, ℕ, [], ◌∷◌, ◌++◌, length, IsTrue, IfOk, OnOk, OnErr, All, EachIndex, Contains, IfSome, ◌-◌, slice_index};
-ghost use Rattle.depot_clocks.specs.KeptRows.{AreChained, IsNext, IsNextRow, IsChangedFrom, KeepsRow};
+ghost use Rattle.depot_clocks.specs.KeptRows.{AreChained, IsNext, IsNextRow, IsChangedFrom, IsJoinedCount, KeepsRow};
 ghost use Rattle.depot_clocks.specs.ChainItems.{Precedes, IsAt, chain_length, number_of_chains, IsLinked, IsOfPast, IsTrueOf, IsCount, CountsAll, IsWithin, IsJoined};
 
 use crate::added::Added;
 use crate::row::{
-    Kept, Row, are_within, count_among, entries_above, entry_at, put_entries, put_own, put_row,
+    Kept, Row, are_within, count_among, entries_above, entry_at, join_row, put_entries, put_own,
+    put_row, raise_entries,
 };
 use depot_base::{Memory, Steps};
-use depot_lanes::{all_leq, max_into};
+use depot_lanes::all_leq;
 use std::alloc::Global;
 use std::marker::Model;
 use std::sync::ledger::Ledger;
@@ -150,14 +151,26 @@ impl Clocks {
         ensures joined { IfOk result (λ row. IsJoined self.now items.now row.items) }
         ensures chained { AreChained self.now }
     {
-        let alloc = *self.kept.allocator();
-        let mut row = vec![in alloc; 0u32; self.chains as usize]?;
-        let mut next = vec![in alloc; 0u32; self.chains as usize]?;
+        let mut row = vec![in *self.kept.allocator(); 0u32; self.chains as usize]?;
         for item in items {
-            self.fill_row(*item, &mut next);
-            max_into(&mut row, &next);
+            self.join_with(*item, &mut row);
         }
         Ok(row)
+    }
+
+    /// Joins the row of an item into another. What is kept of it is read once, and no entry behind its end.
+    fn join_with(&self, item: u32, row: &mut [u32])
+        requires item { item < length self.now }
+        requires row { length row.old ≡ number_of_chains self.now }
+        ensures { EachIndex row.new (λ chain. IsJoinedCount self.now item chain (slice_index row.old chain) (slice_index row.new chain)) }
+    {
+        match &self.kept[item as usize].row {
+            Row::Whole(entries) => join_row(row, entries.as_slice()),
+            Row::Changed { behind, entries } => {
+                self.join_with(*behind, row);
+                raise_entries(row, entries.as_slice());
+            }
+        }
     }
 
     /// How many items of a chain are the item or precede it.

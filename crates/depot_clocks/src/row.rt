@@ -1,9 +1,9 @@
 //! What is kept of an item, and what is done with its row.
-ghost use Rattle.std.specs.Prelude.{◌≡◌, ◌≤◌, ◌<◌, ◌↔◌, ℕ, length, slice_index, IsTrue, IfOk, IfSome, IfNone, OnOk, vec_len};
-ghost use Rattle.depot_clocks.specs.KeptRows.{HasEntry, HasCount, AreInside, ArePut, AreWithin, AreAbove, own_entry, NoneAbove, IsFirstFrom};
+ghost use Rattle.std.specs.Prelude.{◌≡◌, ◌≤◌, ◌<◌, ◌↔◌, ℕ, length, max, slice_index, IsTrue, IfOk, IfSome, IfNone, OnOk, vec_len};
+ghost use Rattle.depot_clocks.specs.KeptRows.{HasEntry, HasCount, AreInside, ArePut, AreRaised, AreWithin, AreAbove, own_entry, NoneAbove, IsFirstFrom};
 
 use depot_base::Memory;
-use depot_lanes::first_above;
+use depot_lanes::{first_above, max_into};
 use std::alloc::Global;
 
 /// An entry of a row.
@@ -82,6 +82,25 @@ pub fn put_row(row: &mut [u32], with: &[u32])
 {
     for (i, entry) in row.iter_mut().enumerate() {
         *entry = with.get(i).copied().unwrap_or(0);
+    }
+}
+
+/// Makes each entry of a row the greater of it and that of another, which isn't longer. Past its end the other's entries count as 0.
+pub fn join_row(row: &mut [u32], with: &[u32])
+    requires { length with.now ≤ length row.old }
+    ensures { (k : ℕ) → k < length row.new → slice_index row.new k ≡ max (slice_index row.old k) (slice_index with.now k) }
+{
+    max_into(&mut row[..with.len()], with);
+}
+
+/// Makes each entry of a row that one of these is above that one.
+pub fn raise_entries(row: &mut [u32], entries: &[Entry])
+    requires { AreInside entries.now (length row.old) }
+    ensures { AreRaised entries.now row.old row.new }
+{
+    for entry in entries {
+        let chain = entry.chain as usize;
+        row[chain] = row[chain].max(entry.count);
     }
 }
 

@@ -1,6 +1,5 @@
 -- How `node` ends, by what its roster and its script come to.
-use Rattle.std.proofs.Common.{◌≡◌, ◌≢◌, ◌⊎◌, ℕ, List, [], ◌∷◌, ◌++◌, take, Option, Some, Result, Ok, Err, refl, sym, ap, subst, ◌∙◌, arith, inl, inr, codes}
-use Rattle.std.specs.List.{flat_map}
+use Rattle.std.proofs.Common.{◌≡◌, ◌≢◌, ◌⊎◌, ℕ, List, [], ◌∷◌, ◌++◌, Option, Some, Result, Ok, Err, refl, sym, ap, subst, ◌∙◌, arith, inl, inr, codes}
 use Rattle.depot_base.proofs.Decoding.{in_one_way}
 use Rattle.depot_base.specs.declared.key.PublicKey.{PublicKey}
 use Rattle.depot_base.specs.declared.key.RosterEntry.{RosterEntry}
@@ -26,7 +25,7 @@ use Rattle.depot_session.specs.declared.ending.Ending.{Ending}
 use Rattle.depot_session.specs.declared.ending.Ending.TheVariants as ending
 use Rattle.depot_session.specs.SessionRuns.{AsksFirst, AsksShort, AsksWhole, HasFailed, IsCutBy}
 use Rattle.depot_session.specs.SessionRuns as runs
-use Rattle.depot_session.specs.Sessions.{Session, loads_of}
+use Rattle.depot_session.specs.Sessions.{Session, loads_given}
 use Rattle.depot_session.specs.ScriptTelling.{Asked, GoesByShelf}
 use Rattle.depot_winter.specs.TreeSigning.{key_of_seed}
 use Rattle.depot_commands.specs.declared.invocation.Command.{Command}
@@ -89,7 +88,7 @@ more_loads first whole one names before after has = after ∙ has ∙ ap (λ (x 
 
 -- and a script's files behind it
 loads_from_more : (first whole : Loads) (one : List ℕ) (names : List (List ℕ)) (commands : List line.Command) → first.before ≡ whole.before ++ one ∷ [] → whole.after ≡ first.after → LoadsFrom names commands first → LoadsFrom (one ∷ names) commands whole
-loads_from_more first whole one names commands before after loaded = (loaded.0, more_loads first whole one (names ++ flat_map loads_of (take loaded.0 commands)) before after loaded.1)
+loads_from_more first whole one names commands before after loaded = (loaded.0, more_loads first whole one (names ++ loads_given loaded.0 commands) before after loaded.1)
 
 -- what a shelf was asked for after one file was loaded, and what before, too
 pub record IsBehind (calls whole : Asked) (one : List ℕ) : Type 0 where
@@ -124,8 +123,8 @@ module _ (first : List (List ℕ)) (one : List ℕ) (calls whole : Asked) (behin
   }
 
   -- what one that was cut short did
-  short_behind : (done rest : List line.Command) → AsksShort done rest first calls → AsksShort done rest (one ∷ first) whole
-  short_behind done rest a = record {
+  short_behind : (here : Setting) (sign : Signs) (s : Session) (done rest : List line.Command) → AsksShort here sign s done rest first calls → AsksShort here sign s done rest (one ∷ first) whole
+  short_behind here sign s done rest a = record {
     loads = elim a.loads [
       | inl loads ↦ inl (more_first calls whole one first _ behind loads)
       | inr loads ↦ inr (more_first calls whole one first _ behind loads)
@@ -143,7 +142,7 @@ module _ (first : List (List ℕ)) (one : List ℕ) (calls whole : Asked) (behin
   answered_behind : (here : Setting) (sign : Signs) (J : List Record) (s : Session) (commands : List line.Command) (disk : Disks) (shelf : Shelves) (sink : Sinks) (e : Ending) → runs.Answered here sign J s commands first disk shelf calls sink e
       → runs.Answered here sign J s commands (one ∷ first) disk shelf whole sink e
   answered_behind here sign J s commands disk shelf sink e (inl w) = inl (w.0, whole_behind here sign s commands w.1)
-  answered_behind here sign J s commands disk shelf sink e (inr short) = inr (short.0, short_behind short.0.done short.0.rest short.1)
+  answered_behind here sign J s commands disk shelf sink e (inr short) = inr (short.0, short_behind here sign s short.0.done short.0.rest short.1)
 
 -- what a script came to, behind one file more that was loaded first
 runs_behind : (listed : List RosterEntry) (n : NodeWords) (commands : List line.Command) (first : List (List ℕ)) (one : List ℕ) (disk : Disks) (behind shelf : Shelves) (calls whole : Asked) (sink : Sinks) (same_disk : Type 0) (e : Ending) → behind ≡ shelf → IsBehind calls whole one

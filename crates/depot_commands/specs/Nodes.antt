@@ -1,6 +1,5 @@
 -- What `node` makes of the disk, the shelf and the sink.
-use Rattle.std.specs.Prelude.{◌≡◌, ◌<◌, ◌⊎◌, ℕ, List, [], ◌∷◌, ◌++◌, take, IsTrue, Option, Some}
-use Rattle.std.specs.List.{flat_map}
+use Rattle.std.specs.Prelude.{◌≡◌, ◌<◌, ◌⊎◌, ℕ, List, Bool, [], ◌∷◌, ◌++◌, IsTrue, Option, Some}
 use Rattle.depot_base.specs.declared.key.RosterEntry.{RosterEntry}
 use Rattle.depot_base.specs.declared.record.Record.{Record}
 use Rattle.depot_model.specs.Checks.{Setting}
@@ -15,7 +14,7 @@ use Rattle.depot_session.specs.declared.ending.Ending.{Ending}
 use Rattle.depot_session.specs.declared.ending.Ending.TheVariants as ending
 use Rattle.depot_session.specs.ScriptTelling.{Asked}
 use Rattle.depot_session.specs.SessionRuns as runs
-use Rattle.depot_session.specs.Sessions.{answers_of, loads_of, session_from, shelf_line}
+use Rattle.depot_session.specs.Sessions.{answers_of, loads_given, session_from, shelf_line}
 use Rattle.depot_winter.specs.TreeSigning.{key_of_seed}
 use Rattle.depot_commands.specs.Runs.{Answers, Begins, Ends, IsNoScript, IsRosterText}
 use Rattle.depot_commands.specs.Statuses.{status_of}
@@ -45,9 +44,10 @@ pub record RunsScript (listed : List RosterEntry) (n : NodeWords) (commands : Li
   pub disk_failed : ends ≡ ending.Disk → disk.faults_before < disk.faults_after
   pub sink_failed : ends ≡ ending.Sink → sink.faults_before < sink.faults_after
 
--- the run loaded the files of these names, and then those that some first commands of its script load, in their order, and no other
+-- the run loaded the files of these names, and then those that some first commands of its script load, in their order, and no other: a reader was
+-- made before each of these, or none was
 abbrev pub LoadsFrom : List (List ℕ) → List line.Command → Loads → Type 0
-LoadsFrom names commands loads = (k : ℕ) × HasLoaded loads (names ++ flat_map loads_of (take k commands))
+LoadsFrom names commands loads = (made : List Bool) × HasLoaded loads (names ++ loads_given made commands)
 
 -- A script was run, and the run ended with this status.
 pub record RunsNode (n : NodeWords) (disk : Disks) (shelf : Shelves) (loads : Loads) (calls : Asked) (sink : Sinks) (same_disk : Type 0) (status : Status) : Type 0 where

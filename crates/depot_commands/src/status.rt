@@ -11,7 +11,7 @@ pub enum Status {
     Done,
     /// The words are no command.
     Words,
-    /// A file that the words name isn't in its grammar.
+    /// A file that the words name, or one that a script opens, signs, trims by or takes, isn't in its grammar.
     Input,
     /// A file isn't on the shelf, or the shelf failed.
     Shelf,
@@ -27,7 +27,7 @@ pub enum Status {
     Limit,
     /// A log or journal isn't lawful.
     NotLawful,
-    /// The node, its key or a roster is another.
+    /// The node, its key or a roster is another, that of a script's hello or checkpoint too.
     Identity,
     /// What nodes did doesn't keep the headline: an audit found what fails first.
     Broken,

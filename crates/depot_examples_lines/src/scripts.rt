@@ -7,7 +7,7 @@ use std::alloc::Global;
 use std::test::Fail;
 
 /// Scripts, and how many commands each has.
-static GOOD: [(&[u8], &[u8], usize, &[u8], usize); 13] = [
+static GOOD: [(&[u8], &[u8], usize, &[u8], usize); 15] = [
     (b"", b"", 0, b"", 0),
     (
         b"put 6b 61\nput 00ff -\nget 6b\nhello h.bin\nbundle h.bin b.bin\ntake b.bin\n",
@@ -32,11 +32,19 @@ static GOOD: [(&[u8], &[u8], usize, &[u8], usize); 13] = [
     ),
     (b"puts ", b"0a", 255, b"!\n", 1),
     (b"puts 0a=", b"ff", 65_536, b",0b!\n", 1),
+    (
+        b"checkpoint k\nsign k\ntrim k\ntgive b\ntget 6b\n",
+        b"",
+        0,
+        b"",
+        5,
+    ),
+    (b"tget 636865636b706f696e743a", b"00", 32, b"\n", 1),
     (b"put 636865636b706f696e743a", b"00", 31, b" 61\n", 1),
 ];
 
 /// Texts, and the number of the first faulty line of each and its fault.
-static FAULTY: [(&[u8], &[u8], usize, &[u8], u32, LineFault); 52] = [
+static FAULTY: [(&[u8], &[u8], usize, &[u8], u32, LineFault); 62] = [
     (b"get 6b", b"", 0, b"", 1, LineFault::End),
     (b"get 6b\ngot", b"", 0, b"", 2, LineFault::End),
     (
@@ -101,6 +109,16 @@ static FAULTY: [(&[u8], &[u8], usize, &[u8], u32, LineFault); 52] = [
     (b"puts ", b"0a", 256, b"!\n", 1, LineFault::Hex),
     (b"puts ", b"0a", 256, b"=61\n", 1, LineFault::Hex),
     (b"puts 0a=", b"ff", 65_537, b"\n", 1, LineFault::Hex),
+    (b"checkpoint\n", b"", 0, b"", 1, LineFault::Fields),
+    (b"sign k k\n", b"", 0, b"", 1, LineFault::Fields),
+    (b"trim k t\n", b"", 0, b"", 1, LineFault::Fields),
+    (b"tgive\n", b"", 0, b"", 1, LineFault::Fields),
+    (b"tget t 6b\n", b"", 0, b"", 1, LineFault::Fields),
+    (b"checkpoint \xff\n", b"", 0, b"", 1, LineFault::Label),
+    (b"sign \xff\n", b"", 0, b"", 1, LineFault::Label),
+    (b"trim \xff\n", b"", 0, b"", 1, LineFault::Label),
+    (b"tgive \xff\n", b"", 0, b"", 1, LineFault::Label),
+    (b"tget -\n", b"", 0, b"", 1, LineFault::Hex),
     (
         b"put 636865636b706f696e743a",
         b"00",

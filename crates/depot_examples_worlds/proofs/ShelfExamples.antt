@@ -1,13 +1,14 @@
 -- Worked runs of scripts over a shelf: which file one that is cut short names, and what the shelf was asked for.
-use Rattle.std.proofs.Common.{List, [], ◌∷◌, ℕ, true, codes, None, refl, inl, inr, arith}
+use Rattle.std.proofs.Common.{◌≡◌, List, [], ◌∷◌, ◌++◌, ℕ, true, codes, Option, Some, None, refl, sym, inl, inr, arith}
 use Rattle.depot_model.specs.Bundle.{Signs}
 use Rattle.depot_model.specs.Checks.{Setting}
+use Rattle.depot_model.specs.Readers.{Reader}
 use Rattle.depot_outside.specs.Told.{Shelves}
 use Rattle.depot_script.specs.declared.command.Command.{Command}
 use Rattle.depot_script.specs.declared.command.Command.TheVariants as command
 use Rattle.depot_session.specs.ScriptTelling.{Asked}
 use Rattle.depot_session.specs.SessionRuns.{AsksFirst, AsksShort, AsksWhole, FailsFor}
-use Rattle.depot_session.specs.Sessions.{Session, answers_of, step_of}
+use Rattle.depot_session.specs.Sessions.{Session, answers_of, loads_through, step_of, stores_through, take_from}
 
 abbrev hello : List ℕ
 hello = codes "hello"
@@ -55,40 +56,60 @@ asked_for loads stores = record { loads_before = []; loads_after = loads; stores
 abbrev takes : List Command
 takes = command.Take hello ∷ command.Take made ∷ []
 
--- cut short in the first, the run loaded its file, or none; not that of the second
-first_loaded : AsksShort [] takes [] (asked_for (hello ∷ []) [])
-first_loaded = record { loads = inr refl; stores = inl refl }
+module _ (here : Setting) (sign : Signs) (s : Session) where
+  -- cut short in the first, the run loaded its file, or none; not that of the second
+  first_loaded : AsksShort here sign s [] takes [] (asked_for (hello ∷ []) [])
+  unfolding loads_through stores_through
+  first_loaded = record { loads = inr refl; stores = inl refl }
 
-none_loaded : AsksShort [] takes [] (asked_for [] [])
-none_loaded = record { loads = inl refl; stores = inl refl }
+  none_loaded : AsksShort here sign s [] takes [] (asked_for [] [])
+  unfolding loads_through stores_through
+  none_loaded = record { loads = inl refl; stores = inl refl }
 
-not_the_second : AsksShort [] takes [] (asked_for (hello ∷ made ∷ []) []) → ⊥
-not_the_second a = elim a.loads [
-  | inl none ↦ cc
-  | inr one ↦ cc
-]
+  not_the_second : AsksShort here sign s [] takes [] (asked_for (hello ∷ made ∷ []) []) → ⊥
+  unfolding loads_through
+  not_the_second a = elim a.loads [
+    | inl none ↦ (let is : hello ∷ made ∷ [] ≡ [] = none in cc)
+    | inr one ↦ (let is : hello ∷ made ∷ [] ≡ hello ∷ [] = one in cc)
+  ]
 
--- cut short in the second it loaded both
-both_loaded : AsksShort (command.Take hello ∷ []) (command.Take made ∷ []) [] (asked_for (hello ∷ made ∷ []) [])
-both_loaded = record { loads = inr refl; stores = inl refl }
+  -- cut short in the second it loaded both
+  both_loaded : AsksShort here sign s (command.Take hello ∷ []) (command.Take made ∷ []) [] (asked_for (hello ∷ made ∷ []) [])
+  unfolding loads_through stores_through step_of
+  both_loaded = record { loads = inr refl; stores = inl (sym (nothing_taken (s.files hello))) } where
+    nothing_taken : (o : Option (List ℕ)) → (take_from here s hello o).stores ++ [] ≡ []
+    nothing_taken None = refl
+    nothing_taken (Some stream) = refl
 
--- behind what was loaded before its start
-behind_roster : AsksShort [] takes (codes "roster" ∷ codes "script" ∷ []) (asked_for (codes "roster" ∷ codes "script" ∷ hello ∷ []) [])
-behind_roster = record { loads = inr refl; stores = inl refl }
+  -- behind what was loaded before its start
+  behind_roster : AsksShort here sign s [] takes (codes "roster" ∷ codes "script" ∷ []) (asked_for (codes "roster" ∷ codes "script" ∷ hello ∷ []) [])
+  unfolding loads_through stores_through
+  behind_roster = record { loads = inr refl; stores = inl refl }
 
--- a hello is stored once, and by a run that goes on as often as there are commands for it
-once : AsksShort [] (command.Hello made ∷ []) [] (asked_for [] (made ∷ []))
-once = record { loads = inl refl; stores = inr refl }
+  -- a hello is stored once, and by a run that goes on as often as there are commands for it
+  once : AsksShort here sign s [] (command.Hello made ∷ []) [] (asked_for [] (made ∷ []))
+  unfolding loads_through stores_through step_of
+  once = record { loads = inl refl; stores = inr refl }
 
-not_twice : AsksShort [] (command.Hello made ∷ []) [] (asked_for [] (made ∷ made ∷ [])) → ⊥
-not_twice a = elim a.stores [
-  | inl none ↦ cc
-  | inr one ↦ cc
-]
+  not_twice : AsksShort here sign s [] (command.Hello made ∷ []) [] (asked_for [] (made ∷ made ∷ [])) → ⊥
+  unfolding stores_through step_of
+  not_twice a = elim a.stores [
+    | inl none ↦ (let is : made ∷ made ∷ [] ≡ [] = none in cc)
+    | inr one ↦ (let is : made ∷ made ∷ [] ≡ made ∷ [] = one in cc)
+  ]
 
-as_often : (here : Setting) (sign : Signs) (s : Session) → AsksWhole here sign s (command.Hello made ∷ command.Hello made ∷ []) [] (asked_for [] (made ∷ made ∷ []))
-unfolding answers_of step_of
-as_often here sign s = record { done = command.Hello made ∷ command.Hello made ∷ []; rest = []; parts = refl; went_on = refl; over = inl refl; loads = refl; stores = refl }
+  as_often : AsksWhole here sign s (command.Hello made ∷ command.Hello made ∷ []) [] (asked_for [] (made ∷ made ∷ []))
+  unfolding answers_of step_of loads_through stores_through
+  as_often = record { done = command.Hello made ∷ command.Hello made ∷ []; rest = []; parts = refl; went_on = refl; over = inl refl; loads = refl; stores = refl }
+
+  -- what is to be given to a reader is loaded where one was made
+  given_loaded : (R : Reader) → loads_through here sign (record s { reader = Some R }) (command.Tgive hello ∷ []) ≡ hello ∷ []
+  unfolding loads_through
+  given_loaded R = refl
+
+  not_given : loads_through here sign (record s { reader = None }) (command.Tgive hello ∷ []) ≡ []
+  unfolding loads_through
+  not_given = refl
 
 -- a node that was refused asks for nothing
 refused_asks_nothing : AsksFirst [] (asked_for [] [])

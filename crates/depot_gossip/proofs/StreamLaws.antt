@@ -161,6 +161,11 @@ same_fault refused.Stopped = record { stopped = λ e. refl; was_stopped = λ e. 
 same_fault (refused.Full what) = record { stopped = λ e. absurd cc; was_stopped = λ e. absurd cc; disk = λ e. absurd cc; was_disk = λ e. absurd cc }
 same_fault (refused.Spent n) = record { stopped = λ e. absurd cc; was_stopped = λ e. absurd cc; disk = λ e. absurd cc; was_disk = λ e. absurd cc }
 
+-- the vouchers were made, and the node runs still
+pub still_runs : (before now : Bool) → before ≡ false → StopsBy before now (IsErrOf {T = Unit {0}} {E = VoucherError} (Ok tt) refused.Stopped) (IsErrOf {T = Unit {0}} {E = VoucherError} (Ok tt) refused.Disk) → now ≡ false
+still_runs before false runs s = refl
+still_runs before true runs s = absurd (elim (s.left.0 refl) [ inl was ↦ let both : true ≡ false = sym was ∙ runs in cc | inr failed ↦ cc ])
+
 -- the vouchers were made, and memory is wanting
 pub memory_stops : (before now : Bool) → StopsBy before now (IsErrOf {T = Unit {0}} {E = VoucherError} (Ok tt) refused.Stopped) (IsErrOf {T = Unit {0}} {E = VoucherError} (Ok tt) refused.Disk) → StopsBy before now (IsErrOf {T = Bundled} (Err error.Memory) error.Stopped) (IsErrOf {T = Bundled} (Err error.Memory) error.Disk)
 memory_stops before now s = stops_alike before now _ _ _ _ (λ e. absurd cc) (λ e. absurd cc) (λ e. absurd cc) (λ e. absurd cc) s

@@ -35,8 +35,11 @@ pub fn leaves_of_past(alloc: Global, graph: &Graph, items: &[u32]) -> Result<Vec
     ensures leaves { IfOk result (λ found. (n : ℕ) → n < length (⟦<Graph as Past>⟧.updates graph.now) → (IsIn n found.items ↔ IsLast (⟦<Graph as Past>⟧.updates graph.now) items.now n)) }
     ensures inside { IfOk result (λ found. AllByRecursion (λ item. item < length (⟦<Graph as Past>⟧.updates graph.now)) found.items) }
 {
-    let row = graph.joined_row(items)?;
     let mut found = Vec::new(alloc);
+    if items.is_empty() {
+        return Ok(found);
+    }
+    let row = graph.joined_row(items)?;
     for chain in 0..graph.chain_count() {
         let Some(item) = last_before(graph, chain, row[chain as usize]) else {
             continue;

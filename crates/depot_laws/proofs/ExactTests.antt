@@ -20,7 +20,7 @@ use Rattle.depot_laws.proofs.Splits.{flat_gives}
 use Rattle.depot_laws.proofs.Puts.{put_by, put_is_accepted}
 use Rattle.depot_laws.proofs.Worlds.{taken_in, write_from, write_fits}
 use Rattle.depot_model.specs.Audit.{is_body_in, writes_once, observed, observed_writes, last_writes, rises_strictly, lists_just, shows_named, shows_gone, is_put_by_writer, is_exact}
-use Rattle.depot_laws.proofs.EachPasses.{each_to, each_from, all_tests_to, all_tests_from, if_some_to, if_some_from}
+use Rattle.depot_laws.proofs.EachPasses.{each_to, each_from, all_tests_to, all_tests_from}
 use Rattle.depot_model.specs.ReadTests.{is_value_of, is_put_of}
 use Rattle.depot_laws.proofs.ReadTestLaws.{value_to, value_from, if_held_to, if_held_from, gone_is, gone_from_is, put_to, put_from}
 use Rattle.depot_laws.proofs.SameBodies.{AllFit, body_in_from, body_in_to}

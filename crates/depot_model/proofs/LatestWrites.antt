@@ -1,5 +1,5 @@
 -- The latest writes as a list are the latest writes.
-use Rattle.std.proofs.Common.{◌≡◌, ℕ, Bool, true, false, not, ◌&&◌, List, [], ◌∷◌, refl, sym, ap, subst, ◌∙◌}
+use Rattle.std.proofs.Common.{◌≡◌, ℕ, Bool, true, false, not, ◌&&◌, List, [], refl, sym, ap, subst, ◌∙◌}
 use Rattle.std.specs.List.{list_any, filter}
 use Rattle.std.proofs.lemmas.Bool.{and_parts, and_from, false_from_ne_true, not-true}
 use Rattle.depot_base.specs.declared.update.Update.{Update}
@@ -15,7 +15,6 @@ use Rattle.depot_model.proofs.Pasts.{past_in, past_of_listed}
 use Rattle.depot_model.proofs.RisingUpdates.{own_ids_from_causal, own_ids_filter}
 use Rattle.depot_model.proofs.NamedIds.{has_id_from, has_id_to}
 use Rattle.depot_model.proofs.ContentLaws.{writes-Decides}
-use Rattle.depot_model.specs.Insertion.{order_by}
 use Rattle.depot_model.specs.LatestList.{is_listed_before, is_last, latest_in}
 use Rattle.depot_model.proofs.InsertionLaws.{IsOrderOf, from_order, in_order, order_rises}
 

@@ -1,7 +1,6 @@
 -- What a node answers to the payload of a frame is what the feed says of that frame.
-use Rattle.std.proofs.Common.{◌≡◌, ℕ, List, [], ◌∷◌, ◌++◌, length, Bool, true, false, cond, ltb, ◌==◌, Option, Some, None, Result, Ok, Err, refl, sym, ap, ◌∙◌, arith}
-use Rattle.std.proofs.lemmas.Bool.{lt-ltb}
-use Rattle.std.proofs.lemmas.List.{append-nil, length-append}
+use Rattle.std.proofs.Common.{◌≡◌, ℕ, List, [], ◌++◌, Option, Some, None, Result, Ok, Err, refl, sym, ap, ◌∙◌, arith}
+use Rattle.std.proofs.lemmas.List.{append-nil}
 use Rattle.depot_base.specs.Format.{◌>>=◌}
 use Rattle.depot_base.specs.Closed.{Closed, closing, rest_of}
 use Rattle.depot_base.proofs.ClosedLaws.{LawfulClosed, closing_lawful, rest_lawful}
@@ -14,13 +13,11 @@ use Rattle.depot_model.specs.declared.taken.TakeError.{TakeError}
 use Rattle.depot_model.specs.declared.taken.TakeError.TheVariants as refused
 use Rattle.depot_model.specs.Texts.{signed, proof}
 use Rattle.depot_model.specs.Checks.{Setting, Given, given_statement, given_proof, given_value, answer_to, growth}
-use Rattle.depot_base.specs.declared.check.FullOf.TheVariants as full_of
-use Rattle.depot_model.specs.Room.{full_with, full_by}
+use Rattle.depot_model.specs.Room.{full_by}
 use Rattle.depot_model.specs.Limits.{IsCutShort}
 use Rattle.depot_base.specs.declared.limits.TheConstants.{MOST_VALUE}
 use Rattle.depot_model.specs.Taking.{Form, as_statement, as_proof, as_value, TakesAs, IsSettled, answer_of, appended_by, answer_to_text, growth_of_text, Takes, TakesStatement, TakesProof, TakesValue, Outcome, no_room, answered, outcome_within, outcome_of, at_start, given_as}
-use Rattle.depot_model.specs.Frames.{Frame}
-use Rattle.depot_model.specs.Feeding.{given_by, take_frame, Feeding, out_of_room, after_outcome, passed, says_more, fed_frame}
+use Rattle.depot_model.specs.Feeding.{given_by, take_frame}
 use Rattle.depot_model.proofs.TextLaws.{signed_lawful, proof_lawful}
 
 -- the answer is that of the outcome, and the journal has grown by what it says
@@ -96,27 +93,6 @@ unfolding take_frame given_by given_as
 value_frame_tells here J payload result then t = takes_tells (rest_of 65536) _ (rest_lawful 65536) (λ v. given_value v) here J payload result then t
 
 -- ---- no room
-
-full_at_most : (me : ℕ) (J : List Record) (r : Record) (rs : List Record) → length J ≡ 131072 → full_by me J (r ∷ rs) ≡ Some (record { what = full_of.Records; number = 131072 })
-unfolding full_with
-full_at_most me J r rs e =
-    let long : ltb 131072 (length (J ++ r ∷ rs)) ≡ true = lt-ltb _ _ (omega (arith, length-append J (r ∷ rs), e)) in
-    rw (long, e) refl
-
--- Where a journal has 131,072 records, a frame that would add to it isn't taken.
-pub full_is_told : (here : Setting) (J : List Record) (f : Frame) (x : Given) (r : Record) (rs : List Record)
-    → given_by f ≡ Ok x → growth here J x ≡ r ∷ rs → length J ≡ 131072 → take_frame here J f ≡ no_room (record { what = full_of.Records; number = 131072 })
-unfolding take_frame
-full_is_told here J f x r rs given grows e =
-    ap (outcome_of here J) given ∙ without_room here J x (record { what = full_of.Records; number = 131072 }) (ap (full_by here.me J) grows ∙ full_at_most here.me J r rs e)
-
--- and it closes the feed, with the journal as it was
-pub full_closes : (here : Setting) (s : Feeding) (n : ℕ) (f : Frame) (what : Full) → take_frame here s.journal f ≡ no_room what → (f.tag == 4) ≡ false → fed_frame here n f s ≡ record s { begun = []; closed = Some (out_of_room what) }
-unfolding fed_frame
-full_closes here s n f what is other = by_test (f.tag == 4) other where
-  by_test : (b : Bool) → b ≡ false → cond b (passed n (record s { ended = Some (says_more f.payload) })) (after_outcome n s (take_frame here s.journal f)) ≡ record s { begun = []; closed = Some (out_of_room what) }
-  by_test true e = absurd cc
-  by_test false e = ap (after_outcome n s) is
 
 -- ---- the answer as a function
 

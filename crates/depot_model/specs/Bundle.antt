@@ -19,11 +19,11 @@ use Rattle.depot_model.specs.Lists.{is_among}
 use Rattle.depot_model.specs.Texts.{id_of_update, text_of_statement, text_of_signed, text_of_proof, hash_of_roster}
 use Rattle.depot_model.specs.Order.{past}
 use Rattle.depot_model.specs.Roster.{has_node}
-use Rattle.depot_model.specs.Journal.{accepted, accepted_by, own_by, foreign_by, update_in, accused, proofs, held, held_as, has_id, value_with}
+use Rattle.depot_model.specs.Journal.{accepted, accepted_by, own_by, foreign_by, update_in, accused, proof_by, proofs, held, held_as, has_id, value_with}
 use Rattle.depot_model.specs.Checks.{Setting}
 use Rattle.depot_model.specs.Contents.{NamedValue, values_named}
 use Rattle.depot_model.specs.Limits.{Limit}
-use Rattle.depot_model.specs.Vouching.{own_vouchers, is_mine_vouched, new_vouchers, records_of, limit_of_vouchers}
+use Rattle.depot_model.specs.Vouching.{own_voucher_by, own_vouchers, is_mine_vouched, new_vouchers, records_of, limit_of_vouchers}
 use Rattle.depot_model.specs.Hello.{hello}
 use Rattle.depot_model.specs.Frames.{Frame, text_of_frame}
 
@@ -174,6 +174,22 @@ proofs_for J h = filter (λ p. not (list_any (λ n. n == accused p) h.convicted)
 -- the own vouchers that name one of these ids, in journal order
 abbrev pub vouchers_for : List Record → List (List ℕ) → List Voucher
 vouchers_for J ids = filter (λ v. list_any (λ i. is_among i ids) v.ids) (own_vouchers J)
+
+-- the record convicts a node that isn't one of these
+abbrev pub convicts_other : List ℕ → Record → Bool
+convicts_other listed r = list_any (λ p. not (list_any (λ n. n == accused p) listed)) (proof_by r)
+
+-- the places, from 0, of the proofs against nodes that aren't these
+abbrev pub proof_places : List Record → List ℕ → List ℕ
+proof_places J listed = records_where (convicts_other listed) 0 J
+
+-- the record is an own voucher that names one of these ids
+abbrev pub vouches_for : List (List ℕ) → Record → Bool
+vouches_for ids r = list_any (λ v. list_any (λ i. is_among i ids) v.ids) (own_voucher_by r)
+
+-- the places, from 0, of the own vouchers that do
+abbrev pub voucher_places : List Record → List (List ℕ) → List ℕ
+voucher_places J ids = records_where (vouches_for ids) 0 J
 
 -- the frame of a proof
 abbrev pub proof_frame : Proof → Frame

@@ -1,5 +1,5 @@
 -- A hello: what a node tells of what it has and of what it wants.
-use Rattle.std.specs.Prelude.{◌≡◌, ℕ, List, length, take, map, filter, position, Bool, true, not, ◌&&◌, ◌||◌, ◌==◌, nat_lt, Option, Some, None}
+use Rattle.std.specs.Prelude.{ℕ, List, length, take, map, filter, position, Bool, true, not, ◌&&◌, ◌||◌, ◌==◌, nat_lt, Option, Some, None}
 use Rattle.std.specs.List.{flat_map}
 use Rattle.std.specs.Int.{w16}
 use Rattle.depot_base.specs.declared.limits.TheConstants.{MOST_NODES, MOST_LEAVES, MOST_WANTED}
@@ -75,11 +75,7 @@ wanted_of J = take MOST_WANTED (lacking J)
 unfoldable pub record_place : List Record → List ℕ → Option ℕ
 record_place J h = position (λ r. has_id (accepted_by r) h) J
 
--- these are the record places of the leaves, in rising order of (writer, id)
-abbrev pub AreLeafPlaces : List Record → List ℕ → Type 0
-AreLeafPlaces J places = map (λ place. Some place) places ≡ map (λ t. record_place J (id_of_update t)) (by_id (leaves_of (accepted J)))
-
--- the leaves of a journal in that order, as a hello names them
+-- the leaves of a journal in rising order of (writer, id), as a hello names them
 abbrev pub leaves_named : List Record → List HelloLeaf
 leaves_named J = map named_leaf (by_id (leaves_of (accepted J)))
 

@@ -2,8 +2,8 @@
 ghost use Rattle.std.specs.Prelude.{◌≡◌, ◌≢◌, List, [], ◌∷◌, true, false, length, map, Some, IfOk, IfErr, IsErrOf, option_copied, option_to_list, slice_get};
 ghost use Rattle.std.specs.List.{AllByRecursion};
 ghost use Rattle.depot_base.specs.declared.record.Record.{Record};
-ghost use Rattle.depot_model.specs.Bundle.{signed_by, candidate_places};
-ghost use Rattle.depot_model.specs.Hello.{convicted_nodes, wanted_of, leaves_named, AreLeafPlaces};
+ghost use Rattle.depot_model.specs.Bundle.{signed_by, candidate_places, proof_places, voucher_places};
+ghost use Rattle.depot_model.specs.Hello.{convicted_nodes, wanted_of, leaves_named};
 ghost use Rattle.depot_model.specs.Journal.{accepted, accepted_at, held, value_with, is_foreign};
 ghost use Rattle.depot_model.specs.Lists.{AreApart};
 ghost use Rattle.depot_model.specs.Replicas.{IsSameNode, StopsBy, KeepsDisk};
@@ -22,11 +22,6 @@ pub trait Peer: Replica {
         requires { Self.stopped self.now ≡ false }
         ensures { IfOk result (λ nodes. nodes ≡ convicted_nodes (Self.stands self.now) (Self.records self.now)) };
 
-    /// The places of the records that accepted the leaves, in rising order of the leaves' (writer, id).
-    fn leaf_places(&self) -> Result<Items, Memory>
-        requires { Self.stopped self.now ≡ false }
-        ensures { IfOk result (λ places. AreLeafPlaces (Self.records self.now) places) };
-
     /// The leaves, in rising order of (writer, id), as a hello names them.
     fn leaves(&self) -> Result<HelloLeaves, Memory>
         requires { Self.stopped self.now ≡ false }
@@ -41,6 +36,16 @@ pub trait Peer: Replica {
     fn candidates(&self, leaves: &Ids, reader: NodeId) -> Result<Items, Memory>
         requires { Self.stopped self.now ≡ false }
         ensures { IfOk result (λ places. places ≡ candidate_places (Self.records self.now) leaves.now reader) };
+
+    /// The places, from 0, of the records that convict a node which isn't one of these, rising.
+    fn proof_places(&self, listed: &Nodes) -> Result<Items, Memory>
+        requires { Self.stopped self.now ≡ false }
+        ensures { IfOk result (λ places. places ≡ proof_places (Self.records self.now) listed.now) };
+
+    /// The places, from 0, of the own vouchers that name one of these ids, rising, each once.
+    fn voucher_places(&self, ids: &Ids) -> Result<Items, Memory>
+        requires { Self.stopped self.now ≡ false }
+        ensures { IfOk result (λ places. places ≡ voucher_places (Self.records self.now) ids.now) };
 
     /// The update that the record of a place, from 0, accepts. None exactly where it accepts none. It takes no memory.
     fn update_at(&self, place: u32) -> Option<&Update>

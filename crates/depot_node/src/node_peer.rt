@@ -6,15 +6,13 @@ use depot_base::{Bytes, Hash32, Ids, Items, Memory, NodeId, Nodes, Update};
 use depot_decide::is_foreign;
 use depot_model::{HelloLeaves, Peer, Scheme, Signer, VoucherError};
 use depot_outside::Disk;
-use depot_tell::{candidates, convicted, id_at, leaf_places, leaves, signed_text, update_at};
+use depot_tell::{
+    candidates, convicted, id_at, leaves, proof_places, signed_text, update_at, voucher_places,
+};
 
 impl<D: Disk, S: Scheme, G: Signer<Of = S>> Peer for Node<D, S, G> {
     fn convicted(&self) -> Result<Nodes, Memory> {
         convicted(self.alloc, &self.store)
-    }
-
-    fn leaf_places(&self) -> Result<Items, Memory> {
-        leaf_places(self.alloc, &self.store)
     }
 
     fn leaves(&self) -> Result<HelloLeaves, Memory> {
@@ -27,6 +25,14 @@ impl<D: Disk, S: Scheme, G: Signer<Of = S>> Peer for Node<D, S, G> {
 
     fn candidates(&self, leaves: &Ids, reader: NodeId) -> Result<Items, Memory> {
         candidates(self.alloc, &self.store, leaves, reader)
+    }
+
+    fn proof_places(&self, listed: &Nodes) -> Result<Items, Memory> {
+        proof_places(self.alloc, &self.store, listed)
+    }
+
+    fn voucher_places(&self, ids: &Ids) -> Result<Items, Memory> {
+        voucher_places(self.alloc, &self.store, ids)
     }
 
     fn update_at(&self, place: u32) -> Option<&Update> {

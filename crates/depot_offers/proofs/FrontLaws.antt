@@ -1,208 +1,220 @@
--- The proofs and own vouchers in front of a bundle, record by record, and the stream behind them.
-use Rattle.std.proofs.Common.{◌≡◌, ℕ, ◌+◌, ◌-◌, add-one, take, drop, get_or, Some, ◌<◌, ◌≤◌, ◌==◌, List, [], ◌∷◌, ◌++◌, length, map, Bool, true, false, not, cond, eqb, refl, sym, ap, subst, ◌∙◌, arith, length-append}
-use Rattle.std.specs.List.{filter, flat_map, list_any}
-use Rattle.std.specs.Prelude.{slice_get}
+-- The proofs and own vouchers in front of a bundle, by the places of their records, and the stream behind them.
+use Rattle.std.proofs.Common.{◌≡◌, ℕ, ◌+◌, ◌-◌, ◌<◌, ◌≤◌, ◌==◌, List, [], ◌∷◌, ◌++◌, length, map, take, drop, get_or, Bool, true, false, not, cond, ◌||◌, Option, Some, refl, sym, ap, subst, ◌∙◌, arith, add-one, length-append, append_assoc}
+use Rattle.std.specs.Prelude.{option_to_list, slice_get}
+use Rattle.std.specs.List.{AllByRecursion, filter, flat_map, list_any}
 use Rattle.std.proofs.Math.Seq.{take-suc}
-use Rattle.std.proofs.lemmas.Option.{slice_get-get_or}
-use Rattle.std.proofs.lemmas.List.{map-append, append-nil, take_all}
-use Rattle.std.proofs.lemmas.List.Elements.{filter-append}
+use Rattle.std.proofs.lemmas.List.{append-nil, length-map, map-append, take_all}
 use Rattle.std.proofs.lemmas.Grind.{flat_map-append}
+use Rattle.std.proofs.lemmas.Option.{slice_get-get_or}
 use Rattle.depot_base.specs.Cursor.{numeral}
 use Rattle.depot_base.specs.Format.{number}
 use Rattle.depot_base.specs.declared.voucher.Voucher.{Voucher}
 use Rattle.depot_base.specs.declared.proof.Proof.{Proof}
 use Rattle.depot_base.specs.declared.record.Record.{Record}
 use Rattle.depot_base.specs.declared.record.Record.TheVariants.{Birth, OwnPut, OwnVoucher, Foreign, Conviction, Held}
+use Rattle.depot_base.proofs.GeneralLaws.{get_last}
 use Rattle.depot_model.specs.declared.hello.Hello.{Hello}
 use Rattle.depot_model.specs.Lists.{is_among}
 use Rattle.depot_model.specs.Texts.{text_of_proof}
-use Rattle.depot_model.specs.Records.{tagged, record_text, tag_of, text_of_record}
+use Rattle.depot_model.specs.Records.{tagged, record_text, text_of_record}
 use Rattle.depot_model.specs.Journal.{accused, proof_by}
 use Rattle.depot_model.specs.Vouching.{own_voucher_by}
 use Rattle.depot_model.specs.Frames.{Frame, text_of_frame}
-use Rattle.depot_model.specs.Bundle.{Signs, proof_frame, proofs_for, vouchers_for, end_frame, voucher_frame}
-use Rattle.depot_laws.proofs.BundleSizes.{few_told}
-use Rattle.depot_base.proofs.GeneralLaws.{flat_push, filter_short}
+use Rattle.depot_model.specs.Bundle.{Signs, proof_frame, proofs_for, proof_places, convicts_other, records_where, vouchers_for, voucher_places, vouches_for, end_frame, voucher_frame}
+use Rattle.depot_model.proofs.Elements.{each_at, get_front}
+use Rattle.depot_offers.specs.Choosing.{records_at}
 use Rattle.depot_offers.specs.declared.front.Front.{Front}
-use Rattle.depot_offers.specs.Choosing.{AreAlike}
-use Rattle.depot_offers.specs.Fronts.{IsFront, is_in_front}
+use Rattle.depot_offers.specs.declared.front.FrontFrames.{FrontFrames}
+use Rattle.depot_offers.specs.Fronts.{AreFrames, IsFront}
 use Rattle.depot_offers.specs.declared.bundle_stream.Bundled.{Bundled}
 use Rattle.depot_offers.specs.BundleStreams.{IsStream, IsJoined}
 use Rattle.depot_frames.specs.declared.sending.Sending.{Sending}
 
--- ---- texts of records
-
--- the text of a record is its tag and what stands behind
-pub record HasTag (r : Record) : Type 0 where
-  pub rest : List ℕ
-  pub is : text_of_record r ≡ tag_of r ∷ rest
-
-pub has_tag : (r : Record) → HasTag r
-unfolding record_text number numeral
-has_tag (Birth node h) = record { rest = (tagged 1).text (Birth node h); is = refl }
-has_tag (OwnPut u values) = record { rest = (tagged 2).text (OwnPut u values); is = refl }
-has_tag (OwnVoucher v) = record { rest = (tagged 3).text (OwnVoucher v); is = refl }
-has_tag (Foreign s) = record { rest = (tagged 4).text (Foreign s); is = refl }
-has_tag (Conviction p) = record { rest = (tagged 5).text (Conviction p); is = refl }
-has_tag (Held value) = record { rest = (tagged 6).text (Held value); is = refl }
+-- ---- the text of a conviction's record
 
 proof_behind : (p : Proof) → text_of_record (Conviction p) ≡ 5 ∷ text_of_proof p
 unfolding record_text tagged number numeral
 proof_behind p = refl
 
--- the first byte is the tag
-pub first_is_tag : (r : Record) (text : List ℕ) → text ≡ text_of_record r → get_or text 0 0 ≡ tag_of r
-first_is_tag r text e = let t = has_tag r in ap (λ (bytes : List ℕ). get_or bytes 0 0) (e ∙ t.is)
-
--- and behind that of a conviction stands the proof
+-- behind the tag stands the proof
 pub rest_is_proof : (p : Proof) (text : List ℕ) → text ≡ text_of_record (Conviction p) → take (length text - 1) (drop 1 text) ≡ text_of_proof p
 rest_is_proof p text e = ap (λ (bytes : List ℕ). take (length bytes - 1) (drop 1 bytes)) (e ∙ proof_behind p) ∙ take_all (length (5 ∷ text_of_proof p) - 1) (text_of_proof p) (omega arith)
 
--- no record has an empty text
-pub some_text : (r : Record) (text : List ℕ) → text ≡ text_of_record r → length text < 1 → ⊥
-some_text r text e lt = let t = has_tag r in omega (arith, ap length (e ∙ t.is), lt)
+-- and the text isn't empty
+pub some_text : (p : Proof) (text : List ℕ) → text ≡ text_of_record (Conviction p) → length text < 1 → ⊥
+some_text p text e lt = omega (arith, ap length (e ∙ proof_behind p), lt)
 
--- ---- one record more
+-- ---- the records of some places
 
--- the proofs and the own vouchers of one record
-abbrev proofs_in : Hello → Record → List Proof
-proofs_in h r = filter (λ p. not (list_any (λ n. n == accused p) h.convicted)) (proof_by r)
+-- a record that passes the test stands at this place
+pub record PassesAt (test : Record → Bool) (J : List Record) (place : ℕ) : Type 0 where
+  pub item : Record
+  pub at : slice_get J place ≡ Some item
+  pub passes : test item ≡ true
 
-abbrev vouchers_in : List (List ℕ) → Record → List Voucher
-vouchers_in ids r = filter (λ v. list_any (λ i. is_among i ids) v.ids) (own_voucher_by r)
+-- each of these places has a record that passes, and these are the records
+pub record ArePassing (test : Record → Bool) (J : List Record) (places : List ℕ) (rs : List Record) : Type 0 where
+  pub all : AllByRecursion (PassesAt test J) places
+  pub records : records_at J places ≡ rs
+  pub few : length places ≤ length rs
 
-proofs_push : (K : List Record) (r : Record) (h : Hello) → proofs_for (K ++ r ∷ []) h ≡ proofs_for K h ++ proofs_in h r
-proofs_push K r h =
-    let test = λ (p : Proof). not (list_any (λ n. n == accused p) h.convicted) in
-    ap (filter test) (flat_push proof_by K r) ∙ filter-append test (flat_map proof_by K) (proof_by r)
+at_middle : (front : List Record) (r : Record) (rs : List Record) → slice_get (front ++ r ∷ rs) (length front) ≡ Some r
+at_middle front r rs =
+    ap (λ (xs : List Record). slice_get xs (length front)) (sym (append_assoc front (r ∷ []) rs))
+    ∙ get_front (front ++ r ∷ []) rs (length front) (omega (arith, length-append front (r ∷ []))) ∙ get_last front r
 
-vouchers_push : (K : List Record) (r : Record) (ids : List (List ℕ)) → vouchers_for (K ++ r ∷ []) ids ≡ vouchers_for K ids ++ vouchers_in ids r
-vouchers_push K r ids =
-    let test = λ (v : Voucher). list_any (λ i. is_among i ids) v.ids in
-    ap (filter test) (flat_push own_voucher_by K r) ∙ filter-append test (flat_map own_voucher_by K) (own_voucher_by r)
+passing_from : (test : Record → Bool) (J front rs : List Record) (n : ℕ) → J ≡ front ++ rs → n ≡ length front → ArePassing test J (records_where test n rs) (filter test rs)
+unfolding records_where
+passing_from test J front [] n is place = record { all = tt; records = refl; few = omega arith }
+passing_from test J front (r ∷ rs) n is place =
+    by_test (test r) refl (passing_from test J (front ++ r ∷ []) rs (n + 1) (is ∙ sym (append_assoc front (r ∷ []) rs)) (omega (arith, place, length-append front (r ∷ [])))) where
+      at : slice_get J n ≡ Some r
+      at = ap (λ (xs : List Record). slice_get xs n) is ∙ ap (slice_get (front ++ r ∷ rs)) place ∙ at_middle front r rs
 
-text_push : {X : Type 0} (f : X → Frame) (xs ys : List X) → flat_map text_of_frame (map f (xs ++ ys)) ≡ flat_map text_of_frame (map f xs) ++ flat_map text_of_frame (map f ys)
-text_push f xs ys = ap (flat_map text_of_frame) (map-append f xs ys) ∙ flat_map-append text_of_frame (map f xs) (map f ys)
+      by_test : (b : Bool) → test r ≡ b → ArePassing test J (records_where test (n + 1) rs) (filter test rs) → ArePassing test J (cond b (n ∷ records_where test (n + 1) rs) (records_where test (n + 1) rs)) (cond b (r ∷ filter test rs) (filter test rs))
+      by_test true e rest = record {
+        all = (record { item = r; at = at; passes = e }, rest.all);
+        records = ap (λ (o : Option Record). option_to_list o ++ records_at J (records_where test (n + 1) rs)) at ∙ ap (λ (qs : List Record). r ∷ qs) rest.records;
+        few = omega (arith, rest.few);
+      }
+      by_test false e rest = rest
 
--- the frames of these proofs and vouchers were added
-pub record HasMore (sign : Signs) (f g : Front) (ps : List Proof) (vs : List Voucher) : Type 0 where
-  pub proofs : g.proofs ≡ f.proofs ++ flat_map text_of_frame (map proof_frame ps)
-  pub proof_count : g.proof_count ≡ f.proof_count + length ps
-  pub vouchers : g.vouchers ≡ f.vouchers ++ flat_map text_of_frame (map (voucher_frame sign) vs)
-  pub voucher_count : g.voucher_count ≡ f.voucher_count + length vs
+passing : (test : Record → Bool) (J : List Record) → ArePassing test J (records_where test 0 J) (filter test J)
+passing test J = passing_from test J [] J 0 refl refl
 
-front_push : (sign : Signs) (K : List Record) (r : Record) (h : Hello) (ids : List (List ℕ)) (f g : Front) → IsFront sign K h ids f → HasMore sign f g (proofs_in h r) (vouchers_in ids r) → IsFront sign (K ++ r ∷ []) h ids g
-front_push sign K r h ids f g is more =
-    let ps = proofs_push K r h in
-    let vs = vouchers_push K r ids in
-    record {
-      proofs = more.proofs ∙ ap (λ (bytes : List ℕ). bytes ++ flat_map text_of_frame (map proof_frame (proofs_in h r))) is.proofs ∙ sym (ap (λ (qs : List Proof). flat_map text_of_frame (map proof_frame qs)) ps ∙ text_push proof_frame (proofs_for K h) (proofs_in h r));
-      proof_count = omega (arith, more.proof_count, is.proof_count, ap length ps, length-append (proofs_for K h) (proofs_in h r));
-      vouchers = more.vouchers ∙ ap (λ (bytes : List ℕ). bytes ++ flat_map text_of_frame (map (voucher_frame sign) (vouchers_in ids r))) is.vouchers ∙ sym (ap (λ (ws : List Voucher). flat_map text_of_frame (map (voucher_frame sign) ws)) vs ∙ text_push (voucher_frame sign) (vouchers_for K ids) (vouchers_in ids r));
-      voucher_count = omega (arith, more.voucher_count, is.voucher_count, ap length vs, length-append (vouchers_for K ids) (vouchers_in ids r));
-    }
+filter_few : (test : Record → Bool) (J : List Record) → length (filter test J) ≤ length J
+filter_few test [] = omega arith
+filter_few test (r ∷ J) = by_test (test r) (filter_few test J) where
+  by_test : (b : Bool) → length (filter test J) ≤ length J → length (cond b (r ∷ filter test J) (filter test J)) ≤ length (r ∷ J)
+  by_test true rest = omega (arith, rest)
+  by_test false rest = omega (arith, rest)
 
-none_more : (sign : Signs) (f : Front) → HasMore sign f f [] []
-none_more sign f = record { proofs = sym (append-nil f.proofs); proof_count = omega arith; vouchers = sym (append-nil f.vouchers); voucher_count = omega arith }
+-- of records that give one item at most, those of which the item passes give the items that pass
+filtered_give : {X : Type 0} (f : Record → List X) (test : X → Bool) → ((r : Record) → length (f r) ≤ 1) → (J : List Record) → flat_map f (filter (λ r. list_any test (f r)) J) ≡ filter test (flat_map f J)
+filtered_give f test one [] = refl
+filtered_give {X} f test one (r ∷ J) = by_items (f r) refl (one r) (filtered_give f test one J) where
+  left : List Record
+  left = filter (λ q. list_any test (f q)) J
 
--- a record that isn't told in front
-pub front_same : (sign : Signs) (K : List Record) (r : Record) (h : Hello) (ids : List (List ℕ)) (f : Front) → is_in_front r ≡ false → IsFront sign K h ids f → IsFront sign (K ++ r ∷ []) h ids f
-front_same sign K (OwnVoucher v) h ids f e is = absurd cc
-front_same sign K (Conviction p) h ids f e is = absurd cc
-front_same sign K (Birth node x) h ids f e is = front_push sign K (Birth node x) h ids f f is (none_more sign f)
-front_same sign K (OwnPut u values) h ids f e is = front_push sign K (OwnPut u values) h ids f f is (none_more sign f)
-front_same sign K (Foreign s) h ids f e is = front_push sign K (Foreign s) h ids f f is (none_more sign f)
-front_same sign K (Held value) h ids f e is = front_push sign K (Held value) h ids f f is (none_more sign f)
+  by_items : (xs : List X) → f r ≡ xs → length xs ≤ 1 → flat_map f left ≡ filter test (flat_map f J) → flat_map f (cond (list_any test xs) (r ∷ left) left) ≡ filter test (xs ++ flat_map f J)
+  by_items [] is few rest = rest
+  by_items (x ∷ []) is few rest = by_test (test x) where
+    by_test : (b : Bool) → flat_map f (cond (b || false) (r ∷ left) left) ≡ cond b (x ∷ filter test (flat_map f J)) (filter test (flat_map f J))
+    by_test true = ap (λ (ys : List X). ys ++ flat_map f left) is ∙ ap (λ (ys : List X). x ∷ ys) rest
+    by_test false = rest
+  by_items (x ∷ y ∷ xs) is few rest = absurd (omega (arith, few))
 
--- a proof that the hello's node has, and one that it hasn't
-pub proof_known : (sign : Signs) (K : List Record) (p : Proof) (h : Hello) (ids : List (List ℕ)) (f : Front) → list_any (λ n. n == accused p) h.convicted ≡ true → IsFront sign K h ids f → IsFront sign (K ++ Conviction p ∷ []) h ids f
-proof_known sign K p h ids f e is =
-    let none : proofs_in h (Conviction p) ≡ [] = ap (λ (b : Bool). cond (not b) (p ∷ []) []) e in
-    front_push sign K (Conviction p) h ids f f is (subst (λ (ps : List Proof). HasMore sign f f ps []) (sym none) (none_more sign f))
+one_proof : (r : Record) → length (proof_by r) ≤ 1
+one_proof (Birth node h) = omega arith
+one_proof (OwnPut u values) = omega arith
+one_proof (OwnVoucher v) = omega arith
+one_proof (Foreign s) = omega arith
+one_proof (Conviction p) = omega arith
+one_proof (Held value) = omega arith
 
-pub proof_new : (sign : Signs) (K : List Record) (p : Proof) (h : Hello) (ids : List (List ℕ)) (f : Front) (bytes : List ℕ) → list_any (λ n. n == accused p) h.convicted ≡ false → bytes ≡ f.proofs ++ text_of_frame (proof_frame p) → IsFront sign K h ids f → IsFront sign (K ++ Conviction p ∷ []) h ids (record f { proofs = bytes; proof_count = f.proof_count + 1 })
-proof_new sign K p h ids f bytes e added is =
-    let one : proofs_in h (Conviction p) ≡ p ∷ [] = ap (λ (b : Bool). cond (not b) (p ∷ []) []) e in
-    let g : Front = record f { proofs = bytes; proof_count = f.proof_count + 1 } in
-    front_push sign K (Conviction p) h ids f g is (subst (λ (ps : List Proof). HasMore sign f g ps []) (sym one) (record {
-      proofs = added ∙ ap (λ (text : List ℕ). f.proofs ++ text) (sym (append-nil (text_of_frame (proof_frame p))));
-      proof_count = omega arith;
-      vouchers = sym (append-nil f.vouchers);
-      voucher_count = omega arith;
-    }))
+one_voucher : (r : Record) → length (own_voucher_by r) ≤ 1
+one_voucher (Birth node h) = omega arith
+one_voucher (OwnPut u values) = omega arith
+one_voucher (OwnVoucher v) = omega arith
+one_voucher (Foreign s) = omega arith
+one_voucher (Conviction p) = omega arith
+one_voucher (Held value) = omega arith
 
--- a voucher that names none of the ids, and one that names one
-pub voucher_other : (sign : Signs) (K : List Record) (v : Voucher) (h : Hello) (ids : List (List ℕ)) (f : Front) → list_any (λ i. is_among i ids) v.ids ≡ false → IsFront sign K h ids f → IsFront sign (K ++ OwnVoucher v ∷ []) h ids f
-voucher_other sign K v h ids f e is =
-    let none : vouchers_in ids (OwnVoucher v) ≡ [] = ap (λ (b : Bool). cond b (v ∷ []) []) e in
-    front_push sign K (OwnVoucher v) h ids f f is (subst (λ (vs : List Voucher). HasMore sign f f [] vs) (sym none) (none_more sign f))
+-- ---- proofs
 
-pub voucher_named : (sign : Signs) (K : List Record) (v : Voucher) (h : Hello) (ids : List (List ℕ)) (f : Front) (bytes : List ℕ) → list_any (λ i. is_among i ids) v.ids ≡ true → bytes ≡ f.vouchers ++ text_of_frame (voucher_frame sign v) → IsFront sign K h ids f → IsFront sign (K ++ OwnVoucher v ∷ []) h ids (record f { vouchers = bytes; voucher_count = f.voucher_count + 1 })
-voucher_named sign K v h ids f bytes e added is =
-    let one : vouchers_in ids (OwnVoucher v) ≡ v ∷ [] = ap (λ (b : Bool). cond b (v ∷ []) []) e in
-    let g : Front = record f { vouchers = bytes; voucher_count = f.voucher_count + 1 } in
-    front_push sign K (OwnVoucher v) h ids f g is (subst (λ (vs : List Voucher). HasMore sign f g [] vs) (sym one) (record {
-      proofs = sym (append-nil f.proofs);
-      proof_count = omega arith;
-      vouchers = added ∙ ap (λ (text : List ℕ). f.vouchers ++ text) (sym (append-nil (text_of_frame (voucher_frame sign v))));
-      voucher_count = omega arith;
-    }))
+-- the proofs of the first so many of some places
+abbrev pub proofs_at : List Record → List ℕ → List Proof
+proofs_at J places = flat_map proof_by (records_at J places)
 
--- ---- counts
+pub all_proofs : (J : List Record) (h : Hello) → proofs_at J (proof_places J h.convicted) ≡ proofs_for J h
+all_proofs J h = ap (flat_map proof_by) (passing (convicts_other h.convicted) J).records ∙ filtered_give proof_by (λ (p : Proof). not (list_any (λ n. n == accused p) h.convicted)) one_proof J
 
--- there are no more proofs, and no more vouchers, than records
-pub record IsFew (f : Front) (n : ℕ) : Type 0 where
-  pub proofs : f.proof_count ≤ n
-  pub vouchers : f.voucher_count ≤ n
+convicts_is : (listed : List ℕ) (r : Record) → convicts_other listed r ≡ true → (p : Proof) × (r ≡ Conviction p)
+convicts_is listed (Conviction p) e = (p, refl)
+convicts_is listed (Birth node h) e = absurd cc
+convicts_is listed (OwnPut u values) e = absurd cc
+convicts_is listed (OwnVoucher v) e = absurd cc
+convicts_is listed (Foreign s) e = absurd cc
+convicts_is listed (Held value) e = absurd cc
 
-pub is_few : (sign : Signs) (K : List Record) (h : Hello) (ids : List (List ℕ)) (f : Front) → IsFront sign K h ids f → IsFew f (length K)
-is_few sign K h ids f is =
-    let told = few_told K in
-    record {
-      proofs = omega (arith, is.proof_count, filter_short (λ p. not (list_any (λ n. n == accused p) h.convicted)) (flat_map proof_by K), told);
-      vouchers = omega (arith, is.voucher_count, filter_short (λ v. list_any (λ i. is_among i ids) v.ids) (flat_map own_voucher_by K), told);
-    }
+-- at each of these places stands a conviction
+pub proof_at : (J : List Record) (listed places : List ℕ) (i place : ℕ) → places ≡ proof_places J listed → i < length places → place ≡ get_or places i 0 → (p : Proof) × (slice_get J place ≡ Some (Conviction p))
+proof_at J listed places i place are low is =
+    let all = subst (λ (ns : List ℕ). AllByRecursion (PassesAt (convicts_other listed) J) ns) (sym are) (passing (convicts_other listed) J).all in
+    let at = each_at (PassesAt (convicts_other listed) J) places i place all (slice_get-get_or places i 0 low ∙ ap (λ (n : ℕ). Some n) (sym is)) in
+    let p = convicts_is listed at.item at.passes in
+    (p.0, at.at ∙ ap (λ (r : Record). Some r) p.1)
 
--- the front goes by the members of the ids
-pub front_alike : (sign : Signs) (K : List Record) (h : Hello) (a b : List (List ℕ)) (f : Front) → AreAlike a b → IsFront sign K h a f → IsFront sign K h b f
-front_alike sign K h a b f alike is =
-    let same : vouchers_for K a ≡ vouchers_for K b = ap (λ (test : List ℕ → Bool). filter (λ (v : Voucher). list_any test v.ids) (flat_map own_voucher_by K)) (λ i h. alike h i) in
-    record { proofs = is.proofs; proof_count = is.proof_count; vouchers = is.vouchers ∙ ap (λ (vs : List Voucher). flat_map text_of_frame (map (voucher_frame sign) vs)) same; voucher_count = is.voucher_count ∙ ap length same }
+-- there are no more of them than records
+pub few_proofs : (J : List Record) (listed places : List ℕ) → places ≡ proof_places J listed → length places ≤ length J
+few_proofs J listed places are = omega (arith, ap length are, (passing (convicts_other listed) J).few, filter_few (convicts_other listed) J)
 
--- ---- tags
+records_next : (J : List Record) (places : List ℕ) (i place : ℕ) (r : Record) → i < length places → place ≡ get_or places i 0 → slice_get J place ≡ Some r → records_at J (take (i + 1) places) ≡ records_at J (take i places) ++ r ∷ []
+records_next J places i place r low is at =
+    let longer : take (i + 1) places ≡ take i places ++ place ∷ [] = rw add-one (take-suc places i 0 low ∙ ap (λ (n : ℕ). take i places ++ n ∷ []) (sym is)) in
+    ap (records_at J) longer ∙ flat_map-append (λ (n : ℕ). option_to_list (slice_get J n)) (take i places) (place ∷ [])
+    ∙ ap (λ (o : Option Record). records_at J (take i places) ++ (option_to_list o ++ [])) at
 
-pub voucher_told : (r : Record) (tag : ℕ) → tag ≡ tag_of r → tag ≡ 3 → eqb tag 3 ≡ is_in_front r
-voucher_told (OwnVoucher v) tag e is = ap (λ (n : ℕ). eqb n 3) e
-voucher_told (Conviction p) tag e is = absurd (omega (arith, e, is))
-voucher_told (Birth node h) tag e is = absurd (omega (arith, e, is))
-voucher_told (OwnPut u values) tag e is = absurd (omega (arith, e, is))
-voucher_told (Foreign s) tag e is = absurd (omega (arith, e, is))
-voucher_told (Held value) tag e is = absurd (omega (arith, e, is))
+-- one more
+pub proof_next : (J : List Record) (places : List ℕ) (i place : ℕ) (p : Proof) (made : FrontFrames) → i < length places → place ≡ get_or places i 0 → slice_get J place ≡ Some (Conviction p)
+    → AreFrames (map proof_frame (proofs_at J (take i places)) ++ proof_frame p ∷ []) made → AreFrames (map proof_frame (proofs_at J (take (i + 1) places))) made
+proof_next J places i place p made low is at frames =
+    let more : proofs_at J (take (i + 1) places) ≡ proofs_at J (take i places) ++ p ∷ [] = ap (flat_map proof_by) (records_next J places i place (Conviction p) low is at) ∙ flat_map-append proof_by (records_at J (take i places)) (Conviction p ∷ []) in
+    subst (λ (fs : List Frame). AreFrames fs made) (sym (ap (map proof_frame) more ∙ map-append proof_frame (proofs_at J (take i places)) (p ∷ []))) frames
 
-pub proof_told : (r : Record) (tag : ℕ) → tag ≡ tag_of r → (tag ≡ 3 → ⊥) → eqb tag 5 ≡ is_in_front r
-proof_told (OwnVoucher v) tag e not_voucher = absurd (not_voucher e)
-proof_told (Conviction p) tag e not_voucher = ap (λ (n : ℕ). eqb n 5) e
-proof_told (Birth node h) tag e not_voucher = ap (λ (n : ℕ). eqb n 5) e
-proof_told (OwnPut u values) tag e not_voucher = ap (λ (n : ℕ). eqb n 5) e
-proof_told (Foreign s) tag e not_voucher = ap (λ (n : ℕ). eqb n 5) e
-proof_told (Held value) tag e not_voucher = ap (λ (n : ℕ). eqb n 5) e
+-- ---- own vouchers
 
--- a record that is neither is told in front by none
-pub not_in_front : (r : Record) → ((v : Voucher) → r ≡ OwnVoucher v → ⊥) → ((p : Proof) → r ≡ Conviction p → ⊥) → is_in_front r ≡ false
-not_in_front (OwnVoucher v) a b = absurd (a v refl)
-not_in_front (Conviction p) a b = absurd (b p refl)
-not_in_front (Birth node h) a b = refl
-not_in_front (OwnPut u values) a b = refl
-not_in_front (Foreign s) a b = refl
-not_in_front (Held value) a b = refl
+abbrev pub vouchers_at : List Record → List ℕ → List Voucher
+vouchers_at J places = flat_map own_voucher_by (records_at J places)
 
--- ---- one place more
+pub all_vouchers : (J : List Record) (ids : List (List ℕ)) → vouchers_at J (voucher_places J ids) ≡ vouchers_for J ids
+all_vouchers J ids = ap (flat_map own_voucher_by) (passing (vouches_for ids) J).records ∙ filtered_give own_voucher_by (λ (v : Voucher). list_any (λ i. is_among i ids) v.ids) one_voucher J
 
-pub take_push : (J : List Record) (place : ℕ) (r : Record) → place < length J → slice_get J place ≡ Some r → take (place + 1) J ≡ take place J ++ r ∷ []
-take_push J place r lt at =
-    let same : Some (get_or J place r) ≡ Some r = sym (slice_get-get_or J place r lt) ∙ at in
-    let one : get_or J place r ≡ r = cc in
-    rw add-one (take-suc J place r lt) ∙ ap (λ (x : Record). take place J ++ x ∷ []) one
+vouches_is : (ids : List (List ℕ)) (r : Record) → vouches_for ids r ≡ true → (v : Voucher) × (r ≡ OwnVoucher v)
+vouches_is ids (OwnVoucher v) e = (v, refl)
+vouches_is ids (Birth node h) e = absurd cc
+vouches_is ids (OwnPut u values) e = absurd cc
+vouches_is ids (Foreign s) e = absurd cc
+vouches_is ids (Conviction p) e = absurd cc
+vouches_is ids (Held value) e = absurd cc
+
+-- at each of these places stands an own voucher
+pub voucher_at : (J : List Record) (ids : List (List ℕ)) (places : List ℕ) (i place : ℕ) → places ≡ voucher_places J ids → i < length places → place ≡ get_or places i 0 → (v : Voucher) × (slice_get J place ≡ Some (OwnVoucher v))
+voucher_at J ids places i place are low is =
+    let all = subst (λ (ns : List ℕ). AllByRecursion (PassesAt (vouches_for ids) J) ns) (sym are) (passing (vouches_for ids) J).all in
+    let at = each_at (PassesAt (vouches_for ids) J) places i place all (slice_get-get_or places i 0 low ∙ ap (λ (n : ℕ). Some n) (sym is)) in
+    let v = vouches_is ids at.item at.passes in
+    (v.0, at.at ∙ ap (λ (r : Record). Some r) v.1)
+
+pub few_vouchers : (J : List Record) (ids : List (List ℕ)) (places : List ℕ) → places ≡ voucher_places J ids → length places ≤ length J
+few_vouchers J ids places are = omega (arith, ap length are, (passing (vouches_for ids) J).few, filter_few (vouches_for ids) J)
+
+-- one more
+pub voucher_next : (sign : Signs) (J : List Record) (places : List ℕ) (i place : ℕ) (v : Voucher) (made : FrontFrames) → i < length places → place ≡ get_or places i 0 → slice_get J place ≡ Some (OwnVoucher v)
+    → AreFrames (map (voucher_frame sign) (vouchers_at J (take i places)) ++ voucher_frame sign v ∷ []) made → AreFrames (map (voucher_frame sign) (vouchers_at J (take (i + 1) places))) made
+voucher_next sign J places i place v made low is at frames =
+    let more : vouchers_at J (take (i + 1) places) ≡ vouchers_at J (take i places) ++ v ∷ [] =
+    ap (flat_map own_voucher_by) (records_next J places i place (OwnVoucher v) low is at) ∙ flat_map-append own_voucher_by (records_at J (take i places)) (OwnVoucher v ∷ []) in
+    subst (λ (fs : List Frame). AreFrames fs made) (sym (ap (map (voucher_frame sign)) more ∙ map-append (voucher_frame sign) (vouchers_at J (take i places)) (v ∷ []))) frames
+
+-- ---- frames
+
+-- one more frame
+pub frame_added : (fs : List Frame) (f : Frame) (old new : FrontFrames) → new.bytes ≡ old.bytes ++ text_of_frame f → new.count ≡ old.count + 1 → AreFrames fs old → AreFrames (fs ++ f ∷ []) new
+frame_added fs f old new bytes count are = record {
+  bytes = bytes ∙ ap (λ (text : List ℕ). text ++ text_of_frame f) are.bytes ∙ sym (flat_map-append text_of_frame fs (f ∷ []) ∙ ap (λ (text : List ℕ). flat_map text_of_frame fs ++ text) (append-nil (text_of_frame f)));
+  count = omega (arith, count, are.count, length-append fs (f ∷ []));
+}
+
+-- both make up the front
+pub front_is : (sign : Signs) (J : List Record) (h : Hello) (ids : List (List ℕ)) (proofs vouchers : FrontFrames) → AreFrames (map proof_frame (proofs_for J h)) proofs → AreFrames (map (voucher_frame sign) (vouchers_for J ids)) vouchers
+    → IsFront sign J h ids (record { proofs = proofs.bytes; proof_count = proofs.count; vouchers = vouchers.bytes; voucher_count = vouchers.count })
+front_is sign J h ids proofs vouchers p v = record {
+  proofs = p.bytes;
+  proof_count = p.count ∙ length-map (proofs_for J h) proof_frame;
+  vouchers = v.bytes;
+  voucher_count = v.count ∙ length-map (vouchers_for J ids) (voucher_frame sign);
+}
 
 -- ---- the stream
 

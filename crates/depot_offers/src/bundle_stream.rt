@@ -1,9 +1,8 @@
 //! The stream of a bundle.
-ghost use Rattle.std.specs.Prelude.{◌≡◌, IfOk, if◌then◌else◌};
+ghost use Rattle.std.specs.Prelude.{◌≡◌, false, IfOk, if◌then◌else◌};
 ghost use Rattle.depot_offers.specs.BundleStreams.{IsJoined, IsStream};
 
 use crate::front::Front;
-use crate::hashes::set_of;
 use depot_base::{Bytes, Memory};
 use depot_frames::{Sending, put_frame};
 use depot_model::{Counts, Hello, Peer};
@@ -61,9 +60,9 @@ pub fn told_of<R: Peer>(
     hello: &Hello,
     sending: &Sending,
 ) -> Result<Bundled, Memory>
+    requires { R.stopped node.now ≡ false }
     ensures { IfOk result (λ b. IsStream (R.signature_of node.now) (R.records node.now) hello.now sending.now b) }
 {
-    let ids = set_of(alloc, sending.ids.as_slice())?;
-    let front = Front::of(alloc, node, hello, &ids)?;
+    let front = Front::of(alloc, node, hello, &sending.ids)?;
     stream_of(front, sending)
 }

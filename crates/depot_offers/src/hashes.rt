@@ -1,11 +1,9 @@
 //! Sets of digests.
-ghost use Rattle.std.specs.Prelude.{◌≡◌, ℕ, List, [], ◌∷◌, OnOk, IfOk};
+ghost use Rattle.std.specs.Prelude.{◌≡◌, [], ◌∷◌, OnOk};
 ghost use Rattle.depot_model.specs.Lists.{is_among, AreTogether};
-ghost use Rattle.depot_offers.specs.Choosing.{AreAlike};
 
 use depot_base::{Hash32, Memory};
 use indexmap::IndexSet;
-use std::alloc::Global;
 
 /// A set of digests. Each that is put in is SHA-256 of something, so nobody can choose ones that fall together.
 pub(crate) type Hashes = IndexSet<Hash32>;
@@ -25,15 +23,4 @@ pub(crate) fn add_hash(hashes: &mut Hashes, hash: Hash32) -> Result<(), Memory>
         Ok(_) => Ok(()),
         Err(_) => Err(Memory),
     }
-}
-
-/// The set of these digests.
-pub(crate) fn set_of(alloc: Global, hashes: &[Hash32]) -> Result<Hashes, Memory>
-    ensures { IfOk result (λ set. AreAlike set.keys hashes.now) }
-{
-    let mut set = Hashes::new(alloc);
-    for hash in hashes {
-        add_hash(&mut set, *hash)?;
-    }
-    Ok(set)
 }

@@ -3,7 +3,7 @@
 //! A node's hello is that of its journal (`own_hello`). What it sends for the hello of another is chosen candidate by candidate, as
 //! long as there is room (`choose`, `candidate`), and is then a `Sending`, which holds the parcels of the definition; beside it stand
 //! the ids that are to be vouched for before it goes out (`preparing`). What stands in front of it, proofs and own vouchers, is made up
-//! from the journal (`front`), for the ids of a set (`hashes`), and then the stream of the bundle (`bundle_stream`).
+//! from the records whose places the node tells (`front`), and then the stream of the bundle (`bundle_stream`).
 //!
 //! All of it goes by the trait `Peer` alone. That the vouchers are journaled between the one and the other is `depot_gossip`'s to see
 //! to.

@@ -4,11 +4,13 @@ ghost use Rattle.depot_base.specs.Pairs.{AllPairsByRecursion};
 ghost use Rattle.depot_base.specs.Parts.{is_below};
 ghost use Rattle.depot_base.specs.declared.limits.TheConstants.{MOST_STOP_CALL};
 ghost use Rattle.depot_model.specs.Changes.{AreChanges};
+ghost use Rattle.depot_model.specs.Items.{at};
 ghost use Rattle.depot_model.specs.Journal.{accepted};
 ghost use Rattle.depot_model.specs.Lawful.{IsLawful};
 ghost use Rattle.depot_model.specs.Readers.{trim_of};
 ghost use Rattle.depot_model.specs.Receipts.{receipt_changes};
 ghost use Rattle.depot_model.specs.Records.{text_of_record};
+ghost use Rattle.depot_model.specs.Texts.{id_of_update};
 ghost use Rattle.depot_traces.specs.SeenTraces as seen_traces;
 ghost use Rattle.depot_traces.specs.TraceTexts.{IsTrace, read_text};
 ghost use Rattle.depot_traces.specs.declared.trace.TheConstants.{MOST_READS};
@@ -53,6 +55,11 @@ pub trait Actor: Drop + Numbered {
     fn update(&self, item: u32) -> &Update
         requires { item < length (accepted (view self.now).journal) }
         ensures { slice_get (accepted (view self.now).journal) item ≡ Some result.now };
+
+    /// The id of that update. It takes no memory.
+    fn id(&self, item: u32) -> &Hash32
+        requires { item < length (accepted (view self.now).journal) }
+        ensures { at (accepted (view self.now).journal) item (λ u. id_of_update u ≡ result.now) };
 
     /// Its own update of a number. None exactly where there is none. It takes no memory.
     fn own_update(&self, seq: u32) -> Option<&Update>

@@ -50,7 +50,7 @@ impl<A: Actor> Play<A> {
         ensures seen { OnOk result (⟦<Graph as Past>⟧.updates self.new.seen.graph ≡ seen_with (⟦<Graph as Past>⟧.updates self.old.seen.graph) (accepted (A.view actor.now).journal)) }
     {
         for item in count..actor.update_count() {
-            self.seen.add(actor.update(item))?;
+            self.seen.add(actor.update(item), actor.id(item))?;
         }
         Ok(())
     }

@@ -24,6 +24,7 @@ use depot_model::{Past, Scheme, Signer};
 use depot_schedule::{Event, Label};
 use depot_stage::texts::Text;
 use depot_stage::{Scene, texts};
+use depot_update::id_of;
 
 impl<A: Actor> Play<A> {
     /// A faulty node signs an update, which is seen from now on. The lines are those from the arrow on.
@@ -154,7 +155,8 @@ impl<A: Actor> Play<A> {
         ensures fits { IfOk result (λ text. IfSome text.signed IsSigned) }
         ensures were { IfOk result (λ text. IfSome text.signed (λ s. WereSeen (⟦<Graph as Past>⟧.updates self.new.seen.graph) (update_in s.statement))) }
     {
-        self.seen.add(&update)?;
+        let id = id_of(self.alloc, &update)?;
+        self.seen.add(&update, &id)?;
         let signer = scene.signer_of(update.writer);
         Ok(texts::update(self.alloc, signer, update, changes)?)
     }

@@ -36,7 +36,7 @@ use depot_deeds::{
     sign_printed, unmade_printed,
 };
 use depot_gossip::{bundle, encode_hello, node_hello};
-use depot_model::{Replica, Scheme, Signer};
+use depot_model::{Past, Replica, Scheme, Signer};
 use depot_node::{Node, StartError};
 use depot_outside::{Back, MemDisk};
 use depot_plays::{Actor, Begins, Told, Trimming};
@@ -292,6 +292,10 @@ impl<S: Scheme + Copy, G: Signer<Of = S> + Copy> Actor for Seat<S, G> {
 
     fn update(&self, item: u32) -> &Update {
         self.node.update(item)
+    }
+
+    fn id(&self, item: u32) -> &Hash32 {
+        self.node.graph().id(item)
     }
 
     fn own_update(&self, seq: u32) -> Option<&Update> {

@@ -17,7 +17,7 @@ use Rattle.depot_script.specs.declared.command_verb.Verb.{Verb}
 use Rattle.depot_script.specs.declared.command_verb.Verb.TheVariants as verb
 use Rattle.depot_script.specs.declared.command_verb.TheConstants.{VERBS}
 use Rattle.depot_script.specs.Names.{is_file_name, file_name}
-use Rattle.depot_script.specs.Commands.{key_of, value_of, changes_in, file_of, hello_of, id_of, nodes_asked, put, puts, get, hello, bundle, take, receipt, settled, export, verb_of, name_of, form_of, verb_named}
+use Rattle.depot_script.specs.Commands.{key_of, value_of, changes_in, file_of, hello_of, id_of, nodes_asked, put, puts, get, hello, bundle, take, receipt, settled, export, checkpoint, sign, trim, tgive, tget, verb_of, name_of, form_of, verb_named}
 
 -- ---- names of files
 
@@ -96,6 +96,36 @@ export_lawful = counted_lawful 1 1 _ (
     word_lawful _ _ _ 0 0 file_name_lawful (λ c a e h. ap file_of h) λ file.
     made_lawful _)
 
+pub checkpoint_lawful : Lawful checkpoint
+unfolding checkpoint
+checkpoint_lawful = counted_lawful 1 1 _ (
+    word_lawful _ _ _ 0 0 file_name_lawful (λ c a e h. ap file_of h) λ file.
+    made_lawful _)
+
+pub sign_lawful : Lawful sign
+unfolding sign
+sign_lawful = counted_lawful 1 1 _ (
+    word_lawful _ _ _ 0 0 file_name_lawful (λ c a e h. ap file_of h) λ file.
+    made_lawful _)
+
+pub trim_lawful : Lawful trim
+unfolding trim
+trim_lawful = counted_lawful 1 1 _ (
+    word_lawful _ _ _ 0 0 file_name_lawful (λ c a e h. ap file_of h) λ file.
+    made_lawful _)
+
+pub tgive_lawful : Lawful tgive
+unfolding tgive
+tgive_lawful = counted_lawful 1 1 _ (
+    word_lawful _ _ _ 0 0 file_name_lawful (λ c a e h. ap file_of h) λ file.
+    made_lawful _)
+
+pub tget_lawful : Lawful tget
+unfolding tget
+tget_lawful = counted_lawful 1 1 _ (
+    word_lawful _ _ _ 0 0 key_lawful (λ c a e h. ap key_of h) λ key.
+    made_lawful _)
+
 -- ---- all of them
 
 -- the name of a kind of command is a word and is read as that kind; its line is lawful, and each command that fits it is of that kind
@@ -109,7 +139,7 @@ lawful_form : (v : Verb) → verb_named (name_of v) ≡ Some v → is_word (name
 lawful_form v again plain line is = record { again = again; plain = plain; line = line; is = is }
 
 pub form_lawful : (v : Verb) → LawfulForm v
-unfolding verb_named put puts get hello bundle take receipt settled export
+unfolding verb_named put puts get hello bundle take receipt settled export checkpoint sign trim tgive tget
 form_lawful verb.Put = lawful_form verb.Put refl refl put_lawful (λ c h. ap verb_of h.1.1)
 form_lawful verb.Puts = lawful_form verb.Puts refl refl puts_lawful (λ c h. ap verb_of h.1)
 form_lawful verb.Get = lawful_form verb.Get refl refl get_lawful (λ c h. ap verb_of h.1)
@@ -119,6 +149,11 @@ form_lawful verb.Take = lawful_form verb.Take refl refl take_lawful (λ c h. ap 
 form_lawful verb.Receipt = lawful_form verb.Receipt refl refl receipt_lawful (λ c h. ap verb_of h.1)
 form_lawful verb.Settled = lawful_form verb.Settled refl refl settled_lawful (λ c h. ap verb_of h.1.1)
 form_lawful verb.Export = lawful_form verb.Export refl refl export_lawful (λ c h. ap verb_of h.1)
+form_lawful verb.Checkpoint = lawful_form verb.Checkpoint refl refl checkpoint_lawful (λ c h. ap verb_of h.1)
+form_lawful verb.Sign = lawful_form verb.Sign refl refl sign_lawful (λ c h. ap verb_of h.1)
+form_lawful verb.Trim = lawful_form verb.Trim refl refl trim_lawful (λ c h. ap verb_of h.1)
+form_lawful verb.Tgive = lawful_form verb.Tgive refl refl tgive_lawful (λ c h. ap verb_of h.1)
+form_lawful verb.Tget = lawful_form verb.Tget refl refl tget_lawful (λ c h. ap verb_of h.1)
 
 -- a word that is read as a kind of command is its name
 pub name_is : (word : List ℕ) (v : Verb) → verb_named word ≡ Some v → word ≡ name_of v

@@ -7,7 +7,7 @@ use Rattle.depot_schedule.specs.declared.changes.Keys.TheVariants as keys
 use Rattle.depot_schedule.specs.Language.{Words, word, made, counted}
 use Rattle.depot_schedule.specs.Vocabulary.{key, put_key, value, digest, node_count, changes}
 use Rattle.depot_script.specs.declared.command.Command.{Command}
-use Rattle.depot_script.specs.declared.command.Command.TheVariants.{Put, Puts, Get, Hello, Bundle, Take, Receipt, Settled, Export}
+use Rattle.depot_script.specs.declared.command.Command.TheVariants.{Put, Puts, Get, Hello, Bundle, Take, Receipt, Settled, Export, Checkpoint, Sign, Trim, Tgive, Tget}
 use Rattle.depot_script.specs.declared.command_verb.Verb.{Verb}
 use Rattle.depot_script.specs.declared.command_verb.Verb.TheVariants as verb
 use Rattle.depot_script.specs.declared.command_verb.TheConstants.{VERBS}
@@ -18,6 +18,7 @@ use Rattle.depot_script.specs.Names.{file_name}
 abbrev pub key_of : Command → List ℕ
 key_of (Put k _) = k
 key_of (Get k) = k
+key_of (Tget k) = k
 key_of _ = []
 
 abbrev pub value_of : Command → List ℕ
@@ -35,6 +36,10 @@ file_of (Hello file) = file
 file_of (Bundle _ file) = file
 file_of (Take file) = file
 file_of (Export file) = file
+file_of (Checkpoint file) = file
+file_of (Sign file) = file
+file_of (Trim file) = file
+file_of (Tgive file) = file
 file_of _ = []
 
 -- the file of the hello that a bundle answers
@@ -94,6 +99,26 @@ settled = counted 2 2 (word digest id_of λ id. word node_count nodes_asked λ k
 unfoldable pub export : Form
 export = counted 1 1 (word file_name file_of λ file. made (Export file))
 
+-- `checkpoint FILE`
+unfoldable pub checkpoint : Form
+checkpoint = counted 1 1 (word file_name file_of λ file. made (Checkpoint file))
+
+-- `sign FILE`
+unfoldable pub sign : Form
+sign = counted 1 1 (word file_name file_of λ file. made (Sign file))
+
+-- `trim FILE`
+unfoldable pub trim : Form
+trim = counted 1 1 (word file_name file_of λ file. made (Trim file))
+
+-- `tgive FILE`
+unfoldable pub tgive : Form
+tgive = counted 1 1 (word file_name file_of λ file. made (Tgive file))
+
+-- `tget KEY`
+unfoldable pub tget : Form
+tget = counted 1 1 (word key key_of λ k. made (Tget k))
+
 -- ---- all kinds of commands
 
 abbrev pub verb_of : Command → Verb
@@ -106,6 +131,11 @@ verb_of (Take _) = verb.Take
 verb_of (Receipt _) = verb.Receipt
 verb_of (Settled _ _) = verb.Settled
 verb_of (Export _) = verb.Export
+verb_of (Checkpoint _) = verb.Checkpoint
+verb_of (Sign _) = verb.Sign
+verb_of (Trim _) = verb.Trim
+verb_of (Tgive _) = verb.Tgive
+verb_of (Tget _) = verb.Tget
 
 -- the first word of the line of a command
 abbrev pub name_of : Verb → List ℕ
@@ -118,6 +148,11 @@ name_of verb.Take = codes "take"
 name_of verb.Receipt = codes "receipt"
 name_of verb.Settled = codes "settled"
 name_of verb.Export = codes "export"
+name_of verb.Checkpoint = codes "checkpoint"
+name_of verb.Sign = codes "sign"
+name_of verb.Trim = codes "trim"
+name_of verb.Tgive = codes "tgive"
+name_of verb.Tget = codes "tget"
 
 -- the words behind it
 abbrev pub form_of : Verb → Form
@@ -130,6 +165,11 @@ form_of verb.Take = take
 form_of verb.Receipt = receipt
 form_of verb.Settled = settled
 form_of verb.Export = export
+form_of verb.Checkpoint = checkpoint
+form_of verb.Sign = sign
+form_of verb.Trim = trim
+form_of verb.Tgive = tgive
+form_of verb.Tget = tget
 
 -- the kind of command of this name
 unfoldable pub verb_named : List ℕ → Option Verb

@@ -25,6 +25,16 @@ pub enum Command {
     Settled { id: Hash32, k: u32 },
     /// The node's trace, with the reads of this script so far, becomes the file.
     Export { file: FileName },
+    /// The node makes a checkpoint and signs it; its text becomes the file.
+    Checkpoint { file: FileName },
+    /// The node signs the checkpoint whose text the file has.
+    Sign { file: FileName },
+    /// A reader is made of the node, below the checkpoint whose text the file has.
+    Trim { file: FileName },
+    /// The last reader made takes the stream in the file.
+    Tgive { file: FileName },
+    /// The last reader made reads the key.
+    Tget { key: Key },
 }
 
 impl Command {
@@ -45,6 +55,11 @@ impl Command {
             Command::Receipt { .. } => Verb::Receipt,
             Command::Settled { .. } => Verb::Settled,
             Command::Export { .. } => Verb::Export,
+            Command::Checkpoint { .. } => Verb::Checkpoint,
+            Command::Sign { .. } => Verb::Sign,
+            Command::Trim { .. } => Verb::Trim,
+            Command::Tgive { .. } => Verb::Tgive,
+            Command::Tget { .. } => Verb::Tget,
         }
     }
 }

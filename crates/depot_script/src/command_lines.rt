@@ -2,7 +2,7 @@
 ghost use Rattle.depot_schedule.specs.Language.{nothing, next};
 ghost use Rattle.depot_schedule.specs.Readers.{Gives, Reads};
 ghost use Rattle.depot_script.specs.Names.{file_name};
-ghost use Rattle.depot_script.specs.Commands.{put, puts, get, hello, bundle, take, receipt, settled, export, form_of};
+ghost use Rattle.depot_script.specs.Commands.{put, puts, get, hello, bundle, take, receipt, settled, export, checkpoint, sign, trim, tgive, tget, form_of};
 
 use crate::command_verb::Verb;
 use crate::{Command, FileName};
@@ -116,6 +116,56 @@ fn export(alloc: Global, words: &mut Parts<'_>) -> Result<Command, LineError>
     made(words, Command::Export { file })
 }
 
+/// `checkpoint FILE`
+#[tactic(auto, unfolding(crate::specs::Commands::checkpoint))]
+fn checkpoint(alloc: Global, words: &mut Parts<'_>) -> Result<Command, LineError>
+    ensures { Gives result (checkpoint.read nothing words.old) }
+{
+    counted(words, 1, 1)?;
+    let file = file_name(alloc, words)?;
+    made(words, Command::Checkpoint { file })
+}
+
+/// `sign FILE`
+#[tactic(auto, unfolding(crate::specs::Commands::sign))]
+fn sign(alloc: Global, words: &mut Parts<'_>) -> Result<Command, LineError>
+    ensures { Gives result (sign.read nothing words.old) }
+{
+    counted(words, 1, 1)?;
+    let file = file_name(alloc, words)?;
+    made(words, Command::Sign { file })
+}
+
+/// `trim FILE`
+#[tactic(auto, unfolding(crate::specs::Commands::trim))]
+fn trim(alloc: Global, words: &mut Parts<'_>) -> Result<Command, LineError>
+    ensures { Gives result (trim.read nothing words.old) }
+{
+    counted(words, 1, 1)?;
+    let file = file_name(alloc, words)?;
+    made(words, Command::Trim { file })
+}
+
+/// `tgive FILE`
+#[tactic(auto, unfolding(crate::specs::Commands::tgive))]
+fn tgive(alloc: Global, words: &mut Parts<'_>) -> Result<Command, LineError>
+    ensures { Gives result (tgive.read nothing words.old) }
+{
+    counted(words, 1, 1)?;
+    let file = file_name(alloc, words)?;
+    made(words, Command::Tgive { file })
+}
+
+/// `tget KEY`
+#[tactic(auto, unfolding(crate::specs::Commands::tget))]
+fn tget(alloc: Global, words: &mut Parts<'_>) -> Result<Command, LineError>
+    ensures { Gives result (tget.read nothing words.old) }
+{
+    counted(words, 1, 1)?;
+    let key = key(alloc, words)?;
+    made(words, Command::Tget { key })
+}
+
 /// The command of the words behind its name.
 pub fn command_of(alloc: Global, verb: Verb, words: &mut Parts<'_>) -> Result<Command, LineError>
     ensures { Gives result ((form_of verb).read nothing words.old) }
@@ -130,5 +180,10 @@ pub fn command_of(alloc: Global, verb: Verb, words: &mut Parts<'_>) -> Result<Co
         Verb::Receipt => receipt(alloc, words),
         Verb::Settled => settled(alloc, words),
         Verb::Export => export(alloc, words),
+        Verb::Checkpoint => checkpoint(alloc, words),
+        Verb::Sign => sign(alloc, words),
+        Verb::Trim => trim(alloc, words),
+        Verb::Tgive => tgive(alloc, words),
+        Verb::Tget => tget(alloc, words),
     }
 }

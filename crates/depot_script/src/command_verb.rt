@@ -25,10 +25,20 @@ pub enum Verb {
     Settled,
     /// `export FILE`
     Export,
+    /// `checkpoint FILE`
+    Checkpoint,
+    /// `sign FILE`
+    Sign,
+    /// `trim FILE`
+    Trim,
+    /// `tgive FILE`
+    Tgive,
+    /// `tget KEY`
+    Tget,
 }
 
 /// Each kind of command once.
-pub const VERBS: [Verb; 9] = [
+pub const VERBS: [Verb; 14] = [
     Verb::Put,
     Verb::Puts,
     Verb::Get,
@@ -38,6 +48,11 @@ pub const VERBS: [Verb; 9] = [
     Verb::Receipt,
     Verb::Settled,
     Verb::Export,
+    Verb::Checkpoint,
+    Verb::Sign,
+    Verb::Trim,
+    Verb::Tgive,
+    Verb::Tget,
 ];
 
 impl Verb {
@@ -55,6 +70,11 @@ impl Verb {
             Verb::Receipt => "receipt",
             Verb::Settled => "settled",
             Verb::Export => "export",
+            Verb::Checkpoint => "checkpoint",
+            Verb::Sign => "sign",
+            Verb::Trim => "trim",
+            Verb::Tgive => "tgive",
+            Verb::Tget => "tget",
         }
     }
 

@@ -1,7 +1,7 @@
 //! Writes the words behind the name of a command, each behind a space: one function a line of the table.
 ghost use Rattle.std.specs.Prelude.{◌≡◌, ◌++◌, OnOk};
 ghost use Rattle.depot_schedule.specs.Readers.{behind_spaces};
-ghost use Rattle.depot_script.specs.Commands.{put, puts, get, hello, bundle, take, receipt, settled, export, form_of, verb_of};
+ghost use Rattle.depot_script.specs.Commands.{put, puts, get, hello, bundle, take, receipt, settled, export, checkpoint, sign, trim, tgive, tget, form_of, verb_of};
 
 use crate::{Command, FileName};
 use depot_base::{Bytes, Change, Hash32, Key, Memory, Value};
@@ -82,6 +82,46 @@ fn export(out: &mut Bytes, file: &FileName) -> Result<(), Memory>
     word(out, file.text().as_bytes())
 }
 
+/// `checkpoint FILE`
+#[tactic(auto, using(depot_base::proofs::Writing::texts), unfolding(crate::specs::Commands::checkpoint))]
+fn checkpoint(out: &mut Bytes, file: &FileName) -> Result<(), Memory>
+    ensures { OnOk result (out.new ≡ out.old ++ behind_spaces (checkpoint.text (Command.Checkpoint file.now))) }
+{
+    word(out, file.text().as_bytes())
+}
+
+/// `sign FILE`
+#[tactic(auto, using(depot_base::proofs::Writing::texts), unfolding(crate::specs::Commands::sign))]
+fn sign(out: &mut Bytes, file: &FileName) -> Result<(), Memory>
+    ensures { OnOk result (out.new ≡ out.old ++ behind_spaces (sign.text (Command.Sign file.now))) }
+{
+    word(out, file.text().as_bytes())
+}
+
+/// `trim FILE`
+#[tactic(auto, using(depot_base::proofs::Writing::texts), unfolding(crate::specs::Commands::trim))]
+fn trim(out: &mut Bytes, file: &FileName) -> Result<(), Memory>
+    ensures { OnOk result (out.new ≡ out.old ++ behind_spaces (trim.text (Command.Trim file.now))) }
+{
+    word(out, file.text().as_bytes())
+}
+
+/// `tgive FILE`
+#[tactic(auto, using(depot_base::proofs::Writing::texts), unfolding(crate::specs::Commands::tgive))]
+fn tgive(out: &mut Bytes, file: &FileName) -> Result<(), Memory>
+    ensures { OnOk result (out.new ≡ out.old ++ behind_spaces (tgive.text (Command.Tgive file.now))) }
+{
+    word(out, file.text().as_bytes())
+}
+
+/// `tget KEY`
+#[tactic(auto, using(depot_base::proofs::Writing::texts), unfolding(crate::specs::Commands::tget))]
+fn tget(alloc: Global, out: &mut Bytes, key: &Key) -> Result<(), Memory>
+    ensures { OnOk result (out.new ≡ out.old ++ behind_spaces (tget.text (Command.Tget key.now))) }
+{
+    hex(alloc, out, key.bytes())
+}
+
 /// The words behind the name of a command.
 pub fn words_of_command(alloc: Global, out: &mut Bytes, command: &Command) -> Result<(), Memory>
     ensures { OnOk result (out.new ≡ out.old ++ behind_spaces ((form_of (verb_of command.now)).text command.now)) }
@@ -96,5 +136,10 @@ pub fn words_of_command(alloc: Global, out: &mut Bytes, command: &Command) -> Re
         Command::Receipt { id } => receipt(alloc, out, id),
         Command::Settled { id, k } => settled(alloc, out, id, *k),
         Command::Export { file } => export(out, file),
+        Command::Checkpoint { file } => checkpoint(out, file),
+        Command::Sign { file } => sign(out, file),
+        Command::Trim { file } => trim(out, file),
+        Command::Tgive { file } => tgive(out, file),
+        Command::Tget { key } => tget(alloc, out, key),
     }
 }

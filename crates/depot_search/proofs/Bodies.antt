@@ -1,10 +1,9 @@
 -- Each body once: put behind others one after the other, which is the definition.
-use Rattle.std.proofs.Common.{◌≡◌, ℕ, suc, ◌+◌, ◌<◌, ◌||◌, Bool, true, false, cond, List, [], ◌∷◌, ◌++◌, length, drop, get_or, drop-cons, refl, sym, ap, ◌∙◌, append_assoc, append-nil, arith}
+use Rattle.std.proofs.Common.{◌≡◌, ◌+◌, ◌||◌, Bool, true, false, cond, List, [], ◌∷◌, ◌++◌, refl, sym, ap, ◌∙◌, append_assoc, append-nil}
 use Rattle.std.specs.List.{flat_map, list_any}
-use Rattle.depot_base.specs.declared.record.Record.{Record}
 use Rattle.depot_base.specs.declared.update.Update.{Update}
 use Rattle.depot_model.specs.Audit.{same_body, is_body_in, new_bodies, bodies_once}
-use Rattle.depot_model.specs.Journal.{accepted, accepted_by}
+use Rattle.depot_model.specs.Journal.{accepted}
 use Rattle.depot_search.specs.Writes.{with_bodies, with_journals}
 use Rattle.depot_search.specs.declared.journal.Journal.{Journal}
 
@@ -51,16 +50,6 @@ bodies_put known (u ∷ us) = by_test (is_body_in u known) (bodies_put known us)
 pub bodies_behind : (known us vs : List Update) → with_bodies known (us ++ vs) ≡ with_bodies (with_bodies known us) vs
 bodies_behind known [] vs = refl
 bodies_behind known (u ∷ us) vs = bodies_behind (cond (is_body_in u known) known (known ++ u ∷ [])) us vs
-
--- of one more record
-pub put_on : (known made : List Update) (entries : List Record) (k : ℕ) (entry : Record) → k < length entries → entry ≡ get_or entries k entry → made ≡ with_bodies known (accepted_by entry)
-    → with_bodies made (accepted (drop (k + 1) entries)) ≡ with_bodies known (accepted (drop k entries))
-put_on known made entries k entry low at put =
-    let next : k + 1 ≡ suc k = omega arith in
-    let rest : drop k entries ≡ entry ∷ drop (k + 1) entries = drop-cons entries k entry low ∙ ap (λ (r : Record). r ∷ drop (suc k) entries) (sym at) ∙ ap (λ (n : ℕ). entry ∷ drop n entries) (sym next) in
-    ap (λ (us : List Update). with_bodies us (accepted (drop (k + 1) entries))) put
-    ∙ sym (bodies_behind known (accepted_by entry) (accepted (drop (k + 1) entries)))
-    ∙ ap (λ (J : List Record). with_bodies known (accepted J)) (sym rest)
 
 journals_put : (known : List Update) (js : List Journal) → with_journals known js ≡ with_bodies known (flat_map (λ (j : Journal). accepted j.entries) js)
 journals_put known [] = refl

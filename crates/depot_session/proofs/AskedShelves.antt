@@ -1,17 +1,18 @@
 -- What a script asks of the shelf: the names that its commands load and store.
-use Rattle.std.proofs.Common.{◌≡◌, ◌⊎◌, ◌<◌, ℕ, ◌+◌, List, [], ◌∷◌, ◌++◌, append_assoc, length, get_or, take, Option, Some, None, Result, Ok, Err, sym, ap, ◌∙◌, inl, inr}
+use Rattle.std.proofs.Common.{◌≡◌, ◌⊎◌, ◌<◌, ℕ, zero, suc, Bool, List, [], ◌∷◌, ◌++◌, append_assoc, length, get_or, is_some, Option, Some, None, Result, Ok, Err, sym, ap, ◌∙◌, refl, inl, inr, arith}
 use Rattle.std.specs.Prelude.{IfSome}
-use Rattle.std.specs.List.{flat_map}
 use Rattle.std.specs.Result.{IsErrAnd}
 use Rattle.std.proofs.lemmas.List.{append-nil}
-use Rattle.std.proofs.lemmas.List.Concat.{flat_map-append}
-use Rattle.depot_base.proofs.GeneralLaws.{take_next}
+use Rattle.depot_model.specs.Bundle.{Signs}
+use Rattle.depot_model.specs.Checks.{Setting}
 use Rattle.depot_outside.specs.Told.{Sinks}
 use Rattle.depot_script.specs.declared.command.Command.{Command}
 use Rattle.depot_session.specs.declared.ending.Ending.{Ending}
 use Rattle.depot_session.specs.declared.ending.Ending.TheVariants as ending
 use Rattle.depot_session.specs.ScriptTelling.{Asked, StoresUnder, Tells}
 use Rattle.depot_session.specs.SessionRuns.{AsksShort}
+use Rattle.depot_session.specs.Sessions.{Session, answers_of, followed_by, loads_given, loads_of, loads_through, step_of, stores_through}
+use Rattle.depot_session.proofs.GoingOn.{GoOn}
 
 -- ---- a command
 
@@ -53,21 +54,55 @@ ended_so P (Some x) e is so = so
 
 -- ---- one more command
 
-module _ (names_of : Command → List (List ℕ)) (done : List Command) (c : Command) (first mid new : List (List ℕ)) (before : mid ≡ first ++ flat_map names_of done) where
+module _ (here : Setting) (sign : Signs) where
+  -- what commands name, each by the session before it, and one more behind those that went on
+  through_more : (names : Session → Command → List (List ℕ)) (through : Session → List Command → List (List ℕ)) → ((s : Session) → through s [] ≡ []) → ((s : Session) (c : Command) (cs : List Command) → through s (c ∷ cs) ≡ names s c ++ through (step_of here sign s c).session cs)
+      → (s : Session) (xs : List Command) (c : Command) → GoOn here sign s xs → through s (xs ++ c ∷ []) ≡ through s xs ++ names (answers_of here sign s xs).session c
+  unfolding answers_of
+  through_more names through none one s [] c on = one s c [] ∙ ap (λ (x : List (List ℕ)). names s c ++ x) (none (step_of here sign s c).session) ∙ append-nil (names s c) ∙ ap (λ (x : List (List ℕ)). x ++ names s c) (sym (none s))
+  through_more names through none one s (x ∷ xs) c on =
+      let step = step_of here sign s x in
+      let first = answers_of here sign step.session xs in
+      one s x (xs ++ c ∷ []) ∙ ap (λ (y : List (List ℕ)). names s x ++ y) (through_more names through none one step.session xs c on.1) ∙ sym (append_assoc (names s x) (through step.session xs) (names first.session c))
+      ∙ ap (λ (y : List (List ℕ)). y ++ names first.session c) (sym (one s x xs)) ∙ ap (λ (o : Option Ending). through s (x ∷ xs) ++ names (followed_by o step first).session c) (sym on.0)
+
+  -- before the first one nothing was loaded, and nothing stored
+  pub none_loaded : (s : Session) (names : List (List ℕ)) → names ≡ names ++ loads_through here sign s []
+  unfolding loads_through
+  none_loaded s names = sym (append-nil names)
+
+  pub none_stored : (s : Session) (names : List (List ℕ)) → names ≡ names ++ stores_through here sign s []
+  unfolding stores_through
+  none_stored s names = sym (append-nil names)
+
+  -- what they load
+  pub loads_more : (s : Session) (xs : List Command) (c : Command) → GoOn here sign s xs → loads_through here sign s (xs ++ c ∷ []) ≡ loads_through here sign s xs ++ loads_of (is_some (answers_of here sign s xs).session.reader) c
+  unfolding loads_through
+  loads_more = through_more (λ s c. loads_of (is_some s.reader) c) (loads_through here sign) (λ s. refl) (λ s c cs. refl)
+
+  -- and what they store
+  pub stores_more : (s : Session) (xs : List Command) (c : Command) → GoOn here sign s xs → stores_through here sign s (xs ++ c ∷ []) ≡ stores_through here sign s xs ++ (step_of here sign (answers_of here sign s xs).session c).stores
+  unfolding stores_through
+  stores_more = through_more (λ s c. (step_of here sign s c).stores) (stores_through here sign) (λ s. refl) (λ s c cs. refl)
+
+module _ (all some names first mid new : List (List ℕ)) (is : all ≡ some ++ names) (before : mid ≡ first ++ some) where
   -- it asks for its names
-  pub one_more : new ≡ mid ++ names_of c → new ≡ first ++ flat_map names_of (done ++ c ∷ [])
-  one_more more =
-      more ∙ ap (λ (x : List (List ℕ)). x ++ names_of c) before ∙ append_assoc first (flat_map names_of done) (names_of c) ∙ ap (λ (x : List (List ℕ)). first ++ (flat_map names_of done ++ x)) (sym (append-nil (names_of c)))
-      ∙ ap (λ (x : List (List ℕ)). first ++ x) (sym (flat_map-append names_of done (c ∷ [])))
+  pub one_more : new ≡ mid ++ names → new ≡ first ++ all
+  one_more more = more ∙ ap (λ (x : List (List ℕ)). x ++ names) before ∙ append_assoc first some names ∙ ap (λ (x : List (List ℕ)). first ++ x) (sym is)
 
   -- it may have
-  pub more_or_none : (new ≡ mid) ⊎ (new ≡ mid ++ names_of c) → (new ≡ first ++ flat_map names_of done) ⊎ (new ≡ first ++ flat_map names_of (done ++ c ∷ []))
+  pub more_or_none : (new ≡ mid) ⊎ (new ≡ mid ++ names) → (new ≡ first ++ some) ⊎ (new ≡ first ++ all)
   more_or_none (inl none) = inl (none ∙ before)
   more_or_none (inr more) = inr (one_more more)
 
--- so many commands were done, and one more
-pub more_of : (names_of : Command → List (List ℕ)) (cs : List Command) (i : ℕ) (c : Command) → i < length cs → c ≡ get_or cs i c → (first mid new : List (List ℕ)) → mid ≡ first ++ flat_map names_of (take i cs) → new ≡ mid ++ names_of c → new ≡ first ++ flat_map names_of (take (i + 1) cs)
-more_of names_of cs i c within is first mid new before more = one_more names_of (take i cs) c first mid new before more ∙ ap (λ (x : List Command). first ++ flat_map names_of x) (sym (take_next cs i c within is))
+-- what some first commands load, and the one behind them, where a reader was made before it or none was
+pub given_more : (made : List Bool) (now : Bool) (cs : List Command) (i : ℕ) (c : Command) → length made ≡ i → i < length cs → c ≡ get_or cs i c → loads_given (made ++ now ∷ []) cs ≡ loads_given made cs ++ loads_of now c
+given_more made now [] i c long within is = absurd (omega (arith, within))
+given_more [] now (x ∷ cs) zero c long within is = append-nil (loads_of now x) ∙ ap (loads_of now) (sym is)
+given_more [] now (x ∷ cs) (suc i) c long within is = absurd (omega (arith, long))
+given_more (m ∷ made) now (x ∷ cs) zero c long within is = absurd (omega (arith, long))
+given_more (m ∷ made) now (x ∷ cs) (suc i) c long within is =
+    ap (λ (y : List (List ℕ)). loads_of m x ++ y) (given_more made now cs i c (omega (arith, long)) (omega (arith, within)) is) ∙ sym (append_assoc (loads_of m x) (loads_given made cs) (loads_of now c))
 
 -- what wasn't stored by the command wasn't by the script
 pub behind_first : (ends : Option Ending) (first mid new names : List (List ℕ)) → mid ≡ first ++ names → IfSome ends (λ e. new ≡ mid) → IfSome ends (λ e. new ≡ first ++ names)
@@ -75,5 +110,5 @@ behind_first None first mid new names before none = tt
 behind_first (Some e) first mid new names before none = none ∙ before
 
 -- nothing was asked
-pub asks_nothing : (commands : List Command) (calls : Asked) → calls.loads_after ≡ calls.loads_before → calls.stores_after ≡ calls.stores_before → AsksShort [] commands [] calls
-asks_nothing commands calls loads stores = record { loads = inl (loads ∙ sym (append-nil calls.loads_before)); stores = inl (stores ∙ sym (append-nil calls.stores_before)) }
+pub asks_nothing : (here : Setting) (sign : Signs) (s : Session) (commands : List Command) (calls : Asked) → calls.loads_after ≡ calls.loads_before → calls.stores_after ≡ calls.stores_before → AsksShort here sign s [] commands [] calls
+asks_nothing here sign s commands calls loads stores = record { loads = inl (loads ∙ none_loaded here sign s calls.loads_before); stores = inl (stores ∙ none_stored here sign s calls.stores_before) }

@@ -8,7 +8,9 @@ use Rattle.depot_model.specs.Checks.{Setting}
 use Rattle.depot_model.specs.Lawful.{IsLawful}
 use Rattle.depot_model.specs.Limits.{Limit, limit_of_put}
 use Rattle.depot_model.specs.Lists.{IsIn}
+use Rattle.depot_model.specs.Opening.{make_of}
 use Rattle.depot_model.specs.Own.{next_own, values_of}
+use Rattle.depot_model.specs.Readers.{Reader}
 use Rattle.depot_model.specs.Receipts.{NoReceipt, no_receipt, receipt_changes}
 use Rattle.depot_model.specs.Roster.{has_node}
 use Rattle.depot_model.specs.World.{Correct, Read, IsCorrect, IsRead, NeverFall}
@@ -17,13 +19,15 @@ use Rattle.depot_model.proofs.Members.{in_pushed}
 use Rattle.depot_answers.specs.Answers.{text_of_limit, text_of_put}
 use Rattle.depot_script.specs.declared.command.Command.{Command}
 use Rattle.depot_script.specs.declared.command.Command.TheVariants as command
-use Rattle.depot_world.specs.Deeds.{idle, grown, put_by, read_of, get_by, receipt_with, receipt_by, settled_by, hello_by, bundle_with, bundle_by, give_by}
+use Rattle.depot_world.specs.Deeds.{idle, grown, put_by, read_of, get_by, receipt_with, receipt_by, settled_by, hello_by, bundle_with, bundle_by, checkpoint_by, give_by}
 use Rattle.depot_world.specs.ScheduleStops.{Deed}
 use Rattle.depot_world.proofs.GoodDeeds.{read_is, never_falls}
 use Rattle.depot_world.proofs.GoodNodes.{begun_grows, read_grows}
+use Rattle.depot_world.proofs.ReadCounts.{checkpoint_keeps, sign_keeps}
 use Rattle.depot_session.specs.SessionRuns.{world_at}
-use Rattle.depot_session.specs.Sessions.{Session, bundle_step, bundle_to, export_by, step_of, take_from}
+use Rattle.depot_session.specs.Sessions.{Session, bundle_step, bundle_to, export_by, shown_by_last, step_of, take_from}
 use Rattle.depot_session.proofs.StepGrowth.{step_grows, step_stays}
+use Rattle.depot_session.proofs.StepSessions.{checkpoint_session, sign_session, tgive_session, trim_session}
 
 -- ---- what is read
 
@@ -118,6 +122,14 @@ step_reads here sign s (command.Take file) other = by_file (s.files file) where
 step_reads here sign s (command.Receipt id) other = receipt_reads here s.correct (id ∷ [])
 step_reads here sign s (command.Settled id k) other = settled_reads s.correct id k
 step_reads here sign s (command.Export file) other = refl
+step_reads here sign s (command.Checkpoint file) other = ap (λ (t : Session). t.correct.reads) (checkpoint_session here s file (checkpoint_by here s.correct) (make_of here s.correct.journal)).1 ∙ checkpoint_keeps here s.correct
+step_reads here sign s (command.Sign file) other = sign_session (λ t. t.correct.reads ≡ s.correct.reads) here s file (s.files file) refl (λ text. sign_keeps here s.correct text)
+step_reads here sign s (command.Trim file) other = ap (λ (t : Session). t.correct.reads) (trim_session here s file (s.files file)).1
+step_reads here sign s (command.Tgive file) other = ap (λ (t : Session). t.correct.reads) (tgive_session s file s.reader).1
+step_reads here sign s (command.Tget key) other = by_reader s.reader where
+  by_reader : (o : Option Reader) → (shown_by_last s.correct key o).reads ≡ s.correct.reads
+  by_reader None = refl
+  by_reader (Some R) = refl
 
 module _ (here : Setting) (sign : Signs) (s : Session) (correct : IsCorrect (world_at here) s.correct) (at : s.correct.node ≡ here.me) where
   -- a command that leaves the reads

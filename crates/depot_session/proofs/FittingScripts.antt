@@ -33,6 +33,11 @@ asked_are (command.Take file) changes fits is = absurd is
 asked_are (command.Receipt id) changes fits is = absurd is
 asked_are (command.Settled id k) changes fits is = absurd is
 asked_are (command.Export file) changes fits is = absurd is
+asked_are (command.Checkpoint file) changes fits is = absurd is
+asked_are (command.Sign file) changes fits is = absurd is
+asked_are (command.Trim file) changes fits is = absurd is
+asked_are (command.Tgive file) changes fits is = absurd is
+asked_are (command.Tget key) changes fits is = absurd is
 
 -- none of them is of a receipt's key
 pub asked_plain : (c : Command) (changes : List Change) → FitsCommand c → IsPut c changes → WriteNoReceipts changes
@@ -46,6 +51,11 @@ asked_plain (command.Take file) changes fits is = absurd is
 asked_plain (command.Receipt id) changes fits is = absurd is
 asked_plain (command.Settled id k) changes fits is = absurd is
 asked_plain (command.Export file) changes fits is = absurd is
+asked_plain (command.Checkpoint file) changes fits is = absurd is
+asked_plain (command.Sign file) changes fits is = absurd is
+asked_plain (command.Trim file) changes fits is = absurd is
+asked_plain (command.Tgive file) changes fits is = absurd is
+asked_plain (command.Tget key) changes fits is = absurd is
 
 -- a put of one value asks for one change, and one of several for these
 pub is_one : (c : Command) (key value : List ℕ) (changes : List Change) → c ≡ command.Put key value → changes ≡ one_change key value → IsPut c changes

@@ -1,4 +1,5 @@
 pub mod LeftJournals
+pub mod StepSessions
 pub mod StepGrowth
 pub mod UnwrittenTexts
 pub mod Turning
@@ -19,6 +20,11 @@ pub mod GoingOn
 pub mod CorrectSteps
 pub mod KeptSteps
 pub mod AskedShelves
+pub mod StoredNames
+pub mod LastReaders
 pub mod PlayedScripts
 pub mod RunImages
 pub mod RunEnds
+pub mod CheckpointTurns
+pub mod SignTurns
+pub mod ReaderTurns

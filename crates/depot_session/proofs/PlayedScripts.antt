@@ -1,8 +1,7 @@
 -- A script that is played, command by command.
-use Rattle.std.proofs.Common.{◌≡◌, ◌≤◌, ◌<◌, ◌⊎◌, ℕ, suc, ◌+◌, Bool, false, IsTrue, List, [], ◌∷◌, ◌++◌, append_assoc, length, get_or, take, drop, take-append-drop, drop-cons, Option, Some, None, Result, Ok, Err, refl, sym, ap, subst, ◌∙◌, arith, inl, inr}
+use Rattle.std.proofs.Common.{◌≡◌, ◌≤◌, ◌<◌, ◌⊎◌, ℕ, suc, ◌+◌, Bool, false, IsTrue, List, [], ◌∷◌, ◌++◌, append_assoc, length, get_or, take, drop, is_some, take-append-drop, drop-cons, Some, None, Result, Ok, Err, refl, sym, ap, subst, ◌∙◌, arith, inl, inr}
 use Rattle.std.proofs.Math.Nat.{eq-or-lt_of_le}
 use Rattle.std.specs.Prelude.{IfSome, is_err}
-use Rattle.std.specs.List.{flat_map}
 use Rattle.std.proofs.lemmas.List.{append-nil, take_all}
 use Rattle.depot_base.specs.declared.record.Record.{Record}
 use Rattle.depot_feeds.specs.Lasting.{LastsIn}
@@ -11,24 +10,23 @@ use Rattle.depot_model.specs.Bundle.{Signs}
 use Rattle.depot_model.specs.Checks.{Setting}
 use Rattle.depot_model.specs.Lawful.{IsLawful}
 use Rattle.depot_model.specs.Replicas.{IsSameNode}
-use Rattle.depot_model.specs.Stops.{HasFront, LeavesAll}
+use Rattle.depot_model.specs.Stops.{HasFront, HasRecords, LeavesAll}
 use Rattle.depot_model.specs.World.{IsCorrect}
 use Rattle.depot_model.specs.declared.replica.Replica.{Ghosts}
 use Rattle.depot_outside.specs.Told.{Shelves, Sinks, Wrote, shelves, sinks}
 use Rattle.depot_outside.specs.declared.shelf.Shelf as shelf_of
 use Rattle.depot_outside.specs.declared.sink.Sink as sink_of
 use Rattle.depot_script.specs.declared.command.Command.{Command}
-use Rattle.depot_traces.specs.declared.trace.ReadTrace.{ReadTrace}
 use Rattle.depot_session.specs.declared.ending.Ending.{Ending}
 use Rattle.depot_session.specs.declared.ending.Ending.TheVariants as ending
-use Rattle.depot_session.specs.KeptReads.{AreOfRun, KeepsReads}
-use Rattle.depot_session.specs.Sessions.{Answers, Session, answers_of, loads_of, step_of, stores_of}
-use Rattle.depot_session.specs.SessionRuns.{AsksShort, FailsFor, IsCutBy, IsLast, IsToBeWritten, Pending, pending_for, world_at}
-use Rattle.depot_session.specs.ScriptTelling.{Asked, TellsShelf, asked}
+use Rattle.depot_session.specs.Sessions.{Answers, Session, answers_of, loads_of, loads_through, step_of, stores_through}
+use Rattle.depot_session.specs.SessionRuns.{AsksShort, FailsFor, IsCutBy, IsLast, IsToBeWritten, Pending, first_of, pending_for, world_at}
+use Rattle.depot_session.specs.ScriptTelling.{Asked, StoresUnder, TellsShelf, asked}
 use Rattle.depot_session.specs.Turns.{IsAt, IsBroken, IsPlayed, IsPlayedInPart, IsRunning, Keeps, LeftBy, Plays, Steps, Turns}
-use Rattle.depot_session.proofs.AskedShelves.{behind_first, ended_so, more_or_none, one_more}
+use Rattle.depot_session.proofs.AskedShelves.{asks_nothing, behind_first, ended_so, loads_more, more_or_none, one_more, stores_more}
 use Rattle.depot_session.proofs.CorrectSteps.{step_is_correct}
-use Rattle.depot_session.proofs.StepGrowth.{step_stays}
+use Rattle.depot_session.proofs.LeftJournals.{all_there, front_of_none}
+use Rattle.depot_session.proofs.StepGrowth.{answers_grow, step_stays}
 use Rattle.depot_session.proofs.ToldFaults.{none_by_sink}
 use Rattle.depot_session.proofs.GoingOn.{GoOn, all_done, ended_answers, go_on_more, more_answers, script_grows}
 use Rattle.depot_session.proofs.Uncalled.{leaves_all}
@@ -140,9 +138,13 @@ module _ {N O F K : Type 0} (g : Ghosts N O) (f : shelf_of.Ghosts F) (k : sink_o
   abbrev pub HoldsAt : (Setting → Signs → Session → Type 0) → Setting → Signs → Type 0
   HoldsAt P here sign = (s : Session) → IsTrue (f.tells shelf_mid) → IsAt here (g.records mid) (f.file shelf_mid) s → P here sign s
 
-  -- a command as it goes there, where these reads of the run are kept
-  abbrev pub TurnsAt : Command → Option (List ReadTrace) → Result (Unit {0}) Ending → Setting → Signs → Type 0
-  TurnsAt c reads r = HoldsAt (λ here sign s. AreOfRun s reads → Turns g mid new c (step_of here sign s c) (shelves f shelf_mid shelf_new) (sinks k out_mid out_new) r)
+  -- a command as it goes there, where this is kept of the run
+  abbrev pub TurnsAt : Command → (Session → Type 0) → Result (Unit {0}) Ending → Setting → Signs → Type 0
+  TurnsAt c Kept r = HoldsAt (λ here sign s. Kept s → Turns g mid new c (step_of here sign s c) (shelves f shelf_mid shelf_new) (sinks k out_mid out_new) r)
+
+  -- what it stores
+  abbrev pub StoresAt : Command → Result (Unit {0}) Ending → Setting → Signs → Type 0
+  StoresAt c r = HoldsAt (λ here sign s. StoresUnder (f.stores shelf_mid) (f.stores shelf_new) (step_of here sign s c).stores r)
 
   -- one that ends the run by what it comes to stores nothing
   abbrev pub UnstoredAt : Command → Setting → Signs → Type 0
@@ -200,8 +202,8 @@ module _ {N O F K : Type 0} (g : Ghosts N O) (f : shelf_of.Ghosts F) (k : sink_o
     calls = asked f shelf_first shelf_new
 
     -- the command was cut short
-    broken : (rest : List Command) (e : Ending) → AsksShort done (c ∷ rest) [] calls → IsBroken g mid new c (step_of (g.stands first) (g.signature_of first) (answers_of (g.stands first) (g.signature_of first) s done).session c) (shelves f shelf_mid shelf_new) (sinks k out_mid out_new) e
-        → (part : IsPlayedInPart g first new (g.stands first) (g.signature_of first) s (done ++ c ∷ rest) (shelves f shelf_first shelf_new) (sinks k out_first out_new) e) × AsksShort part.done part.rest [] calls
+    broken : (rest : List Command) (e : Ending) → AsksShort (g.stands first) (g.signature_of first) s done (c ∷ rest) [] calls → IsBroken g mid new c (step_of (g.stands first) (g.signature_of first) (answers_of (g.stands first) (g.signature_of first) s done).session c) (shelves f shelf_mid shelf_new) (sinks k out_mid out_new) e
+        → (part : IsPlayedInPart g first new (g.stands first) (g.signature_of first) s (done ++ c ∷ rest) (shelves f shelf_first shelf_new) (sinks k out_first out_new) e) × AsksShort (g.stands first) (g.signature_of first) s part.done part.rest [] calls
     broken rest e asks b =
         let here = g.stands first in
         let sign = g.signature_of first in
@@ -234,9 +236,9 @@ module _ {N O F K : Type 0} (g : Ghosts N O) (f : shelf_of.Ghosts F) (k : sink_o
         left_then : (image : List ℕ) → LeftBy g first new image → LeftBy g mid new image
         left_then image left = (subst (λ (x : Bool). IsTrue x) (sym kept.lasts.lasts.told) left.0, left.1)
 
-    stopped_at : (rest : List Command) (e : Ending) → g.stands new ≡ g.stands mid → calls.loads_after ≡ calls.loads_before ++ flat_map loads_of (done ++ c ∷ [])
-        → (calls.stores_after ≡ calls.stores_before ++ flat_map stores_of done) ⊎ (calls.stores_after ≡ calls.stores_before ++ flat_map stores_of (done ++ c ∷ []))
-        → IfSome (step_of (g.stands first) (g.signature_of first) (answers_of (g.stands first) (g.signature_of first) s done).session c).ending (λ x. calls.stores_after ≡ calls.stores_before ++ flat_map stores_of done)
+    stopped_at : (rest : List Command) (e : Ending) → g.stands new ≡ g.stands mid → calls.loads_after ≡ calls.loads_before ++ loads_through (g.stands first) (g.signature_of first) s (done ++ c ∷ [])
+        → (calls.stores_after ≡ calls.stores_before ++ stores_through (g.stands first) (g.signature_of first) s done) ⊎ (calls.stores_after ≡ calls.stores_before ++ stores_through (g.stands first) (g.signature_of first) s (done ++ c ∷ []))
+        → IfSome (step_of (g.stands first) (g.signature_of first) (answers_of (g.stands first) (g.signature_of first) s done).session c).ending (λ x. calls.stores_after ≡ calls.stores_before ++ stores_through (g.stands first) (g.signature_of first) s done)
         → Turns g mid new c (step_of (g.stands first) (g.signature_of first) (answers_of (g.stands first) (g.signature_of first) s done).session c) (shelves f shelf_mid shelf_new) (sinks k out_mid out_new) (Err e)
         → Plays g first new (g.stands first) (g.signature_of first) s (done ++ c ∷ rest) (shelves f shelf_first shelf_new) calls (sinks k out_first out_new) (Err e)
     stopped_at rest e stays loads stores unstored (inl t) =
@@ -251,50 +253,82 @@ module _ {N O F K : Type 0} (g : Ghosts N O) (f : shelf_of.Ghosts F) (k : sink_o
             went_on = all_done here sign s done are.go_on;
             over = inr (e, t.0);
             loads = loads;
-            stores = ended_so (calls.stores_after ≡ calls.stores_before ++ flat_map stores_of done) (step_of here sign (answers_of here sign s done).session c).ending e t.0 unstored;
+            stores = ended_so (calls.stores_after ≡ calls.stores_before ++ stores_through here sign s done) (step_of here sign (answers_of here sign s done).session c).ending e t.0 unstored;
           },
         )
     stopped_at rest e stays loads stores unstored (inr b) = inr (broken rest e (record { loads = inr loads; stores = stores }) b)
 
   module _ (s : Session) (cs : List Command) (i : ℕ) (c : Command) (within : i < length cs) (is : c ≡ get_or cs i c) (kept : IsKeptOn g f k first mid shelf_first shelf_mid out_first out_mid) (told : IsTrue (f.tells shelf_first))
       (are : AreDone g mid (g.stands first) (g.signature_of first) s (take i cs) (shelves f shelf_first shelf_mid) (sinks k out_first out_mid)) (stays : g.stands new ≡ g.stands mid)
-      (reads : Option (List ReadTrace)) (of_run : AreOfRun (answers_of (g.stands first) (g.signature_of first) s (take i cs)).session reads) where
+      (Kept : Session → Type 0) (kept_now : Kept (answers_of (g.stands first) (g.signature_of first) s (take i cs)).session) where
     -- what holds where the next command begins
     at_next : (P : Setting → Signs → Session → Type 0) → HoldsAt P (g.stands mid) (g.signature_of mid) → P (g.stands first) (g.signature_of first) (answers_of (g.stands first) (g.signature_of first) s (take i cs)).session
     at_next P holds = from_first P kept holds (answers_of (g.stands first) (g.signature_of first) s (take i cs)).session (subst (λ (x : Bool). IsTrue x) (sym kept.same_shelf) told) are.at
 
     -- what the next command comes to
-    next_turns : (r : Result (Unit {0}) Ending) → TurnsAt c reads r (g.stands mid) (g.signature_of mid)
+    next_turns : (r : Result (Unit {0}) Ending) → TurnsAt c Kept r (g.stands mid) (g.signature_of mid)
         → Turns g mid new c (step_of (g.stands first) (g.signature_of first) (answers_of (g.stands first) (g.signature_of first) s (take i cs)).session c) (shelves f shelf_mid shelf_new) (sinks k out_mid out_new) r
-    next_turns r turns = at_next (λ here sign t. AreOfRun t reads → Turns g mid new c (step_of here sign t c) (shelves f shelf_mid shelf_new) (sinks k out_mid out_new) r) turns of_run
+    next_turns r turns = at_next (λ here sign t. Kept t → Turns g mid new c (step_of here sign t c) (shelves f shelf_mid shelf_new) (sinks k out_mid out_new) r) turns kept_now
 
     -- the next command is done
-    pub are_done_more : TurnsAt c reads (Ok tt) (g.stands mid) (g.signature_of mid) → AreDone g new (g.stands first) (g.signature_of first) s (take (i + 1) cs) (shelves f shelf_first shelf_new) (sinks k out_first out_new)
+    pub are_done_more : TurnsAt c Kept (Ok tt) (g.stands mid) (g.signature_of mid) → AreDone g new (g.stands first) (g.signature_of first) s (take (i + 1) cs) (shelves f shelf_first shelf_new) (sinks k out_first out_new)
     are_done_more turns =
         let t = next_turns (Ok tt) turns in
         subst (λ (done : List Command). AreDone g new (g.stands first) (g.signature_of first) s done (shelves f shelf_first shelf_new) (sinks k out_first out_new)) (sym (take_next cs i c within is)) (done_more s (take i cs) c kept are stays t.0 t.1)
 
-    -- what is kept then are the reads of the run
-    pub of_run_more : (now : Option (List ReadTrace)) → TurnsAt c reads (Ok tt) (g.stands mid) (g.signature_of mid) → KeepsReads (g.stands mid) (g.signature_of mid) (g.records mid) c reads now
-        → AreOfRun (answers_of (g.stands first) (g.signature_of first) s (take (i + 1) cs)).session now
-    of_run_more now turns keeps =
+    -- the session then
+    session_more : TurnsAt c Kept (Ok tt) (g.stands mid) (g.signature_of mid)
+        → (answers_of (g.stands first) (g.signature_of first) s (take (i + 1) cs)).session ≡ (step_of (g.stands first) (g.signature_of first) (answers_of (g.stands first) (g.signature_of first) s (take i cs)).session c).session
+    session_more turns =
+        let here = g.stands first in
+        let sign = g.signature_of first in
+        ap (λ (done : List Command). (answers_of here sign s done).session) (take_next cs i c within is) ∙ ap (λ (a : Answers). a.session) (more_answers here sign s (take i cs) c are.go_on (next_turns (Ok tt) turns).0)
+
+    -- what the command makes of what holds of the session holds then
+    pub holds_more : (P Q : Session → Type 0) → TurnsAt c Kept (Ok tt) (g.stands mid) (g.signature_of mid) → HoldsAt (λ here sign t. P t → Q (step_of here sign t c).session) (g.stands mid) (g.signature_of mid)
+        → P (answers_of (g.stands first) (g.signature_of first) s (take i cs)).session → Q (answers_of (g.stands first) (g.signature_of first) s (take (i + 1) cs)).session
+    holds_more P Q turns makes held = subst Q (sym (session_more turns)) (at_next (λ here sign t. P t → Q (step_of here sign t c).session) makes held)
+
+    -- one more may have been loaded, by the reader of the session
+    loads_next : (made : Bool) → made ≡ is_some (answers_of (g.stands first) (g.signature_of first) s (take i cs)).session.reader → f.loads shelf_mid ≡ f.loads shelf_first ++ loads_through (g.stands first) (g.signature_of first) s (take i cs) → f.loads shelf_new ≡ f.loads shelf_mid ++ loads_of made c
+        → f.loads shelf_new ≡ f.loads shelf_first ++ loads_through (g.stands first) (g.signature_of first) s (take i cs ++ c ∷ [])
+    loads_next made is_made loaded loads =
         let here = g.stands first in
         let sign = g.signature_of first in
         let t = (answers_of here sign s (take i cs)).session in
-        let kept_then : KeepsReads here sign (g.records mid) c reads now = subst (λ (x : Signs). KeepsReads here x (g.records mid) c reads now) kept.same.signs (subst (λ (h : Setting). KeepsReads h (g.signature_of mid) (g.records mid) c reads now) kept.same.stands keeps) in
-        subst (λ (a : Answers). AreOfRun a.session now) (sym (ap (answers_of here sign s) (take_next cs i c within is) ∙ more_answers here sign s (take i cs) c are.go_on (next_turns (Ok tt) turns).0)) (kept_then.of_run t are.at.journal of_run)
+        one_more (loads_through here sign s (take i cs ++ c ∷ [])) (loads_through here sign s (take i cs)) (loads_of (is_some t.reader) c) (f.loads shelf_first) (f.loads shelf_mid) (f.loads shelf_new) (loads_more here sign s (take i cs) c are.go_on) loaded
+        (loads ∙ ap (λ (b : Bool). f.loads shelf_mid ++ loads_of b c) is_made)
+
+    -- the next command is done, and this was loaded
+    pub loads_done : (made : Bool) → made ≡ is_some (answers_of (g.stands first) (g.signature_of first) s (take i cs)).session.reader → f.loads shelf_mid ≡ f.loads shelf_first ++ loads_through (g.stands first) (g.signature_of first) s (take i cs) → f.loads shelf_new ≡ f.loads shelf_mid ++ loads_of made c
+        → f.loads shelf_new ≡ f.loads shelf_first ++ loads_through (g.stands first) (g.signature_of first) s (take (i + 1) cs)
+    loads_done made is_made loaded loads = loads_next made is_made loaded loads ∙ ap (λ (done : List Command). f.loads shelf_first ++ loads_through (g.stands first) (g.signature_of first) s done) (sym (take_next cs i c within is))
+
+    -- and this stored
+    pub stores_done : f.stores shelf_mid ≡ f.stores shelf_first ++ stores_through (g.stands first) (g.signature_of first) s (take i cs) → StoresAt c (Ok tt) (g.stands mid) (g.signature_of mid) → f.stores shelf_new ≡ f.stores shelf_first ++ stores_through (g.stands first) (g.signature_of first) s (take (i + 1) cs)
+    stores_done stored stores =
+        let here = g.stands first in
+        let sign = g.signature_of first in
+        let t = (answers_of here sign s (take i cs)).session in
+        one_more (stores_through here sign s (take i cs ++ c ∷ [])) (stores_through here sign s (take i cs)) (step_of here sign t c).stores (f.stores shelf_first) (f.stores shelf_mid) (f.stores shelf_new) (stores_more here sign s (take i cs) c are.go_on) stored
+        (at_next (λ h x u. StoresUnder (f.stores shelf_mid) (f.stores shelf_new) (step_of h x u c).stores (Ok tt)) stores)
+        ∙ ap (λ (done : List Command). f.stores shelf_first ++ stores_through here sign s done) (sym (take_next cs i c within is))
 
     -- the next command ends the run or is cut short
-    pub plays_to : (e : Ending) → f.loads shelf_mid ≡ f.loads shelf_first ++ flat_map loads_of (take i cs) → f.stores shelf_mid ≡ f.stores shelf_first ++ flat_map stores_of (take i cs) → f.loads shelf_new ≡ f.loads shelf_mid ++ loads_of c
-        → (f.stores shelf_new ≡ f.stores shelf_mid) ⊎ (f.stores shelf_new ≡ f.stores shelf_mid ++ stores_of c) → UnstoredAt c (g.stands mid) (g.signature_of mid) → TurnsAt c reads (Err e) (g.stands mid) (g.signature_of mid)
+    pub plays_to : (e : Ending) (made : Bool) → made ≡ is_some (answers_of (g.stands first) (g.signature_of first) s (take i cs)).session.reader → f.loads shelf_mid ≡ f.loads shelf_first ++ loads_through (g.stands first) (g.signature_of first) s (take i cs)
+        → f.stores shelf_mid ≡ f.stores shelf_first ++ stores_through (g.stands first) (g.signature_of first) s (take i cs) → f.loads shelf_new ≡ f.loads shelf_mid ++ loads_of made c → StoresAt c (Err e) (g.stands mid) (g.signature_of mid)
+        → UnstoredAt c (g.stands mid) (g.signature_of mid) → TurnsAt c Kept (Err e) (g.stands mid) (g.signature_of mid)
         → Plays g first new (g.stands first) (g.signature_of first) s cs (shelves f shelf_first shelf_new) (asked f shelf_first shelf_new) (sinks k out_first out_new) (Err e)
-    plays_to e loaded stored loads stores unstored turns =
+    plays_to e made is_made loaded stored loads stores unstored turns =
         let here = g.stands first in
         let sign = g.signature_of first in
-        let t = (answers_of here sign s (take i cs)).session in
+        let done = take i cs in
+        let t = (answers_of here sign s done).session in
+        let may_store : (f.stores shelf_new ≡ f.stores shelf_mid) ⊎ (f.stores shelf_new ≡ f.stores shelf_mid ++ (step_of here sign t c).stores) = at_next (λ h x u. StoresUnder (f.stores shelf_mid) (f.stores shelf_new) (step_of h x u c).stores (Err e)) stores in
         subst (λ (all : List Command). Plays g first new here sign s all (shelves f shelf_first shelf_new) (asked f shelf_first shelf_new) (sinks k out_first out_new) (Err e)) (sym (command_between cs i c within is))
-        (stopped_at s (take i cs) c kept are (drop (suc i) cs) e stays (one_more loads_of (take i cs) c (f.loads shelf_first) (f.loads shelf_mid) (f.loads shelf_new) loaded loads) (more_or_none stores_of (take i cs) c (f.stores shelf_first) (f.stores shelf_mid) (f.stores shelf_new) stored stores)
-        (behind_first (step_of here sign t c).ending (f.stores shelf_first) (f.stores shelf_mid) (f.stores shelf_new) (flat_map stores_of (take i cs)) stored (at_next (λ h x u. IfSome (step_of h x u c).ending (λ e. f.stores shelf_new ≡ f.stores shelf_mid)) unstored)) (next_turns (Err e) turns))
+        (stopped_at s done c kept are (drop (suc i) cs) e stays (loads_next made is_made loaded loads)
+        (more_or_none (stores_through here sign s (done ++ c ∷ [])) (stores_through here sign s done) (step_of here sign t c).stores (f.stores shelf_first) (f.stores shelf_mid) (f.stores shelf_new) (stores_more here sign s done c are.go_on) stored may_store)
+        (behind_first (step_of here sign t c).ending (f.stores shelf_first) (f.stores shelf_mid) (f.stores shelf_new) (stores_through here sign s done) stored (at_next (λ h x u. IfSome (step_of h x u c).ending (λ e. f.stores shelf_new ≡ f.stores shelf_mid)) unstored)) (next_turns (Err e) turns))
 
 -- ---- before the first command, and behind the last
 
@@ -318,6 +352,33 @@ module _ {N O F K : Type 0} (g : Ghosts N O) (f : shelf_of.Ghosts F) (k : sink_o
   unfolding answers_of
   are_done_first v shelf out s at = record { go_on = tt; at = at; wrote = λ t. sym (append-nil (k.written out)); correct = λ is. is }
 
+  -- no memory was found before the first command
+  pub plays_nothing : (v : N) (shelf : F) (out : K) (s : Session) (cs : List Command) → IsRunning g v → IsAt (g.stands v) (g.records v) (f.file shelf) s
+      → Plays g v v (g.stands v) (g.signature_of v) s cs (shelves f shelf shelf) (asked f shelf shelf) (sinks k out out) (Err ending.Memory)
+  unfolding answers_of
+  plays_nothing v shelf out s cs running at =
+      let here = g.stands v in
+      let sign = g.signature_of v in
+      let grown = answers_grow here sign s (first_of cs) in
+      inr (
+        record {
+          cut = tt;
+          done = [];
+          rest = cs;
+          parts = refl;
+          went_on = refl;
+          correct = λ is. is;
+          last = [];
+          last_is = refl;
+          wrote = λ t. sym (append-nil (k.written out));
+          more = grown.more;
+          brings = grown.is;
+          leaves = λ t image left. front_of_none s.correct.journal grown.more image (subst (λ (J : List Record). HasRecords J image) (sym at.journal) (all_there (g.records v) image (running.stable t image left)));
+          files = λ name. inl (at.same_files name);
+        },
+        asks_nothing here sign s cs (asked f shelf shelf) refl refl,
+      )
+
   -- behind the last command
   pub keeps_to_end : (first now : N) (shelf_first shelf_now : F) (out_first out_now : K) → IsKeptOn g f k first now shelf_first shelf_now out_first out_now → Keeps g first now (sinks k out_first out_now) (Ok tt)
   keeps_to_end first now shelf_first shelf_now out_first out_now kept = record {
@@ -336,7 +397,7 @@ module _ {N O F K : Type 0} (g : Ghosts N O) (f : shelf_of.Ghosts F) (k : sink_o
 
   pub plays_to_end : (first now : N) (shelf_first shelf_now : F) (out_first out_now : K) (s : Session) (cs : List Command) (i : ℕ) → length cs ≤ i → IsKeptOn g f k first now shelf_first shelf_now out_first out_now
       → AreDone g now (g.stands first) (g.signature_of first) s (take i cs) (shelves f shelf_first shelf_now) (sinks k out_first out_now)
-      → f.loads shelf_now ≡ f.loads shelf_first ++ flat_map loads_of (take i cs) → f.stores shelf_now ≡ f.stores shelf_first ++ flat_map stores_of (take i cs)
+      → f.loads shelf_now ≡ f.loads shelf_first ++ loads_through (g.stands first) (g.signature_of first) s (take i cs) → f.stores shelf_now ≡ f.stores shelf_first ++ stores_through (g.stands first) (g.signature_of first) s (take i cs)
       → Plays g first now (g.stands first) (g.signature_of first) s cs (shelves f shelf_first shelf_now) (asked f shelf_first shelf_now) (sinks k out_first out_now) (Ok tt)
   plays_to_end first now shelf_first shelf_now out_first out_now s cs i long kept are loads stores =
       let here = g.stands first in
@@ -350,8 +411,8 @@ module _ {N O F K : Type 0} (g : Ghosts N O) (f : shelf_of.Ghosts F) (k : sink_o
           parts = sym (append-nil cs);
           went_on = all_done here sign s cs a.go_on;
           over = inl refl;
-          loads = loads ∙ ap (λ (x : List Command). f.loads shelf_first ++ flat_map loads_of x) (take_all i cs long ∙ sym (append-nil cs));
-          stores = stores ∙ ap (λ (x : List Command). f.stores shelf_first ++ flat_map stores_of x) (take_all i cs long);
+          loads = loads ∙ ap (λ (x : List Command). f.loads shelf_first ++ loads_through here sign s x) (take_all i cs long ∙ sym (append-nil cs));
+          stores = stores ∙ ap (λ (x : List Command). f.stores shelf_first ++ stores_through here sign s x) (take_all i cs long);
         },
       )
 

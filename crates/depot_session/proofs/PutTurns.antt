@@ -35,7 +35,7 @@ use Rattle.depot_session.specs.declared.ending.Ending.TheVariants as ending
 use Rattle.depot_session.specs.SessionRuns.{IsHandedOut, disk_line}
 use Rattle.depot_session.specs.Sessions.{Session, IsPut, Step, ending_of_put, put_step, step_of}
 use Rattle.depot_session.specs.ScriptTelling.{IsFaultTold, IsUnchanged, Tells}
-use Rattle.depot_session.specs.Turns.{HasNoFault, IsAt, IsRunning, Keeps, LeftBy, Turns}
+use Rattle.depot_session.specs.Turns.{HasNoFault, IsAt, IsRunning, Keeps, LeftBy, Turns, ends_of_put}
 use Rattle.depot_session.proofs.Called.{keeps_called, not_where_some}
 use Rattle.depot_session.proofs.LeftJournals.{leaves_front}
 use Rattle.depot_session.proofs.ToldFaults.{EndsCalmly, NamesFaults}
@@ -51,12 +51,7 @@ abbrev pub put_more : Setting → List Record → List Change → Option Limit �
 put_more here J changes None = put_records here J changes
 put_more here J changes (Some limit) = []
 
--- how a put that the node answered so ends the run
-abbrev pub ends_of_put : Result PutDone PutError → Option Ending
-ends_of_put (Ok done) = None
-ends_of_put (Err e) = Some ending.Limit
-
--- it isn't a fault
+-- how a put that the node answered so ends the run isn't a fault
 pub put_ends_calmly : (done : Result PutDone PutError) → EndsCalmly (ends_of_put done)
 put_ends_calmly (Ok d) = tt
 put_ends_calmly (Err e) = tt
@@ -80,9 +75,14 @@ step_of_put here sign s (command.Take file) changes is = absurd is
 step_of_put here sign s (command.Receipt id) changes is = absurd is
 step_of_put here sign s (command.Settled id k) changes is = absurd is
 step_of_put here sign s (command.Export file) changes is = absurd is
+step_of_put here sign s (command.Checkpoint file) changes is = absurd is
+step_of_put here sign s (command.Sign file) changes is = absurd is
+step_of_put here sign s (command.Trim file) changes is = absurd is
+step_of_put here sign s (command.Tgive file) changes is = absurd is
+step_of_put here sign s (command.Tget key) changes is = absurd is
 
 -- the journal after a put that meets this limit, or none
-put_journal : (here : Setting) (s : Session) (c : Command) (changes : List Change) (o : Option Limit) → here.me ≡ s.correct.node → limit_of_put here s.correct.journal changes ≡ o
+pub put_journal : (here : Setting) (s : Session) (c : Command) (changes : List Change) (o : Option Limit) → here.me ≡ s.correct.node → limit_of_put here s.correct.journal changes ≡ o
     → (put_step here s c changes).session.correct.journal ≡ s.correct.journal ++ put_more here s.correct.journal changes o
 put_journal here s c changes None same is =
     let d = deed_within here s.correct changes None is in
@@ -150,7 +150,7 @@ module _ {N O : Type 0} (g : Ghosts N O) (old new : N) (changes : List Change) (
   limited limit is = ap (λ (o : Option Limit). put_more here J changes o) is
 
   -- a stop leaves a front of them
-  lasts_more : Lasts g.tells g.stopped g.records g.moment g.left_since g.may_leave old new more
+  pub lasts_more : Lasts g.tells g.stopped g.records g.moment g.left_since g.may_leave old new more
   lasts_more = by_answer done puts without where
     by_answer : (r : Result PutDone PutError) → Puts here J changes r (g.records new) → IfErr r (λ e. (e ≡ refused.Disk → ⊥) → Lasts g.tells g.stopped g.records g.moment g.left_since g.may_leave old new []) → Lasts g.tells g.stopped g.records g.moment g.left_since g.may_leave old new more
     by_answer (Ok d) p idle = lasts_alike old new (put_records here J changes) more (sym (whole p.0)) lasts
@@ -158,7 +158,7 @@ module _ {N O : Type 0} (g : Ghosts N O) (old new : N) (changes : List Change) (
     by_answer (Err other) p idle = lasts_longer old new [] more (idle (λ e. cc))
 
   -- where neither the disk failed nor memory was wanting, the journal has grown by what the put brings
-  grown_by : SettlesPut done → (IsErrOf done refused.Disk → ⊥) → g.records new ≡ J ++ more
+  pub grown_by : SettlesPut done → (IsErrOf done refused.Disk → ⊥) → g.records new ≡ J ++ more
   grown_by = by_answer done puts where
     none : (limit : Limit) → limit_of_put here J changes ≡ Some limit → g.records new ≡ J → g.records new ≡ J ++ more
     none limit is same = same ∙ sym (append-nil J) ∙ ap (λ (x : List Record). J ++ x) (sym (limited limit is))
@@ -171,7 +171,7 @@ module _ {N O : Type 0} (g : Ghosts N O) (old new : N) (changes : List Change) (
     by_answer (Err other) p settled well = none _ p.0 p.1
 
   -- then the run ends where the put met a limit
-  ends_by : SettlesPut done → (IsErrOf done refused.Disk → ⊥) → ending_of_put (limit_of_put here J changes) ≡ ends_of_put done
+  pub ends_by : SettlesPut done → (IsErrOf done refused.Disk → ⊥) → ending_of_put (limit_of_put here J changes) ≡ ends_of_put done
   ends_by = by_answer done puts where
     by_answer : (r : Result PutDone PutError) → Puts here J changes r (g.records new) → SettlesPut r → (IsErrOf r refused.Disk → ⊥) → ending_of_put (limit_of_put here J changes) ≡ ends_of_put r
     by_answer (Ok d) p settled well = ap ending_of_put p.0

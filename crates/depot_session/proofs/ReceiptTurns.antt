@@ -1,5 +1,5 @@
 -- What receipts make of a node, of the shelf and of the sink: what their put makes, or nothing.
-use Rattle.std.proofs.Common.{◌≡◌, ◌<◌, ◌≤◌, ◌⊎◌, ◌+◌, ℕ, false, IsTrue, List, [], ◌∷◌, ◌++◌, codes, length, Option, Some, None, Result, Ok, Err, refl, sym, ap, subst, ◌∙◌, ◌↔◌, arith, inl, inr, length-append}
+use Rattle.std.proofs.Common.{◌≡◌, ◌<◌, ◌≤◌, ◌⊎◌, ◌+◌, ℕ, false, IsTrue, List, [], ◌∷◌, codes, length, Option, Some, None, Result, Ok, Err, refl, sym, ap, subst, ◌∙◌, ◌↔◌, arith, inl, inr, length-append}
 use Rattle.std.specs.Prelude.{IfErr, IsErrOf, is_err}
 use Rattle.std.specs.Result.{IsErrAnd}
 use Rattle.depot_answers.specs.Answers.{text_of_no_receipt}
@@ -39,10 +39,10 @@ use Rattle.depot_session.specs.declared.ending.Ending.TheVariants as ending
 use Rattle.depot_session.specs.Sessions.{Session, Step, carried_out, ending_of_receipt, put_step, step_of}
 use Rattle.depot_session.specs.SessionRuns.{IsHandedOut, disk_line}
 use Rattle.depot_session.specs.ScriptTelling.{IsFaultTold, IsUnchanged, Tells}
-use Rattle.depot_session.specs.Turns.{HasNoFault, IsAt, IsRunning, Keeps, LeftBy, Turns, ends_of_receipt}
+use Rattle.depot_session.specs.Turns.{HasNoFault, IsAt, IsRunning, Keeps, LeftBy, Turns, ends_of_put, ends_of_receipt}
 use Rattle.depot_session.proofs.Called.{keeps_called}
 use Rattle.depot_session.proofs.LeftJournals.{leaves_front}
-use Rattle.depot_session.proofs.PutTurns.{ends_of_put, put_keeps, put_to_disk, put_told, put_without_memory}
+use Rattle.depot_session.proofs.PutTurns.{put_keeps, put_to_disk, put_told, put_without_memory}
 use Rattle.depot_session.proofs.StepGrowth.{step_grows}
 use Rattle.depot_session.proofs.ToldFaults.{EndsCalmly, NamesFaults}
 use Rattle.depot_session.proofs.Turning.{command_text, told, without_memory}

@@ -41,7 +41,8 @@ tells_by_ending before after failed_before failed_after (Err x) e is told = subs
 
 module _ (here : Setting) (sign : Signs) (J : List Record) (reads : List Read) (commands : List Command) (disk : Disks) (shelf : Shelves) (sink : Sinks) (has : HasRecords J disk.file)
     (images : (image : List ℕ) → disk.may_leave_after image → disk.may_leave image ⊎ (IsFileOf disk.file [] × HasFront [] (birth_after here []) image)) (reads_as : disk.may_leave_after disk.file_after)
-    (longer : (a b : List Record) (image : List ℕ) → HasFront [] a image → HasFront [] (a ++ b) image) (same_files : IsUnchanged shelf) (correct : IsCorrect (world_at here) (session_from here J reads shelf.file).correct) (first_files : List (List ℕ)) (calls : Asked) (asks : AsksShort [] commands first_files calls) where
+    (longer : (a b : List Record) (image : List ℕ) → HasFront [] a image → HasFront [] (a ++ b) image) (same_files : IsUnchanged shelf) (correct : IsCorrect (world_at here) (session_from here J reads shelf.file).correct) (first_files : List (List ℕ)) (calls : Asked)
+    (asks : AsksShort here sign (session_from here J reads shelf.file) [] commands first_files calls) where
   abbrev s : Session
   s = session_from here J reads shelf.file
 
@@ -56,7 +57,7 @@ module _ (here : Setting) (sign : Signs) (J : List Record) (reads : List Read) (
 
   -- the run was cut short
   abbrev IsShort : Ending → Type 0
-  IsShort e = (short : GoesShort here sign J s commands disk shelf sink e) × AsksShort short.done short.rest first_files calls
+  IsShort e = (short : GoesShort here sign J s commands disk shelf sink e) × AsksShort here sign s short.done short.rest first_files calls
 
   -- what a start leaves, the run leaves
   front_at_start : (image : List ℕ) → disk.may_leave image ⊎ (IsFileOf disk.file [] × HasFront [] (birth_after here []) image) → LeavesFront [] disk.may_leave J (birth_after here J ++ (answers_grow here sign s (first_of commands)).more) image
@@ -102,7 +103,7 @@ module _ (here : Setting) (sign : Signs) (J : List Record) (reads : List Read) (
   none_of zero = refl
   none_of (suc n) = refl
 
-  pub not_started : (error : StartError) (e : Ending) → (LeavesFile error → ⊥) → (error ≡ refused.Disk → HasFailed disk) → IsFaultTold sink (line_of_refusal error) (ending_of_refusal error) e → (short : GoesShort here sign J (session_from here J reads shelf.file) commands disk shelf sink e) × AsksShort short.done short.rest first_files calls
+  pub not_started : (error : StartError) (e : Ending) → (LeavesFile error → ⊥) → (error ≡ refused.Disk → HasFailed disk) → IsFaultTold sink (line_of_refusal error) (ending_of_refusal error) e → (short : GoesShort here sign J (session_from here J reads shelf.file) commands disk shelf sink e) × AsksShort here sign (session_from here J reads shelf.file) short.done short.rest first_files calls
   not_started refused.Memory e fault failed = told_at_start [] ending.Memory e tt refl (λ n. inl (none_of n))
   not_started refused.Disk e fault failed = told_at_start disk_line ending.Disk e (failed refl) refl (λ n. inr (disk_line, (inr (inl (disk_pending commands (failed refl), refl)), (n, refl))))
   not_started other e fault failed = absurd (fault tt)
@@ -150,8 +151,8 @@ module _ {N O : Type 0} (g : Ghosts N O) (old new : N) (here : Setting) (sign : 
   handed_so [] t name handed = handed
   handed_so (c ∷ cs) t name handed = record { stores = handed.stores; goes_on = handed.goes_on; journal = λ image left. handed.journal image (told, leaves image left) }
 
-  pub played_in_part : (first_files : List (List ℕ)) (calls : Asked) → (g.faults old < g.faults new → HasFailed disk) → IsCorrect (world_at here) s.correct → (p : IsPlayedInPart g old new here sign s commands shelf sink e) → AsksShort p.done p.rest first_files calls
-      → (short : GoesShort here sign J s commands disk shelf sink e) × AsksShort short.done short.rest first_files calls
+  pub played_in_part : (first_files : List (List ℕ)) (calls : Asked) → (g.faults old < g.faults new → HasFailed disk) → IsCorrect (world_at here) s.correct → (p : IsPlayedInPart g old new here sign s commands shelf sink e) → AsksShort here sign s p.done p.rest first_files calls
+      → (short : GoesShort here sign J s commands disk shelf sink e) × AsksShort here sign s short.done short.rest first_files calls
   played_in_part first_files calls rose correct p asks =
       let after = (answers_of here sign s p.done).session in
       let kept = (answers_of here sign s p.done).session.correct.journal in

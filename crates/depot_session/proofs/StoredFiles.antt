@@ -31,6 +31,7 @@ stored_is_named : (c : Command) (name : List ℕ) → StoresAs c name → Names 
 stored_is_named (command.Hello file) name is = is
 stored_is_named (command.Bundle hello file) name is = inr is
 stored_is_named (command.Export file) name is = is
+stored_is_named (command.Checkpoint file) name is = is
 stored_is_named other name is = absurd is
 
 module _ {N O : Type 0} (g : Ghosts N O) (old new : N) (c : Command) (step : Step) (shelf : Shelves) (sink : Sinks) (more : List Record) (brings : step.session.correct.journal ≡ g.records old ++ more)

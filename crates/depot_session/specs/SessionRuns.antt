@@ -1,6 +1,5 @@
 -- How the run of a script over a disk, a shelf and a sink ends.
-use Rattle.std.specs.Prelude.{◌≡◌, ◌≢◌, ◌<◌, ◌⊎◌, ℕ, List, [], ◌∷◌, ◌++◌, take, IsTrue, Some, None, codes}
-use Rattle.std.specs.List.{flat_map}
+use Rattle.std.specs.Prelude.{◌≡◌, ◌≢◌, ◌<◌, ◌⊎◌, ℕ, List, [], ◌∷◌, ◌++◌, take, Bool, IsTrue, Some, None, codes}
 use Rattle.depot_answers.specs.Answers.{numbered, spaced, text_of_record_fault}
 use Rattle.depot_base.specs.declared.key.PublicKey.{PublicKey}
 use Rattle.depot_base.specs.declared.record.Record.{Record}
@@ -19,7 +18,7 @@ use Rattle.depot_outside.specs.Told.{Disks, HasFailedOn, HasLoaded, Loads, Shelv
 use Rattle.depot_script.specs.declared.command.Command.{Command}
 use Rattle.depot_session.specs.declared.ending.Ending.{Ending}
 use Rattle.depot_session.specs.declared.ending.Ending.TheVariants as ending
-use Rattle.depot_session.specs.Sessions.{Answers, Names, Session, Step, StoresAs, answers_of, loads_of, session_from, shelf_line, step_of, stores_of}
+use Rattle.depot_session.specs.Sessions.{Answers, Names, Session, Step, StoresAs, answers_of, loads_given, loads_through, session_from, shelf_line, step_of, stores_through}
 use Rattle.depot_session.specs.ScriptTelling.{Asked, IsFaultTold, IsUnchanged}
 
 -- ---- what a stop leaves
@@ -186,14 +185,14 @@ pub record AsksWhole (here : Setting) (sign : Signs) (s : Session) (commands : L
   pub parts : commands ≡ done ++ rest
   pub went_on : (answers_of here sign s done).ending ≡ ending.Done
   pub over : (rest ≡ []) ⊎ IsEndedBy here sign (answers_of here sign s done).session rest
-  pub loads : calls.loads_after ≡ calls.loads_before ++ (first ++ flat_map loads_of (done ++ first_of rest))
-  pub stores : calls.stores_after ≡ calls.stores_before ++ flat_map stores_of done
+  pub loads : calls.loads_after ≡ calls.loads_before ++ (first ++ loads_through here sign s (done ++ first_of rest))
+  pub stores : calls.stores_after ≡ calls.stores_before ++ stores_through here sign s done
 
 -- Behind the files that were loaded first the shelf was asked for what the commands that are done load and store, each once and in their order, and
 -- for no more than what the next one does. So nothing is asked of it once the run is over.
-pub record AsksShort (done rest : List Command) (first : List (List ℕ)) (calls : Asked) : Type 0 where
-  pub loads : (calls.loads_after ≡ calls.loads_before ++ (first ++ flat_map loads_of done)) ⊎ (calls.loads_after ≡ calls.loads_before ++ (first ++ flat_map loads_of (done ++ first_of rest)))
-  pub stores : (calls.stores_after ≡ calls.stores_before ++ flat_map stores_of done) ⊎ (calls.stores_after ≡ calls.stores_before ++ flat_map stores_of (done ++ first_of rest))
+pub record AsksShort (here : Setting) (sign : Signs) (s : Session) (done rest : List Command) (first : List (List ℕ)) (calls : Asked) : Type 0 where
+  pub loads : (calls.loads_after ≡ calls.loads_before ++ (first ++ loads_through here sign s done)) ⊎ (calls.loads_after ≡ calls.loads_before ++ (first ++ loads_through here sign s (done ++ first_of rest)))
+  pub stores : (calls.stores_after ≡ calls.stores_before ++ stores_through here sign s done) ⊎ (calls.stores_after ≡ calls.stores_before ++ stores_through here sign s (done ++ first_of rest))
 
 -- ---- what a run answers
 
@@ -201,7 +200,7 @@ pub record AsksShort (done rest : List Command) (first : List (List ℕ)) (calls
 abbrev pub Answered : Setting → Signs → List Record → Session → List Command → (first : List (List ℕ)) → Disks → Shelves → Asked → Sinks → Ending → Type 0
 Answered here sign J s commands first disk shelf calls sink ends =
     (GoesWhole here (answers_of here sign s commands) disk shelf sink ends × AsksWhole here sign s commands first calls) ⊎
-    ((short : GoesShort here sign J s commands disk shelf sink ends) × AsksShort short.done short.rest first calls)
+    ((short : GoesShort here sign J s commands disk shelf sink ends) × AsksShort here sign s short.done short.rest first calls)
 
 -- Over a lawful journal of this node, or none, under its key: lines, files, journal and ending are those of the definition, and so is what the
 -- shelf was asked for behind the files that were loaded first, or the run is cut short. The reads of earlier sessions go on.
@@ -263,6 +262,7 @@ pub record Settles (here : Setting) (disk : Disks) : Type 0 where
   pub has : HasRecords (journal ++ more) disk.file_after
   pub leaves : (image : List ℕ) → disk.may_leave_after image → HasRecords (journal ++ more) image
 
--- The files that were loaded are those that some first commands of the script load, in their order, and no others.
+-- The files that were loaded are those that some first commands of the script load, in their order, and no others: a reader was made before each
+-- of these, or none was.
 abbrev pub LoadsFiles : List Command → Loads → Type 0
-LoadsFiles commands loads = (n : ℕ) × HasLoaded loads (flat_map loads_of (take n commands))
+LoadsFiles commands loads = (made : List Bool) × HasLoaded loads (loads_given made commands)

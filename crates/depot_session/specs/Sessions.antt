@@ -1,7 +1,7 @@
 -- What a script makes a node do, command by command: the lines, the journal, the files, and how the run ends.
-use Rattle.std.specs.Prelude.{◌≡◌, ◌⊎◌, ℕ, List, [], ◌∷◌, ◌++◌, length, take, drop, Option, Some, None, codes, if◌then◌else◌}
+use Rattle.std.specs.Prelude.{◌≡◌, ◌⊎◌, ℕ, List, [], ◌∷◌, ◌++◌, length, take, drop, Bool, true, is_some, Option, Some, None, codes, if◌then◌else◌}
 use Rattle.std.specs.Str.{bytes_eq}
-use Rattle.depot_answers.specs.Answers.{spaced, text_of_traced}
+use Rattle.depot_answers.specs.Answers.{spaced, text_of_reader_feed, text_of_traced, text_of_trim}
 use Rattle.depot_base.specs.Writes.{one_change}
 use Rattle.depot_base.specs.declared.record.Record.{Record}
 use Rattle.depot_base.specs.declared.write.Change.{Change}
@@ -9,7 +9,11 @@ use Rattle.depot_model.specs.Bundle.{Signs, BundleAnswer, bundled, bad_hello, ot
 use Rattle.depot_model.specs.Checks.{Setting}
 use Rattle.depot_model.specs.Feeding.{Closing, ill_formed, out_of_room, feed_of}
 use Rattle.depot_model.specs.Limits.{Limit, limit_of_put}
+use Rattle.depot_model.specs.Opening.{MadeCheckpoint, made_text, make_of, Opened, ill_at, of_roster, with_unknown, opened, opened_text}
+use Rattle.depot_model.specs.ReaderFeeds.{ReaderFeed, reader_feed_of}
+use Rattle.depot_model.specs.Readers.{Reader, TrimAnswer, unopened, unsigned, reading, trim_of}
 use Rattle.depot_model.specs.Receipts.{NoReceipt, no_receipt, receipt_changes}
+use Rattle.depot_base.specs.declared.check.Full.{Full}
 use Rattle.depot_model.specs.Traces.{Trace}
 use Rattle.depot_model.specs.World.{Correct, Read}
 use Rattle.depot_schedule.specs.Language.{join}
@@ -18,8 +22,9 @@ use Rattle.depot_script.specs.declared.command.Command.{Command}
 use Rattle.depot_script.specs.declared.command.Command.TheVariants as command
 use Rattle.depot_traces.specs.ToldTraces.{file_of_trace}
 use Rattle.depot_world.specs.Audits.{trace_with}
-use Rattle.depot_world.specs.Deeds.{put_by, get_by, hello_by, bundle_by, give_by, receipt_by, settled_by}
+use Rattle.depot_world.specs.Deeds.{idle, put_by, get_by, hello_by, bundle_by, give_by, receipt_by, settled_by, checkpoint_by, checkpoint_changes, sign_by}
 use Rattle.depot_world.specs.ScheduleStops.{Deed}
+use Rattle.depot_world.specs.Transcript.{answer_of_reader}
 use Rattle.depot_deeds.specs.Printing.{lines_of_deed}
 use Rattle.depot_node.specs.Starting.{started}
 use Rattle.depot_session.specs.declared.ending.Ending.{Ending}
@@ -35,15 +40,16 @@ Files = List ℕ → Option (List ℕ)
 abbrev pub stored : Files → List ℕ → List ℕ → Files
 stored files name bytes other = if bytes_eq other name then Some bytes else files other
 
--- a node between two commands, how many of its reads were made in runs before this one, and the files
+-- a node between two commands, how many of its reads were made in runs before this one, the files, and the last reader that was made
 pub record Session : Type 0 where
   pub correct : Correct
   pub earlier : ℕ
   pub files : Files
+  pub reader : Option Reader
 
 -- A node as it is started from a journal, which gets a birth where it has no records. Its reads of earlier runs go on.
 abbrev pub session_from : Setting → List Record → List Read → Files → Session
-session_from here J reads files = record { correct = record { node = here.me; journal = started here J; reads = reads }; earlier = length reads; files = files }
+session_from here J reads files = record { correct = record { node = here.me; journal = started here J; reads = reads }; earlier = length reads; files = files; reader = None }
 
 -- the reads of this run
 abbrev pub reads_of_run : Session → List Read
@@ -55,9 +61,10 @@ trace_of_run s = trace_with s.correct (reads_of_run s)
 
 -- ---- one command
 
--- A command as it goes: what it prints, the session after it, and how it ends the run, if it does.
+-- A command as it goes: what it prints, the names under which it stores, the session after it, and how it ends the run, if it does.
 pub record Step : Type 0 where
   pub text : List ℕ
+  pub stores : List (List ℕ)
   pub session : Session
   pub ending : Option Ending
 
@@ -76,7 +83,8 @@ lines_of_command c d = join 32 (take (printed_count c) (command_words c)) ++ cod
 abbrev pub carried_out : Session → Command → Deed → Option Ending → Step
 carried_out s c d ends = record {
   text = lines_of_command c d;
-  session = record { correct = record { node = s.correct.node; journal = d.journal; reads = d.reads }; earlier = s.earlier; files = s.files };
+  stores = [];
+  session = record s { correct = record { node = s.correct.node; journal = d.journal; reads = d.reads } };
   ending = ends;
 }
 
@@ -84,7 +92,8 @@ carried_out s c d ends = record {
 abbrev pub carried_out_storing : Session → Command → Deed → List ℕ → Step
 carried_out_storing s c d file = record {
   text = lines_of_command c d;
-  session = record { correct = record { node = s.correct.node; journal = d.journal; reads = d.reads }; earlier = s.earlier; files = stored s.files file d.bytes };
+  stores = file ∷ [];
+  session = record s { correct = record { node = s.correct.node; journal = d.journal; reads = d.reads }; files = stored s.files file d.bytes };
   ending = None;
 }
 
@@ -93,6 +102,7 @@ abbrev pub StoresAs : Command → List ℕ → Type 0
 StoresAs (command.Hello file) name = file ≡ name
 StoresAs (command.Bundle hello file) name = file ≡ name
 StoresAs (command.Export file) name = file ≡ name
+StoresAs (command.Checkpoint file) name = file ≡ name
 StoresAs other name = ⊥
 
 -- the command loads or stores a file of this name
@@ -101,27 +111,33 @@ Names (command.Hello file) name = file ≡ name
 Names (command.Bundle hello file) name = (hello ≡ name) ⊎ (file ≡ name)
 Names (command.Take file) name = file ≡ name
 Names (command.Export file) name = file ≡ name
+Names (command.Checkpoint file) name = file ≡ name
+Names (command.Sign file) name = file ≡ name
+Names (command.Trim file) name = file ≡ name
+Names (command.Tgive file) name = file ≡ name
 Names other name = ⊥
 
--- the names of the files that a command loads
-abbrev pub loads_of : Command → List (List ℕ)
-loads_of (command.Bundle hello file) = hello ∷ []
-loads_of (command.Take file) = file ∷ []
-loads_of other = []
+-- the names of the files that a command loads, where a reader was made before or none was
+abbrev pub loads_of : Bool → Command → List (List ℕ)
+loads_of made (command.Bundle hello file) = hello ∷ []
+loads_of made (command.Take file) = file ∷ []
+loads_of made (command.Sign file) = file ∷ []
+loads_of made (command.Trim file) = file ∷ []
+loads_of true (command.Tgive file) = file ∷ []
+loads_of made other = []
 
--- the names under which a command stores that goes on
-abbrev pub stores_of : Command → List (List ℕ)
-stores_of (command.Hello file) = file ∷ []
-stores_of (command.Bundle hello file) = file ∷ []
-stores_of (command.Export file) = file ∷ []
-stores_of other = []
+-- those of some first commands, by whether a reader was made before each of these
+abbrev pub loads_given : List Bool → List Command → List (List ℕ)
+loads_given [] commands = []
+loads_given (made ∷ more) [] = []
+loads_given (made ∷ more) (c ∷ cs) = loads_of made c ++ loads_given more cs
 
 abbrev pub shelf_line : List ℕ → List ℕ
 shelf_line name = codes "shelf " ++ name ++ codes "\n"
 
 -- a file that a command loads isn't there
 abbrev pub absent : Session → List ℕ → Step
-absent s name = record { text = shelf_line name; session = s; ending = Some ending.Shelf }
+absent s name = record { text = shelf_line name; stores = []; session = s; ending = Some ending.Shelf }
 
 -- ---- how a command ends the run
 
@@ -144,6 +160,26 @@ abbrev pub ending_of_take : Option Closing → Option Ending
 ending_of_take None = None
 ending_of_take (Some (ill_formed at)) = Some ending.Input
 ending_of_take (Some (out_of_room what)) = Some ending.Limit
+
+-- a checkpoint that isn't made ends nothing; the put of one that is made ends the run where it meets a limit
+abbrev pub ending_of_sign : Option Limit → Opened → Option Ending
+ending_of_sign limit (ill_at at) = Some ending.Input
+ending_of_sign limit (of_roster given) = Some ending.Identity
+ending_of_sign limit (with_unknown id) = None
+ending_of_sign limit (opened ids) = ending_of_put limit
+
+abbrev pub ending_of_trim : TrimAnswer → Option Ending
+ending_of_trim (unopened (ill_at at)) = Some ending.Input
+ending_of_trim (unopened (of_roster given)) = Some ending.Identity
+ending_of_trim (unopened (with_unknown id)) = None
+ending_of_trim (unopened (opened ids)) = None
+ending_of_trim (unsigned node) = None
+ending_of_trim (reading R) = None
+
+-- a stream for which a reader has no room ends the run; nothing else of it does
+abbrev pub ending_of_tgive : Option Full → Option Ending
+ending_of_tgive None = None
+ending_of_tgive (Some what) = Some ending.Limit
 
 -- ---- what each command does
 
@@ -176,6 +212,59 @@ put_step here s c changes = carried_out s c (put_by here s.correct changes) (end
 abbrev pub receipt_step : Setting → Session → Command → List (List ℕ) → Step
 receipt_step here s c ids = carried_out s c (receipt_by here s.correct ids) (ending_of_receipt (no_receipt s.correct.journal ids) (limit_of_put here s.correct.journal (receipt_changes ids)))
 
+-- a checkpoint whose text is put becomes a file; where it is refused nothing is stored
+abbrev pub checkpoint_put : Session → List ℕ → Deed → Option Limit → Step
+checkpoint_put s file d (Some limit) = carried_out s (command.Checkpoint file) d (Some ending.Limit)
+checkpoint_put s file d None = carried_out_storing s (command.Checkpoint file) d file
+
+abbrev pub checkpoint_step : Setting → Session → List ℕ → Deed → MadeCheckpoint → Step
+checkpoint_step here s file d (made_text text) = checkpoint_put s file d (limit_of_put here s.correct.journal (checkpoint_changes text))
+checkpoint_step here s file d other = carried_out s (command.Checkpoint file) d None
+
+-- the text in a file, which may be absent, is signed
+abbrev pub sign_from : Setting → Session → List ℕ → Option (List ℕ) → Step
+sign_from here s file None = absent s file
+sign_from here s file (Some text) = carried_out s (command.Sign file) (sign_by here s.correct text) (ending_of_sign (limit_of_put here s.correct.journal (checkpoint_changes text)) (opened_text here s.correct.journal text))
+
+-- the last reader made, after a trim that was answered so
+abbrev pub reader_after : Option Reader → TrimAnswer → Option Reader
+reader_after before (reading R) = Some R
+reader_after before other = before
+
+-- another reader is the last one made
+abbrev pub with_reader : Option Reader → Step → Step
+with_reader reader step = record step { session = record step.session { reader = reader } }
+
+abbrev pub trim_step : Session → List ℕ → TrimAnswer → Step
+trim_step s file answer = with_reader (reader_after s.reader answer) (carried_out s (command.Trim file) (idle s.correct (text_of_trim answer)) (ending_of_trim answer))
+
+-- a reader is made by the text in a file, which may be absent
+abbrev pub trim_from : Setting → Session → List ℕ → Option (List ℕ) → Step
+trim_from here s file None = absent s file
+trim_from here s file (Some text) = trim_step s file (trim_of here s.correct.journal text)
+
+-- nothing is answered, and nothing behind the arrow
+abbrev pub silent : Correct → Deed
+silent c = record { journal = c.journal; reads = c.reads; calls = 0; answer = []; behind = []; bytes = [] }
+
+abbrev pub tgive_step : Session → List ℕ → ReaderFeed → Step
+tgive_step s file fed = with_reader (Some fed.reader) (carried_out s (command.Tgive file) (idle s.correct (text_of_reader_feed fed)) (ending_of_tgive fed.full))
+
+-- a reader takes the stream in a file, which may be absent
+abbrev pub tgive_from : Session → List ℕ → Reader → Option (List ℕ) → Step
+tgive_from s file R None = absent s file
+tgive_from s file R (Some stream) = tgive_step s file (reader_feed_of R stream)
+
+-- the last reader made takes it; where none was made no file is asked for
+abbrev pub tgive_to : Session → List ℕ → Option Reader → Step
+tgive_to s file None = carried_out s (command.Tgive file) (silent s.correct) None
+tgive_to s file (Some R) = tgive_from s file R (s.files file)
+
+-- what the last reader made shows of a key
+abbrev pub shown_by_last : Correct → List ℕ → Option Reader → Deed
+shown_by_last c key None = silent c
+shown_by_last c key (Some R) = record { journal = c.journal; reads = c.reads; calls = 0; answer = answer_of_reader R key; behind = []; bytes = [] }
+
 -- the node hands in its trace, and stays as it is
 unfoldable pub export_by : Session → Deed
 export_by s = record {
@@ -197,6 +286,11 @@ step_of here sign s (command.Take file) = take_from here s file (s.files file)
 step_of here sign s (command.Receipt id) = receipt_step here s (command.Receipt id) (id ∷ [])
 step_of here sign s (command.Settled id k) = carried_out s (command.Settled id k) (settled_by s.correct id k) None
 step_of here sign s (command.Export file) = carried_out_storing s (command.Export file) (export_by s) file
+step_of here sign s (command.Checkpoint file) = checkpoint_step here s file (checkpoint_by here s.correct) (make_of here s.correct.journal)
+step_of here sign s (command.Sign file) = sign_from here s file (s.files file)
+step_of here sign s (command.Trim file) = trim_from here s file (s.files file)
+step_of here sign s (command.Tgive file) = tgive_to s file s.reader
+step_of here sign s (command.Tget key) = carried_out s (command.Tget key) (shown_by_last s.correct key s.reader) None
 
 -- ---- a script
 
@@ -215,3 +309,15 @@ followed_by None step rest = record { text = step.text ++ rest.text; session = r
 unfoldable pub answers_of : Setting → Signs → Session → List Command → Answers
 answers_of here sign s [] = record { text = []; session = s; ending = ending.Done }
 answers_of here sign s (c ∷ cs) = let step = step_of here sign s c in followed_by step.ending step (answers_of here sign step.session cs)
+
+-- ---- what a script asks of the shelf
+
+-- the names of the files that these commands load, each by the session before it
+unfoldable pub loads_through : Setting → Signs → Session → List Command → List (List ℕ)
+loads_through here sign s [] = []
+loads_through here sign s (c ∷ cs) = loads_of (is_some s.reader) c ++ loads_through here sign (step_of here sign s c).session cs
+
+-- the names under which they store
+unfoldable pub stores_through : Setting → Signs → Session → List Command → List (List ℕ)
+stores_through here sign s [] = []
+stores_through here sign s (c ∷ cs) = (step_of here sign s c).stores ++ stores_through here sign (step_of here sign s c).session cs

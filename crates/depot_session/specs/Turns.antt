@@ -9,6 +9,15 @@ use Rattle.depot_model.specs.Bundle.{Signs}
 use Rattle.depot_model.specs.World.{IsCorrect}
 use Rattle.depot_model.specs.declared.replica.Replica.{Ghosts}
 use Rattle.depot_decide.specs.declared.put_answers.PutDone.{PutDone}
+use Rattle.depot_decide.specs.declared.put_answers.PutError.{PutError}
+use Rattle.depot_model.specs.Readers.{Reader}
+use Rattle.depot_model.specs.Roster.{Verifies}
+use Rattle.depot_trim.specs.ReaderView.{IsReaderOf}
+use Rattle.depot_trim.specs.declared.sign_error.CheckpointError.{CheckpointError}
+use Rattle.depot_trim.specs.declared.sign_error.CheckpointError.TheVariants as sign
+use Rattle.depot_trim.specs.declared.trim_error.TrimError.{TrimError}
+use Rattle.depot_trim.specs.declared.trim_error.TrimError.TheVariants as trim
+use Rattle.depot_trim.specs.declared.trimmed.Trimmed.{Trimmed}
 use Rattle.depot_outside.specs.Told.{Shelves, Sinks, Wrote}
 use Rattle.depot_receipts.specs.declared.give_error.GiveError.{GiveError}
 use Rattle.depot_receipts.specs.declared.give_error.GiveError.TheVariants as give
@@ -94,6 +103,38 @@ ends_of_receipt (Err (give.Unknown h)) = None
 ends_of_receipt (Err (give.NoValue h)) = None
 ends_of_receipt (Err other) = Some ending.Limit
 
+-- how the run ends where the node answers a put, or signing, so, but for want of memory or its disk
+abbrev pub ends_of_put : Result PutDone PutError → Option Ending
+ends_of_put (Ok done) = None
+ends_of_put (Err e) = Some ending.Limit
+
+abbrev pub ends_of_sign : Result PutDone CheckpointError → Option Ending
+ends_of_sign (Ok done) = None
+ends_of_sign (Err (sign.Unknown h)) = None
+ends_of_sign (Err (sign.IllFormed at)) = Some ending.Input
+ends_of_sign (Err (sign.OtherRoster given mine)) = Some ending.Identity
+ends_of_sign (Err other) = Some ending.Limit
+
+-- how the run ends where it answers a trim so, but for want of memory
+abbrev pub ends_of_trim : {S : Type 0} → Result (Trimmed S) TrimError → Option Ending
+ends_of_trim (Ok t) = None
+ends_of_trim (Err (trim.IllFormed at)) = Some ending.Input
+ends_of_trim (Err (trim.OtherRoster given mine)) = Some ending.Identity
+ends_of_trim (Err other) = None
+
+-- ---- readers
+
+-- what is kept, if anything is, is somebody's reader
+abbrev pub IsSomebodys : {S : Type 0} → Verifies → Option (Trimmed S) → Type 0
+IsSomebodys verifies None = Unit {0}
+IsSomebodys verifies (Some t) = (R : Reader) × IsReaderOf verifies R t
+
+-- what is kept is the last reader of the session
+abbrev pub KeepsReader : {S : Type 0} → Verifies → Option (Trimmed S) → Option Reader → Type 0
+KeepsReader verifies None None = Unit {0}
+KeepsReader verifies (Some t) (Some R) = IsReaderOf verifies R t
+KeepsReader verifies other last = ⊥
+
 -- ---- a script
 
 -- A script went as its answers say. If the node was a correct one with its reads, it is one.
@@ -132,4 +173,4 @@ ending_by (Err e) = e
 abbrev pub Plays : {N O : Type 0} → Ghosts N O → N → N → Setting → Signs → Session → List Command → Shelves → Asked → Sinks → Result (Unit {0}) Ending → Type 0
 Plays g old new here sign s commands shelf calls sink result =
     (IsPlayed g new here s (answers_of here sign s commands) shelf sink (ending_by result) × AsksWhole here sign s commands [] calls) ⊎
-    ((part : IsPlayedInPart g old new here sign s commands shelf sink (ending_by result)) × AsksShort part.done part.rest [] calls)
+    ((part : IsPlayedInPart g old new here sign s commands shelf sink (ending_by result)) × AsksShort here sign s part.done part.rest [] calls)

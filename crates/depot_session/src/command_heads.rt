@@ -21,7 +21,7 @@ pub fn head(alloc: Global, out: &mut Bytes, command: &Command) -> Result<(), Mem
 }
 
 /// Writes the words between the name and the arrow, each behind a space.
-#[tactic(auto, using(depot_base::proofs::Writing::texts), unfolding(depot_script::specs::Commands::put, depot_script::specs::Commands::puts, depot_script::specs::Commands::get, depot_script::specs::Commands::hello, depot_script::specs::Commands::bundle, depot_script::specs::Commands::take, depot_script::specs::Commands::receipt, depot_script::specs::Commands::settled, depot_script::specs::Commands::export))]
+#[tactic(auto, using(depot_base::proofs::Writing::texts), unfolding(depot_script::specs::Commands::put, depot_script::specs::Commands::puts, depot_script::specs::Commands::get, depot_script::specs::Commands::hello, depot_script::specs::Commands::bundle, depot_script::specs::Commands::take, depot_script::specs::Commands::receipt, depot_script::specs::Commands::settled, depot_script::specs::Commands::export, depot_script::specs::Commands::checkpoint, depot_script::specs::Commands::sign, depot_script::specs::Commands::trim, depot_script::specs::Commands::tgive, depot_script::specs::Commands::tget))]
 fn words(alloc: Global, out: &mut Bytes, command: &Command) -> Result<(), Memory>
     ensures { OnOk result (out.new ≡ out.old ++ behind_spaces (drop 1 (take (printed_count command.now) (command_words command.now)))) }
 {
@@ -40,6 +40,11 @@ fn words(alloc: Global, out: &mut Bytes, command: &Command) -> Result<(), Memory
             hex(alloc, out, id.bytes())?;
             number(alloc, out, *k as u64)
         }
-        Command::Export { file } => word(out, file.text().as_bytes()),
+        Command::Export { file }
+        | Command::Checkpoint { file }
+        | Command::Sign { file }
+        | Command::Trim { file }
+        | Command::Tgive { file } => word(out, file.text().as_bytes()),
+        Command::Tget { key } => hex(alloc, out, key.bytes()),
     }
 }

@@ -1,5 +1,5 @@
 //! The commands of a script.
-ghost use Rattle.std.specs.Prelude.{◌≡◌, ◌≤◌, ◌↔◌, ◌++◌, ◌∷◌, [], ℕ, List, false, None, length, map, IfOk, IfErr, IfSome, IsErrOf, IsSome, IsTrue, OnOk, is_ok};
+ghost use Rattle.std.specs.Prelude.{◌≡◌, ◌≤◌, ◌↔◌, ◌++◌, ◌∷◌, [], ℕ, List, false, None, length, map, IfOk, IfErr, IfSome, IsErrOf, IsSome, IsTrue, OnOk, is_ok, is_some};
 ghost use Rattle.std.specs.List.{AllByRecursion};
 ghost use Rattle.depot_base.specs.Writes.{one_change};
 ghost use Rattle.depot_base.specs.declared.limits.TheConstants.{MOST_LINES};
@@ -20,13 +20,15 @@ ghost use Rattle.depot_traces.specs.TraceTexts.{read_text};
 ghost use Rattle.depot_traces.specs.declared.trace.TheConstants.{MOST_READS};
 ghost use Rattle.depot_world.specs.Audits.{traced_read};
 ghost use Rattle.depot_session.specs.KeptReads.{AreOfRun, FitWithin, KeepsReads, is_export};
-ghost use Rattle.depot_session.specs.Sessions.{Session, IsPut, loads_of, reads_of_run, step_of, stores_of};
+ghost use Rattle.depot_session.specs.Sessions.{Session, IsPut, loads_of, reads_of_run, step_of};
 ghost use Rattle.depot_session.specs.Sessions as sessions;
 ghost use Rattle.depot_session.specs.ScriptTelling.{IsUnchanged, StoresUnder, TellsShelf};
-ghost use Rattle.depot_session.specs.Turns.{IsAt, IsRunning, Keeps, Turns, ends_of_receipt};
+ghost use Rattle.depot_session.specs.Turns.{IsAt, IsRunning, IsSomebodys, Keeps, KeepsReader, Turns, ends_of_receipt};
 
+use crate::checkpoint_commands::{checkpoint, sign, tget, tgive, trim};
 use crate::ending::Ending;
 use crate::kept_reads::{keep, kept};
+use crate::last_reader::LastReader;
 use crate::local::Local;
 use crate::telling::{disk_failed, load, no_file, store_and_tell, tell};
 use depot_answers::Closing;
@@ -377,19 +379,25 @@ pub fn carry_out<R: Local, F: Shelf, K: Sink>(
     node: &mut R,
     command: &Command,
     reads: &mut Option<Reads>,
+    last: &mut LastReader<'_, R::Checks>,
     shelf: &mut F,
     out: &mut K,
 ) -> Result<(), Ending>
     requires fits { FitsCommand command.now }
     requires running { IsRunning R.Replica node.old }
+    requires reader { IsSomebodys R.Checks.verifies last.old.made }
+    requires roster { last.old.roster.now ≡ (R.stands node.old).listed }
     requires kept { IsTrue (is_export command.now) → IsSome reads.old }
     requires few { FitWithin MOST_LINES reads.old }
     ensures keeps { Keeps R.Replica node.old node.new (sinks K.Sink out.old out.new) result }
-    ensures turns { (s : Session) → IsTrue (F.tells shelf.old) → IsAt (R.stands node.old) (R.records node.old) (F.file shelf.old) s → AreOfRun s reads.old → Turns R.Replica node.old node.new command.now (step_of (R.stands node.old) (R.signature_of node.old) s command.now) (shelves F.Shelf shelf.old shelf.new) (sinks K.Sink out.old out.new) result }
+    ensures turns { (s : Session) → IsTrue (F.tells shelf.old) → IsAt (R.stands node.old) (R.records node.old) (F.file shelf.old) s → AreOfRun s reads.old → KeepsReader R.Checks.verifies last.old.made s.reader → Turns R.Replica node.old node.new command.now (step_of (R.stands node.old) (R.signature_of node.old) s command.now) (shelves F.Shelf shelf.old shelf.new) (sinks K.Sink out.old out.new) result }
     ensures reads { OnOk result (KeepsReads (R.stands node.old) (R.signature_of node.old) (R.records node.old) command.now reads.old reads.new) }
+    ensures reader { OnOk result ((s : Session) → IsTrue (F.tells shelf.old) → IsAt (R.stands node.old) (R.records node.old) (F.file shelf.old) s → KeepsReader R.Checks.verifies last.old.made s.reader → KeepsReader R.Checks.verifies last.new.made (step_of (R.stands node.old) (R.signature_of node.old) s command.now).session.reader) }
+    ensures somebodys { OnOk result (IsSomebodys R.Checks.verifies last.new.made) }
+    ensures means { (last.new.roster.now ≡ last.old.roster.now) × (last.new.scheme ≡ last.old.scheme) }
     ensures same { K.tells out.new ≡ K.tells out.old }
-    ensures loads { F.loads shelf.new ≡ F.loads shelf.old ++ loads_of command.now }
-    ensures stores { StoresUnder (F.stores shelf.old) (F.stores shelf.new) (stores_of command.now) result }
+    ensures loads { F.loads shelf.new ≡ F.loads shelf.old ++ loads_of (is_some last.old.made) command.now }
+    ensures stores { (s : Session) → IsTrue (F.tells shelf.old) → IsAt (R.stands node.old) (R.records node.old) (F.file shelf.old) s → StoresUnder (F.stores shelf.old) (F.stores shelf.new) (step_of (R.stands node.old) (R.signature_of node.old) s command.now).stores result }
     ensures unstored { (s : Session) → IsTrue (F.tells shelf.old) → IsAt (R.stands node.old) (R.records node.old) (F.file shelf.old) s → IfSome (step_of (R.stands node.old) (R.signature_of node.old) s command.now).ending (λ _. F.stores shelf.new ≡ F.stores shelf.old) }
     ensures same_shelf { F.tells shelf.new ≡ F.tells shelf.old }
     ensures shelf { TellsShelf (F.faults shelf.old) (F.faults shelf.new) (F.failed shelf.old) (F.failed shelf.new) result }
@@ -406,5 +414,10 @@ pub fn carry_out<R: Local, F: Shelf, K: Sink>(
         Command::Receipt { id } => give_receipt(alloc, node, command, id, out),
         Command::Settled { id, k } => tell_settled(alloc, node, command, id, *k, out),
         Command::Export { file } => export(alloc, node, command, file, kept(reads), shelf, out),
+        Command::Checkpoint { file } => checkpoint(alloc, node, command, file, shelf, out),
+        Command::Sign { file } => sign(alloc, node, command, file, shelf, out),
+        Command::Trim { file } => trim(alloc, node, command, file, last, shelf, out),
+        Command::Tgive { file } => tgive(alloc, node, command, file, last, shelf, out),
+        Command::Tget { key } => tget(alloc, node, command, key, last, out),
     }
 }

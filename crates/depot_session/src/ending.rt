@@ -9,7 +9,7 @@ use depot_base::Memory;
 pub enum Ending {
     /// Every command was carried out.
     Done,
-    /// The file of a hello, or a stream, isn't in its form.
+    /// The file of a hello, a stream or a checkpoint isn't in its form.
     Input,
     /// A file isn't on the shelf, or the shelf failed.
     Shelf,

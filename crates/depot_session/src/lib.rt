@@ -5,19 +5,23 @@
 //! by a fault of the disk, the shelf or the sink; `specs/SessionRuns.antt` says what stands then, on the disk at any stop too.
 //!
 //! Where the receipts of the file's journal are true (`depot_receipts`), so they are in every image of a run: only the command `receipt` writes
-//! their keys. `session_laws` says what stands in each image then.
+//! their keys, and `checkpoint` and `sign` alone write those of checkpoints, which are others. `session_laws` says what stands in each image then.
 //!
 //! Where a script hands in a trace, the reads of the run are kept, as traces tell them (`kept_reads`); a run of another script keeps none.
 //!
-//! The node is known as a `Local`, a `Peer` that writes and reads and gives receipts. `commands` has the commands, each of which changes the node, then the
-//! shelf, and tells of it last; `telling` writes lines, `command_heads` the words of a command, `whole_script` a whole script, and `running` the run with
+//! The last reader that a script made is kept in memory, beside the node (`last_reader`).
+//!
+//! The node is known as a `Local`, a `Peer` that writes and reads, gives receipts and signs checkpoints. `commands` has the commands, each of which changes
+//! the node, then the shelf, and tells of it last, and `checkpoint_commands` those of checkpoints and readers; `telling` writes lines, `command_heads` the words of a command, `whole_script` a whole script, and `running` the run with
 //! its start.
 #![tactic(auto)]
 
+mod checkpoint_commands;
 mod command_heads;
 mod commands;
 mod ending;
 mod kept_reads;
+mod last_reader;
 mod local;
 mod running;
 mod session_laws;

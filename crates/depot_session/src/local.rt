@@ -13,6 +13,8 @@ ghost use Rattle.depot_model.specs.ShownWrites.{shown_of};
 ghost use Rattle.depot_receipts.specs.Giving.{Gives, receipt_records};
 ghost use Rattle.depot_traces.specs.SeenTraces as seen;
 ghost use Rattle.depot_traces.specs.TraceTexts.{read_text};
+ghost use Rattle.depot_trim.specs.ReaderAnswers.{Trims};
+ghost use Rattle.depot_trim.specs.Signing.{Signs, signing_records};
 ghost use Rattle.depot_world.specs.Audits.{traced_read};
 ghost use Rattle.depot_world.specs.Deeds.{read_of};
 ghost use Rattle.depot_world.specs.Transcript.{ended};
@@ -23,11 +25,16 @@ use depot_model::{Peer, Scheme, Signer};
 use depot_node::{Node, PutDone, PutError};
 use depot_outside::Disk;
 use depot_receipts::{GiveError, give};
+use depot_sign::Roster;
 use depot_traces::ReadTrace;
+use depot_trim::{CheckpointError, TrimError, Trimmed, sign_checkpoint, trim};
 use std::alloc::Global;
 
-/// A node that is at hand: it writes and reads, too, and gives receipts.
+/// A node that is at hand: it writes and reads, too, gives receipts, signs checkpoints, and readers are made of it.
 pub trait Local: Peer {
+    /// How it verifies signatures, which its readers do so too.
+    type Checks: Scheme + Copy;
+
     /// It makes these changes in one update, as `depot_node::Node::put_all` says.
     fn write(&mut self, changes: Changes) -> Result<PutDone, PutError>
         requires changes { AreChanges changes }
@@ -63,9 +70,32 @@ pub trait Local: Peer {
     fn settled(&self, alloc: Global, id: &Hash32, k: u32) -> Result<bool, Memory>
         requires { Self.stopped self.now ≡ false }
         ensures { IfOk result (λ enough. enough ≡ nat_le k (length (receipts (Self.records self.now) id.now))) };
+
+    /// It signs the checkpoint of a text, as `depot_trim::sign_checkpoint` says.
+    fn sign(&mut self, alloc: Global, text: &[u8]) -> Result<PutDone, CheckpointError>
+        ensures signs { Signs (Self.stands self.old) (Self.records self.old) text.now result (Self.records self.new) }
+        ensures stays { IsSameNode (Self.stands self.old) (Self.stands self.new) (Self.key self.old) (Self.key self.new) (Self.signature_of self.old) (Self.signature_of self.new) }
+        ensures stops { StopsBy (Self.stopped self.old) (Self.stopped self.new) (IsErrOf result CheckpointError.Stopped) (IsErrOf result CheckpointError.Disk) }
+        ensures disk { KeepsDisk (Self.handle self.old) (Self.handle self.new) (Self.faults self.old) (Self.faults self.new) (Self.is_faultless self.old) (Self.is_faultless self.new) (IsErrOf result CheckpointError.Disk) }
+        ensures lasts { Lasts Self.tells Self.stopped Self.records Self.moment Self.left_since Self.may_leave self.old self.new (signing_records (Self.stands self.old) (Self.records self.old) text.now) }
+        ensures idle { IfErr result (λ e. e ≢ CheckpointError.Disk → Lasts Self.tells Self.stopped Self.records Self.moment Self.left_since Self.may_leave self.old self.new []) };
+
+    /// A reader is made of it, with its roster and its scheme, below the checkpoint of a text, as `depot_trim::trim` says.
+    fn trim(
+        &self,
+        alloc: Global,
+        roster: Roster,
+        scheme: Self::Checks,
+        text: &[u8],
+    ) -> Result<Trimmed<Self::Checks>, TrimError>
+        requires runs { Self.stopped self.now ≡ false }
+        requires roster { roster ≡ (Self.stands self.now).listed }
+        ensures { Trims Self.Checks.verifies (Self.stands self.now) (Self.records self.now) text.now result };
 }
 
-impl<D: Disk, S: Scheme, G: Signer<Of = S>> Local for Node<D, S, G> {
+impl<D: Disk, S: Scheme + Copy, G: Signer<Of = S>> Local for Node<D, S, G> {
+    type Checks = S;
+
     fn write(&mut self, changes: Changes) -> Result<PutDone, PutError> {
         self.put_all(changes)
     }
@@ -84,5 +114,19 @@ impl<D: Disk, S: Scheme, G: Signer<Of = S>> Local for Node<D, S, G> {
 
     fn settled(&self, alloc: Global, id: &Hash32, k: u32) -> Result<bool, Memory> {
         has_receipts(alloc, self, id, k)
+    }
+
+    fn sign(&mut self, alloc: Global, text: &[u8]) -> Result<PutDone, CheckpointError> {
+        sign_checkpoint(alloc, self, text)
+    }
+
+    fn trim(
+        &self,
+        alloc: Global,
+        roster: Roster,
+        scheme: S,
+        text: &[u8],
+    ) -> Result<Trimmed<S>, TrimError> {
+        trim(alloc, self, roster, scheme, text)
     }
 }

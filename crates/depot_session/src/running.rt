@@ -117,7 +117,7 @@ fn ended(played: Result<(), Ending>) -> Ending
 }
 
 /// Runs a script over a disk, and gives the disk back.
-fn run_over<D: Disk, F: Shelf, K: Sink, S: Scheme, G: Signer<Of = S>>(
+fn run_over<D: Disk, F: Shelf, K: Sink, S: Scheme + Copy, G: Signer<Of = S>>(
     alloc: Global,
     disk: D,
     roster: Roster,
@@ -148,6 +148,7 @@ fn run_over<D: Disk, F: Shelf, K: Sink, S: Scheme, G: Signer<Of = S>>(
     ensures same_shelf { F.tells shelf.new ≡ F.tells shelf.old }
 {
     is_formed(&roster);
+    let kept = roster.copy();
     let mut node = match Node::start(alloc, disk, roster, scheme, signer, me) {
         Ok(node) => node,
         Err(Back { error, disk }) => {
@@ -155,7 +156,15 @@ fn run_over<D: Disk, F: Shelf, K: Sink, S: Scheme, G: Signer<Of = S>>(
             return Ran { disk, ending };
         }
     };
-    let played = play(alloc, &mut node, script.as_slice(), shelf, out);
+    let played = play(
+        alloc,
+        &mut node,
+        script.as_slice(),
+        kept,
+        scheme,
+        shelf,
+        out,
+    );
     Ran {
         disk: node.into_disk(),
         ending: ended(played),
@@ -167,7 +176,7 @@ fn run_over<D: Disk, F: Shelf, K: Sink, S: Scheme, G: Signer<Of = S>>(
 ///
 /// Want of memory and faults of the disk, the shelf and the sink cut a run short; a start that is refused is told, and the disk's file then
 /// reads as before. The lines are those of docs/FORMATS.md ("Scripts").
-pub fn run<D: Disk, F: Shelf, K: Sink, S: Scheme, G: Signer<Of = S>>(
+pub fn run<D: Disk, F: Shelf, K: Sink, S: Scheme + Copy, G: Signer<Of = S>>(
     alloc: Global,
     disk: &mut D,
     roster: Roster,

@@ -1,5 +1,5 @@
 //! A script, command by command.
-ghost use Rattle.std.specs.Prelude.{◌≡◌, ◌≤◌, length, IsTrue};
+ghost use Rattle.std.specs.Prelude.{◌≡◌, ◌≤◌, None, length, IfOk, IsTrue};
 ghost use Rattle.depot_base.specs.declared.limits.TheConstants.{MOST_LINES};
 ghost use Rattle.depot_outside.specs.Told.{loads, shelves, sinks};
 ghost use Rattle.depot_schedule.specs.Language.{FitAll};
@@ -12,33 +12,48 @@ ghost use Rattle.depot_session.specs.Turns.{IsAt, IsRunning, Keeps, Plays};
 use crate::commands::carry_out;
 use crate::ending::Ending;
 use crate::kept_reads::place_for;
+use crate::last_reader::LastReader;
 use crate::local::Local;
+use depot_base::Memory;
 use depot_outside::{Shelf, Sink};
 use depot_script::Command;
+use depot_sign::Roster;
 use std::alloc::Global;
 
 /// Carries out the commands of a script, each of which has a line, one after the other, up to the first that ends the run. Ok where none does. The
-/// reads of the run are kept where one of the commands hands in a trace.
+/// reads of the run are kept where one of the commands hands in a trace. Readers are made with a copy of the node's roster, which may have found no
+/// memory, and with its scheme.
 pub fn play<R: Local, F: Shelf, K: Sink>(
     alloc: Global,
     node: &mut R,
     commands: &[Command],
+    roster: Result<Roster, Memory>,
+    scheme: R::Checks,
     shelf: &mut F,
     out: &mut K,
 ) -> Result<(), Ending>
     requires fit { FitAll FitsCommand commands.now }
     requires few { length commands.now ≤ MOST_LINES }
     requires running { IsRunning R.Replica node.old }
+    requires roster { IfOk roster (λ listed. listed ≡ (R.stands node.old).listed) }
     ensures keeps { Keeps R.Replica node.old node.new (sinks K.Sink out.old out.new) result }
-    ensures plays { (s : Session) → IsTrue (F.tells shelf.old) → IsAt (R.stands node.old) (R.records node.old) (F.file shelf.old) s → s.earlier ≡ length s.correct.reads → Plays R.Replica node.old node.new (R.stands node.old) (R.signature_of node.old) s commands.now (shelves F.Shelf shelf.old shelf.new) (asked F.Shelf shelf.old shelf.new) (sinks K.Sink out.old out.new) result }
+    ensures plays { (s : Session) → IsTrue (F.tells shelf.old) → IsAt (R.stands node.old) (R.records node.old) (F.file shelf.old) s → s.earlier ≡ length s.correct.reads → s.reader ≡ None → Plays R.Replica node.old node.new (R.stands node.old) (R.signature_of node.old) s commands.now (shelves F.Shelf shelf.old shelf.new) (asked F.Shelf shelf.old shelf.new) (sinks K.Sink out.old out.new) result }
     ensures loads { LoadsFiles commands.now (loads F.Shelf shelf.old shelf.new) }
     ensures same { K.tells out.new ≡ K.tells out.old }
     ensures same_shelf { F.tells shelf.new ≡ F.tells shelf.old }
     ensures shelf { TellsShelf (F.faults shelf.old) (F.faults shelf.new) (F.failed shelf.old) (F.failed shelf.new) result }
 {
+    let Ok(roster) = roster else {
+        return Err(Ending::Memory);
+    };
     let mut reads = place_for(alloc, commands);
+    let mut last = LastReader {
+        roster: &roster,
+        scheme,
+        made: None,
+    };
     for command in commands {
-        carry_out(alloc, node, command, &mut reads, shelf, out)?;
+        carry_out(alloc, node, command, &mut reads, &mut last, shelf, out)?;
     }
     Ok(())
 }

@@ -6,17 +6,19 @@ ghost use Rattle.depot_world.specs.Run.{Made, first_update};
 ghost use Rattle.depot_stage.specs.Labels.{AreLabels, bytes_in, label_by, labels_with, named_in, plain_in, signed_in};
 
 use crate::drafts::update_of;
+use crate::signed_apart::{Apart, put_apart};
 use crate::texts::Text;
 use depot_base::{Bytes, Memory, Signed, Update};
 use depot_schedule::{Event, Label};
 use std::alloc::Global;
 use std::collections::BTreeMap;
 
-/// What an event gave a label: its bytes, the signed statement where it made one, and whether they are plain bytes.
+/// What an event gave a label: its bytes, the signed statement where it made one, and whether they are plain bytes. Most labels
+/// have no statement, so that stands apart.
 #[derive(Drop)]
 pub struct Given {
     pub bytes: Bytes,
-    pub signed: Option<Signed>,
+    pub signed: Option<Apart>,
     pub plain: bool,
 }
 
@@ -60,7 +62,8 @@ impl Labels {
     pub fn signed(&self, label: &Label) -> Option<&Signed>
         ensures { (labels : List Made) → AreLabels self.now.map.entries labels → option_copied result ≡ signed_in labels label.now }
     {
-        self.get(label.bytes())?.signed.as_ref()
+        let signed = self.get(label.bytes())?.signed.as_ref()?;
+        Some(signed.get())
     }
 
     /// The update that a label's signed statement states, if it names one. It takes no memory.
@@ -95,7 +98,7 @@ impl Labels {
         } = text;
         let given = Given {
             bytes,
-            signed,
+            signed: put_apart(self.alloc, signed)?,
             plain,
         };
         self.put(label.bytes(), given)?;
@@ -113,7 +116,7 @@ impl Labels {
             Some(label) => self.put(
                 label.bytes(),
                 Given {
-                    bytes,
+                    bytes: fitted(bytes),
                     signed: None,
                     plain: false,
                 },
@@ -133,6 +136,15 @@ impl Labels {
         self.map.insert(name, given)?;
         Ok(())
     }
+}
+
+/// The same bytes, without the memory that was found for more of them.
+fn fitted(bytes: Bytes) -> Bytes
+    ensures { result ≡ bytes }
+{
+    let mut fitted = bytes.into_vec();
+    fitted.shrink_to_fit();
+    Bytes::from_vec(fitted)
 }
 
 /// The label that a node's event makes.

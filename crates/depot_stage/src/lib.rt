@@ -16,6 +16,7 @@ mod judging_events;
 mod label_table;
 mod scene;
 mod seen;
+mod signed_apart;
 mod signing;
 pub mod texts;
 mod value_frames;

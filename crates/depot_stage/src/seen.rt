@@ -5,7 +5,7 @@ ghost use Rattle.depot_model.specs.History.{history_hash as hash_of_history};
 ghost use Rattle.depot_model.specs.Items.{place_of_id, AreItemsOf};
 ghost use Rattle.depot_model.specs.Journal.{has_id};
 ghost use Rattle.depot_model.specs.Order.{parents, past, prevs};
-ghost use Rattle.depot_model.specs.Texts.{IsUpdate};
+ghost use Rattle.depot_model.specs.Texts.{IsUpdate, id_of_update};
 ghost use Rattle.depot_world.specs.FaultySigning.{history_by, with_history};
 ghost use Rattle.depot_world.specs.Run.{seen_with};
 ghost use Rattle.depot_stage.specs.Seen.{HasSeenParents};
@@ -15,7 +15,6 @@ use depot_graph::Graph;
 use depot_history::history_hash;
 use depot_model::Past;
 use depot_schedule::HistoryWord;
-use depot_update::id_of;
 use std::alloc::Global;
 
 /// The updates that events made and that correct nodes accepted, each id once, in the order in which they came.
@@ -36,22 +35,22 @@ impl Seen {
         }
     }
 
-    /// Adds an update, unless one with its id is there. Its parents are. There is room for 4,294,967,295 updates, and Memory comes
-    /// behind them too.
-    pub fn add(&mut self, update: &Update) -> Result<(), Memory>
+    /// Adds an update with its id, unless one with that id is there. Its parents are. There is room for 4,294,967,295 updates, and
+    /// Memory comes behind them too.
+    pub fn add(&mut self, update: &Update, id: &Hash32) -> Result<(), Memory>
+        requires id { id.now ≡ id_of_update update.now }
         requires text { IsUpdate update.now }
         requires parents { HasSeenParents (⟦<Graph as Past>⟧.updates self.old.graph) update.now }
         ensures ok { OnOk result (⟦<Graph as Past>⟧.updates self.new.graph ≡ seen_with (⟦<Graph as Past>⟧.updates self.old.graph) (update.now ∷ [])) }
         ensures err { OnErr result (⟦<Graph as Past>⟧.updates self.new.graph ≡ ⟦<Graph as Past>⟧.updates self.old.graph) }
     {
-        let id = id_of(self.alloc, update)?;
-        if self.graph.find(&id).is_some() {
+        if self.graph.find(id).is_some() {
             return Ok(());
         }
         if self.graph.count() == u32::MAX {
             return Err(Memory);
         }
-        self.graph.add_uncounted(update.copy()?, &[], id)?;
+        self.graph.add_uncounted(update.copy()?, &[], *id)?;
         Ok(())
     }
 

@@ -1,5 +1,5 @@
 -- How much a lawful journal can hold.
-use Rattle.std.proofs.Common.{◌≡◌, ℕ, ◌<◌, ◌≤◌, List, [], ◌∷◌, ◌++◌, length, ap, arith, length-append}
+use Rattle.std.proofs.Common.{◌≡◌, ℕ, ◌+◌, ◌<◌, ◌≤◌, List, [], ◌∷◌, ◌++◌, length, ap, arith, length-append}
 use Rattle.std.proofs.lemmas.List.{length-map}
 use Rattle.depot_base.specs.declared.record.Record.{Record}
 use Rattle.depot_base.specs.declared.record.Record.TheVariants.{Birth, OwnPut, OwnVoucher, Foreign, Conviction, Held}
@@ -67,6 +67,10 @@ few_records here J more l = lawful_is_short here J (lawful_front here J more l)
 -- the same of their count, where there are some that hold this
 pub few_counted : (P : List Record → Type 0) (here : Setting) (more : List Record) (count : ℕ) → (J : List Record) × (P J × ((count ≡ length J) × IsLawful here (J ++ more))) → count ≤ 131072
 few_counted P here more count (J, (holds, (is, l))) = omega (arith, is, few_records here J more l)
+
+-- and with more records behind these
+pub few_with : (P : List Record → Type 0) (here : Setting) (more : List Record) (count : ℕ) → (J : List Record) × (P J × ((count ≡ length J) × IsLawful here (J ++ more))) → count + length more ≤ 131072
+few_with P here more count (J, (holds, (is, l))) = omega (arith, is, lawful_is_short here (J ++ more) l, length-append J more)
 
 -- own vouchers behind others
 pub few_vouchers : (here : Setting) (J : List Record) (xs : List NewVoucher) → IsLawful here (J ++ records_of (vouchers_of xs)) → length xs ≤ 131072

@@ -131,7 +131,7 @@ key_at (e ∷ es) n k all (inl here) = ap (λ (x : NamedValue × Bool). compare_
 key_at (e ∷ es) n k all (inr there) = key_at es n k all.1 there
 
 -- what is marked is found
-looked_up : (es : Entries) (n : NamedValue) → IsStrictlySortedBy compare_names (keys_of es) → IsIn (n, true) es → is_marked (lookup (λ k. is_eq (compare_names n k)) es) ≡ true
+pub looked_up : (es : Entries) (n : NamedValue) → IsStrictlySortedBy compare_names (keys_of es) → IsIn (n, true) es → is_marked (lookup (λ k. is_eq (compare_names n k)) es) ≡ true
 unfolding IsStrictlySortedBy
 looked_up [] n sorted never = absurd never
 looked_up (e ∷ es) n sorted (inl here) = rw here (ap (λ (b : Bool). is_marked (cond b (Some true) (lookup (λ (k : NamedValue). is_eq (compare_names n k)) es))) (same_name n n ∙ own_name n))
@@ -145,7 +145,7 @@ looked_up (e ∷ es) n sorted (inr there) = by_test (is_eq (compare_names n e.0)
       absurd (let differ : is_eq Less ≡ true = ap is_eq (sym low) ∙ same in cc)
 
 -- and what is found is marked
-looked_at : (es : Entries) (n : NamedValue) → is_marked (lookup (λ k. is_eq (compare_names n k)) es) ≡ true → IsIn (n, true) es
+pub looked_at : (es : Entries) (n : NamedValue) → is_marked (lookup (λ k. is_eq (compare_names n k)) es) ≡ true → IsIn (n, true) es
 looked_at [] n e = absurd cc
 looked_at ((k, mark) ∷ es) n e = by_tests mark (is_eq (compare_names n k)) refl e (looked_at es n) where
   by_tests : (m b : Bool) → is_eq (compare_names n k) ≡ b → is_marked (cond b (Some m) (lookup (λ (q : NamedValue). is_eq (compare_names n q)) es)) ≡ true → (is_marked (lookup (λ (q : NamedValue). is_eq (compare_names n q)) es) ≡ true → IsIn (n, true) es) → IsIn (n, true) ((k, m) ∷ es)

@@ -13,6 +13,7 @@ use Rattle.depot_store.specs.Holdings.{Holding, standing, with_records, IsWhole}
 use Rattle.depot_store.specs.NewRecords.{AreTextsFor}
 use Rattle.depot_store.specs.RecordTexts.{AreTexts, records_of}
 use Rattle.depot_store.specs.StoreParts.{AreReadings}
+use Rattle.depot_store.specs.declared.front_places.FrontPlaces.{FrontPlaces}
 use Rattle.depot_store.specs.declared.named.NamedValues.{NamedValues}
 use Rattle.depot_store.specs.declared.totals.Totals.{Totals}
 use Rattle.depot_store.proofs.JournalTexts.{IsReadTo, journal_long, read_more, whole_texts}
@@ -40,9 +41,9 @@ size_seen {D} inside seen n texts same whole read left t =
     journal_long (records_of (take n texts)) texts (whole_texts n texts t (sym left ∙ (whole_inside inside seen same whole).read)) ∙ ap journal_bytes (sym read ∙ ap (λ (x : Holding D). x.records) same)
 
 -- the leaves that are counted are those of the records
-pub leaves_seen : {D S : Type 0} (inside seen : Holding D) (v : View S) (kept : Values) (t : Totals) (named lacking : NamedValues) (places : List ℕ) (ids : List (List ℕ)) → inside ≡ seen → v.me ≡ inside.me → AreReadings inside.records v kept t named lacking places ids
+pub leaves_seen : {D S : Type 0} (inside seen : Holding D) (v : View S) (kept : Values) (t : Totals) (named lacking : NamedValues) (places : List ℕ) (ids : List (List ℕ)) (front : FrontPlaces) → inside ≡ seen → v.me ≡ inside.me → AreReadings inside.records v kept t named lacking places ids front
     → t.leaves ≡ length (foreign_leaves seen.me seen.records)
-leaves_seen {D} inside seen v kept t named lacking places ids same me r =
+leaves_seen {D} inside seen v kept t named lacking places ids front same me r =
     r.read.totals.leaves ∙ ap (λ (n : ℕ). length (foreign_leaves n inside.records)) me ∙ ap (λ (x : Holding D). length (foreign_leaves x.me x.records)) same
 
 -- ---- more is read

@@ -7,11 +7,13 @@ use Rattle.depot_model.specs.Roster.{Verifies}
 use Rattle.depot_accept.specs.StateView.{View, IsStateOf, setting}
 use Rattle.depot_values.specs.Values as values
 use Rattle.depot_values.specs.declared.values.Values.{Values}
+use Rattle.depot_store.specs.FrontPlaces.{AreFrontPlaces}
 use Rattle.depot_store.specs.Lacking.{AreLacked}
 use Rattle.depot_store.specs.Named.{AreNamed}
 use Rattle.depot_store.specs.OwnIds.{AreMine}
 use Rattle.depot_store.specs.Places.{accept_places}
 use Rattle.depot_store.specs.Totals.{AreTotals}
+use Rattle.depot_store.specs.declared.front_places.FrontPlaces.{FrontPlaces}
 use Rattle.depot_store.specs.declared.named.NamedValues.{NamedValues}
 use Rattle.depot_store.specs.declared.totals.Totals.{Totals}
 
@@ -34,10 +36,12 @@ abbrev pub StillKeeps : {S : Type 0} → View S → Values → Totals → View S
 StillKeeps v kept t w kept_then u = (J : List Record) → IsKept J v kept t → IsKept J w kept_then u
 
 -- All that is read off records, that of these: what the checks look at, the values, the counts, the values
--- that updates name, those of them that aren't held, the places of the records that accepted the updates, and the ids that own vouchers name.
-pub record AreReadings {S : Type 0} (J : List Record) (v : View S) (kept : Values) (t : Totals) (named lacking : NamedValues) (places : List ℕ) (ids : List (List ℕ)) : Type 0 where
+-- that updates name, those of them that aren't held, the places of the records that accepted the updates, the ids that own vouchers name,
+-- and the places of what bundles have in front.
+pub record AreReadings {S : Type 0} (J : List Record) (v : View S) (kept : Values) (t : Totals) (named lacking : NamedValues) (places : List ℕ) (ids : List (List ℕ)) (front : FrontPlaces) : Type 0 where
   pub read : IsKept J v kept t
   pub names : AreNamed (accepted J) named
   pub lacked : AreLacked J lacking
   pub accepting : places ≡ accept_places J
   pub mine : AreMine J ids
+  pub fronts : AreFrontPlaces J front

@@ -3,7 +3,8 @@
 //! A `Store` is seen as the node's number, its roster, the list of the records of its journal that were read, the texts of those that
 //! weren't yet, whether it is stopped, and the disk. The journal (`depot_journal`) keeps each record as its text. Beside it stands
 //! what is read off the records (`Readings`): what the checks look at (`depot_accept::State`), the values by their hash, the names of values
-//! and which of these aren't held, counts of the node's own statements and of the leaves of other writers, and the greatest clock.
+//! and which of these aren't held, the places of the records that accepted updates and of those that bundles have in front, counts of the
+//! node's own statements and of the leaves of other writers, and the greatest clock.
 //!
 //! A store starts on a journal of which nothing was read, and reads it record by record (`read`). From then on it grows by one call
 //! alone, `append`, whatever it grows by: a `Growth` is up to two records, or own vouchers, decoded, with their texts and hashes and
@@ -16,6 +17,7 @@
 
 mod append;
 mod counts;
+mod front_places;
 mod growth;
 mod has_room;
 mod kept;
@@ -31,6 +33,7 @@ mod totals;
 
 pub use append::WriteError;
 pub use counts::Counts;
+pub use front_places::ConvictedAt;
 pub use growth::Growth;
 pub use leaves::leaves_with;
 pub use named::{NamedValues, names_in_update};

@@ -1,5 +1,5 @@
 //! A journal on a disk, with what is read off it.
-ghost use Rattle.std.specs.Prelude.{◌≡◌, ◌<◌, ◌≤◌, List, ℕ, [], ◌∷◌, false, IsTrue, Some, None, length, option_copied, map, slice_get, IfOk};
+ghost use Rattle.std.specs.Prelude.{◌≡◌, ◌<◌, ◌≤◌, List, ℕ, [], ◌∷◌, false, IsTrue, Some, None, length, option_copied, map, slice_get, IfOk, OnOk};
 ghost use Rattle.depot_base.specs.declared.limits.TheConstants.{MOST_RECORDS};
 ghost use Rattle.depot_model.specs.Hello.{wanted_of};
 ghost use Rattle.depot_model.specs.Journal.{accepted, held, is_wanted, value_with};
@@ -10,11 +10,13 @@ ghost use Rattle.depot_model.specs.Vouching.{is_mine_vouched};
 ghost use Rattle.depot_accept.specs.StateView.{IsStateOf, setting};
 ghost use Rattle.depot_store.specs.RoomByCounts.{leaves_with};
 ghost use Rattle.depot_store.specs.Counts.{AreCountsOf};
+ghost use Rattle.depot_store.specs.FrontPlaces.{AddsPlaces, convictions_from};
 ghost use Rattle.depot_store.specs.Holdings.{standing, IsWhole};
 ghost use Rattle.depot_store.specs.Places.{accept_places};
 ghost use Rattle.depot_store.specs.Totals.{AreTotals};
 
 use crate::counts::Counts;
+use crate::front_places::ConvictedAt;
 use crate::growth::Growth;
 use crate::leaves::leaves_with;
 use crate::readings::Readings;
@@ -50,7 +52,7 @@ impl<D: Disk, S: Scheme> Model for Store<D, S> {
     ghost view = { λ s. record { me = s.readings.kept.state.me; listed = s.readings.kept.state.listed; records = records_of (take s.read s.journal.records); unread = drop s.read s.journal.records; stopped = s.journal.is_stopped; disk = s.journal.disk } };
 
     ghost invariant = { λ s. AreTexts (take s.read s.journal.records) × (s.read ≤ length s.journal.records)
-        × (s.journal.is_stopped ≡ false → AreReadings (records_of (take s.read s.journal.records)) s.readings.kept.state s.readings.kept.values s.readings.kept.totals s.readings.named s.readings.lacking s.readings.places.places s.readings.mine.ids) };
+        × (s.journal.is_stopped ≡ false → AreReadings (records_of (take s.read s.journal.records)) s.readings.kept.state s.readings.kept.values s.readings.kept.totals s.readings.named s.readings.lacking s.readings.places.places s.readings.mine.ids s.readings.front) };
 }
 
 impl<D: Disk, S: Scheme> Store<D, S> {
@@ -183,6 +185,32 @@ impl<D: Disk, S: Scheme> Store<D, S> {
         ensures { result ≡ is_mine_vouched self.now.records id.now }
     {
         self.readings.mine.contains(id)
+    }
+
+    /// The convicted nodes, each with the place, from 0, of the record that convicts it, in the order of the records. It takes no
+    /// memory.
+    pub fn convictions(&self) -> &[ConvictedAt]
+        requires { self.now.stopped ≡ false }
+        ensures { result.now ≡ convictions_from 0 self.now.records }
+    {
+        self.readings.front.convictions.as_slice()
+    }
+
+    /// Adds the places, from 0, of the own vouchers that name this id. It takes logarithmic time for each.
+    pub fn push_voucher_places(&self, id: &Hash32, found: &mut Vec<u32>) -> Result<(), Memory>
+        requires { self.now.stopped ≡ false }
+        ensures { OnOk result (AddsPlaces self.now.records id.now found.old.items found.new.items) }
+    {
+        self.push_places_among(self.read, id, found)
+    }
+
+    /// The same where there are so many records.
+    fn push_places_among(&self, count: u32, id: &Hash32, found: &mut Vec<u32>) -> Result<(), Memory>
+        requires runs { self.now.stopped ≡ false }
+        requires count { count ≡ length self.now.records }
+        ensures { OnOk result (AddsPlaces self.now.records id.now found.old.items found.new.items) }
+    {
+        self.readings.front.vouchers.push_sizes(id, found)
     }
 
     /// How much the journal takes. It takes no memory.

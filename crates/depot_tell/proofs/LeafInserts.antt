@@ -15,12 +15,10 @@ use Rattle.depot_base.specs.declared.record.Record.{Record}
 use Rattle.depot_base.specs.declared.update.Update.{Update}
 use Rattle.depot_model.specs.Bundle.{records_where}
 use Rattle.depot_model.specs.declared.hello.HelloLeaf.{HelloLeaf}
-use Rattle.depot_model.specs.Hello.{record_place, named_leaf, leaves_named, AreLeafPlaces}
+use Rattle.depot_model.specs.Hello.{record_place, named_leaf, leaves_named}
 use Rattle.depot_model.specs.History.{is_lower, put_by_id, by_id, leaves_of}
 use Rattle.depot_model.specs.Items.{AreDistinct, AreLeaves, updates_at}
 use Rattle.depot_model.specs.Journal.{accepted, accepted_by, has_id}
-use Rattle.depot_model.specs.Checks.{Setting}
-use Rattle.depot_model.specs.Lawful.{IsLawful}
 use Rattle.depot_model.specs.Lists.{IsIn, is_among}
 use Rattle.depot_model.specs.Order.{IsCausal}
 use Rattle.depot_model.specs.Texts.{id_of_update}
@@ -30,14 +28,13 @@ use Rattle.depot_model.proofs.Orders.{fresh, causal_behind}
 use Rattle.depot_model.proofs.RisingLists.{HaveSame}
 use Rattle.depot_base.proofs.MembershipLaws.{in_read}
 use Rattle.depot_graph.specs.OrderLaws.{one_place}
-use Rattle.depot_laws.proofs.Causes.{none_or_one, leaf_is_on, lawful_is_causal}
+use Rattle.depot_laws.proofs.Causes.{none_or_one}
 use Rattle.depot_model.proofs.RisingUpdates.{HaveOwnIds, from_by_id, own_ids_filter, own_ids_from_causal, same_by_id}
 use Rattle.depot_model.proofs.NamedIds.{has_id_from, has_id_to}
 use Rattle.depot_store.specs.Places.{accepts, accept_places}
 use Rattle.depot_history.specs.PastLeaves.{standing}
 use Rattle.depot_history.proofs.ChainLeaves.{leaf_within, leaves_stand}
 use Rattle.depot_history.proofs.Sorting.{decided, is_standing, standing_apart, standing_is}
-use Rattle.depot_graph.proofs.ClockedItems.{place_of}
 use Rattle.depot_tell.specs.Telling.{leaf_in, name_of}
 use Rattle.depot_tell.specs.declared.leaf_order.Leaf.{Leaf}
 
@@ -102,14 +99,6 @@ place_at J us places i t place all c are at there =
     let same : Some (0 + position_or_len (λ r. has_id (accepted_by r) (id_of_update t)) J) ≡ Some place = sym stands.place ∙ (ap (λ (ns : List ℕ). slice_get ns i) (sym are) ∙ there) in
     let is : 0 + position_or_len (λ r. has_id (accepted_by r) (id_of_update t)) J ≡ place = cc in
     rw (lt-ltb _ _ stands.below) (ap (λ (k : ℕ). Some k) (omega (arith, is)))
-
--- an accepted update has such a place
-has_record : (J : List Record) (t : Update) → IsCausal [] (accepted J) → IsIn t (accepted J) → Some (unwrap_or (record_place J (id_of_update t)) 0) ≡ record_place J (id_of_update t)
-unfolding record_place
-has_record J t c on =
-    let p = place_of (accepted J) t on in
-    let stands = place_beside [] 0 J p.0 t c p.1 in
-    rw (lt-ltb _ _ stands.below) refl
 
 -- ---- the order of leaves
 
@@ -207,26 +196,6 @@ leaves_end J us items i keys all c are past kept =
     kept ∙ ap (λ (ns : List ℕ). map (leaf_in J) (by_id (standing us ns))) (take_all i items past)
     ∙ ap (map (leaf_in J)) (same_by_id (standing us items) (leaves_of us) (standing_apart us items c) (leaves_apart us (own_ids_from_causal [] us c)) (leaves_stand us items c are))
     ∙ ap (λ (ts : List Update). map (leaf_in J) (by_id (leaves_of ts))) (sym all)
-
--- ---- their places
-
-places_of : (J : List Record) (ts : List Update) → IsCausal [] (accepted J) → ((t : Update) → IsIn t ts → IsIn t (accepted J)) → map (λ place. Some place) (map (λ (l : Leaf). l.place) (map (leaf_in J) ts)) ≡ map (λ t. record_place J (id_of_update t)) ts
-places_of J [] c on = refl
-places_of J (t ∷ ts) c on =
-    let first = has_record J t c (on t (inl refl)) in
-    let rest = places_of J ts c (λ u there. on u (inr there)) in
-    cc
-
-are_leaf_places : (here : Setting) (J : List Record) (places : List ℕ) (leaves : List Leaf) → IsLawful here J → places ≡ map (λ (l : Leaf). l.place) leaves → leaves ≡ map (leaf_in J) (by_id (leaves_of (accepted J))) → AreLeafPlaces J places
-are_leaf_places here J places leaves l are kept =
-    ap (map (λ place. Some place)) (are ∙ ap (map (λ (l : Leaf). l.place)) kept)
-    ∙ places_of J (by_id (leaves_of (accepted J))) (lawful_is_causal here J l) (λ t on. leaf_is_on (accepted J) t (from_by_id t (leaves_of (accepted J)) on))
-
--- so it is with what a call gives
-pub told_places : {E : Type 0} (here : Setting) (J : List Record) (leaves : List Leaf) (result : Result (List ℕ) E) → IsLawful here J → leaves ≡ map (leaf_in J) (by_id (leaves_of (accepted J)))
-    → IfOk result (λ places. places ≡ map (λ (l : Leaf). l.place) leaves) → IfOk result (λ places. AreLeafPlaces J places)
-told_places here J leaves (Ok places) l kept are = are_leaf_places here J places leaves l are kept
-told_places here J leaves (Err e) l kept are = tt
 
 -- ---- their names
 

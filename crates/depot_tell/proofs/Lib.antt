@@ -6,3 +6,4 @@ mod JoinedRows
 mod TailLaws
 mod LeafInserts
 mod RecordItems
+mod FrontOrder

@@ -1,15 +1,13 @@
-//! The leaves of what a node accepted, and the places of their records.
+//! The leaves of what a node accepted.
 ghost use Rattle.std.specs.Prelude.{◌≡◌, false, ◌<◌, length, map, IfOk};
-ghost use Rattle.depot_model.specs.Hello.{leaves_named, AreLeafPlaces};
+ghost use Rattle.depot_model.specs.Hello.{leaves_named};
 ghost use Rattle.depot_model.specs.History.{by_id, leaves_of};
 ghost use Rattle.depot_model.specs.Items.{at};
-ghost use Rattle.depot_model.specs.Lawful.{IsLawful};
 ghost use Rattle.depot_model.specs.Texts.{id_of_update};
 ghost use Rattle.depot_model.specs.Journal.{accepted};
 ghost use Rattle.depot_tell.specs.Telling.{leaf_in, name_of};
-ghost use Rattle.depot_store.specs.Holdings.{standing};
 
-use depot_base::{Hash32, Items, Memory, NodeId};
+use depot_base::{Hash32, Memory, NodeId};
 use depot_graph::Graph;
 use depot_model::{HelloLeaf, HelloLeaves, Past, Scheme};
 use depot_outside::Disk;
@@ -23,16 +21,6 @@ struct Leaf {
     writer: NodeId,
     id: Hash32,
     place: u32,
-}
-
-/// The places of the records that accepted the leaves, in rising order of the leaves' (writer, id).
-pub fn leaf_places<D: Disk, S: Scheme>(alloc: Global, store: &Store<D, S>) -> Result<Items, Memory>
-    requires runs { store.now.stopped ≡ false }
-    requires lawful { IsLawful (standing S.verifies store.now) store.now.records }
-    ensures { IfOk result (λ places. AreLeafPlaces store.now.records places) }
-{
-    let leaves = leaves_in_order(alloc, store)?;
-    places_of(alloc, &leaves)
 }
 
 /// The leaves, in rising order of (writer, id), as a hello names them.
@@ -60,14 +48,6 @@ fn leaves_in_order<D: Disk, S: Scheme>(
         leaves.insert(leaf_at(graph, *item, places[*item as usize]))?;
     }
     Ok(leaves)
-}
-
-/// Their places.
-fn places_of(alloc: Global, leaves: &BTreeSet<Leaf>) -> Result<Items, Memory>
-    ensures { IfOk result (λ places. places ≡ map (λ leaf. leaf.place) leaves.now.keys) }
-{
-    let places: Vec<u32> = leaves.iter().map(|leaf| leaf.place).collect(alloc)?;
-    Ok(Items::from_vec(places))
 }
 
 /// Their names.

@@ -1,5 +1,5 @@
 -- Trace files that are handed in one after the other, and the first of them that is refused.
-use Rattle.std.specs.Prelude.{◌≡◌, ◌⊎◌, ℕ, ◌+◌, ◌==◌, List, [], ◌∷◌, ◌++◌, map, take, Bool, true, false, IsTrue, Option, Some, None, Ok, Err, slice_get}
+use Rattle.std.specs.Prelude.{◌≡◌, ◌⊎◌, ℕ, ◌+◌, ◌==◌, List, [], ◌∷◌, map, take, Bool, true, false, IsTrue, Option, Some, None, Err, slice_get}
 use Rattle.std.specs.List.{AllByRecursion, list_any}
 use Rattle.depot_base.specs.Reading.{Decodes}
 use Rattle.depot_base.specs.declared.fault.DecodeError.TheVariants as errors

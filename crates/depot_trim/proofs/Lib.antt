@@ -12,6 +12,7 @@ mod Fillings
 mod MadeReaders
 mod KeptValues
 mod NamedMarks
+mod MarkedPlaces
 mod ReaderGrowth
 mod ReaderTold
 mod ReaderTexts

@@ -111,7 +111,7 @@ module _ {S : Type 0} (verifies : Verifies) (R : Reader) (t : Trimmed S) (is : I
   proof_decided p answer new fits d = record { said = tt; text = fits; decided = decided_here (given_proof p) answer new (proofs_alike R.here R.journal R.trimmed p) d }
 
   -- the first mark that it names is that of the update below which it stands
-  pub first_below : (s : Signed) (found : Option (List ℕ)) → PassesEarly R.here (pruned R.trimmed R.journal) s → ((ts : List Update) → t.marks.items ≡ map mark_of ts → found ≡ option_map id_of_update (find (names s.statement) ts)) → below_of R.here R.journal R.trimmed s ≡ found
+  pub first_below : (s : Signed) (found : Option (List ℕ)) → PassesEarly R.here (pruned R.trimmed R.journal) s → ((ts : List Update) → t.marks.list.items ≡ map mark_of ts → found ≡ option_map id_of_update (find (names s.statement) ts)) → below_of R.here R.journal R.trimmed s ≡ found
   first_below s found passes first = below_is R.here R.journal R.trimmed s passes.new passes.passed ∙ sym (first R.trimmed is.marks)
 
   -- ---- growing
@@ -143,7 +143,7 @@ module _ {S : Type 0} (verifies : Verifies) (R : Reader) (t : Trimmed S) (is : I
 
   -- the reader whose journal has grown
   pub grown_reader : (new : List Record) (u : Trimmed S) → MayTake R new → IsStateOf (pruned R.trimmed R.journal ++ new) u.state → setting verifies u.state ≡ setting verifies t.state → u.values ≡ t.values
-      → AreNamed (kept R ++ accepted new) u.named → AreCountsOf R.here.me (R.journal ++ new) u.counts → u.marks.items ≡ t.marks.items → IsReaderOf verifies (with_more R new) u
+      → AreNamed (kept R ++ accepted new) u.named → AreCountsOf R.here.me (R.journal ++ new) u.counts → u.marks.list.items ≡ t.marks.list.items → IsReaderOf verifies (with_more R new) u
   grown_reader new u m state stands same named counts marks = record {
     lawful = grown_lawful new m;
     some = some_still R.journal new is.some;

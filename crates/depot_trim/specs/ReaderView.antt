@@ -38,4 +38,4 @@ pub record IsReaderOf {S : Type 0} (verifies : Verifies) (R : Reader) (t : Trimm
   pub values : (hash : List ℕ) → values.held t.values hash ≡ value_with hash R.held
   pub named : AreNamed (kept R) t.named
   pub counts : AreCountsOf R.here.me R.journal t.counts
-  pub marks : t.marks.items ≡ map mark_of R.trimmed
+  pub marks : t.marks.list.items ≡ map mark_of R.trimmed

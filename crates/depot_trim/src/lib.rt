@@ -24,6 +24,7 @@ mod keys;
 mod leaf_items;
 mod make_error;
 mod making;
+mod marked_names;
 mod marking;
 mod marks;
 mod naming;

@@ -10,3 +10,14 @@ pub struct Mark {
     pub(crate) prev: Hash32,
     pub(crate) id: Hash32,
 }
+
+/// What a statement names an update by.
+#[derive(Clone, Copy, Debug, PartialEq, Eq, PartialOrd, Ord)]
+pub(crate) enum Name {
+    /// Its writer and its seq.
+    Number(NodeId, u32),
+    /// Its writer and its prev.
+    Prev(NodeId, Hash32),
+    /// Its id.
+    Id(Hash32),
+}

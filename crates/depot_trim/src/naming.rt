@@ -1,76 +1,103 @@
 //! Whether a statement names an update that was trimmed.
-ghost use Rattle.std.specs.Prelude.{◌≡◌, List, map, find, option_map};
+ghost use Rattle.std.specs.Prelude.{◌≡◌, ◌&&◌, ◌||◌, ◌==◌, ℕ, List, map, find, option_map, option_and_then, slice_get};
+ghost use Rattle.std.specs.Str.{bytes_eq};
 ghost use Rattle.depot_base.specs.declared.update.Update.{Update};
 ghost use Rattle.depot_model.specs.Lists.{is_among};
 ghost use Rattle.depot_model.specs.Order.{prevs, parents};
 ghost use Rattle.depot_model.specs.Texts.{id_of_update};
 ghost use Rattle.depot_model.specs.Trimming.{names};
+ghost use Rattle.depot_trim.specs.MarkedNames.{first_place, earlier_of};
 ghost use Rattle.depot_trim.specs.ReaderView.{mark_of};
 ghost use Rattle.depot_trim.specs.Naming.{names_mark};
 
-use crate::marks::Mark;
+use crate::marked_names::Marks;
+use crate::marks::{Mark, Name};
 use depot_base::{Dep, Hash32, Statement, Update};
 
 /// The id of the first of these updates that a statement names: as a parent, or both are of one writer with one seq or one prev, 32 zero
-/// bytes too.
-pub(crate) fn first_named(marks: &[Mark], statement: &Statement) -> Option<Hash32>
-    ensures { (ts : List Update) → marks.now ≡ map mark_of ts → result ≡ option_map id_of_update (find (names statement.now) ts) }
+/// bytes too. It takes no memory, and looks up a name for each parent and two more.
+pub(crate) fn first_named(marks: &Marks, statement: &Statement) -> Option<Hash32>
+    ensures { (ts : List Update) → marks.now.list.items ≡ map mark_of ts → result ≡ option_map id_of_update (find (names statement.now) ts) }
 {
-    first_mark(marks, statement)
+    id_at(marks.list.as_slice(), first_mark(marks, statement))
 }
 
-/// The id of the first mark that a statement names.
-fn first_mark(marks: &[Mark], statement: &Statement) -> Option<Hash32>
-    ensures { result ≡ option_map (λ m. m.id) (find (names_mark statement.now) marks.now) }
+/// The id of the mark at a place.
+fn id_at(marks: &[Mark], place: Option<usize>) -> Option<Hash32>
+    ensures { result ≡ option_map (λ m. m.id) (option_and_then (λ n. slice_get marks.now n) place) }
 {
-    for mark in marks {
-        if is_named(mark, statement) {
-            return Some(mark.id);
-        }
+    match place {
+        None => None,
+        Some(place) => match marks.get(place) {
+            None => None,
+            Some(mark) => Some(mark.id),
+        },
     }
-    None
 }
 
-/// Whether a statement names the update of a mark.
-#[tactic(auto, unfolding(crate::specs::Naming::names_mark))]
-fn is_named(mark: &Mark, statement: &Statement) -> bool
-    ensures { result ≡ names_mark statement.now mark.now }
+/// The place of the first mark that a statement names.
+fn first_mark(marks: &Marks, statement: &Statement) -> Option<usize>
+    ensures { result ≡ first_place (names_mark statement.now) marks.now.list.items }
 {
     match statement {
         Statement::Update(update) => {
-            is_parent(&mark.id, update)
-                || update.writer == mark.writer
-                    && (update.seq == mark.seq || update.prev == mark.prev)
+            earlier(
+                first_of_parents(marks, update),
+                first_of_numbers(marks, update),
+            )
         }
-        Statement::Voucher(voucher) => voucher.node == mark.writer && voucher.seq == mark.seq,
+        Statement::Voucher(voucher) => marks.first_with(Name::Number(voucher.node, voucher.seq)),
     }
 }
 
-/// Whether an id is that of a parent of an update.
-fn is_parent(id: &Hash32, update: &Update) -> bool
-    ensures { result ≡ is_among id.now (parents update.now) }
+/// The place of the first mark of an update's writer with its seq or its prev.
+fn first_of_numbers(marks: &Marks, update: &Update) -> Option<usize>
+    ensures { result ≡ first_place (λ m. (update.now.writer == m.writer) && ((update.now.seq == m.seq) || bytes_eq update.now.prev m.prev)) marks.now.list.items }
 {
-    is_prev(id, update) || is_entry(id, update.deps.as_slice())
+    earlier(
+        marks.first_with(Name::Number(update.writer, update.seq)),
+        marks.first_with(Name::Prev(update.writer, update.prev)),
+    )
 }
 
-/// Whether an id is that of an update's prev: 32 zero bytes name nothing.
-fn is_prev(id: &Hash32, update: &Update) -> bool
-    ensures { result ≡ is_among id.now (prevs update.now) }
+/// The place of the first mark of a parent of an update.
+fn first_of_parents(marks: &Marks, update: &Update) -> Option<usize>
+    ensures { result ≡ first_place (λ m. is_among m.id (parents update.now)) marks.now.list.items }
+{
+    earlier(
+        first_of_prev(marks, update),
+        first_of_entries(marks, update.deps.as_slice()),
+    )
+}
+
+/// The place of the mark of an update's prev: 32 zero bytes name nothing.
+fn first_of_prev(marks: &Marks, update: &Update) -> Option<usize>
+    ensures { result ≡ first_place (λ m. is_among m.id (prevs update.now)) marks.now.list.items }
 {
     if update.prev.is_zeros() {
-        return false;
+        return None;
     }
-    *id == update.prev
+    marks.first_with(Name::Id(update.prev))
 }
 
-/// Whether an id is that of one of these entries.
-fn is_entry(id: &Hash32, deps: &[Dep]) -> bool
-    ensures { result ≡ is_among id.now (map (λ d. d.id) deps.now) }
+/// The place of the first mark of one of these entries.
+fn first_of_entries(marks: &Marks, deps: &[Dep]) -> Option<usize>
+    ensures { result ≡ first_place (λ m. is_among m.id (map (λ d. d.id) deps.now)) marks.now.list.items }
 {
+    let mut first = None;
     for dep in deps {
-        if *id == dep.id {
-            return true;
-        }
+        first = earlier(first, marks.first_with(Name::Id(dep.id)));
     }
-    false
+    first
+}
+
+/// That of the two places which comes first.
+fn earlier(a: Option<usize>, b: Option<usize>) -> Option<usize>
+    ensures { result ≡ earlier_of a b }
+{
+    match (a, b) {
+        (None, _) => b,
+        (_, None) => a,
+        (Some(x), Some(y)) => { if y < x { b } else { a } }
+    }
 }

@@ -61,7 +61,7 @@ impl<S: Scheme> Trimmed<S> {
         requires passed { (R : Reader) → IsReaderOf S.verifies R self.old → PassesEarly R.here (pruned R.trimmed R.journal) signed }
         ensures { (R : Reader) → IsReaderOf S.verifies R self.old → Becomes S.verifies R (told_of R (given_statement signed)) result self.new }
     {
-        if let Some(below) = first_named(self.marks.as_slice(), &signed.statement) {
+        if let Some(below) = first_named(&self.marks, &signed.statement) {
             return Err(TrimTake::BelowCheckpoint(below));
         }
         let checked = self.state.check_after_signature(&signed, &id);

@@ -1,7 +1,5 @@
 //! A reader that gave up what was trimmed.
 ghost use Rattle.std.specs.Prelude.{◌≡◌, ℕ, List, length, All, Some, option_copied, slice_get};
-ghost use Rattle.std.specs.List.{list_any};
-ghost use Rattle.std.specs.Str.{bytes_eq};
 ghost use Rattle.depot_base.specs.declared.update.Update.{Update};
 ghost use Rattle.depot_model.specs.Items.{updates_at};
 ghost use Rattle.depot_model.specs.Journal.{accepted, named, value_with};
@@ -14,7 +12,7 @@ ghost use Rattle.depot_trim.specs.ReaderView.{IsReaderOf};
 ghost use Rattle.depot_trim.specs.ReaderAnswers.{IsKeptItem};
 ghost use Rattle.depot_trim.specs.Trimmings.{held_of};
 
-use crate::marks::Mark;
+use crate::marked_names::Marks;
 use depot_accept::State;
 use depot_base::{Hash32, Key, NamedValue, Update};
 use depot_model::{Past, Scheme};
@@ -34,7 +32,7 @@ pub struct Trimmed<S: Scheme> {
     pub(crate) values: Values,
     pub(crate) named: NamedValues,
     pub(crate) counts: Counts,
-    pub(crate) marks: Vec<Mark>,
+    pub(crate) marks: Marks,
 }
 
 impl<S: Scheme> Trimmed<S> {
@@ -75,7 +73,7 @@ impl<S: Scheme> Trimmed<S> {
     pub fn body(&self, id: &Hash32) -> Option<&Update>
         ensures { (R : Reader) → IsReaderOf S.verifies R self.now → option_copied result ≡ named (kept R) id.now }
     {
-        if has_mark(self.marks.as_slice(), id) {
+        if self.marks.has(id) {
             return None;
         }
         let graph = self.state.graph();
@@ -89,7 +87,7 @@ impl<S: Scheme> Trimmed<S> {
     pub fn kept(&self) -> u32
         ensures { (R : Reader) → IsReaderOf S.verifies R self.now → result ≡ length (kept R) }
     {
-        (self.accepted() as usize).saturating_sub(self.marks.len()) as u32
+        (self.accepted() as usize).saturating_sub(self.marks.list.len()) as u32
     }
 
     /// How many updates were accepted, those that were trimmed among them. It takes no memory.
@@ -108,18 +106,4 @@ fn held_as<'a>(values: &'a Values, name: &NamedValue) -> Option<&'a [u8]>
         Some(value) if value.len() == name.size as usize => Some(value),
         _ => None,
     }
-}
-
-/// Whether one of these marks has this id.
-fn has_mark(marks: &[Mark], id: &Hash32) -> bool
-    ensures { result ≡ list_any (λ m. bytes_eq m.id id.now) marks.now }
-{
-    marks.iter().any(|mark| is_mark_of(mark, id))
-}
-
-/// Whether a mark has this id.
-fn is_mark_of(mark: &Mark, id: &Hash32) -> bool
-    ensures { result ≡ bytes_eq mark.now.id id.now }
-{
-    mark.id == *id
 }

@@ -13,6 +13,7 @@ ghost use Rattle.depot_trim.specs.Trimmings.{ids_in, given_up, as_untrimmed};
 use crate::below::{graph_below, trimmed_items};
 use crate::filling::state_without;
 use crate::keeping::{names_left, values_left};
+use crate::marked_names::Marks;
 use crate::marking::marks_of;
 use crate::opening::{OpenError, opened};
 use crate::trim_error::TrimError;
@@ -86,7 +87,7 @@ fn reader_of<D: Disk, S: Scheme, G: Signer<Of = S>>(
         values: values_left(alloc, node, trimmed)?,
         named: names_left(alloc, graph, trimmed)?,
         counts: node.counts(),
-        marks: marks_of(alloc, graph, trimmed)?,
+        marks: Marks::new(alloc, marks_of(alloc, graph, trimmed)?)?,
     })
 }
 

@@ -8,9 +8,6 @@ use Rattle.sha2.specs.Sha256.{sha256}
 use Rattle.depot_base.proofs.GeneralLaws.{same_bytes as same_slot}
 use Rattle.depot_values.specs.ValueSlots.{Slots, has_slot, value_at, AreHashed, PutsSlot}
 
-in_slot : Option (Option (List ℕ)) → Option (List ℕ)
-in_slot o = option_and_then (λ slot. slot) o
-
 -- the slot that was put in
 pub value_put : (old new : Slots) (hash : List ℕ) (slot : Option (List ℕ)) → PutsSlot old new hash slot → value_at new hash ≡ slot
 value_put old new hash slot p = ap (option_and_then (λ slot. slot)) (p.slots hash ∙ ap (λ (b : Bool). cond b (Some slot) (get bytes_eq old hash)) (same_slot hash))

@@ -9,7 +9,7 @@ use Rattle.depot_model.proofs.CallsOnDisk.{nothing_called, called_well}
 use Rattle.depot_model.proofs.StopLaws.{idle_lasts}
 use Rattle.depot_offers.specs.BundleStreams.{IsStream}
 use Rattle.depot_gossip.proofs.ApartLaws.{unvouched_apart, unvouched_foreign, unvouched_fresh}
-use Rattle.depot_gossip.proofs.StreamLaws.{not_bundled, not_prepared_stops, not_prepared_keeps, no_disk, not_vouched, only_vouched, all_bundled, stops_alike, keeps_alike, same_fault, memory_stops, memory_keeps, good_stops, good_keeps}
+use Rattle.depot_gossip.proofs.StreamLaws.{not_bundled, not_prepared_stops, not_prepared_keeps, no_disk, not_vouched, only_vouched, all_bundled, stops_alike, keeps_alike, same_fault, memory_stops, memory_keeps, still_runs, good_stops, good_keeps}
 use Rattle.depot_feeds.proofs.LastingStreams.{nothing_in}
 use Rattle.depot_gossip.proofs.VoucherGrowth.{vouched_in, not_vouched_in, vouched_lasts, not_vouched_lasts, not_vouched_calls}
 use Rattle.depot_gossip.proofs.own_bundle.bundle.Goals as goal
@@ -71,6 +71,9 @@ returns-in_err-own_vouchers-clause-disk g c =
     rw (p.1, p.2) (keeps_alike _ _ _ _ _ _ _ _ f.disk f.was_disk c.in_err-own_vouchers.ensures.disk)
 
 -- ---- the stream
+
+pub told_of-requires : goal.told_of-requires
+told_of-requires g c = still_runs (g.R.Replica.stopped c.args.node.now) (g.R.Replica.stopped c.own_vouchers.new.self) c.in_ok-chosen.ensures.prepares.runs c.in_ok-own_vouchers.ensures.stops
 
 pub returns-in_err-told_of-clause-bundles : goal.returns-in_err-told_of-clause-bundles
 returns-in_err-told_of-clause-bundles g c =

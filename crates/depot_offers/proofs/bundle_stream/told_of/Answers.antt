@@ -1,8 +1,6 @@
-use Rattle.std.proofs.Common.{ap, ◌∙◌}
 use Rattle.std.proofs.lemmas.Result.{IfOk-weaker}
-use Rattle.depot_model.specs.Lists.{is_among}
 use Rattle.depot_offers.specs.BundleStreams.{IsJoined, IsStream}
-use Rattle.depot_offers.proofs.FrontLaws.{front_alike, joined_is_stream}
+use Rattle.depot_offers.proofs.FrontLaws.{joined_is_stream}
 use Rattle.depot_offers.proofs.bundle_stream.told_of.Goals as goal
 
 pub returns : goal.returns
@@ -11,5 +9,4 @@ returns g c =
     let J = g.R.Replica.records c.args.node.now in
     let h = c.args.hello.now in
     let s = c.args.sending.now in
-    let front = front_alike sign J h c.in_ok-ids.ids.keys s.ids c.in_ok-front.front (λ k. c.in_ok-ids.ensures k ∙ ap (is_among k) c.as_slice.ensures) c.in_ok-front.ensures in
-    IfOk-weaker c.stream_of.result (IsJoined c.in_ok-front.front s) (IsStream sign J h s) (λ b joined. joined_is_stream sign J h s c.in_ok-front.front b front joined) c.stream_of.ensures
+    IfOk-weaker c.stream_of.result (IsJoined c.in_ok-front.front s) (IsStream sign J h s) (λ b joined. joined_is_stream sign J h s c.in_ok-front.front b c.in_ok-front.ensures joined) c.stream_of.ensures

@@ -1,8 +1,9 @@
 use Rattle.std.proofs.Common.{refl, sym, ap, subst, ◌∙◌, arith}
 use Rattle.depot_outside.specs.Told.{sinks}
 use Rattle.depot_session.specs.declared.ending.Ending.TheVariants as ending
+use Rattle.depot_session.specs.Turns.{ends_of_put}
 use Rattle.depot_session.proofs.Called.{not_where_some}
-use Rattle.depot_session.proofs.PutTurns.{ends_of_put, put_ends_calmly, put_keeps, put_to_disk, put_told, put_without_memory, puts_at, step_of_put}
+use Rattle.depot_session.proofs.PutTurns.{put_ends_calmly, put_keeps, put_to_disk, put_told, put_without_memory, puts_at, step_of_put}
 use Rattle.depot_session.proofs.ToldFaults.{EndsCalmly, disk_is_fault, memory_is_fault, names_fault, names_memory, names_told, never_rose}
 use Rattle.depot_world.proofs.TrueReceipts.{put_stays_true}
 use Rattle.depot_session.proofs.commands.put.Goals as goal

@@ -1,4 +1,4 @@
-use Rattle.std.proofs.Common.{◌≡◌, ◌<◌, ◌⊎◌, Bool, IsTrue, List, [], ◌++◌, ℕ, refl, sym, ap, subst, ◌∙◌, arith, inl, inr}
+use Rattle.std.proofs.Common.{◌≡◌, ◌<◌, ◌⊎◌, IfOk, Bool, IsTrue, List, [], ◌++◌, ℕ, refl, sym, ap, subst, ◌∙◌, arith, inl, inr}
 use Rattle.std.proofs.lemmas.List.{append-nil}
 use Rattle.depot_model.specs.Checks.{Setting}
 use Rattle.depot_model.specs.Lawful.{IsLawful}
@@ -35,7 +35,7 @@ returns-in-Err-clause-answers g c = record {
       let told_back = subst (λ (b : Bool). IsTrue b) (sym e.tells_back) told in
       inr (not_started here (g.G.Signer.signature_of c.args.signer) J reads c.args.script.now (disks g.D.Disk c.args.disk c.in-Err.field-0.disk) (shelves g.F.Shelf c.args.shelf.now c.args.shelf.now) (sinks g.K.Sink c.args.out.now c.refused-ending.new.out) has
       (λ image left. start.each image (g.met.D.Disk.counts_now c.in-Err.field-0.disk (g.D.Disk.moment c.args.disk) image start.later left)) (g.met.D.Disk.reads_as_image c.in-Err.field-0.disk told_back) (front_longer []) (λ name. refl) (start_is_correct here J reads (g.F.Shelf.file c.args.shelf.now) c.is_formed.ensures (has_from_key here (g.G.Signer.key_of c.args.signer) keyed) lawful are) [] (asked g.F.Shelf c.args.shelf.now c.args.shelf.now)
-      (asks_nothing c.args.script.now (asked g.F.Shelf c.args.shelf.now c.args.shelf.now) refl refl) c.in-Err.field-0.error c.refused-ending.result
+      (asks_nothing here (g.G.Signer.signature_of c.args.signer) (session_from here J reads (g.F.Shelf.file c.args.shelf.now)) c.args.script.now (asked g.F.Shelf c.args.shelf.now c.args.shelf.now) refl refl) c.in-Err.field-0.error c.refused-ending.result
       (lawful_file_starts here (g.G.Signer.key_of c.args.signer) (g.D.Disk.tells c.args.disk) (g.D.Disk.seen c.args.disk) J c.in-Err.field-0.error told keyed has lawful e.refused) e.cause.rose c.refused-ending.ensures.told);
 }
 
@@ -85,7 +85,7 @@ pub returns-clause-untouched : goal.returns-clause-untouched
 returns-clause-untouched g c = λ unkeyed. absurd (unkeyed c.in-Ok.ensures.key)
 
 pub returns-in-Err-clause-loads : goal.returns-in-Err-clause-loads
-returns-in-Err-clause-loads g c = (0, sym (append-nil (g.F.Shelf.loads c.args.shelf.now)))
+returns-in-Err-clause-loads g c = ([], sym (append-nil (g.F.Shelf.loads c.args.shelf.now)))
 
 pub returns-in-Err-clause-begins : goal.returns-in-Err-clause-begins
 returns-in-Err-clause-begins g c = inl (record { error = c.in-Err.field-0.error; is = c.in-Err.ensures.refused; told = c.refused-ending.ensures.told; disk_failed = c.in-Err.ensures.cause.rose; unchanged = c.in-Err.ensures.unchanged; files = λ name. refl }, record { loads = sym (append-nil (g.F.Shelf.loads c.args.shelf.now)); stores = refl })
@@ -106,7 +106,7 @@ returns-clause-answers g c = record {
       let told_then = subst (λ (b : Bool). IsTrue b) (sym e.tells) told in
       let told_now = subst (λ (b : Bool). IsTrue b) (sym keeps.lasts.lasts.told) told_then in
       let same = lawful_file_is_read here (g.D.Disk.seen c.args.disk) J c.in-Ok.node.store.records has lawful (e.records told) in
-      let plays = c.play-played.ensures.plays s shelf_told (record { node = sym (ap (λ (h : Setting). h.me) e.stands); journal = sym same; same_files = λ name. refl }) refl in
+      let plays = c.play-played.ensures.plays s shelf_told (record { node = sym (ap (λ (h : Setting). h.me) e.stands); journal = sym same; same_files = λ name. refl }) refl refl in
       rw c.as_slice.ensures at (answered _ c.in-Ok.node c.play-played.new.node _ here _ (g.G.Signer.signature_of c.args.signer) J s c.as_slice.result.now (disks g.D.Disk c.args.disk c.into_disk.result) (shelves g.F.Shelf c.args.shelf.now c.play-played.new.shelf) (asked g.F.Shelf c.args.shelf.now c.play-played.new.shelf) (sinks g.K.Sink c.args.out.now c.play-played.new.out)
       c.play-played.result c.ended.result e.stands e.signs c.ended.ensures told_then (λ image left. subst (λ d. g.D.Disk.may_leave d image) c.into_disk.ensures left)
       (subst (λ d. g.D.Disk.may_leave d (g.D.Disk.seen d)) (sym c.into_disk.ensures) (g.met.D.Disk.reads_as_image now told_now))
@@ -131,3 +131,6 @@ returns-clause-sink_fault g c = λ rose. c.ended.ensures ∙ sink_end c.play-pla
 
 pub returns-clause-shelf : goal.returns-clause-shelf
 returns-clause-shelf g c = tells_by_ending _ _ _ _ c.play-played.result c.ended.result c.ended.ensures c.play-played.ensures.shelf
+
+pub play-played-requires-clause-roster : goal.play-played-requires-clause-roster
+play-played-requires-clause-roster g c = subst (λ listed. IfOk c.copy-kept.result (λ x. x ≡ listed)) (sym (ap (λ (h : Setting). h.listed) c.in-Ok.ensures.stands)) c.copy-kept.ensures

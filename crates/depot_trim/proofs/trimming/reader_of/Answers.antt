@@ -35,4 +35,4 @@ returns g c =
     let tests = flags ∙ flags_of_test J ids (lawful_is_causal here J lawful) ∙ ap (map (is_trimmed J ids)) (sym c.graph-graph.ensures) in
     made g.S.Scheme.verifies here J ids _ lawful c.args.node.now.some (c.in_ok-state_without.ensures.state ts over) c.in_ok-state_without.ensures.stands (λ h. c.in_ok-values_left.ensures ts h flags)
     (subst (λ (us : List Update). AreNamed (left_of ts us) c.in_ok-names_left.field-0) c.graph-graph.ensures (c.in_ok-names_left.ensures ts over))
-    c.counts.ensures (c.in_ok-marks_of.ensures (is_trimmed J ids) tests ∙ ap (λ (us : List Update). map mark_of (filter (is_trimmed J ids) us)) c.graph-graph.ensures)
+    c.counts.ensures (c.in_ok-new.ensures ∙ c.in_ok-marks_of.ensures (is_trimmed J ids) tests ∙ ap (λ (us : List Update). map mark_of (filter (is_trimmed J ids) us)) c.graph-graph.ensures)

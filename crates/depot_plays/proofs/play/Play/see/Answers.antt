@@ -1,7 +1,8 @@
-use Rattle.std.proofs.Common.{List, [], ◌∷◌, take, refl, sym, ap, subst, ◌∙◌}
+use Rattle.std.proofs.Common.{◌≡◌, List, [], ◌∷◌, take, Some, refl, sym, ap, subst, ◌∙◌}
 use Rattle.depot_base.specs.declared.update.Update.{Update}
 use Rattle.depot_graph.specs.Kept.{updates_in}
 use Rattle.depot_model.specs.Journal.{accepted}
+use Rattle.depot_model.specs.Texts.{id_of_update}
 use Rattle.depot_world.specs.Run.{seen_with}
 use Rattle.depot_stage.specs.Seen.{HasSeenParents}
 use Rattle.depot_plays.proofs.NewUpdates.{added_fits, added_has_parents, adding_goes_on}
@@ -15,6 +16,13 @@ loop-item-init g c = record {
   readers = refl;
   seen = sym (seen_add_nothing (updates_in c.args.self.now.seen.graph.items.entries) (take c.args.count (accepted (g.A.Actor.view c.args.actor.now).journal)) c.requires);
 }
+
+pub add-requires-clause-id : goal.add-requires-clause-id
+add-requires-clause-id g c =
+    let t = c.id.ensures in
+    let both : Some t.0 ≡ Some c.update.result.now = sym t.1.0 ∙ c.update.ensures in
+    let same : t.0 ≡ c.update.result.now = cc in
+    sym t.1.1 ∙ ap (λ (u : Update). id_of_update u) same
 
 pub add-requires-clause-text : goal.add-requires-clause-text
 add-requires-clause-text g c =

@@ -85,7 +85,7 @@ invariant_of-self-in-Ok-written g c =
     let readings = c.in_ok-read.ensures.ok J (c.self.invariant.2 (runs_inside _ _ c.self.view_is c.requires.whole.runs)) count lawful in (
       r.are,
       r.within,
-      λ runs. subst (λ (K : List Record). AreReadings K c.read.new.self.kept.state c.read.new.self.kept.values c.read.new.self.kept.totals c.read.new.self.named c.read.new.self.lacking c.read.new.self.places.places c.read.new.self.mine.ids) (sym r.records) readings,
+      λ runs. subst (λ (K : List Record). AreReadings K c.read.new.self.kept.state c.read.new.self.kept.values c.read.new.self.kept.totals c.read.new.self.named c.read.new.self.lacking c.read.new.self.places.places c.read.new.self.mine.ids c.read.new.self.front) (sym r.records) readings,
     )
 
 pub returns-in-Ok-written-clause-ok : goal.returns-in-Ok-written-clause-ok

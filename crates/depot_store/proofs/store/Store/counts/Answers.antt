@@ -8,5 +8,5 @@ pub returns : goal.returns
 returns g c = record {
   records = sym (read_count c.self.inside.read c.self.inside.journal.records c.self.invariant.0 c.self.invariant.1) ∙ ap (λ (v : Holding g.row.D.Denot). length v.records) c.self.view_is;
   bytes = c.size.ensures.size ∙ size_seen _ _ c.self.inside.read c.self.inside.journal.records c.self.view_is c.requires refl refl c.self.invariant.0;
-  leaves = leaves_seen _ _ c.self.inside.readings.kept.state _ _ _ _ _ _ c.self.view_is refl (c.self.invariant.2 (runs_inside _ _ c.self.view_is c.requires.runs));
+  leaves = leaves_seen _ _ c.self.inside.readings.kept.state _ _ _ _ _ _ _ c.self.view_is refl (c.self.invariant.2 (runs_inside _ _ c.self.view_is c.requires.runs));
 }

@@ -31,7 +31,7 @@ invariant_of-self-2 g c =
     let count = sym (read_count c.self.inside.read c.self.inside.journal.records c.self.invariant.0 c.self.invariant.1) in (
       r.are,
       r.within,
-      λ runs. subst (λ (K : List Record). AreReadings K c.read.new.self.kept.state c.read.new.self.kept.values c.read.new.self.kept.totals c.read.new.self.named c.read.new.self.lacking c.read.new.self.places.places c.read.new.self.mine.ids) (sym r.records)
+      λ runs. subst (λ (K : List Record). AreReadings K c.read.new.self.kept.state c.read.new.self.kept.values c.read.new.self.kept.totals c.read.new.self.named c.read.new.self.lacking c.read.new.self.places.places c.read.new.self.mine.ids c.read.new.self.front) (sym r.records)
           (c.in_ok-read.ensures.ok J (c.self.invariant.2 runs) count lawful),
     )
 
