@@ -21,9 +21,9 @@ use Rattle.depot_model.specs.History.{history_hash}
 use Rattle.depot_model.specs.Journal.{named, prev_of}
 use Rattle.depot_model.specs.Items.{at, place_of_id, updates_at, places_of, AreItemsOf}
 use Rattle.depot_model.specs.Checks.{Sight, sight, lost, missing, not_above, clock_low, greatest_of, clock_far, bad_history}
-use Rattle.depot_history.specs.Closure.{reached, closure_of}
+use Rattle.depot_graph.specs.Closure.{reached, closure_of}
 use Rattle.depot_graph.proofs.ItemPlaces.{has_place, places_within}
-use Rattle.depot_history.proofs.Reaching.{past_is_reached}
+use Rattle.depot_graph.proofs.Reaching.{past_is_reached}
 use Rattle.depot_accept.proofs.FirstFound.{first_front, first_behind, none_front, none_behind}
 use Rattle.depot_accept.proofs.NamedUpdates.{named_found, named_lost, prev_named, each_parent}
 

@@ -15,8 +15,7 @@ ghost use Rattle.depot_accept.specs.Content.{checks_of_parents};
 
 use depot_base::limits::MOST_AHEAD;
 use depot_base::{Check, Dep, Hash32, Memory, Update};
-use depot_graph::Graph;
-use depot_history::history_hash;
+use depot_graph::{Graph, history_hash};
 use depot_model::Past;
 use std::alloc::Global;
 

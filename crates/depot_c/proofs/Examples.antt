@@ -3,10 +3,10 @@ use Rattle.std.proofs.Common.{◌≡◌, true, false, Some, None, refl}
 use Rattle.depot_decide.specs.declared.put_answers.PutError.TheVariants as put_error
 use Rattle.depot_feeds.specs.declared.feed_error.FeedError.TheVariants as feed_error
 use Rattle.depot_node.specs.declared.start_error.StartError.TheVariants as start_error
-use Rattle.depot_offers.specs.declared.bundle_error.BundleError.TheVariants as bundle_error
+use Rattle.depot_gossip.specs.declared.bundle_error.BundleError.TheVariants as bundle_error
 use Rattle.depot_c.specs.Asked.{asked_by}
 use Rattle.depot_c.specs.Refusals.{number_of, outcome_of}
-use Rattle.depot_c.specs.Seats.{for_disk}
+use Rattle.depot_c.specs.NodeViews.{for_disk}
 use Rattle.depot_c.specs.declared.ask.Ask.TheVariants as ask
 use Rattle.depot_c.specs.declared.ask.NodeAsk.TheVariants as node_ask
 use Rattle.depot_c.specs.declared.refused.Refused.TheVariants as refused

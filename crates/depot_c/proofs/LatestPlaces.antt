@@ -16,7 +16,7 @@ use Rattle.depot_model.specs.Journal.{accepted, held_as, seen_as, seen_under}
 use Rattle.depot_model.specs.Lists.{IsIn}
 use Rattle.depot_model.specs.Order.{AreLatestIn}
 use Rattle.depot_node.specs.ShownValues.{value_seen}
-use Rattle.depot_c.specs.Seats.{HasLatest, IsItemAt, IsText, Reading, Seat, Told, seen_by, shown_value}
+use Rattle.depot_c.specs.NodeViews.{HasLatest, IsItemAt, IsText, Reading, NodeView, CallAnswer, seen_by, shown_value}
 use Rattle.depot_c.specs.declared.answer.Answer.TheVariants as answer
 use Rattle.depot_c.specs.declared.refused.Refused.TheVariants as refused
 
@@ -44,14 +44,14 @@ at_items us (n ∷ items) (suc place) d all inside =
     ap (λ (o : Option Update). slice_get (option_to_list o ++ updates_at us items) (suc place)) r.1 ∙ at_items us items place d (behind (length us) n items all) (omega (arith, inside))
 
 -- an item of them is the place of an update
-pub item_is : (s : Seat) (key items : List ℕ) (place : ℕ) (d : ℕ) → AreLatestIn key (accepted s.records) (updates_at (accepted s.records) items) → All (λ i. i < length (accepted s.records)) items → place < length items → IsItemAt s key place (Some (get_or items place d))
+pub item_is : (s : NodeView) (key items : List ℕ) (place : ℕ) (d : ℕ) → AreLatestIn key (accepted s.records) (updates_at (accepted s.records) items) → All (λ i. i < length (accepted s.records)) items → place < length items → IsItemAt s key place (Some (get_or items place d))
 item_is s key items place d are all inside =
     let us = accepted s.records in
     let r = at_place us (get_or items place d) (all place d inside) in
     record { latest = updates_at us items; are = are; update = r.0; at = at_items us items place d all inside ∙ r.1; shows = r.1 }
 
 -- and behind the last of them stands none
-pub no_item : (s : Seat) (key items : List ℕ) (place : ℕ) → AreLatestIn key (accepted s.records) (updates_at (accepted s.records) items) → All (λ i. i < length (accepted s.records)) items → length items ≤ place → HasLatest s key place
+pub no_item : (s : NodeView) (key items : List ℕ) (place : ℕ) → AreLatestIn key (accepted s.records) (updates_at (accepted s.records) items) → All (λ i. i < length (accepted s.records)) items → length items ≤ place → HasLatest s key place
 no_item s key items place are all behind =
     let us = accepted s.records in
     record { latest = updates_at us items; are = are; few = omega (arith, as_many us items all, behind) }
@@ -68,12 +68,12 @@ stands_in [] place u at = absurd cc
 stands_in (x ∷ us) zero u at = inl cc
 stands_in (x ∷ us) (suc place) u at = inr (stands_in us place u at)
 
-pub item_writes : (s : Seat) (key : List ℕ) (place item : ℕ) → IsItemAt s key place (Some item) → (u : Update) → slice_get (accepted s.records) item ≡ Some u → Writes key u
+pub item_writes : (s : NodeView) (key : List ℕ) (place item : ℕ) → IsItemAt s key place (Some item) → (u : Update) → slice_get (accepted s.records) item ≡ Some u → Writes key u
 item_writes s key place item is u at =
     subst (Writes key) (one_update is.update u (sym is.shows ∙ at)) (is.are.only is.update (stands_in is.latest place is.update is.at)).writes
 
 -- what is told of a write is what a read tells
-told_text : (P : Told → Type 0) (text : List ℕ) (told : Told) → IsText text told → P (Ok (answer.Text text)) → P (Err refused.Memory) → P told
+told_text : (P : CallAnswer → Type 0) (text : List ℕ) (told : CallAnswer) → IsText text told → P (Ok (answer.Text text)) → P (Err refused.Memory) → P told
 told_text P text (Ok (answer.Text t)) is one other = subst (λ (t : List ℕ). P (Ok (answer.Text t))) (sym is) one
 told_text P text (Err refused.Memory) is one other = other
 told_text P text (Ok answer.Nothing) is one other = absurd is
@@ -90,7 +90,7 @@ told_text P text (Err (refused.Put e)) is one other = absurd is
 told_text P text (Err (refused.Bundle e)) is one other = absurd is
 told_text P text (Err (refused.Feed e)) is one other = absurd is
 
-pub read_so : (s : Seat) (key : List ℕ) (place item : ℕ) (u : Update) (seen : Sighting) (told : Told) → IsItemAt s key place (Some item) → slice_get (accepted s.records) item ≡ Some u → seen ≡ seen_under s.records key u
+pub read_so : (s : NodeView) (key : List ℕ) (place item : ℕ) (u : Update) (seen : Sighting) (told : CallAnswer) → IsItemAt s key place (Some item) → slice_get (accepted s.records) item ≡ Some u → seen ≡ seen_under s.records key u
     → IsText (text_of_write (record { update = u; seen = seen })) told → Reading s key place told
 read_so s key place item u seen told is at shown text =
     let same : is.update ≡ u = one_update is.update u (sym is.shows ∙ at) in

@@ -1,4 +1,4 @@
 mod AskedChanges
 mod Examples
 mod LatestPlaces
-mod FedSeats
+mod FedNodeViews

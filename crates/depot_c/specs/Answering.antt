@@ -1,6 +1,6 @@
 -- What the caller reads of an answer.
 use Rattle.std.specs.Prelude.{ℕ, List, [], ◌∷◌, get_or, if◌then◌else◌}
-use Rattle.depot_offers.specs.declared.bundle_stream.Bundled.{Bundled}
+use Rattle.depot_gossip.specs.declared.bundle_stream.Bundled.{Bundled}
 use Rattle.depot_c.specs.declared.answer.Answer.{Answer}
 use Rattle.depot_c.specs.declared.answer.Answer.TheVariants as answer
 

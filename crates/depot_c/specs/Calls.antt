@@ -4,7 +4,7 @@ use Rattle.depot_c.specs.Answering.{bytes_of, number_in, seq_in, tally_in}
 use Rattle.depot_c.specs.Asked.{asked_by}
 use Rattle.depot_c.specs.Handles.{Does, View, nothing_kept}
 use Rattle.depot_c.specs.Refusals.{IsTold, number_of, outcome_of, words_of}
-use Rattle.depot_c.specs.Seats.{Told}
+use Rattle.depot_c.specs.NodeViews.{CallAnswer}
 use Rattle.depot_c.specs.declared.answer.Answer.{Answer}
 use Rattle.depot_c.specs.declared.answer.Answer.TheVariants as answer
 use Rattle.depot_c.specs.declared.ask.Ask.{Ask}
@@ -27,13 +27,13 @@ pub record IsCopied (bytes : List ℕ) (at : ℕ) (room : List ℕ) (count : ℕ
   pub copied : output ≡ take count (drop at bytes) ++ drop count room
 
 -- The caller is told the status of what was answered, and the answer is kept: of a refusal its words.
-abbrev pub Settles : Told → ℕ → Answer → Type 0
+abbrev pub Settles : CallAnswer → ℕ → Answer → Type 0
 Settles (Ok a) status kept = (status ≡ number_of outcome.Done) × (kept ≡ a)
 Settles (Err r) status kept = (status ≡ number_of (outcome_of r)) × IsTold (words_of r) (bytes_of kept)
 
 -- What is asked is done, and the caller is told.
 pub record Acts (a : Ask) (n : ℕ) (input : List ℕ) (v : View) (status : ℕ) (kept : Answer) (w : View) : Type 0 where
-  pub told : Told
+  pub told : CallAnswer
   pub does : Does a n input v told w
   pub settles : Settles told status kept
 

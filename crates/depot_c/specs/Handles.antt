@@ -17,7 +17,7 @@ use Rattle.depot_model.specs.Winternitz.{winternitz_signature, winternitz_verifi
 use Rattle.depot_model.specs.declared.bundle.Refusal.{Refusal}
 use Rattle.depot_model.specs.declared.bundle.Report.{Report}
 use Rattle.depot_winter.specs.TreeSigning.{key_of_seed}
-use Rattle.depot_c.specs.Seats.{IsText, RunsOn, Seat, Stays, Told}
+use Rattle.depot_c.specs.NodeViews.{IsText, RunsOn, NodeView, Stays, CallAnswer}
 use Rattle.depot_c.specs.Serving.{AsksNode}
 use Rattle.depot_c.specs.Starts.{IsNodeNumber, IsRefusedOn, IsStartedOn}
 use Rattle.depot_c.specs.declared.answer.Answer.TheVariants as answer
@@ -38,7 +38,7 @@ pub record View : Type 0 where
   pub listed : Option (List RosterEntry)
   pub kept : Option Kept
   -- the node
-  pub seat : Option Seat
+  pub node_view : Option NodeView
   -- the stream that is fed to it, and why it was closed, where the program's lines say why
   pub feed : Option Stream
   pub closing : Option Closing
@@ -46,12 +46,12 @@ pub record View : Type 0 where
   pub report : Option Report
 
 abbrev pub nothing_kept : View
-nothing_kept = record { listed = None; kept = None; seat = None; feed = None; closing = None; report = None }
+nothing_kept = record { listed = None; kept = None; node_view = None; feed = None; closing = None; report = None }
 
 -- ---- rosters and keys
 
 -- Keeps the roster of a text. Where the text is none, the handle is as before, with the roster from before.
-abbrev pub KeepsRoster : List ℕ → View → Told → View → Type 0
+abbrev pub KeepsRoster : List ℕ → View → CallAnswer → View → Type 0
 KeepsRoster text v (Ok answer.Nothing) w = (listed : List RosterEntry) × (ParsesRoster text (Ok listed) × (w ≡ record v { listed = Some listed }))
 KeepsRoster text v (Err (refused.Roster e)) w = ParsesRoster text (Err e) × (w ≡ v)
 KeepsRoster text v other w = ⊥
@@ -66,7 +66,7 @@ kept_of height seed = record { key = key_of_seed seed height; sign = winternitz_
 
 -- Makes the key and keeps its signer. Input comes exactly where there is none, and then, as where no memory is found, the handle is
 -- as before.
-abbrev pub KeepsKey : ℕ → List ℕ → View → Told → View → Type 0
+abbrev pub KeepsKey : ℕ → List ℕ → View → CallAnswer → View → Type 0
 KeepsKey height seed v (Ok answer.Nothing) w = IsSeed height seed × (w ≡ record v { kept = Some (kept_of height seed) })
 KeepsKey height seed v (Err refused.Input) w = (IsSeed height seed → ⊥) × (w ≡ v)
 KeepsKey height seed v (Err refused.Memory) w = IsSeed height seed × (w ≡ v)
@@ -86,10 +86,10 @@ pub record HasStarted (n : ℕ) (file : List ℕ) (v w : View) : Type 0 where
   pub roster : v.listed ≡ Some listed
   pub kept : Kept
   pub signer : v.kept ≡ Some kept
-  pub free : v.seat ≡ None
-  pub seat : Seat
-  pub started : IsStartedOn (record { verifies = winternitz_verifies; me = n; listed = listed }) kept.key kept.sign file seat
-  pub is : w ≡ record v { seat = Some seat }
+  pub free : v.node_view ≡ None
+  pub node_view : NodeView
+  pub started : IsStartedOn (record { verifies = winternitz_verifies; me = n; listed = listed }) kept.key kept.sign file node_view
+  pub is : w ≡ record v { node_view = Some node_view }
 
 -- No node is started, for this. The roster and the signer stay.
 pub record HasNotStarted (n : ℕ) (file : List ℕ) (v : View) (r : Refused) : Type 0 where
@@ -101,11 +101,11 @@ pub record HasNotStarted (n : ℕ) (file : List ℕ) (v : View) (r : Refused) : 
 
 -- whether a node can be started: there are a roster and a signer, and no node yet
 abbrev pub is_ready : View → Bool
-is_ready v = is_none v.seat && (is_some v.listed && is_some v.kept)
+is_ready v = is_none v.node_view && (is_some v.listed && is_some v.kept)
 
 -- Starts a node from the bytes of a journal's file. Input comes exactly where the number is no node's, and then Order exactly where
 -- there is no roster, no key, or a node already; then the handle is as before, and so it is where no memory is found.
-abbrev pub Starts : ℕ → List ℕ → View → Told → View → Type 0
+abbrev pub Starts : ℕ → List ℕ → View → CallAnswer → View → Type 0
 Starts n file v (Ok answer.Nothing) w = HasStarted n file v w
 Starts n file v (Err (refused.Start e)) w = HasNotStarted n file v (refused.Start e) × (w ≡ v)
 Starts n file v (Err refused.Input) w = (IsNodeNumber n → ⊥) × (w ≡ v)
@@ -114,9 +114,9 @@ Starts n file v (Err refused.Memory) w = IsNodeNumber n × ((is_ready v ≡ true
 Starts n file v other w = ⊥
 
 -- The node ends, and with it the stream that is fed to it. The roster and the signer stay.
-abbrev pub Ends : View → Told → View → Type 0
-Ends v (Ok answer.Nothing) w = (is_none v.seat ≡ false) × (w ≡ record v { seat = None; feed = None; closing = None })
-Ends v (Err refused.Order) w = (v.seat ≡ None) × (w ≡ v)
+abbrev pub Ends : View → CallAnswer → View → Type 0
+Ends v (Ok answer.Nothing) w = (is_none v.node_view ≡ false) × (w ≡ record v { node_view = None; feed = None; closing = None })
+Ends v (Err refused.Order) w = (v.node_view ≡ None) × (w ≡ v)
 Ends v other w = ⊥
 
 -- ---- streams
@@ -135,19 +135,19 @@ closing_by feed_error.Disk = None
 closing_by feed_error.Stopped = None
 
 -- what a call answers for a piece
-abbrev pub fed_as : Result (Unit {0}) FeedError → Told
+abbrev pub fed_as : Result (Unit {0}) FeedError → CallAnswer
 fed_as (Ok done) = Ok answer.Nothing
 fed_as (Err e) = Err (refused.Feed e)
 
 -- what holds of the node before and after
-abbrev pub AtSeats : Option Seat → Option Seat → (Seat → Seat → Type 0) → Type 0
-AtSeats (Some s) (Some t) P = P s t
-AtSeats None t P = ⊥
-AtSeats (Some s) None P = ⊥
+abbrev pub AtNodeViews : Option NodeView → Option NodeView → (NodeView → NodeView → Type 0) → Type 0
+AtNodeViews (Some s) (Some t) P = P s t
+AtNodeViews None t P = ⊥
+AtNodeViews (Some s) None P = ⊥
 
 -- all is as it was but the node
 abbrev pub IsSameButNode : View → View → Type 0
-IsSameButNode v w = w ≡ record v { seat = w.seat }
+IsSameButNode v w = w ≡ record v { node_view = w.node_view }
 
 -- a feed is taken out that is open, or a new one
 abbrev pub TakesFeed : View → Result Stream Refused → View → Type 0
@@ -158,63 +158,63 @@ TakesFeed v (Err other) w = ⊥
 
 -- a piece goes to a feed and to the node
 abbrev pub FeedsNode : View → Stream → List ℕ → Result (Unit {0}) FeedError → Stream → View → Type 0
-FeedsNode v f piece fed g w = IsSameButNode v w × AtSeats v.seat w.seat (λ s t. Stays s t × (RunsOn s (fed_as fed) t × Feeds s.here (at_work f s.records) piece fed g t.records))
+FeedsNode v f piece fed g w = IsSameButNode v w × AtNodeViews v.node_view w.node_view (λ s t. Stays s t × (RunsOn s (fed_as fed) t × Feeds s.here (at_work f s.records) piece fed g t.records))
 
 -- The feed and the node after a piece.
 pub record HasFed (piece : List ℕ) (v : View) (fed : Result (Unit {0}) FeedError) (closing : Option Closing) (w : View) : Type 0 where
   pub stream : Stream
-  pub nodes : AtSeats v.seat w.seat (λ s t. Stays s t × (RunsOn s (fed_as fed) t × Feeds s.here (at_work (stream_in v.feed) s.records) piece fed stream t.records))
-  pub is : w ≡ record v { seat = w.seat; feed = Some stream; closing = closing }
+  pub nodes : AtNodeViews v.node_view w.node_view (λ s t. Stays s t × (RunsOn s (fed_as fed) t × Feeds s.here (at_work (stream_in v.feed) s.records) piece fed stream t.records))
+  pub is : w ≡ record v { node_view = w.node_view; feed = Some stream; closing = closing }
 
 -- A piece of a stream is fed. Order comes where there is no node, and where the stream was closed: it has to be ended first.
-abbrev pub FeedsHandle : List ℕ → View → Told → View → Type 0
+abbrev pub FeedsHandle : List ℕ → View → CallAnswer → View → Type 0
 FeedsHandle piece v (Ok answer.Nothing) w = HasFed piece v (Ok tt) v.closing w
 FeedsHandle piece v (Err (refused.Feed e)) w = HasFed piece v (Err e) (closing_by e) w
 FeedsHandle piece v (Err refused.Memory) w = w ≡ v
-FeedsHandle piece v (Err refused.Order) w = ((v.seat ≡ None) ⊎ ((stream_in v.feed).closed ≡ true)) × (w ≡ v)
+FeedsHandle piece v (Err refused.Order) w = ((v.node_view ≡ None) ⊎ ((stream_in v.feed).closed ≡ true)) × (w ≡ v)
 FeedsHandle piece v other w = ⊥
 
 -- what became of a stream, in the words of the program's lines: whatever feeding has this report and was closed for this
-abbrev pub IsReport : Report → Option Closing → Told → Type 0
+abbrev pub IsReport : Report → Option Closing → CallAnswer → Type 0
 IsReport report closing told = (s : Feeding) → report_of s ≡ report → s.closed ≡ closing_of closing → IsText (text_of_report s) told
 
 -- The stream ends, and is told.
-abbrev pub EndsStream : Option Stream → View → Told → View → Type 0
+abbrev pub EndsStream : Option Stream → View → CallAnswer → View → Type 0
 EndsStream None v told w = (told ≡ Err refused.Order) × (w ≡ v)
 EndsStream (Some f) v told w = IsReport (told_of f) v.closing told × (w ≡ record v { feed = None; closing = None; report = Some (told_of f) })
 
-abbrev pub EndsFeed : View → Told → View → Type 0
+abbrev pub EndsFeed : View → CallAnswer → View → Type 0
 EndsFeed v told w = EndsStream v.feed v told w
 
 -- a refused frame, by its place among them, from 0
-abbrev pub IsRefusedFrame : Report → ℕ → Told → Type 0
+abbrev pub IsRefusedFrame : Report → ℕ → CallAnswer → Type 0
 IsRefusedFrame report place (Ok (answer.Text text)) = (r : Refusal) × ((slice_get report.refused place ≡ Some r) × (text ≡ text_of_refusal r))
 IsRefusedFrame report place (Err refused.Absent) = length report.refused ≤ place
 IsRefusedFrame report place (Err refused.Memory) = Unit {0}
 IsRefusedFrame report place other = ⊥
 
-abbrev pub ShowsFrame : Option Report → ℕ → Told → Type 0
+abbrev pub ShowsFrame : Option Report → ℕ → CallAnswer → Type 0
 ShowsFrame None place told = told ≡ Err refused.Order
 ShowsFrame (Some report) place told = IsRefusedFrame report place told
 
-abbrev pub ShowsRefusal : ℕ → View → Told → Type 0
+abbrev pub ShowsRefusal : ℕ → View → CallAnswer → Type 0
 ShowsRefusal place v told = ShowsFrame v.report place told
 
 -- ---- the node
 
 -- the node does what it is asked; Order comes exactly where there is none
-abbrev pub AsksSeat : NodeAsk → ℕ → List ℕ → Option Seat → Told → Option Seat → Type 0
-AsksSeat a n input None told t = (told ≡ Err refused.Order) × (t ≡ None)
-AsksSeat a n input (Some s) told (Some t) = Stays s t × (RunsOn s told t × AsksNode a n input s told t)
-AsksSeat a n input (Some s) told None = ⊥
+abbrev pub AsksNodeView : NodeAsk → ℕ → List ℕ → Option NodeView → CallAnswer → Option NodeView → Type 0
+AsksNodeView a n input None told t = (told ≡ Err refused.Order) × (t ≡ None)
+AsksNodeView a n input (Some s) told (Some t) = Stays s t × (RunsOn s told t × AsksNode a n input s told t)
+AsksNodeView a n input (Some s) told None = ⊥
 
-abbrev pub AsksHandle : NodeAsk → ℕ → List ℕ → View → Told → View → Type 0
-AsksHandle a n input v told w = IsSameButNode v w × AsksSeat a n input v.seat told w.seat
+abbrev pub AsksHandle : NodeAsk → ℕ → List ℕ → View → CallAnswer → View → Type 0
+AsksHandle a n input v told w = IsSameButNode v w × AsksNodeView a n input v.node_view told w.node_view
 
 -- ---- all of it
 
 -- What a handle answers, and what it is then.
-abbrev pub Does : Ask → ℕ → List ℕ → View → Told → View → Type 0
+abbrev pub Does : Ask → ℕ → List ℕ → View → CallAnswer → View → Type 0
 Does ask.Roster n input v told w = KeepsRoster input v told w
 Does ask.Key n input v told w = KeepsKey n input v told w
 Does ask.Start n input v told w = Starts n input v told w

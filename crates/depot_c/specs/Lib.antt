@@ -4,6 +4,6 @@ pub mod Calls
 pub mod Handles
 pub mod Judgements
 pub mod Refusals
-pub mod Seats
+pub mod NodeViews
 pub mod Serving
 pub mod Starts

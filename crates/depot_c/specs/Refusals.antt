@@ -11,8 +11,8 @@ use Rattle.depot_model.specs.declared.roster_format.RosterError.{RosterError}
 use Rattle.depot_model.specs.declared.roster_format.RosterError.TheVariants as roster_error
 use Rattle.depot_node.specs.declared.start_error.StartError.{StartError}
 use Rattle.depot_node.specs.declared.start_error.StartError.TheVariants as start_error
-use Rattle.depot_offers.specs.declared.bundle_error.BundleError.{BundleError}
-use Rattle.depot_offers.specs.declared.bundle_error.BundleError.TheVariants as bundle_error
+use Rattle.depot_gossip.specs.declared.bundle_error.BundleError.{BundleError}
+use Rattle.depot_gossip.specs.declared.bundle_error.BundleError.TheVariants as bundle_error
 use Rattle.depot_c.specs.declared.outcome.Outcome.{Outcome}
 use Rattle.depot_c.specs.declared.outcome.Outcome.TheVariants as outcome
 use Rattle.depot_c.specs.declared.refused.Refused.{Refused}

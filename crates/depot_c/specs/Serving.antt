@@ -8,7 +8,7 @@ use Rattle.depot_schedule.specs.Language.{nothing, next, split}
 use Rattle.depot_schedule.specs.Vocabulary.{changes}
 use Rattle.depot_schedule.specs.declared.changes.Keys.TheVariants as keys
 use Rattle.depot_schedule.specs.declared.line_fault.LineFault.{LineFault}
-use Rattle.depot_c.specs.Seats.{Bundling, Counting, Helloing, Putting, Reading, Recording, Seat, Told, Valuing}
+use Rattle.depot_c.specs.NodeViews.{Bundling, Counting, Helloing, Putting, Reading, Recording, NodeView, CallAnswer, Valuing}
 use Rattle.depot_c.specs.declared.ask.NodeAsk.{NodeAsk}
 use Rattle.depot_c.specs.declared.ask.NodeAsk.TheVariants as ask
 use Rattle.depot_c.specs.declared.refused.Refused.{Refused}
@@ -44,33 +44,33 @@ abbrev pub IsPutInput : ℕ → List ℕ → Type 0
 IsPutInput n input = (n ≤ length input) × (IsKey (take n input) × IsValue (drop n input))
 
 -- A put of the key in front and the value behind it. Input comes exactly where they aren't in their form.
-abbrev pub PuttingAt : ℕ → List ℕ → Seat → Told → Seat → Type 0
+abbrev pub PuttingAt : ℕ → List ℕ → NodeView → CallAnswer → NodeView → Type 0
 PuttingAt n input s (Err refused.Input) t = (IsPutInput n input → ⊥) × (t ≡ s)
 PuttingAt n input s told t = IsPutInput n input × Putting s (one_change (take n input) (drop n input)) told t
 
 -- of changes that were asked for
-abbrev pub OfChanges : Option (List Change) → Seat → Told → Seat → Type 0
+abbrev pub OfChanges : Option (List Change) → NodeView → CallAnswer → NodeView → Type 0
 OfChanges None s told t = ⊥
 OfChanges (Some cs) s told t = Putting s cs told t
 
 -- A put of the changes that a word says. Input comes exactly where it says none.
-abbrev pub PuttingAll : List ℕ → Seat → Told → Seat → Type 0
+abbrev pub PuttingAll : List ℕ → NodeView → CallAnswer → NodeView → Type 0
 PuttingAll input s (Err refused.Input) t = (asked_changes input ≡ None) × (t ≡ s)
 PuttingAll input s (Err refused.Memory) t = t ≡ s
 PuttingAll input s told t = OfChanges (asked_changes input) s told t
 
 -- A read of the key that the input is. Input comes exactly where it is none.
-abbrev pub OfKey : (Seat → List ℕ → ℕ → Told → Type 0) → Seat → List ℕ → ℕ → Told → Type 0
+abbrev pub OfKey : (NodeView → List ℕ → ℕ → CallAnswer → Type 0) → NodeView → List ℕ → ℕ → CallAnswer → Type 0
 OfKey Reads s input place (Err refused.Input) = IsKey input → ⊥
 OfKey Reads s input place told = IsKey input × Reads s input place told
 
 -- a stopped node is only asked for that
-abbrev pub WhereRunning : Bool → Told → Type 0 → Type 0
+abbrev pub WhereRunning : Bool → CallAnswer → Type 0 → Type 0
 WhereRunning true told P = told ≡ Err refused.Stopped
 WhereRunning false told P = P
 
 -- What a node answers, and what it is then.
-abbrev pub AsksNode : NodeAsk → ℕ → List ℕ → Seat → Told → Seat → Type 0
+abbrev pub AsksNode : NodeAsk → ℕ → List ℕ → NodeView → CallAnswer → NodeView → Type 0
 AsksNode ask.Put n input s told t = PuttingAt n input s told t
 AsksNode ask.Puts n input s told t = PuttingAll input s told t
 AsksNode ask.Bundle n input s told t = Bundling s input told t

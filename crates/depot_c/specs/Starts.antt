@@ -5,7 +5,7 @@ use Rattle.depot_model.specs.Bundle.{Signs}
 use Rattle.depot_model.specs.Checks.{Setting}
 use Rattle.depot_model.specs.Roster.{key_of}
 use Rattle.depot_node.specs.Starting.{IsNotStarted, IsStartedFrom}
-use Rattle.depot_c.specs.Seats.{Runs, Seat, for_disk}
+use Rattle.depot_c.specs.NodeViews.{Runs, NodeView, for_disk}
 use Rattle.depot_c.specs.declared.refused.Refused.{Refused}
 use Rattle.depot_c.specs.declared.refused.Refused.TheVariants as refused
 
@@ -19,7 +19,7 @@ NodeGiven n (Err refused.Input) = IsNodeNumber n → ⊥
 NodeGiven n (Err other) = ⊥
 
 -- The node that was started stands there, by this signer, with the journal of the file; of a file without records, with its birth.
-pub record IsStartedOn (here : Setting) (key : PublicKey) (sign : Signs) (file : List ℕ) (s : Seat) : Type 0 where
+pub record IsStartedOn (here : Setting) (key : PublicKey) (sign : Signs) (file : List ℕ) (s : NodeView) : Type 0 where
   pub stands : s.here ≡ here
   pub keyed : key_of here.listed here.me ≡ Some key
   pub signs : s.sign ≡ sign

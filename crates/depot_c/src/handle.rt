@@ -7,8 +7,8 @@ ghost use Rattle.depot_c.specs.Calls.{IsFresh, answered};
 use crate::answer::Answer;
 use crate::ask::{Ask, NodeAsk};
 use crate::node_calls;
+use crate::node_view::{HasNodeView, Over};
 use crate::refused::Refused;
-use crate::seat::{Over, Seated};
 use crate::shared_signer::SharedSigner;
 use crate::starting::{node_of, start};
 use depot_answers::{Closing, refusal, report};
@@ -45,7 +45,7 @@ impl Viewed for Handle {
     ghost view_of = { λ h. record {
       listed = h.roster;
       kept = option_map (λ s. record { key = ⟦<SharedSigner as Signer>⟧.key_of s; sign = ⟦<SharedSigner as Signer>⟧.signature_of s }) h.signer;
-      seat = option_map ⟦<Node<MemDisk, WinterScheme, SharedSigner> as Seated>⟧.seat h.node;
+      node_view = option_map ⟦<Node<MemDisk, WinterScheme, SharedSigner> as HasNodeView>⟧.node_view h.node;
       feed = h.feed;
       closing = h.closing;
       report = h.report;
@@ -148,7 +148,7 @@ impl Handle {
 
     /// Whether it has no node.
     fn is_free(&self) -> bool
-        ensures { result ≡ is_none (⟦<Handle as Viewed>⟧.view_of self.now).seat }
+        ensures { result ≡ is_none (⟦<Handle as Viewed>⟧.view_of self.now).node_view }
     {
         self.node.is_none()
     }
@@ -171,7 +171,7 @@ impl Handle {
 
     /// Keeps a node.
     fn keep_node(&mut self, node: Over)
-        ensures { ⟦<Handle as Viewed>⟧.view_of self.new ≡ record (⟦<Handle as Viewed>⟧.view_of self.old) { seat = Some (⟦<Node<MemDisk, WinterScheme, SharedSigner> as Seated>⟧.seat node) } }
+        ensures { ⟦<Handle as Viewed>⟧.view_of self.new ≡ record (⟦<Handle as Viewed>⟧.view_of self.old) { node_view = Some (⟦<Node<MemDisk, WinterScheme, SharedSigner> as HasNodeView>⟧.node_view node) } }
     {
         self.node = Some(node);
     }
@@ -210,7 +210,7 @@ impl Handle {
 
     /// Gives a piece to a feed and to the node.
     fn feed_node(&mut self, feed: &mut Feed, piece: &[u8]) -> Result<(), FeedError>
-        requires seated { is_none (⟦<Handle as Viewed>⟧.view_of self.old).seat ≡ false }
+        requires viewed_node { is_none (⟦<Handle as Viewed>⟧.view_of self.old).node_view ≡ false }
         requires open { feed.old.closed ≡ false }
         ensures feeds { FeedsNode (⟦<Handle as Viewed>⟧.view_of self.old) feed.old piece.now result feed.new (⟦<Handle as Viewed>⟧.view_of self.new) }
     {

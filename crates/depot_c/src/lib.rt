@@ -6,7 +6,7 @@
 //!
 //! - `judging` judges the text of a proof; it keeps nothing.
 //! - `exports` has the handle's exports, `serving` a call, `handle` what a handle keeps and does, `starting` its starts and
-//!   `node_calls` what it asks of a node. Contracts see a handle as a `View` and a node as a `Seat` (specs/).
+//!   `node_calls` what it asks of a node. Contracts see a handle as a `View` and a node as a `NodeView` (specs/).
 //! - `ask` has the operations, `answer` what they answer, `refused` and `outcome` why they don't, in words and as a status.
 //! - `shared_signer` is a key that serves more than one start.
 //!
@@ -23,9 +23,9 @@ mod exports;
 mod handle;
 mod judging;
 mod node_calls;
+mod node_view;
 mod outcome;
 mod refused;
-mod seat;
 mod serving;
 mod shared_signer;
 mod starting;

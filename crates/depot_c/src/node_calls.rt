@@ -3,13 +3,13 @@ ghost use Rattle.std.specs.Prelude.{◌≡◌, false, option_copied};
 ghost use Rattle.depot_base.specs.Writes.{one_change, wrote_under};
 ghost use Rattle.depot_answers.specs.Answers.{text_of_write};
 ghost use Rattle.depot_answers.specs.Sightings.{sighting_of};
-ghost use Rattle.depot_c.specs.Seats.{Bundling, Helloing, IsItemAt, IsText, Putting, Reading, Recording, RunsOn, Stays, Valuing, seen_by, shown_value};
+ghost use Rattle.depot_c.specs.NodeViews.{Bundling, Helloing, IsItemAt, IsText, Putting, Reading, Recording, RunsOn, Stays, Valuing, seen_by, shown_value};
 ghost use Rattle.depot_c.specs.Serving.{AsksNode, ChangesGiven, KeyGiven, OfKey, PuttingAll, PuttingAt};
 
 use crate::answer::Answer;
 use crate::ask::NodeAsk;
+use crate::node_view::{HasNodeView, Over};
 use crate::refused::Refused;
-use crate::seat::{Over, Seated};
 use crate::shared_signer::SharedSigner;
 use depot_answers::{Seen, write};
 use depot_base::limits::MOST_VALUE;
@@ -53,9 +53,9 @@ fn changes_of(alloc: Global, input: &[u8]) -> Result<Changes, Refused>
 
 /// Gives a key a value.
 fn put_one(node: &mut Over, key: Key, value: Value) -> Result<Answer, Refused>
-    ensures stays { Stays (⟦<Node<MemDisk, WinterScheme, SharedSigner> as Seated>⟧.seat node.old) (⟦<Node<MemDisk, WinterScheme, SharedSigner> as Seated>⟧.seat node.new) }
-    ensures runs { RunsOn (⟦<Node<MemDisk, WinterScheme, SharedSigner> as Seated>⟧.seat node.old) result (⟦<Node<MemDisk, WinterScheme, SharedSigner> as Seated>⟧.seat node.new) }
-    ensures puts { Putting (⟦<Node<MemDisk, WinterScheme, SharedSigner> as Seated>⟧.seat node.old) (one_change key value) result (⟦<Node<MemDisk, WinterScheme, SharedSigner> as Seated>⟧.seat node.new) }
+    ensures stays { Stays (⟦<Node<MemDisk, WinterScheme, SharedSigner> as HasNodeView>⟧.node_view node.old) (⟦<Node<MemDisk, WinterScheme, SharedSigner> as HasNodeView>⟧.node_view node.new) }
+    ensures runs { RunsOn (⟦<Node<MemDisk, WinterScheme, SharedSigner> as HasNodeView>⟧.node_view node.old) result (⟦<Node<MemDisk, WinterScheme, SharedSigner> as HasNodeView>⟧.node_view node.new) }
+    ensures puts { Putting (⟦<Node<MemDisk, WinterScheme, SharedSigner> as HasNodeView>⟧.node_view node.old) (one_change key value) result (⟦<Node<MemDisk, WinterScheme, SharedSigner> as HasNodeView>⟧.node_view node.new) }
 {
     match node.put(key, value) {
         Ok(done) => Ok(Answer::Put(done)),
@@ -65,9 +65,9 @@ fn put_one(node: &mut Over, key: Key, value: Value) -> Result<Answer, Refused>
 
 /// Gives the key in front of the input the value behind it.
 fn put(alloc: Global, node: &mut Over, length: u64, input: &[u8]) -> Result<Answer, Refused>
-    ensures stays { Stays (⟦<Node<MemDisk, WinterScheme, SharedSigner> as Seated>⟧.seat node.old) (⟦<Node<MemDisk, WinterScheme, SharedSigner> as Seated>⟧.seat node.new) }
-    ensures runs { RunsOn (⟦<Node<MemDisk, WinterScheme, SharedSigner> as Seated>⟧.seat node.old) result (⟦<Node<MemDisk, WinterScheme, SharedSigner> as Seated>⟧.seat node.new) }
-    ensures puts { PuttingAt length input.now (⟦<Node<MemDisk, WinterScheme, SharedSigner> as Seated>⟧.seat node.old) result (⟦<Node<MemDisk, WinterScheme, SharedSigner> as Seated>⟧.seat node.new) }
+    ensures stays { Stays (⟦<Node<MemDisk, WinterScheme, SharedSigner> as HasNodeView>⟧.node_view node.old) (⟦<Node<MemDisk, WinterScheme, SharedSigner> as HasNodeView>⟧.node_view node.new) }
+    ensures runs { RunsOn (⟦<Node<MemDisk, WinterScheme, SharedSigner> as HasNodeView>⟧.node_view node.old) result (⟦<Node<MemDisk, WinterScheme, SharedSigner> as HasNodeView>⟧.node_view node.new) }
+    ensures puts { PuttingAt length input.now (⟦<Node<MemDisk, WinterScheme, SharedSigner> as HasNodeView>⟧.node_view node.old) result (⟦<Node<MemDisk, WinterScheme, SharedSigner> as HasNodeView>⟧.node_view node.new) }
 {
     if length > input.len() as u64 {
         return Err(Refused::Input);
@@ -85,9 +85,9 @@ fn put(alloc: Global, node: &mut Over, length: u64, input: &[u8]) -> Result<Answ
 
 /// Does the changes that the input is the word of.
 fn puts(alloc: Global, node: &mut Over, input: &[u8]) -> Result<Answer, Refused>
-    ensures stays { Stays (⟦<Node<MemDisk, WinterScheme, SharedSigner> as Seated>⟧.seat node.old) (⟦<Node<MemDisk, WinterScheme, SharedSigner> as Seated>⟧.seat node.new) }
-    ensures runs { RunsOn (⟦<Node<MemDisk, WinterScheme, SharedSigner> as Seated>⟧.seat node.old) result (⟦<Node<MemDisk, WinterScheme, SharedSigner> as Seated>⟧.seat node.new) }
-    ensures puts { PuttingAll input.now (⟦<Node<MemDisk, WinterScheme, SharedSigner> as Seated>⟧.seat node.old) result (⟦<Node<MemDisk, WinterScheme, SharedSigner> as Seated>⟧.seat node.new) }
+    ensures stays { Stays (⟦<Node<MemDisk, WinterScheme, SharedSigner> as HasNodeView>⟧.node_view node.old) (⟦<Node<MemDisk, WinterScheme, SharedSigner> as HasNodeView>⟧.node_view node.new) }
+    ensures runs { RunsOn (⟦<Node<MemDisk, WinterScheme, SharedSigner> as HasNodeView>⟧.node_view node.old) result (⟦<Node<MemDisk, WinterScheme, SharedSigner> as HasNodeView>⟧.node_view node.new) }
+    ensures puts { PuttingAll input.now (⟦<Node<MemDisk, WinterScheme, SharedSigner> as HasNodeView>⟧.node_view node.old) result (⟦<Node<MemDisk, WinterScheme, SharedSigner> as HasNodeView>⟧.node_view node.new) }
 {
     let changes = changes_of(alloc, input)?;
     match node.put_all(changes) {
@@ -140,8 +140,8 @@ fn shown(alloc: Global, update: &Update, seen: Seen<'_>) -> Result<Answer, Refus
 
 /// The item at a place of a key's latest writes.
 fn item_at(node: &Over, key: &Key, place: u64) -> Option<u32>
-    requires { (⟦<Node<MemDisk, WinterScheme, SharedSigner> as Seated>⟧.seat node.now).stopped ≡ false }
-    ensures { IsItemAt (⟦<Node<MemDisk, WinterScheme, SharedSigner> as Seated>⟧.seat node.now) key.now place result }
+    requires { (⟦<Node<MemDisk, WinterScheme, SharedSigner> as HasNodeView>⟧.node_view node.now).stopped ≡ false }
+    ensures { IsItemAt (⟦<Node<MemDisk, WinterScheme, SharedSigner> as HasNodeView>⟧.node_view node.now) key.now place result }
 {
     let items = node.latest(key);
     if place < items.len() as u64 {
@@ -153,8 +153,8 @@ fn item_at(node: &Over, key: &Key, place: u64) -> Option<u32>
 
 /// A latest write of a key.
 fn latest_at(alloc: Global, node: &Over, key: &Key, place: u64) -> Result<Answer, Refused>
-    requires { (⟦<Node<MemDisk, WinterScheme, SharedSigner> as Seated>⟧.seat node.now).stopped ≡ false }
-    ensures { Reading (⟦<Node<MemDisk, WinterScheme, SharedSigner> as Seated>⟧.seat node.now) key.now place result }
+    requires { (⟦<Node<MemDisk, WinterScheme, SharedSigner> as HasNodeView>⟧.node_view node.now).stopped ≡ false }
+    ensures { Reading (⟦<Node<MemDisk, WinterScheme, SharedSigner> as HasNodeView>⟧.node_view node.now) key.now place result }
 {
     let Some(item) = item_at(node, key, place) else {
         return Err(Refused::Absent);
@@ -165,8 +165,8 @@ fn latest_at(alloc: Global, node: &Over, key: &Key, place: u64) -> Result<Answer
 
 /// The value of a latest write of a key.
 fn value_at(alloc: Global, node: &Over, key: &Key, place: u64) -> Result<Answer, Refused>
-    requires { (⟦<Node<MemDisk, WinterScheme, SharedSigner> as Seated>⟧.seat node.now).stopped ≡ false }
-    ensures { Valuing (⟦<Node<MemDisk, WinterScheme, SharedSigner> as Seated>⟧.seat node.now) key.now place result }
+    requires { (⟦<Node<MemDisk, WinterScheme, SharedSigner> as HasNodeView>⟧.node_view node.now).stopped ≡ false }
+    ensures { Valuing (⟦<Node<MemDisk, WinterScheme, SharedSigner> as HasNodeView>⟧.node_view node.now) key.now place result }
 {
     let Some(item) = item_at(node, key, place) else {
         return Err(Refused::Absent);
@@ -179,8 +179,8 @@ fn value_at(alloc: Global, node: &Over, key: &Key, place: u64) -> Result<Answer,
 
 /// A latest write of the key that the input is.
 fn latest(alloc: Global, node: &Over, place: u64, input: &[u8]) -> Result<Answer, Refused>
-    requires { (⟦<Node<MemDisk, WinterScheme, SharedSigner> as Seated>⟧.seat node.now).stopped ≡ false }
-    ensures { OfKey Reading (⟦<Node<MemDisk, WinterScheme, SharedSigner> as Seated>⟧.seat node.now) input.now place result }
+    requires { (⟦<Node<MemDisk, WinterScheme, SharedSigner> as HasNodeView>⟧.node_view node.now).stopped ≡ false }
+    ensures { OfKey Reading (⟦<Node<MemDisk, WinterScheme, SharedSigner> as HasNodeView>⟧.node_view node.now) input.now place result }
 {
     let key = key_of(alloc, input)?;
     latest_at(alloc, node, &key, place)
@@ -188,8 +188,8 @@ fn latest(alloc: Global, node: &Over, place: u64, input: &[u8]) -> Result<Answer
 
 /// The value of a latest write of the key that the input is.
 fn value(alloc: Global, node: &Over, place: u64, input: &[u8]) -> Result<Answer, Refused>
-    requires { (⟦<Node<MemDisk, WinterScheme, SharedSigner> as Seated>⟧.seat node.now).stopped ≡ false }
-    ensures { OfKey Valuing (⟦<Node<MemDisk, WinterScheme, SharedSigner> as Seated>⟧.seat node.now) input.now place result }
+    requires { (⟦<Node<MemDisk, WinterScheme, SharedSigner> as HasNodeView>⟧.node_view node.now).stopped ≡ false }
+    ensures { OfKey Valuing (⟦<Node<MemDisk, WinterScheme, SharedSigner> as HasNodeView>⟧.node_view node.now) input.now place result }
 {
     let key = key_of(alloc, input)?;
     value_at(alloc, node, &key, place)
@@ -197,8 +197,8 @@ fn value(alloc: Global, node: &Over, place: u64, input: &[u8]) -> Result<Answer,
 
 /// The node's hello.
 fn tell(alloc: Global, node: &Over) -> Result<Answer, Refused>
-    requires { (⟦<Node<MemDisk, WinterScheme, SharedSigner> as Seated>⟧.seat node.now).stopped ≡ false }
-    ensures { Helloing (⟦<Node<MemDisk, WinterScheme, SharedSigner> as Seated>⟧.seat node.now) result }
+    requires { (⟦<Node<MemDisk, WinterScheme, SharedSigner> as HasNodeView>⟧.node_view node.now).stopped ≡ false }
+    ensures { Helloing (⟦<Node<MemDisk, WinterScheme, SharedSigner> as HasNodeView>⟧.node_view node.now) result }
 {
     match hello(alloc, node) {
         Ok(text) => Ok(Answer::Text(text)),
@@ -208,9 +208,9 @@ fn tell(alloc: Global, node: &Over) -> Result<Answer, Refused>
 
 /// The node's bundle for a hello.
 fn answer_hello(alloc: Global, node: &mut Over, hello: &[u8]) -> Result<Answer, Refused>
-    ensures stays { Stays (⟦<Node<MemDisk, WinterScheme, SharedSigner> as Seated>⟧.seat node.old) (⟦<Node<MemDisk, WinterScheme, SharedSigner> as Seated>⟧.seat node.new) }
-    ensures runs { RunsOn (⟦<Node<MemDisk, WinterScheme, SharedSigner> as Seated>⟧.seat node.old) result (⟦<Node<MemDisk, WinterScheme, SharedSigner> as Seated>⟧.seat node.new) }
-    ensures bundles { Bundling (⟦<Node<MemDisk, WinterScheme, SharedSigner> as Seated>⟧.seat node.old) hello.now result (⟦<Node<MemDisk, WinterScheme, SharedSigner> as Seated>⟧.seat node.new) }
+    ensures stays { Stays (⟦<Node<MemDisk, WinterScheme, SharedSigner> as HasNodeView>⟧.node_view node.old) (⟦<Node<MemDisk, WinterScheme, SharedSigner> as HasNodeView>⟧.node_view node.new) }
+    ensures runs { RunsOn (⟦<Node<MemDisk, WinterScheme, SharedSigner> as HasNodeView>⟧.node_view node.old) result (⟦<Node<MemDisk, WinterScheme, SharedSigner> as HasNodeView>⟧.node_view node.new) }
+    ensures bundles { Bundling (⟦<Node<MemDisk, WinterScheme, SharedSigner> as HasNodeView>⟧.node_view node.old) hello.now result (⟦<Node<MemDisk, WinterScheme, SharedSigner> as HasNodeView>⟧.node_view node.new) }
 {
     match bundle(alloc, node, hello) {
         Ok(bundled) => Ok(Answer::Bundle(bundled)),
@@ -220,7 +220,7 @@ fn answer_hello(alloc: Global, node: &mut Over, hello: &[u8]) -> Result<Answer, 
 
 /// The text of the record of a place.
 fn record(alloc: Global, node: &Over, place: u64) -> Result<Answer, Refused>
-    ensures { Recording (⟦<Node<MemDisk, WinterScheme, SharedSigner> as Seated>⟧.seat node.now) place result }
+    ensures { Recording (⟦<Node<MemDisk, WinterScheme, SharedSigner> as HasNodeView>⟧.node_view node.now) place result }
 {
     if place >= u64::from(node.record_count()) {
         return Err(Refused::Absent);
@@ -236,9 +236,9 @@ pub fn ask(
     number: u64,
     input: &[u8],
 ) -> Result<Answer, Refused>
-    ensures stays { Stays (⟦<Node<MemDisk, WinterScheme, SharedSigner> as Seated>⟧.seat node.old) (⟦<Node<MemDisk, WinterScheme, SharedSigner> as Seated>⟧.seat node.new) }
-    ensures runs { RunsOn (⟦<Node<MemDisk, WinterScheme, SharedSigner> as Seated>⟧.seat node.old) result (⟦<Node<MemDisk, WinterScheme, SharedSigner> as Seated>⟧.seat node.new) }
-    ensures does { AsksNode ask number input.now (⟦<Node<MemDisk, WinterScheme, SharedSigner> as Seated>⟧.seat node.old) result (⟦<Node<MemDisk, WinterScheme, SharedSigner> as Seated>⟧.seat node.new) }
+    ensures stays { Stays (⟦<Node<MemDisk, WinterScheme, SharedSigner> as HasNodeView>⟧.node_view node.old) (⟦<Node<MemDisk, WinterScheme, SharedSigner> as HasNodeView>⟧.node_view node.new) }
+    ensures runs { RunsOn (⟦<Node<MemDisk, WinterScheme, SharedSigner> as HasNodeView>⟧.node_view node.old) result (⟦<Node<MemDisk, WinterScheme, SharedSigner> as HasNodeView>⟧.node_view node.new) }
+    ensures does { AsksNode ask number input.now (⟦<Node<MemDisk, WinterScheme, SharedSigner> as HasNodeView>⟧.node_view node.old) result (⟦<Node<MemDisk, WinterScheme, SharedSigner> as HasNodeView>⟧.node_view node.new) }
 {
     match ask {
         NodeAsk::Put => put(alloc, node, number, input),

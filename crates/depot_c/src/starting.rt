@@ -3,8 +3,8 @@ ghost use Rattle.std.specs.Prelude.{◌≡◌, IfOk, IfErr};
 ghost use Rattle.depot_model.specs.Winternitz.{winternitz_verifies};
 ghost use Rattle.depot_c.specs.Starts.{IsRefusedOn, IsStartedOn, NodeGiven};
 
+use crate::node_view::{HasNodeView, Over};
 use crate::refused::Refused;
-use crate::seat::{Over, Seated};
 use crate::shared_signer::SharedSigner;
 use depot_base::{Bytes, Items, NodeId};
 use depot_model::Signer;
@@ -35,7 +35,7 @@ pub fn start(
     signer: &SharedSigner,
     me: NodeId,
 ) -> Result<Over, Refused>
-    ensures started { IfOk result (λ n. IsStartedOn (record { verifies = winternitz_verifies; me = me; listed = roster.now }) (⟦<SharedSigner as Signer>⟧.key_of signer.now) (⟦<SharedSigner as Signer>⟧.signature_of signer.now) file.now (⟦<Node<MemDisk, WinterScheme, SharedSigner> as Seated>⟧.seat n)) }
+    ensures started { IfOk result (λ n. IsStartedOn (record { verifies = winternitz_verifies; me = me; listed = roster.now }) (⟦<SharedSigner as Signer>⟧.key_of signer.now) (⟦<SharedSigner as Signer>⟧.signature_of signer.now) file.now (⟦<Node<MemDisk, WinterScheme, SharedSigner> as HasNodeView>⟧.node_view n)) }
     ensures refused { IfErr result (λ e. IsRefusedOn (record { verifies = winternitz_verifies; me = me; listed = roster.now }) (⟦<SharedSigner as Signer>⟧.key_of signer.now) file.now e) }
 {
     let (Ok(file), Ok(roster)) = (Bytes::from_slice(alloc, file), roster.copy()) else {

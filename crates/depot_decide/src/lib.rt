@@ -6,7 +6,7 @@
 //!
 //! A statement, a proof and a value of others come to a `Decision` (`statement_decision`, `proof_decision`, `value`), a put to a
 //! `Plan` or the limit that it meets (`put_decision`), ids that the node is to vouch for to own vouchers (`voucher_decision`, which
-//! also says of an id whether another's accepted update has it). By the same calls `depot_records` decides of a record that is
+//! also says of an id whether another's accepted update has it). By the same calls `depot_node` decides of a record that is
 //! read from a disk, as if it came now.
 //!
 //! What is decided of statements and proofs asks the store for its state alone (`decide_checked`, `decide_judged`), so one who keeps a

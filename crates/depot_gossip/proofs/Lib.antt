@@ -1,3 +1,11 @@
+pub mod BundleAnswers
+pub mod ChoiceLaws
+pub mod FitLaws
+pub mod FrontLaws
+pub mod HashLaws
+pub mod HelloParts
+pub mod LeftIds
+pub mod ValueLaws
 pub mod ApartLaws
 pub mod StreamLaws
 pub mod ToldLaws

@@ -12,12 +12,12 @@ use Rattle.depot_model.specs.Stops.{CallsDisk, Lasts}
 use Rattle.depot_model.specs.Vouching.{Vouches, new_vouchers, records_of, limit_of_vouchers}
 use Rattle.depot_model.specs.Bundle.{Signs, bundled_within, bundle_of, bundle_answer}
 use Rattle.depot_model.proofs.CallsOnDisk.{called_well, calls_alike}
-use Rattle.depot_offers.specs.declared.bundle_error.BundleError.TheVariants as error
-use Rattle.depot_offers.specs.declared.bundle_stream.Bundled.{Bundled}
-use Rattle.depot_offers.specs.declared.preparing.Prepared.{Prepared}
-use Rattle.depot_offers.specs.Errors.{from_vouching}
+use Rattle.depot_gossip.specs.declared.bundle_error.BundleError.TheVariants as error
+use Rattle.depot_gossip.specs.declared.bundle_stream.Bundled.{Bundled}
+use Rattle.depot_gossip.specs.declared.preparing.Prepared.{Prepared}
+use Rattle.depot_gossip.specs.Errors.{from_vouching}
 use Rattle.depot_gossip.specs.Bundling.{finds_disk, journaled_for}
-use Rattle.depot_offers.specs.Preparing.{IsPrepared}
+use Rattle.depot_gossip.specs.Preparing.{IsPrepared}
 use Rattle.depot_feeds.specs.Lasting.{LastsIn}
 use Rattle.depot_feeds.proofs.LastingStreams.{all_of, cut_of, none_in, to_append, lasts_longer, lasts_alike, IsPart}
 use Rattle.depot_laws.proofs.TrueReceipts.{silent_is_true, vouchers_put_none}

@@ -6,9 +6,9 @@ use Rattle.depot_model.specs.Texts.{hash_of_roster}
 use Rattle.depot_model.specs.Limits.{spent, full, IsCutShort}
 use Rattle.depot_model.specs.Vouching.{records_of}
 use Rattle.depot_model.specs.Bundle.{Signs, Bundle, BundleAnswer, bundled, bad_hello, other_roster, limited, bytes_of_bundle, with_vouchers, bundle_answer}
-use Rattle.depot_offers.specs.declared.bundle_stream.Bundled.{Bundled}
-use Rattle.depot_offers.specs.declared.bundle_error.BundleError.{BundleError}
-use Rattle.depot_offers.specs.declared.bundle_error.BundleError.TheVariants as error
+use Rattle.depot_gossip.specs.declared.bundle_stream.Bundled.{Bundled}
+use Rattle.depot_gossip.specs.declared.bundle_error.BundleError.{BundleError}
+use Rattle.depot_gossip.specs.declared.bundle_error.BundleError.TheVariants as error
 
 -- ---- the answer
 

@@ -1,2 +1,7 @@
+pub mod BundleStreams
+pub mod Choosing
+pub mod Errors
+pub mod Fronts
+pub mod Preparing
 pub mod Bundling
 pub mod ToldStatements

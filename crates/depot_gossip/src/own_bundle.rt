@@ -6,8 +6,10 @@ ghost use Rattle.depot_model.specs.Stops.{CallsDisk, Lasts};
 ghost use Rattle.depot_gossip.specs.Bundling.{Bundles, finds_disk, journaled_for};
 ghost use Rattle.depot_feeds.specs.Lasting.{LastsIn};
 
+use crate::bundle_error::BundleError;
+use crate::bundle_stream::{Bundled, told_of};
+use crate::preparing::prepare;
 use depot_model::Peer;
-use depot_offers::{BundleError, Bundled, prepare, told_of};
 use std::alloc::Global;
 
 /// The bundle that a node sends for the text of a hello: the proofs that the reader lacks, the node's vouchers for the updates of

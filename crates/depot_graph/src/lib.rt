@@ -15,12 +15,24 @@
 //! `before` looks at no more than 32 items of one chain. An `add` takes time in proportion to the update's parents times the
 //! chains, and to the leaves; it makes a test of precedence for each latest write of its key. Nothing is ever taken out.
 //!
+//! Over it stands the history hash (`history`): what a set of accepted updates hashes to, and the leaves that a node's next update
+//! names. Nothing is kept for it: the leaves of a past are found by the chains of the forest. The joined row of the past counts the
+//! first so many items of each chain, and only the last of them can be a leaf (`past_chain`). So a hash looks at the chains, and
+//! goes back on each that the past reaches, from its last item to that one.
+//!
 //! It asks nothing of an update but that it fits behind the others: not its signature, its clock or its history hash.
 #![tactic(auto)]
 
 mod change;
+mod covered;
 mod graph;
+mod history;
+mod history_laws;
 mod item;
+mod leaf;
 mod listed_order;
+mod past_chain;
 
 pub use graph::Graph;
+pub use history::{changed_leaves, history_hash, summary};
+pub use history_laws::{closure_is_what_precedes, closure_of_parents_is_past};

@@ -9,30 +9,30 @@ use Rattle.depot_schedule.specs.declared.verb.Made.TheVariants as made
 use Rattle.depot_schedule.specs.Spelling.{is_letter}
 use Rattle.depot_schedule.specs.Vocabulary.{label_made}
 use Rattle.depot_schedule.specs.Schedules.{FitsEvent, FitEvents}
-use Rattle.depot_load.specs.declared.load_draft.Draft.{Draft}
+use Rattle.depot_load.specs.declared.load_draft.LoadDraft.{LoadDraft}
 use Rattle.depot_load.specs.Loads.{number_at, drawn, draw, value_of, label_of, round_hello, round_bundle, round_update, faulty_node, some_node, some_key, other_than, with_event, put_round, get_round, given, bundled, exchange_round, update_round, faulty_round, round_by, round, giver, taker, schedule_with}
 use Rattle.depot_load.proofs.Fresh.{rank, IsFree, NamesBytes, free-from, free-more, free-made, made-now, made-before}
 use Rattle.depot_load.proofs.EventFits.{fits-more, IsCorrect, IsSize, put-fits, get-fits, restart-fits, hello-fits, bundle-fits, give-fits, update-fits}
 
 -- Its events fit; labels from this rank on are free; the faulty node signed at most so many updates; and it has at most so many events.
-pub record IsGood (rank updates events : ℕ) (d : Draft) : Type 0 where
+pub record IsGood (rank updates events : ℕ) (d : LoadDraft) : Type 0 where
   pub fits : FitEvents (schedule_with []) d.events
   pub free : IsFree rank d.events
   pub few : d.updates ≤ updates
   pub short : length d.events ≤ events
 
-pub good-still : (k l u v n m : ℕ) (d : Draft) → k ≤ l → u ≤ v → n ≤ m → IsGood k u n d → IsGood l v m d
+pub good-still : (k l u v n m : ℕ) (d : LoadDraft) → k ≤ l → u ≤ v → n ≤ m → IsGood k u n d → IsGood l v m d
 good-still k l u v n m d a b c good = record { fits = good.fits; free = free-from k l d.events a good.free; few = omega (arith, good.few); short = omega (arith, good.short) }
 
 -- a draw changes no event
-pub good-drawn : (k u n : ℕ) (d : Draft) → IsGood k u n d → IsGood k u n (drawn d)
+pub good-drawn : (k u n : ℕ) (d : LoadDraft) → IsGood k u n d → IsGood k u n (drawn d)
 good-drawn k u n d good = record { fits = good.fits; free = good.free; few = good.few; short = good.short }
 
 longer : (es : List Event) (e : Event) (n : ℕ) → length es ≤ n → length (es ++ e ∷ []) ≤ n + 1
 longer es e n le = omega (arith, length-append es (e ∷ []))
 
 -- one event more, which makes no label
-pub good-more : (k u n : ℕ) (d : Draft) (e : Event) → label_made e ≡ None → FitsEvent (schedule_with d.events) e → IsGood k u n d → IsGood k u (n + 1) (with_event d e)
+pub good-more : (k u n : ℕ) (d : LoadDraft) (e : Event) → label_made e ≡ None → FitsEvent (schedule_with d.events) e → IsGood k u n d → IsGood k u (n + 1) (with_event d e)
 good-more k u n d e none fits good = record {
   fits = fits-more [] d.events e good.fits fits;
   free = free-more k d.events e none good.free;
@@ -41,7 +41,7 @@ good-more k u n d e none fits good = record {
 }
 
 -- one event more, which makes a label
-pub good-made : (k u n c m : ℕ) (d : Draft) (e : Event) (what : Made) → label_made e ≡ Some (label_of c m, what) → m < 2 ^ 32 → k ≤ rank c m → FitsEvent (schedule_with d.events) e → IsGood k u n d → IsGood (rank c m + 1) u (n + 1) (with_event d e)
+pub good-made : (k u n c m : ℕ) (d : LoadDraft) (e : Event) (what : Made) → label_made e ≡ Some (label_of c m, what) → m < 2 ^ 32 → k ≤ rank c m → FitsEvent (schedule_with d.events) e → IsGood k u n d → IsGood (rank c m + 1) u (n + 1) (with_event d e)
 good-made k u n c m d e what is small from fits good = record {
   fits = fits-more [] d.events e good.fits fits;
   free = free-made k d.events e c m what is small from good.free;
@@ -51,11 +51,11 @@ good-made k u n c m d e what is small from fits good = record {
 
 -- ---- numbers that are drawn
 
-draw-below : (m : ℕ) (d : Draft) → 0 < m → draw m d < m
+draw-below : (m : ℕ) (d : LoadDraft) → 0 < m → draw m d < m
 unfolding number_at
 draw-below m d some = mod_below (d.state / 2 ^ 33) m some
 
-some-correct : (d : Draft) → IsCorrect (some_node d)
+some-correct : (d : LoadDraft) → IsCorrect (some_node d)
 some-correct d = let lt = draw-below 5 d (omega arith) in (omega arith, omega (arith, lt))
 
 pub other-correct : (v r : ℕ) → IsCorrect v → 1 ≤ r → r ≤ 4 → IsCorrect (other_than v r)
@@ -67,7 +67,7 @@ other-correct v r is low high = by (leb v r) where
 -- ---- an exchange
 
 -- A bundle for a hello: both labels are new, and that of the bundle is the higher. The bundle's label is made then.
-pub good-bundled : (k u n v r c b m : ℕ) (d : Draft) → is_letter c ≡ true → is_letter b ≡ true → m < 2 ^ 32 → IsCorrect v → IsCorrect r → k ≤ rank c m → rank c m < rank b m → IsGood k u n d
+pub good-bundled : (k u n v r c b m : ℕ) (d : LoadDraft) → is_letter c ≡ true → is_letter b ≡ true → m < 2 ^ 32 → IsCorrect v → IsCorrect r → k ≤ rank c m → rank c m < rank b m → IsGood k u n d
     → IsGood (rank b m + 1) u (n + 2) (bundled v r (label_of c m) (label_of b m) d) × NamesBytes (bundled v r (label_of c m) (label_of b m) d).events (label_of b m)
 good-bundled k u n v r c b m d one two small giver taker from above good =
     let e = Hello r (label_of c m) in
@@ -83,16 +83,16 @@ good-bundled k u n v r c b m d one two small giver taker from above good =
       below_next x y lt = omega arith
 
 -- bytes that a label has are given to a node
-pub good-give : (k u n r c m : ℕ) (size : Option ℕ) (d : Draft) → is_letter c ≡ true → m < 2 ^ 32 → IsCorrect r → IsSize size → NamesBytes d.events (label_of c m) → IsGood k u n d → IsGood k u (n + 1) (with_event d (Give r (label_of c m) size))
+pub good-give : (k u n r c m : ℕ) (size : Option ℕ) (d : LoadDraft) → is_letter c ≡ true → m < 2 ^ 32 → IsCorrect r → IsSize size → NamesBytes d.events (label_of c m) → IsGood k u n d → IsGood k u (n + 1) (with_event d (Give r (label_of c m) size))
 good-give k u n r c m size d letter small taker fits names good = good-more k u n d (Give r (label_of c m) size) refl (give-fits d.events r c m size letter small taker fits names) good
 
 -- ---- rounds
 
-either : (k u n : ℕ) (b : Bool) (x y : Draft) → IsGood k u n x → IsGood k u n y → IsGood k u n (cond b x y)
+either : (k u n : ℕ) (b : Bool) (x y : LoadDraft) → IsGood k u n x → IsGood k u n y → IsGood k u n (cond b x y)
 either k u n true x y p q = p
 either k u n false x y p q = q
 
-good-given : (k u n c r t : ℕ) (d : Draft) → t < 2 ^ 32 → IsCorrect r → NamesBytes d.events (round_bundle t) → IsGood k u n d → IsGood k u (n + 2) (given c r (round_bundle t) d)
+good-given : (k u n c r t : ℕ) (d : LoadDraft) → t < 2 ^ 32 → IsCorrect r → NamesBytes d.events (round_bundle t) → IsGood k u n d → IsGood k u (n + 2) (given c r (round_bundle t) d)
 good-given k u n c r t d small taker names good =
     let one = with_event d (Give r (round_bundle t) None) in
     let pieces = with_event d (Give r (round_bundle t) (Some 1460)) in
@@ -105,31 +105,31 @@ good-given k u n c r t d small taker names good =
     (good-still k k u u (n + 1) (n + 2) _ (omega arith) (omega arith) (omega arith) given_once)))
 
 -- what a load is like before the round of this number
-abbrev pub IsBeforeRound : ℕ → Draft → Type 0
+abbrev pub IsBeforeRound : ℕ → LoadDraft → Type 0
 IsBeforeRound t d = IsGood (3 * t) t (4 * t) d
 
 -- what each kind of round makes of it
-abbrev AfterRound : ℕ → Draft → Type 0
+abbrev AfterRound : ℕ → LoadDraft → Type 0
 AfterRound t d = IsGood (3 * t + 3) (t + 1) (4 * t + 4) d
 
-after : (k n t : ℕ) (d : Draft) → k ≤ 3 * t + 3 → n ≤ 4 * t + 4 → IsGood k t n d → AfterRound t d
+after : (k n t : ℕ) (d : LoadDraft) → k ≤ 3 * t + 3 → n ≤ 4 * t + 4 → IsGood k t n d → AfterRound t d
 after k n t d a b good = good-still k (3 * t + 3) t (t + 1) n (4 * t + 4) d a (omega arith) b good
 
-good-put : (t : ℕ) (d : Draft) → IsBeforeRound t d → AfterRound t (put_round t d)
+good-put : (t : ℕ) (d : LoadDraft) → IsBeforeRound t d → AfterRound t (put_round t d)
 good-put t d good =
     let a = drawn d in
     let b = drawn a in
     after (3 * t) (4 * t + 1) t (put_round t d) (omega arith) (omega arith)
     (good-more (3 * t) t (4 * t) b (Put (some_node a) (some_key b) (value_of t)) refl (put-fits b.events (some_node a) (draw 40 b) t (some-correct a)) (good-drawn _ _ _ a (good-drawn _ _ _ d good)))
 
-good-get : (t : ℕ) (d : Draft) → IsBeforeRound t d → AfterRound t (get_round d)
+good-get : (t : ℕ) (d : LoadDraft) → IsBeforeRound t d → AfterRound t (get_round d)
 good-get t d good =
     let a = drawn d in
     let b = drawn a in
     after (3 * t) (4 * t + 1) t (get_round d) (omega arith) (omega arith)
     (good-more (3 * t) t (4 * t) b (Get (some_node a) (some_key b)) refl (get-fits b.events (some_node a) (draw 40 b) (some-correct a)) (good-drawn _ _ _ a (good-drawn _ _ _ d good)))
 
-good-exchange-round : (t : ℕ) (d : Draft) → t < 2 ^ 32 → IsBeforeRound t d → AfterRound t (exchange_round t d)
+good-exchange-round : (t : ℕ) (d : LoadDraft) → t < 2 ^ 32 → IsBeforeRound t d → AfterRound t (exchange_round t d)
 good-exchange-round t d small good =
     let a = drawn d in
     let b = drawn a in
@@ -144,10 +144,10 @@ good-exchange-round t d small good =
     after (3 * t + 1 + 1) (4 * t + 2 + 2) t (exchange_round t d) (omega arith) (omega arith)
     (good-given (3 * t + 1 + 1) t (4 * t + 2) (draw 8 c) r t c small taker made.1 (good-drawn (3 * t + 1 + 1) t (4 * t + 2) bundle made.0))
 
-one_update_more : (k u n : ℕ) (d : Draft) → IsGood k u n d → IsGood k (u + 1) n (record d { updates = d.updates + 1 })
+one_update_more : (k u n : ℕ) (d : LoadDraft) → IsGood k u n d → IsGood k (u + 1) n (record d { updates = d.updates + 1 })
 one_update_more k u n d good = record { fits = good.fits; free = good.free; few = omega (arith, good.few); short = good.short }
 
-good-update : (t n : ℕ) (d : Draft) → t < 2000 → IsCorrect n → IsBeforeRound t d → AfterRound t (update_round t n d)
+good-update : (t n : ℕ) (d : LoadDraft) → t < 2000 → IsCorrect n → IsBeforeRound t d → AfterRound t (update_round t n d)
 good-update t n d early taker good =
     let a = drawn d in
     let ready = good-drawn (3 * t) t (4 * t) d good in
@@ -160,7 +160,7 @@ good-update t n d early taker good =
     let all = one_update_more (3 * t + 2 + 1) t (4 * t + 1 + 1) (with_event b (Give n (round_update t) None)) second in
     good-still (3 * t + 2 + 1) (3 * t + 3) (t + 1) (t + 1) (4 * t + 1 + 1) (4 * t + 4) (update_round t n d) (omega arith) (omega arith) (omega arith) all
 
-good-faulty : (t : ℕ) (d : Draft) → t < 2000 → IsBeforeRound t d → AfterRound t (faulty_round t d)
+good-faulty : (t : ℕ) (d : LoadDraft) → t < 2000 → IsBeforeRound t d → AfterRound t (faulty_round t d)
 good-faulty t d early good =
     let a = drawn d in
     let b = drawn a in
@@ -171,7 +171,7 @@ good-faulty t d early good =
     (good-update t n b early (some-correct a) ready)
 
 -- one round more
-pub good-round : (t : ℕ) (d : Draft) → t < 2000 → IsBeforeRound t d → IsBeforeRound (t + 1) (round t d)
+pub good-round : (t : ℕ) (d : LoadDraft) → t < 2000 → IsBeforeRound t d → IsBeforeRound (t + 1) (round t d)
 unfolding round
 good-round t d early good =
     let a = drawn d in

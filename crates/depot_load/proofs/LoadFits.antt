@@ -4,7 +4,7 @@ use Rattle.std.proofs.lemmas.Nat.{mod_below}
 use Rattle.depot_schedule.specs.declared.event.Event.TheVariants.{Get, Hello, Give}
 use Rattle.depot_schedule.specs.declared.verb.Made.TheVariants as made
 use Rattle.depot_schedule.specs.Schedules.{FitMembers, IsSchedule, before_members}
-use Rattle.depot_load.specs.declared.load_draft.Draft.{Draft}
+use Rattle.depot_load.specs.declared.load_draft.LoadDraft.{LoadDraft}
 use Rattle.depot_load.specs.Loads.{begun, bundled, drafted, exchange, farewell, giver, greet, key_of, last_bundle, last_hello, load_of, members, read, round, schedule_with, steps, taker, with_event}
 use Rattle.depot_load.proofs.Fresh.{free-none}
 use Rattle.depot_load.proofs.EventFits.{IsCorrect, get-fits, hello-fits}
@@ -20,10 +20,10 @@ taker-correct : (j : ℕ) → IsCorrect (taker j)
 taker-correct j = let lt : j % 4 < 4 = mod_below j 4 (omega arith) in other-correct (giver j) (1 + j % 4) (giver-correct j) (omega arith) (omega (arith, lt))
 
 -- one exchange more
-abbrev IsBeforeExchange : ℕ → Draft → Type 0
+abbrev IsBeforeExchange : ℕ → LoadDraft → Type 0
 IsBeforeExchange j d = IsGood (6000 + 2 * j) 2000 (8000 + 3 * j) d
 
-good-exchange : (j : ℕ) (d : Draft) → j < 40 → IsBeforeExchange j d → IsBeforeExchange (j + 1) (exchange j d)
+good-exchange : (j : ℕ) (d : LoadDraft) → j < 40 → IsBeforeExchange j d → IsBeforeExchange (j + 1) (exchange j d)
 unfolding exchange
 good-exchange j d early good =
     let small : j < 2 ^ 32 = omega (arith, early) in
@@ -34,10 +34,10 @@ good-exchange j d early good =
     good-still (6001 + 2 * j + 1) (6000 + 2 * (j + 1)) 2000 2000 (8000 + 3 * j + 2 + 1) (8000 + 3 * (j + 1)) (with_event b (Give (taker j) (last_bundle j) None)) (omega arith) (omega arith) (omega arith) given
 
 -- one read more
-abbrev IsBeforeRead : ℕ → Draft → Type 0
+abbrev IsBeforeRead : ℕ → LoadDraft → Type 0
 IsBeforeRead i d = IsGood 6080 2000 (8120 + i) d
 
-good-read : (i : ℕ) (d : Draft) → i < 200 → IsBeforeRead i d → IsBeforeRead (i + 1) (read i d)
+good-read : (i : ℕ) (d : LoadDraft) → i < 200 → IsBeforeRead i d → IsBeforeRead (i + 1) (read i d)
 unfolding read
 good-read i d early good =
     let lt : i % 5 < 5 = mod_below i 5 (omega arith) in
@@ -46,10 +46,10 @@ good-read i d early good =
     good-still 6080 6080 2000 2000 (8120 + i + 1) (8120 + (i + 1)) (with_event d e) (omega arith) (omega arith) (omega arith) (good-more 6080 2000 (8120 + i) d e refl (get-fits d.events (1 + i % 5) (i / 5) node) good)
 
 -- one hello more
-abbrev IsBeforeHello : ℕ → Draft → Type 0
+abbrev IsBeforeHello : ℕ → LoadDraft → Type 0
 IsBeforeHello i d = IsGood (6080 + i) 2000 (8320 + i) d
 
-good-greet : (i : ℕ) (d : Draft) → i < 5 → IsBeforeHello i d → IsBeforeHello (i + 1) (greet i d)
+good-greet : (i : ℕ) (d : LoadDraft) → i < 5 → IsBeforeHello i d → IsBeforeHello (i + 1) (greet i d)
 unfolding greet
 good-greet i d early good =
     let small : 1 + i < 2 ^ 32 = omega (arith, early) in

@@ -1,3 +1,3 @@
 pub mod Loads
 pub mod Summaries
-pub mod LoadTelling
+pub mod TranscriptLines

@@ -11,7 +11,7 @@ use Rattle.depot_schedule.specs.declared.event.Event.{Event}
 use Rattle.depot_schedule.specs.declared.event.Event.TheVariants.{Put, Get, Hello, Bundle, Give, Restart, Update}
 use Rattle.depot_schedule.specs.declared.event.HistoryWord.TheVariants.{Right}
 use Rattle.depot_schedule.specs.declared.schedule.Schedule.{Schedule}
-use Rattle.depot_load.specs.declared.load_draft.Draft.{Draft}
+use Rattle.depot_load.specs.declared.load_draft.LoadDraft.{LoadDraft}
 
 -- ---- drawing numbers
 
@@ -24,11 +24,11 @@ unfoldable pub number_at : ℕ → ℕ → ℕ
 number_at m x = (x / 2 ^ 33) % m
 
 -- a load after one more draw
-abbrev pub drawn : Draft → Draft
+abbrev pub drawn : LoadDraft → LoadDraft
 drawn d = record d { state = state_behind d.state }
 
 -- the number below m that the last draw gave
-abbrev pub draw : ℕ → Draft → ℕ
+abbrev pub draw : ℕ → LoadDraft → ℕ
 draw m d = number_at m d.state
 
 -- ---- words of events
@@ -71,10 +71,10 @@ abbrev pub faulty_node : ℕ
 faulty_node = 9
 
 -- one of the nodes 1 to 5, and one of the keys 0 to 39, by the last draw
-abbrev pub some_node : Draft → ℕ
+abbrev pub some_node : LoadDraft → ℕ
 some_node d = 1 + draw 5 d
 
-abbrev pub some_key : Draft → List ℕ
+abbrev pub some_key : LoadDraft → List ℕ
 some_key d = key_of (draw 40 d)
 
 -- the r-th of the nodes 1 to 5 but for v, from 1
@@ -84,36 +84,36 @@ other_than v r = if nat_le v r then r + 1 else r
 -- ---- rounds
 
 -- one event more
-abbrev pub with_event : Draft → Event → Draft
+abbrev pub with_event : LoadDraft → Event → LoadDraft
 with_event d e = record d { events = d.events ++ e ∷ [] }
 
 -- a node puts the number of the round under a key
-abbrev pub put_round : ℕ → Draft → Draft
+abbrev pub put_round : ℕ → LoadDraft → LoadDraft
 put_round t d =
     let a = drawn d in
     let b = drawn a in
     with_event b (Put (some_node a) (some_key b) (value_of t))
 
 -- a node reads a key
-abbrev pub get_round : Draft → Draft
+abbrev pub get_round : LoadDraft → LoadDraft
 get_round d =
     let a = drawn d in
     let b = drawn a in
     with_event b (Get (some_node a) (some_key b))
 
 -- a bundle is lost (0), or given twice (1), in pieces (2), or once
-abbrev pub given : ℕ → ℕ → List ℕ → Draft → Draft
+abbrev pub given : ℕ → ℕ → List ℕ → LoadDraft → LoadDraft
 given c r bundle d =
     if c == 0 then d else
     if c == 1 then with_event (with_event d (Give r bundle None)) (Give r bundle None) else
     if c == 2 then with_event d (Give r bundle (Some 1460)) else with_event d (Give r bundle None)
 
 -- a node makes a bundle for another's hello
-abbrev pub bundled : ℕ → ℕ → List ℕ → List ℕ → Draft → Draft
+abbrev pub bundled : ℕ → ℕ → List ℕ → List ℕ → LoadDraft → LoadDraft
 bundled v r hello bundle d = with_event (with_event d (Hello r hello)) (Bundle v hello bundle)
 
 -- a node takes another's bundle, or doesn't
-abbrev pub exchange_round : ℕ → Draft → Draft
+abbrev pub exchange_round : ℕ → LoadDraft → LoadDraft
 exchange_round t d =
     let a = drawn d in
     let b = drawn a in
@@ -123,7 +123,7 @@ exchange_round t d =
     given (draw 8 c) r (round_bundle t) c
 
 -- a node takes an update of the faulty node, which has no parents
-abbrev pub update_round : ℕ → ℕ → Draft → Draft
+abbrev pub update_round : ℕ → ℕ → LoadDraft → LoadDraft
 update_round t n d =
     let a = drawn d in
     let b = with_event a (Update (round_update t) faulty_node a.updates 1 None (some_key a) (value_of t) [] Right) in
@@ -131,7 +131,7 @@ update_round t n d =
     record c { updates = c.updates + 1 }
 
 -- a node starts again (0), or takes an update of the faulty node
-abbrev pub faulty_round : ℕ → Draft → Draft
+abbrev pub faulty_round : ℕ → LoadDraft → LoadDraft
 faulty_round t d =
     let a = drawn d in
     let b = drawn a in
@@ -139,10 +139,10 @@ faulty_round t d =
     if draw 4 b == 0 then with_event b (Restart n) else update_round t n b
 
 -- of ten rounds, five are puts, two are reads, and two are exchanges
-abbrev pub round_by : ℕ → ℕ → Draft → Draft
+abbrev pub round_by : ℕ → ℕ → LoadDraft → LoadDraft
 round_by a t d = if nat_lt a 5 then put_round t d else if nat_lt a 7 then get_round d else if nat_lt a 9 then exchange_round t d else faulty_round t d
 
-unfoldable pub round : ℕ → Draft → Draft
+unfoldable pub round : ℕ → LoadDraft → LoadDraft
 round t d = let a = drawn d in round_by (draw 10 a) t a
 
 -- ---- the end
@@ -154,15 +154,15 @@ giver j = 1 + (j % 20) / 4
 abbrev pub taker : ℕ → ℕ
 taker j = other_than (giver j) (1 + j % 4)
 
-unfoldable pub exchange : ℕ → Draft → Draft
+unfoldable pub exchange : ℕ → LoadDraft → LoadDraft
 exchange j d = with_event (bundled (giver j) (taker j) (last_hello j) (last_bundle j) d) (Give (taker j) (last_bundle j) None)
 
 -- each key is read by each node: the reads are numbered from 0, and the first five are of key 0
-unfoldable pub read : ℕ → Draft → Draft
+unfoldable pub read : ℕ → LoadDraft → LoadDraft
 read i d = with_event d (Get (1 + i % 5) (key_of (i / 5)))
 
 -- each node says hello
-unfoldable pub greet : ℕ → Draft → Draft
+unfoldable pub greet : ℕ → LoadDraft → LoadDraft
 greet i d = with_event d (Hello (1 + i) (farewell (1 + i)))
 
 -- ---- the whole load
@@ -173,10 +173,10 @@ steps step zero a = a
 steps step (suc n) a = step n (steps step n a)
 
 -- a load before its first round
-abbrev pub begun : ℕ → Draft
+abbrev pub begun : ℕ → LoadDraft
 begun number = record { state = number; updates = 0; events = [] }
 
-unfoldable pub drafted : ℕ → Draft
+unfoldable pub drafted : ℕ → LoadDraft
 drafted number = steps greet 5 (steps read 200 (steps exchange 40 (steps round 2000 (begun number))))
 
 -- the nodes 1 to 5, and the faulty one

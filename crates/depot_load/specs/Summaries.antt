@@ -5,11 +5,11 @@ use Rattle.std.specs.Str.{bytes_eq}
 use Rattle.depot_model.specs.Lists.{when}
 use Rattle.depot_answers.specs.Answers.{numbered, spaced}
 use Rattle.depot_world.specs.Transcript.{ended}
-use Rattle.depot_load.specs.declared.load_telling.Told.{Told}
-use Rattle.depot_load.specs.declared.load_telling.Told.TheVariants.{Put, Read, Report, Hello, Other}
+use Rattle.depot_load.specs.declared.transcript_lines.TranscriptLine.{TranscriptLine}
+use Rattle.depot_load.specs.declared.transcript_lines.TranscriptLine.TheVariants.{Put, Read, Report, Hello, Other}
 use Rattle.depot_load.specs.declared.load_totals.Count.{Count}
 use Rattle.depot_load.specs.declared.load_totals.Count.TheVariants as count
-use Rattle.depot_load.specs.LoadTelling.{tolds_of}
+use Rattle.depot_load.specs.TranscriptLines.{told_lines_of}
 
 -- the last n of a list, or all where they are fewer
 abbrev pub last_of : {A : Type 0} → ℕ → List A → List A
@@ -17,7 +17,7 @@ last_of n list = drop (length list - n) list
 
 -- ---- puts and reports
 
-abbrev pub is_put : Told → Bool
+abbrev pub is_put : TranscriptLine → Bool
 is_put Put = true
 is_put (Read key writes) = false
 is_put (Report accepted known refused) = false
@@ -30,7 +30,7 @@ counted count.Accepted accepted known refused = accepted
 counted count.Known accepted known refused = known
 counted count.Refused accepted known refused = refused
 
-abbrev pub counted_in : Count → Told → ℕ
+abbrev pub counted_in : Count → TranscriptLine → ℕ
 counted_in which Put = 0
 counted_in which (Read key writes) = 0
 counted_in which (Report accepted known refused) = counted which accepted known refused
@@ -38,12 +38,12 @@ counted_in which (Hello convicted) = 0
 counted_in which Other = 0
 
 -- the sum of that number over all reports
-abbrev pub total : Count → List Told → ℕ
-total which tolds = sum_by (counted_in which) tolds
+abbrev pub total : Count → List TranscriptLine → ℕ
+total which told_lines = sum_by (counted_in which) told_lines
 
 -- ---- hellos
 
-abbrev pub convicted_in : Told → Option ℕ
+abbrev pub convicted_in : TranscriptLine → Option ℕ
 convicted_in Put = None
 convicted_in (Read key writes) = None
 convicted_in (Report accepted known refused) = None
@@ -51,13 +51,13 @@ convicted_in (Hello convicted) = Some convicted
 convicted_in Other = None
 
 -- how many nodes the last five hellos name as convicted, all together
-abbrev pub convicted_last : List Told → ℕ
-convicted_last tolds = sum (last_of 5 (filter_map convicted_in tolds))
+abbrev pub convicted_last : List TranscriptLine → ℕ
+convicted_last told_lines = sum (last_of 5 (filter_map convicted_in told_lines))
 
 -- ---- reads
 
 -- the writes that a read of this key shows
-abbrev pub writes_under : List ℕ → Told → Option (List ℕ)
+abbrev pub writes_under : List ℕ → TranscriptLine → Option (List ℕ)
 writes_under key Put = None
 writes_under key (Read of writes) = when (bytes_eq of key) writes
 writes_under key (Report accepted known refused) = None
@@ -69,20 +69,20 @@ are_same [] = true
 are_same (text ∷ texts) = list_all (λ other. bytes_eq other text) texts
 
 -- whether the last five reads of a key show the same writes
-abbrev pub agree_on : List ℕ → List Told → Bool
-agree_on key tolds = are_same (last_of 5 (filter_map (writes_under key) tolds))
+abbrev pub agree_on : List ℕ → List TranscriptLine → Bool
+agree_on key told_lines = are_same (last_of 5 (filter_map (writes_under key) told_lines))
 
 -- the same of the key that is read, if one is
-abbrev pub agrees : List Told → Told → Bool
-agrees tolds Put = true
-agrees tolds (Read key writes) = agree_on key tolds
-agrees tolds (Report accepted known refused) = true
-agrees tolds (Hello convicted) = true
-agrees tolds Other = true
+abbrev pub agrees : List TranscriptLine → TranscriptLine → Bool
+agrees told_lines Put = true
+agrees told_lines (Read key writes) = agree_on key told_lines
+agrees told_lines (Report accepted known refused) = true
+agrees told_lines (Hello convicted) = true
+agrees told_lines Other = true
 
 -- the same of each key that is read
-abbrev pub agree : List Told → Bool
-agree tolds = list_all (agrees tolds) tolds
+abbrev pub agree : List TranscriptLine → Bool
+agree told_lines = list_all (agrees told_lines) told_lines
 
 -- ---- the line
 
@@ -90,17 +90,17 @@ abbrev pub name_of_agreement : Bool → List ℕ
 name_of_agreement true = codes "yes"
 name_of_agreement false = codes "no"
 
-abbrev pub reports_text : List Told → List ℕ
-reports_text tolds = spaced (numbered (codes "accepted") (total count.Accepted tolds)) ++ (spaced (numbered (codes "known") (total count.Known tolds)) ++ spaced (numbered (codes "refused") (total count.Refused tolds)))
+abbrev pub reports_text : List TranscriptLine → List ℕ
+reports_text told_lines = spaced (numbered (codes "accepted") (total count.Accepted told_lines)) ++ (spaced (numbered (codes "known") (total count.Known told_lines)) ++ spaced (numbered (codes "refused") (total count.Refused told_lines)))
 
 abbrev pub agreement_text : Bool → List ℕ
 agreement_text agree = spaced (codes "agree") ++ spaced (name_of_agreement agree)
 
 -- of the load of this number
-abbrev pub summary_line : ℕ → List Told → List ℕ
-summary_line number tolds =
-    ended (numbered (codes "load") number ++ (spaced (numbered (codes "puts") (count_by is_put tolds)) ++ (reports_text tolds ++ (spaced (numbered (codes "convicted") (convicted_last tolds)) ++ agreement_text (agree tolds)))))
+abbrev pub summary_line : ℕ → List TranscriptLine → List ℕ
+summary_line number told_lines =
+    ended (numbered (codes "load") number ++ (spaced (numbered (codes "puts") (count_by is_put told_lines)) ++ (reports_text told_lines ++ (spaced (numbered (codes "convicted") (convicted_last told_lines)) ++ agreement_text (agree told_lines)))))
 
 -- the line that sums up a transcript
 unfoldable pub summary_of : ℕ → List ℕ → List ℕ
-summary_of number transcript = summary_line number (tolds_of transcript)
+summary_of number transcript = summary_line number (told_lines_of transcript)

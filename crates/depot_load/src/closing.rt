@@ -2,7 +2,7 @@
 ghost use Rattle.std.specs.Prelude.{◌≡◌, ◌<◌, OnOk};
 ghost use Rattle.depot_load.specs.Loads.{exchange, greet, read};
 
-use crate::load_draft::Draft;
+use crate::load_draft::LoadDraft;
 use crate::rounds::{bundle, give, other_than};
 use crate::word_pairs::{key, label, node};
 use depot_base::Memory;
@@ -11,7 +11,7 @@ use std::alloc::Global;
 
 /// Adds the exchange of this number.
 #[tactic(auto, unfolding(crate::specs::Loads::exchange))]
-pub fn exchange(alloc: Global, draft: &mut Draft, number: u16) -> Result<(), Memory>
+pub fn exchange(alloc: Global, draft: &mut LoadDraft, number: u16) -> Result<(), Memory>
     ensures { OnOk result (draft.new ≡ exchange number draft.old) }
 {
     let giver = node(1 + number % 20 / 4);
@@ -23,7 +23,7 @@ pub fn exchange(alloc: Global, draft: &mut Draft, number: u16) -> Result<(), Mem
 
 /// Adds the read of this number.
 #[tactic(auto, unfolding(crate::specs::Loads::read))]
-pub fn read(alloc: Global, draft: &mut Draft, number: u16) -> Result<(), Memory>
+pub fn read(alloc: Global, draft: &mut LoadDraft, number: u16) -> Result<(), Memory>
     ensures { OnOk result (draft.new ≡ read number draft.old) }
 {
     let node = node(1 + number % 5);
@@ -33,7 +33,7 @@ pub fn read(alloc: Global, draft: &mut Draft, number: u16) -> Result<(), Memory>
 
 /// Adds the hello of this number.
 #[tactic(auto, unfolding(crate::specs::Loads::greet))]
-pub fn greet(alloc: Global, draft: &mut Draft, number: u16) -> Result<(), Memory>
+pub fn greet(alloc: Global, draft: &mut LoadDraft, number: u16) -> Result<(), Memory>
     requires { number < 5 }
     ensures { OnOk result (draft.new ≡ greet number draft.old) }
 {

@@ -3,25 +3,23 @@
 //! What a number makes is defined in `specs/Loads.antt`, round by round; each load has a text (`IsSchedule`), so it can be printed and replayed. What is summed up of a
 //! transcript is defined in `specs/Summaries.antt` over its bytes, line by line, and of every other text too.
 //!
-//! A `Draft` is a load as it grows: `rounds` has its rounds and `closing` its end, `words` the words of its events, and `making` all of it. `telling` says what a line of a
-//! transcript tells, `totals` and `agreement` sum up what lines tell, `summing` writes it, and `running` does all of this over a replay.
+//! A `LoadDraft` is a load as it grows: `rounds` has its rounds and `closing` its end, `words` the words of its events, and `making` all of it. `telling` says what a line of a
+//! transcript tells, `totals` and `agreement` sum up what lines tell, and `summing` writes it.
 //!
-//! Nothing here says what an event does.
+//! Nothing here says what an event does, and nothing is replayed: the command `load` does that (`depot_cli`).
 #![tactic(auto)]
 
 mod agreement;
 mod closing;
 mod load_draft;
 mod load_laws;
-mod load_run;
-mod load_telling;
 mod load_totals;
 mod making;
 mod rounds;
 mod summing;
+mod transcript_lines;
 mod word_pairs;
 
 pub use load_laws::loads_are_schedules;
-pub use load_run::load;
 pub use making::make_load;
 pub use summing::summary;

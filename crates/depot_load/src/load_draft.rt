@@ -14,7 +14,7 @@ const SUMMAND: u64 = 1_442_695_040_888_963_407;
 
 /// A load so far.
 #[derive(Drop)]
-pub struct Draft {
+pub struct LoadDraft {
     /// The state that numbers are drawn from.
     pub state: u64,
     /// How many updates the faulty node signed.
@@ -23,12 +23,12 @@ pub struct Draft {
     pub events: Events,
 }
 
-impl Draft {
+impl LoadDraft {
     /// A load before its first round. It takes no memory.
-    pub fn new(alloc: Global, number: u32) -> Draft
+    pub fn new(alloc: Global, number: u32) -> LoadDraft
         ensures { result ≡ begun number }
     {
-        Draft {
+        LoadDraft {
             state: u64::from(number),
             updates: 0,
             events: Sequence::new(alloc),

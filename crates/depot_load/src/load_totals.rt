@@ -3,7 +3,7 @@ ghost use Rattle.std.specs.Prelude.{◌≡◌, count_by, sum, IfOk};
 ghost use Rattle.std.specs.List.{filter_map};
 ghost use Rattle.depot_load.specs.Summaries.{convicted_in, convicted_last, counted_in, is_put, total};
 
-use crate::load_telling::Told;
+use crate::transcript_lines::TranscriptLine;
 use depot_base::Memory;
 use std::alloc::Global;
 
@@ -19,33 +19,33 @@ pub enum Count {
 }
 
 /// Whether a put was done.
-fn is_put(told: &Told) -> bool
+fn is_put(told: &TranscriptLine) -> bool
     ensures { result ≡ is_put told.now }
 {
     match told {
-        Told::Put => true,
-        Told::Read { .. } => false,
-        Told::Report { .. } => false,
-        Told::Hello { .. } => false,
-        Told::Other => false,
+        TranscriptLine::Put => true,
+        TranscriptLine::Read { .. } => false,
+        TranscriptLine::Report { .. } => false,
+        TranscriptLine::Hello { .. } => false,
+        TranscriptLine::Other => false,
     }
 }
 
 /// How many puts were done.
-pub fn puts(tolds: &[Told]) -> usize
-    ensures { result ≡ count_by is_put tolds.now }
+pub fn puts(told_lines: &[TranscriptLine]) -> usize
+    ensures { result ≡ count_by is_put told_lines.now }
 {
-    tolds.iter().filter(|told| is_put(told)).count()
+    told_lines.iter().filter(|told| is_put(told)).count()
 }
 
 /// A number of a report, and 0 of another line.
-fn counted_in(told: &Told, which: Count) -> u64
+fn counted_in(told: &TranscriptLine, which: Count) -> u64
     ensures { result ≡ counted_in which told.now }
 {
     match told {
-        Told::Put => 0,
-        Told::Read { .. } => 0,
-        Told::Report {
+        TranscriptLine::Put => 0,
+        TranscriptLine::Read { .. } => 0,
+        TranscriptLine::Report {
             accepted,
             known,
             refused,
@@ -54,40 +54,40 @@ fn counted_in(told: &Told, which: Count) -> u64
             Count::Known => *known,
             Count::Refused => *refused,
         },
-        Told::Hello { .. } => 0,
-        Told::Other => 0,
+        TranscriptLine::Hello { .. } => 0,
+        TranscriptLine::Other => 0,
     }
 }
 
 /// The sum of a number over all reports. It has room: each is below 2^64, and so is how many there are.
-pub fn total(tolds: &[Told], which: Count) -> u128
-    ensures { result ≡ total which tolds.now }
+pub fn total(told_lines: &[TranscriptLine], which: Count) -> u128
+    ensures { result ≡ total which told_lines.now }
 {
     let mut total: u128 = 0;
-    for told in tolds {
+    for told in told_lines {
         total += u128::from(counted_in(told, which));
     }
     total
 }
 
 /// How many nodes a hello names as convicted. None of another line.
-fn convicted_in(told: &Told) -> Option<u64>
+fn convicted_in(told: &TranscriptLine) -> Option<u64>
     ensures { result ≡ convicted_in told.now }
 {
     match told {
-        Told::Put => None,
-        Told::Read { .. } => None,
-        Told::Report { .. } => None,
-        Told::Hello { convicted } => Some(*convicted),
-        Told::Other => None,
+        TranscriptLine::Put => None,
+        TranscriptLine::Read { .. } => None,
+        TranscriptLine::Report { .. } => None,
+        TranscriptLine::Hello { convicted } => Some(*convicted),
+        TranscriptLine::Other => None,
     }
 }
 
 /// The same of each hello.
-fn all_convicted(alloc: Global, tolds: &[Told]) -> Result<Vec<u64>, Memory>
-    ensures { IfOk result (λ list. list.items ≡ filter_map convicted_in tolds.now) }
+fn all_convicted(alloc: Global, told_lines: &[TranscriptLine]) -> Result<Vec<u64>, Memory>
+    ensures { IfOk result (λ list. list.items ≡ filter_map convicted_in told_lines.now) }
 {
-    Ok(tolds.iter().filter_map(convicted_in).collect(alloc)?)
+    Ok(told_lines.iter().filter_map(convicted_in).collect(alloc)?)
 }
 
 /// The sum of some numbers. It has room: each is below 2^64, and so is how many there are.
@@ -103,10 +103,10 @@ fn sum_of(numbers: &[u64]) -> u128
 }
 
 /// How many nodes the last five hellos name as convicted, all together.
-pub fn convicted_last(alloc: Global, tolds: &[Told]) -> Result<u128, Memory>
-    ensures { IfOk result (λ n. n ≡ convicted_last tolds.now) }
+pub fn convicted_last(alloc: Global, told_lines: &[TranscriptLine]) -> Result<u128, Memory>
+    ensures { IfOk result (λ n. n ≡ convicted_last told_lines.now) }
 {
-    let all = all_convicted(alloc, tolds)?;
+    let all = all_convicted(alloc, told_lines)?;
     let all = all.as_slice();
     Ok(sum_of(&all[all.len().saturating_sub(5)..]))
 }

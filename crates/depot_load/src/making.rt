@@ -3,7 +3,7 @@ ghost use Rattle.std.specs.Prelude.{◌≡◌, ◌<◌, ◌++◌, ◌∷◌, [],
 ghost use Rattle.depot_load.specs.Loads.{begun, drafted, exchange, greet, load_of, member, members, read, round, steps};
 
 use crate::closing::{exchange, greet, read};
-use crate::load_draft::Draft;
+use crate::load_draft::LoadDraft;
 use crate::rounds::{FAULTY, round};
 use crate::word_pairs::node;
 use depot_base::{Memory, Sequence};
@@ -15,10 +15,10 @@ const ROUNDS: u32 = 2000;
 
 /// Its rounds.
 #[tactic(auto, using(crate::proofs::DrawSteps::counting, crate::proofs::Updates::updates_round))]
-fn all_rounds(alloc: Global, number: u32) -> Result<Draft, Memory>
+fn all_rounds(alloc: Global, number: u32) -> Result<LoadDraft, Memory>
     ensures { IfOk result (λ draft. draft ≡ steps round 2000 (begun number)) }
 {
-    let mut draft = Draft::new(alloc, number);
+    let mut draft = LoadDraft::new(alloc, number);
     for t in 0..ROUNDS {
         round(alloc, &mut draft, t)?;
     }
@@ -27,7 +27,7 @@ fn all_rounds(alloc: Global, number: u32) -> Result<Draft, Memory>
 
 /// Each node takes a bundle of each other, twice over.
 #[tactic(auto, using(crate::proofs::DrawSteps::counting))]
-fn all_exchanges(alloc: Global, draft: &mut Draft) -> Result<(), Memory>
+fn all_exchanges(alloc: Global, draft: &mut LoadDraft) -> Result<(), Memory>
     ensures { OnOk result (draft.new ≡ steps exchange 40 draft.old) }
 {
     for j in 0..40 {
@@ -38,7 +38,7 @@ fn all_exchanges(alloc: Global, draft: &mut Draft) -> Result<(), Memory>
 
 /// Each key is read by each node.
 #[tactic(auto, using(crate::proofs::DrawSteps::counting))]
-fn all_reads(alloc: Global, draft: &mut Draft) -> Result<(), Memory>
+fn all_reads(alloc: Global, draft: &mut LoadDraft) -> Result<(), Memory>
     ensures { OnOk result (draft.new ≡ steps read 200 draft.old) }
 {
     for i in 0..200 {
@@ -49,7 +49,7 @@ fn all_reads(alloc: Global, draft: &mut Draft) -> Result<(), Memory>
 
 /// Each node says hello.
 #[tactic(auto, using(crate::proofs::DrawSteps::counting))]
-fn all_hellos(alloc: Global, draft: &mut Draft) -> Result<(), Memory>
+fn all_hellos(alloc: Global, draft: &mut LoadDraft) -> Result<(), Memory>
     ensures { OnOk result (draft.new ≡ steps greet 5 draft.old) }
 {
     for i in 0..5 {
@@ -60,7 +60,7 @@ fn all_hellos(alloc: Global, draft: &mut Draft) -> Result<(), Memory>
 
 /// All events.
 #[tactic(auto, unfolding(crate::specs::Loads::drafted))]
-fn drafted(alloc: Global, number: u32) -> Result<Draft, Memory>
+fn drafted(alloc: Global, number: u32) -> Result<LoadDraft, Memory>
     ensures { IfOk result (λ draft. draft ≡ drafted number) }
 {
     let mut draft = all_rounds(alloc, number)?;

@@ -4,7 +4,7 @@ ghost use Rattle.depot_load.specs.Loads.{bundled, drawn, exchange_round, faulty_
 ghost use Rattle.depot_schedule.specs.Spelling.{is_letter};
 ghost use Rattle.depot_schedule.specs.declared.event.Event.TheVariants.{Give};
 
-use crate::load_draft::Draft;
+use crate::load_draft::LoadDraft;
 use crate::word_pairs::{key, label, node, value};
 use depot_base::{Key, Memory, NodeId, Sequence};
 use depot_schedule::{Event, HistoryWord};
@@ -23,7 +23,7 @@ pub const FAULTY: u16 = 9;
 const PIECE: u32 = 1460;
 
 /// Draws a correct node.
-fn some_node(draft: &mut Draft) -> NodeId
+fn some_node(draft: &mut LoadDraft) -> NodeId
     ensures draft { draft.new ≡ drawn draft.old }
     ensures node { result ≡ some_node draft.new }
     ensures few { result ≤ 5 }
@@ -32,7 +32,7 @@ fn some_node(draft: &mut Draft) -> NodeId
 }
 
 /// Draws a key.
-fn some_key(alloc: Global, draft: &mut Draft) -> Result<Key, Memory>
+fn some_key(alloc: Global, draft: &mut LoadDraft) -> Result<Key, Memory>
     ensures draft { draft.new ≡ drawn draft.old }
     ensures key { IfOk result (λ key. key ≡ some_key draft.new) }
 {
@@ -52,7 +52,7 @@ pub fn other_than(one: NodeId, place: u16) -> NodeId
 }
 
 /// A node puts the number of the round under a key.
-fn put_round(alloc: Global, draft: &mut Draft, round: u32) -> Result<(), Memory>
+fn put_round(alloc: Global, draft: &mut LoadDraft, round: u32) -> Result<(), Memory>
     ensures { OnOk result (draft.new ≡ put_round round draft.old) }
 {
     let node = some_node(draft);
@@ -62,7 +62,7 @@ fn put_round(alloc: Global, draft: &mut Draft, round: u32) -> Result<(), Memory>
 }
 
 /// A node reads a key.
-fn get_round(alloc: Global, draft: &mut Draft) -> Result<(), Memory>
+fn get_round(alloc: Global, draft: &mut LoadDraft) -> Result<(), Memory>
     ensures { OnOk result (draft.new ≡ get_round draft.old) }
 {
     let node = some_node(draft);
@@ -73,7 +73,7 @@ fn get_round(alloc: Global, draft: &mut Draft) -> Result<(), Memory>
 /// A node makes a bundle for another's hello.
 pub fn bundle(
     alloc: Global,
-    draft: &mut Draft,
+    draft: &mut LoadDraft,
     giver: NodeId,
     taker: NodeId,
     letters: (u8, u8),
@@ -99,7 +99,7 @@ pub fn bundle(
 /// A node takes the bytes of the label of a letter and a number, whole or in pieces.
 pub fn give(
     alloc: Global,
-    draft: &mut Draft,
+    draft: &mut LoadDraft,
     node: NodeId,
     letter: u8,
     number: u32,
@@ -115,7 +115,7 @@ pub fn give(
 /// A node takes the bundle of a round, by the number drawn for it.
 fn given(
     alloc: Global,
-    draft: &mut Draft,
+    draft: &mut LoadDraft,
     how: u16,
     taker: NodeId,
     round: u32,
@@ -134,7 +134,7 @@ fn given(
 }
 
 /// A node takes another's bundle, or doesn't.
-fn exchange_round(alloc: Global, draft: &mut Draft, round: u32) -> Result<(), Memory>
+fn exchange_round(alloc: Global, draft: &mut LoadDraft, round: u32) -> Result<(), Memory>
     ensures { OnOk result (draft.new ≡ exchange_round round draft.old) }
 {
     let giver = some_node(draft);
@@ -145,7 +145,12 @@ fn exchange_round(alloc: Global, draft: &mut Draft, round: u32) -> Result<(), Me
 }
 
 /// A node takes an update of the faulty node.
-fn update_round(alloc: Global, draft: &mut Draft, round: u32, taker: NodeId) -> Result<(), Memory>
+fn update_round(
+    alloc: Global,
+    draft: &mut LoadDraft,
+    round: u32,
+    taker: NodeId,
+) -> Result<(), Memory>
     requires { draft.old.updates < 2 ^ 12 }
     ensures { OnOk result (draft.new ≡ update_round round taker draft.old) }
 {
@@ -168,7 +173,7 @@ fn update_round(alloc: Global, draft: &mut Draft, round: u32, taker: NodeId) -> 
 }
 
 /// A node starts again, or takes an update of the faulty node.
-fn faulty_round(alloc: Global, draft: &mut Draft, round: u32) -> Result<(), Memory>
+fn faulty_round(alloc: Global, draft: &mut LoadDraft, round: u32) -> Result<(), Memory>
     requires { draft.old.updates < 2 ^ 12 }
     ensures { OnOk result (draft.new ≡ faulty_round round draft.old) }
 {
@@ -181,7 +186,7 @@ fn faulty_round(alloc: Global, draft: &mut Draft, round: u32) -> Result<(), Memo
 }
 
 /// A round by the number drawn for it.
-fn round_by(alloc: Global, draft: &mut Draft, kind: u16, round: u32) -> Result<(), Memory>
+fn round_by(alloc: Global, draft: &mut LoadDraft, kind: u16, round: u32) -> Result<(), Memory>
     requires { draft.old.updates < 2 ^ 12 }
     ensures { OnOk result (draft.new ≡ round_by kind round draft.old) }
 {
@@ -198,7 +203,7 @@ fn round_by(alloc: Global, draft: &mut Draft, kind: u16, round: u32) -> Result<(
 
 /// Adds a round.
 #[tactic(auto, unfolding(crate::specs::Loads::round))]
-pub fn round(alloc: Global, draft: &mut Draft, number: u32) -> Result<(), Memory>
+pub fn round(alloc: Global, draft: &mut LoadDraft, number: u32) -> Result<(), Memory>
     requires { draft.old.updates < 2 ^ 12 }
     ensures { OnOk result (draft.new ≡ round number draft.old) }
 {

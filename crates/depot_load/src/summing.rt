@@ -4,8 +4,8 @@ ghost use Rattle.depot_answers.specs.Answers.{numbered, spaced};
 ghost use Rattle.depot_load.specs.Summaries.{agreement_text, name_of_agreement, reports_text, summary_line, summary_of};
 
 use crate::agreement::agree;
-use crate::load_telling::{Told, tolds_of};
 use crate::load_totals::{Count, convicted_last, puts, total};
+use crate::transcript_lines::{TranscriptLine, told_lines_of};
 use depot_answers::numbered;
 use depot_base::{Bytes, Memory};
 use depot_schedule::lines::word;
@@ -28,12 +28,12 @@ fn spaced_number(alloc: Global, line: &mut Bytes, name: &str, n: u128) -> Result
 
 /// The sums of what reports tell.
 #[tactic(auto, using(depot_base::proofs::Writing::texts))]
-fn reports(alloc: Global, line: &mut Bytes, tolds: &[Told]) -> Result<(), Memory>
-    ensures { OnOk result (line.new ≡ line.old ++ reports_text tolds.now) }
+fn reports(alloc: Global, line: &mut Bytes, told_lines: &[TranscriptLine]) -> Result<(), Memory>
+    ensures { OnOk result (line.new ≡ line.old ++ reports_text told_lines.now) }
 {
-    spaced_number(alloc, line, "accepted", total(tolds, Count::Accepted))?;
-    spaced_number(alloc, line, "known", total(tolds, Count::Known))?;
-    spaced_number(alloc, line, "refused", total(tolds, Count::Refused))
+    spaced_number(alloc, line, "accepted", total(told_lines, Count::Accepted))?;
+    spaced_number(alloc, line, "known", total(told_lines, Count::Known))?;
+    spaced_number(alloc, line, "refused", total(told_lines, Count::Refused))
 }
 
 /// Whether reads agree.
@@ -47,15 +47,15 @@ fn agreement(line: &mut Bytes, agree: bool) -> Result<(), Memory>
 
 /// The line that sums up what lines tell.
 #[tactic(auto, using(depot_base::proofs::Writing::texts))]
-fn summary_line(alloc: Global, number: u32, tolds: &[Told]) -> Result<Bytes, Memory>
-    ensures { IfOk result (λ line. line ≡ summary_line number tolds.now) }
+fn summary_line(alloc: Global, number: u32, told_lines: &[TranscriptLine]) -> Result<Bytes, Memory>
+    ensures { IfOk result (λ line. line ≡ summary_line number told_lines.now) }
 {
-    let convicted = convicted_last(alloc, tolds)?;
-    let agree = agree(alloc, tolds)?;
+    let convicted = convicted_last(alloc, told_lines)?;
+    let agree = agree(alloc, told_lines)?;
     let mut line = Bytes::new(alloc);
     numbered(alloc, &mut line, "load", u64::from(number))?;
-    spaced_number(alloc, &mut line, "puts", puts(tolds) as u128)?;
-    reports(alloc, &mut line, tolds)?;
+    spaced_number(alloc, &mut line, "puts", puts(told_lines) as u128)?;
+    reports(alloc, &mut line, told_lines)?;
     spaced_number(alloc, &mut line, "convicted", convicted)?;
     agreement(&mut line, agree)?;
     line.push_all(b"\n")?;
@@ -69,6 +69,6 @@ fn summary_line(alloc: Global, number: u32, tolds: &[Told]) -> Result<Bytes, Mem
 pub fn summary(alloc: Global, number: u32, transcript: &[u8]) -> Result<Bytes, Memory>
     ensures { IfOk result (λ line. line ≡ summary_of number transcript.now) }
 {
-    let tolds = tolds_of(alloc, transcript)?;
-    summary_line(alloc, number, tolds.as_slice())
+    let told_lines = told_lines_of(alloc, transcript)?;
+    summary_line(alloc, number, told_lines.as_slice())
 }

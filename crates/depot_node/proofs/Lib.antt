@@ -1,3 +1,8 @@
+mod RecordParts
+mod RecordChecks
+mod PutValues
+mod RecordFaultExamples
+pub mod TakenTexts
 pub mod LastingCalls
 pub mod TakenGrowth
 pub mod DiskCalls

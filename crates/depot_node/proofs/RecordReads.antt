@@ -9,7 +9,7 @@ use Rattle.depot_model.specs.Records.{text_of_record}
 use Rattle.depot_model.specs.Roster.{Verifies}
 use Rattle.depot_laws.proofs.Splits.{lawful_none, lawful_push}
 use Rattle.depot_store.specs.Holdings.{Holding, standing, with_records}
-use Rattle.depot_records.specs.ReadRecords.{IsReadFrom}
+use Rattle.depot_node.specs.ReadRecords.{IsReadFrom}
 use Rattle.depot_node.specs.StartReading.{IsReadOn, IsNextWrong, AreWrong}
 use Rattle.depot_node.specs.declared.start_error.StartError.{StartError}
 use Rattle.depot_node.specs.declared.start_error.StartError.TheVariants as stopped

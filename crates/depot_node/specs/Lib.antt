@@ -1,3 +1,5 @@
+pub mod ReadRecords
+pub mod TextFaults
 pub mod Starting
 pub mod StartReading
 pub mod Keyed

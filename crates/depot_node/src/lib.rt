@@ -6,8 +6,12 @@
 //! a write its value where it is held (`held`).
 //!
 //! `Replica` is what others see of a node and give it, with its laws: the journal is lawful and has its birth record, and the
-//! roster has the node. `Peer` is what it tells them, by `depot_tell`. A node is started from the journal on a disk, whose records
+//! roster has the node. `Peer` is what it tells them, by `depot_queries`. A node is started from the journal on a disk, whose records
 //! are checked one by one (`start_reading`), and gives the disk back.
+//!
+//! A record that is read is checked as if it came now, behind those that were read before it: it may follow them, or it has a
+//! fault (`record_check`). What a node would decide of the same put, statement, proof, value or voucher is asked of
+//! `depot_decide`, so nothing is decided in two ways. Texts that stand on no disk are checked so too (`unwritten`).
 //!
 //! What is put or taken is decided by `depot_decide` over the `Store` of `depot_store` as it stands, and then carried out by one
 //! call, `Store::commit`, by which alone the journal grows once it is started: so are puts (`put`), what others give (`take`), and
@@ -22,16 +26,19 @@ mod node;
 mod node_laws;
 mod node_peer;
 mod put;
+mod record_check;
 mod start;
 mod start_error;
 mod start_reading;
 mod take;
+mod unwritten;
 mod vouch;
 
 pub use depot_decide::{PutDone, PutError};
 pub use depot_model::{RecordFault, TakeError, Taken};
-pub use depot_records::{PlaceFault, check_records};
 pub use held::held_as;
 pub use node::Node;
 pub use node_laws::lawful_files_start;
+pub use record_check::{ReadError, check_record, check_text};
 pub use start_error::StartError;
+pub use unwritten::{PlaceFault, check_records, take_text, unwritten_store};

@@ -6,7 +6,7 @@ use depot_base::{Bytes, Hash32, Ids, Items, Memory, NodeId, Nodes, Update};
 use depot_decide::is_foreign;
 use depot_model::{HelloLeaves, Peer, Scheme, Signer, VoucherError};
 use depot_outside::Disk;
-use depot_tell::{
+use depot_queries::{
     candidates, convicted, id_at, leaves, proof_places, signed_text, update_at, voucher_places,
 };
 

@@ -13,11 +13,11 @@ ghost use Rattle.depot_store.specs.Holdings.{standing, IsWhole};
 ghost use Rattle.depot_node.specs.Starting.{AreOwn, AreNotRead, LeavesBetween, LeavesFile, LeavesNew, StartLeaves, birth_after, started};
 ghost use Rattle.depot_node.specs.StartReading.{IsReadOn, IsNextWrong, AreWrong, IsOtherBirth, AreOther};
 
+use crate::record_check::{ReadError, check_record};
 use crate::start_error::StartError;
 use depot_base::{DecodeError, Hash32, NodeId, Record};
 use depot_model::Scheme;
 use depot_outside::Disk;
-use depot_records::{ReadError, check_record};
 use depot_store::{Growth, Store, WriteError};
 use depot_update::decode_record;
 use std::alloc::Global;

@@ -10,7 +10,7 @@ use Rattle.depot_outside.specs.StopImages.{left_by, overwritten}
 use Rattle.depot_outside.specs.Stopping.{State, Leads, done_before_stop, done_by}
 use Rattle.depot_outside.specs.declared.stops.Image.{Image}
 use Rattle.depot_outside.specs.declared.stops.Image.TheVariants as image
-use Rattle.depot_world.specs.Run.{Armed}
+use Rattle.depot_world.specs.Run.{PendingStop}
 use Rattle.depot_world.specs.ScheduleStops.{standing_after}
 use Rattle.depot_replay.specs.Disks.{IsAtRest, StoppedAppending, number_of}
 use Rattle.depot_replay.proofs.DiskLaws.{FailsIn, Gone, StoppedIn, failed_on, fails_in, led_on}
@@ -192,7 +192,7 @@ appends_stop s t bodies end (text ∷ texts) rest stands f = elim (append_fails 
       }
 ]
 
-counted_so : (a : Armed) (place : ℕ) (image : ℕ) → a.call - 1 ≡ place → a.image ≡ image → standing_at place image ≡ standing_after a
+counted_so : (a : PendingStop) (place : ℕ) (image : ℕ) → a.call - 1 ≡ place → a.image ≡ image → standing_at place image ≡ standing_after a
 unfolding standing_after
 counted_so a place image call_is image_is = rw (← call_is, ← image_is) refl
 
@@ -200,7 +200,7 @@ counted_so a place image call_is image_is = rw (← call_is, ← image_is) refl
 pub stopped_appending : (s t : State) (bodies texts : List (List ℕ)) → IsAtRest s → StandsFor s.file bodies → FailsAmong Leads s t (calls_to_append_all (length (blocks bodies)) texts) → StoppedAppending s t bodies texts
 stopped_appending s t bodies texts rest stands f =
     let x = appends_stop s t bodies (length (blocks bodies)) texts rest (stands_to s.file bodies stands) (fails_in s t (calls_to_append_all (length (blocks bodies)) texts) f) in
-    let same = counted_so x.stops.comes.armed x.place (number_of x.image) x.stops.comes.call_is x.stops.comes.image_is in
+    let same = counted_so x.stops.comes.pending x.place (number_of x.image) x.stops.comes.call_is x.stops.comes.image_is in
     record {
       stopped = stopped_at s t x.place x.image (4 * length texts) x.stops x.within;
       stands = subst (λ (n : ℕ). StandsFor t.file (bodies ++ take n texts)) same x.stands;

@@ -8,7 +8,7 @@ use Rattle.depot_outside.specs.Stopping.{IsOutcome, Leads, State, after_call, do
 use Rattle.depot_outside.specs.declared.stops.Image.{Image}
 use Rattle.depot_outside.specs.declared.stops.Image.TheVariants as image
 use Rattle.depot_world.specs.ScheduleStops.{standing_after}
-use Rattle.depot_replay.specs.Disks.{IsAtRest, armed_of}
+use Rattle.depot_replay.specs.Disks.{IsAtRest, pending_of}
 
 -- how many records of two stand, by the call in which the stop comes, and the image
 behind_the_gate : standing_after (record { call = 2; image = 1 }) ≡ 0
@@ -35,7 +35,7 @@ waiting left = record { file = 0 ∷ []; unsynced = synced_as (0 ∷ []); next =
 abbrev stopped_as : List ℕ → State
 stopped_as file = record { file = file; unsynced = synced_as file; next = None; fails = []; made = 3 }
 
-its_number : armed_of (waiting image.Blanked).next ≡ Some (record { call = 3; image = 2 })
+its_number : pending_of (waiting image.Blanked).next ≡ Some (record { call = 3; image = 2 })
 its_number = refl
 
 rests : (left : Image) → IsAtRest (waiting left)

@@ -8,8 +8,8 @@ use Rattle.depot_outside.specs.StopImages.{counted_down, due, left_by, numbered}
 use Rattle.depot_outside.specs.Stopping.{State, IsOutcome, Leads, after_call, counted, done_before_stop, done_by, left_as}
 use Rattle.depot_outside.specs.declared.stops.Image.{Image}
 use Rattle.depot_outside.specs.declared.stops.Stop.{Stop}
-use Rattle.depot_world.specs.Run.{Armed}
-use Rattle.depot_replay.specs.Disks.{IsAtRest, armed_of, number_of}
+use Rattle.depot_world.specs.Run.{PendingStop}
+use Rattle.depot_replay.specs.Disks.{IsAtRest, pending_of, number_of}
 
 -- ---- images and their numbers
 
@@ -18,12 +18,12 @@ number_numbered zero h = refl
 number_numbered (suc zero) h = refl
 number_numbered (suc (suc n)) h = omega (arith, h)
 
-abbrev armed_at : ℕ → ℕ → Option Armed
-armed_at call image = Some (record { call = call; image = image })
+abbrev pending_at : ℕ → ℕ → Option PendingStop
+pending_at call image = Some (record { call = call; image = image })
 
 -- a stop that is set by a number waits with that number
-pub armed_numbered : (call image : ℕ) → image ≤ 2 → armed_of (Some (record { call = call; image = numbered image })) ≡ Some (record { call = call; image = image })
-armed_numbered call image h = ap (armed_at call) (number_numbered image h)
+pub pending_numbered : (call image : ℕ) → image ≤ 2 → pending_of (Some (record { call = call; image = numbered image })) ≡ Some (record { call = call; image = image })
+pending_numbered call image h = ap (pending_at call) (number_numbered image h)
 
 -- ---- the stop that waits, in the next call and a call later
 
@@ -49,43 +49,43 @@ over None image due_now = refl
 over (Some stop) image due_now = rw (le-leb stop.call 1 (is_now stop image due_now).0) refl
 
 -- none waits a call later
-pub still_none : (next : Option Stop) → armed_of next ≡ None → armed_of (counted_down next) ≡ None
+pub still_none : (next : Option Stop) → pending_of next ≡ None → pending_of (counted_down next) ≡ None
 still_none None none = refl
 still_none (Some stop) none = absurd cc
 
 -- one that isn't due waits on
-pub record WaitsOn (before after : Option Armed) (a : Armed) : Type 0 where
+pub record WaitsOn (before after : Option PendingStop) (a : PendingStop) : Type 0 where
   pub later : 2 ≤ a.call
   pub waits : after ≡ Some (record { call = a.call - 1; image = a.image })
 
-pub waits_a_call : (next : Option Stop) (a : Armed) → due next ≡ None → armed_of next ≡ Some a → WaitsOn (armed_of next) (armed_of (counted_down next)) a
+pub waits_a_call : (next : Option Stop) (a : PendingStop) → due next ≡ None → pending_of next ≡ Some a → WaitsOn (pending_of next) (pending_of (counted_down next)) a
 waits_a_call None a none is = absurd cc
 waits_a_call (Some stop) a none is =
     let h = is_later stop none in
     let same : record { call = stop.call; image = number_of stop.image } ≡ a = cc in
-    subst (WaitsOn (armed_of (Some stop)) (armed_of (counted_down (Some stop)))) same (record { later = h; waits = ap armed_of (nearer stop h) })
+    subst (WaitsOn (pending_of (Some stop)) (pending_of (counted_down (Some stop)))) same (record { later = h; waits = ap pending_of (nearer stop h) })
 
 -- The stop that waits comes in the call of this number, from 0, and leaves this image.
 pub record ComesIn (next : Option Stop) (place : ℕ) (image : Image) : Type 0 where
-  pub armed : Armed
-  pub waits : armed_of next ≡ Some armed
-  pub call_is : armed.call - 1 ≡ place
-  pub image_is : armed.image ≡ number_of image
+  pub pending : PendingStop
+  pub waits : pending_of next ≡ Some pending
+  pub call_is : pending.call - 1 ≡ place
+  pub image_is : pending.image ≡ number_of image
 
 pub comes_now : (next : Option Stop) (image : Image) → due next ≡ Some image → ComesIn next 0 image
 comes_now None image due_now = absurd cc
-comes_now (Some stop) image due_now = let now = is_now stop image due_now in record { armed = record { call = stop.call; image = number_of stop.image }; waits = refl; call_is = omega (arith, now.0); image_is = ap number_of now.1 }
+comes_now (Some stop) image due_now = let now = is_now stop image due_now in record { pending = record { call = stop.call; image = number_of stop.image }; waits = refl; call_is = omega (arith, now.0); image_is = ap number_of now.1 }
 
 pub comes_later : (next : Option Stop) (place : ℕ) (image : Image) → due next ≡ None → ComesIn (counted_down next) place image → ComesIn next (suc place) image
-comes_later None place image none c = let wrong : None ≡ Some c.armed = c.waits in absurd cc
+comes_later None place image none c = let wrong : None ≡ Some c.pending = c.waits in absurd cc
 comes_later (Some stop) place image none c =
     let h = is_later stop none in
-    let same = same_Some (record { call = stop.call - 1; image = number_of stop.image }) c.armed (sym (ap armed_of (nearer stop h)) ∙ c.waits) in
+    let same = same_Some (record { call = stop.call - 1; image = number_of stop.image }) c.pending (sym (ap pending_of (nearer stop h)) ∙ c.waits) in
     record {
-      armed = record { call = stop.call; image = number_of stop.image };
+      pending = record { call = stop.call; image = number_of stop.image };
       waits = refl;
-      call_is = omega (arith, h, c.call_is, ap (λ (a : Armed). a.call) same);
-      image_is = ap (λ (a : Armed). a.image) same ∙ c.image_is;
+      call_is = omega (arith, h, c.call_is, ap (λ (a : PendingStop). a.call) same);
+      image_is = ap (λ (a : PendingStop). a.image) same ∙ c.image_is;
     }
 
 -- ---- one call
@@ -110,7 +110,7 @@ pub record StoppedIn (call : Call) (s t : State) : Type 0 where
   pub is_due : due s.next ≡ Some image
   pub file_is : t.file ≡ left_by image (done_before_stop call s).unsynced (done_before_stop call s).file
   pub at_rest : IsAtRest t
-  pub none_waits : armed_of t.next ≡ None
+  pub none_waits : pending_of t.next ≡ None
 
 done_next : (call : Call) (s : State) → (done_by call s).next ≡ s.next
 unfolding done_by
@@ -163,7 +163,7 @@ stopped_to call s t image faultless due_now is = record {
   is_due = due_now;
   file_is = ap (λ (x : State). x.file) is;
   at_rest = record { synced = ap (λ (x : State). x.unsynced) is ∙ sym (ap (λ (x : State). synced_as x.file) is); faultless = ap (λ (x : State). x.fails) is ∙ before_fails call s ∙ faultless };
-  none_waits = ap (λ (x : State). armed_of x.next) is ∙ ap (λ (n : Option Stop). armed_of (counted_down n)) (before_next call s) ∙ ap armed_of (over s.next image due_now);
+  none_waits = ap (λ (x : State). pending_of x.next) is ∙ ap (λ (n : Option Stop). pending_of (counted_down n)) (before_next call s) ∙ ap pending_of (over s.next image due_now);
 }
 
 none_among : (fails : List ℕ) (n : ℕ) → fails ≡ [] → Contains fails n → ⊥

@@ -9,7 +9,7 @@ use Rattle.depot_outside.specs.StopImages.{left_by}
 use Rattle.depot_outside.specs.Stopping.{State, Leads, done_before_stop, done_by, fresh}
 use Rattle.depot_outside.specs.declared.stops.Image.{Image}
 use Rattle.depot_outside.specs.declared.stops.Image.TheVariants as image
-use Rattle.depot_replay.specs.Disks.{IsAtRest, StoppedReading, armed_of}
+use Rattle.depot_replay.specs.Disks.{IsAtRest, StoppedReading, pending_of}
 use Rattle.depot_replay.proofs.DiskLaws.{FailsIn, Gone, StoppedIn, failed_on, fails_in, led_on}
 use Rattle.depot_replay.proofs.DiskAppends.{appends_rest, synced_rest}
 use Rattle.depot_replay.proofs.DiskStops.{StopsAt, none_waits_after, stopped_at, stops_later, stops_now}
@@ -115,7 +115,7 @@ empty_started t more led =
     (u, synced_rest s3 u (wrote.fails_are ∙ asked.fails_are ∙ first.fails_are) last, led4)
 
 -- a journal that was born on it is at rest, and no stop waits
-pub born_at_rest : (t : State) (texts : List (List ℕ)) → Leads (fresh [] []) (made (calls_to_start [] ++ calls_to_append_all 0 texts)) t → IsAtRest t × (armed_of t.next ≡ None)
-born_at_rest t texts led =
+pub fresh_at_rest : (t : State) (texts : List (List ℕ)) → Leads (fresh [] []) (made (calls_to_start [] ++ calls_to_append_all 0 texts)) t → IsAtRest t × (pending_of t.next ≡ None)
+fresh_at_rest t texts led =
     let (u, rest, more) = empty_started t (calls_to_append_all 0 texts) led in
     (appends_rest u t 0 texts rest more, none_waits_after (fresh [] []) t (calls_to_start [] ++ calls_to_append_all 0 texts) led refl)

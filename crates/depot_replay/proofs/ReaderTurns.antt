@@ -1,4 +1,4 @@
--- What is told of readers that are made of a seated node, and of what they take.
+-- What is told of readers that are made of a hosted node, and of what they take.
 use Rattle.std.proofs.Common.{◌≡◌, ℕ, List, Option, Some, None, Result, Ok, Err, sym, ap, subst}
 use Rattle.std.specs.Prelude.{OnOk}
 use Rattle.depot_base.specs.declared.record.Record.{Record}
@@ -11,8 +11,8 @@ use Rattle.depot_trim.specs.declared.trim_error.TrimError.{TrimError}
 use Rattle.depot_trim.specs.declared.trim_error.TrimError.TheVariants as untrimmed
 use Rattle.depot_trim.specs.declared.trimmed.Trimmed.{Trimmed}
 use Rattle.depot_world.specs.Transcript.{reader_made}
-use Rattle.depot_deeds.specs.CheckpointPrinting.{SettlesTrim}
-use Rattle.depot_plays.specs.Readers.{IsMade}
+use Rattle.depot_node_lines.specs.CheckpointPrinting.{SettlesTrim}
+use Rattle.depot_simulation.specs.Readers.{IsMade}
 
 -- a reader was made
 pub one_made : (S X : Type 0) (verifies : Verifies) (reads : Reader → X → Type 0) (here : Setting) (J : List Record) (text : List ℕ) (t : Trimmed S) (x : X) → ((r : Reader) → IsReaderOf verifies r t → reads r x) → Trims verifies here J text (Ok t)

@@ -6,7 +6,7 @@ use Rattle.depot_outside.specs.Stopping.{State}
 use Rattle.depot_outside.specs.declared.stops.Image.{Image}
 use Rattle.depot_outside.specs.declared.stops.Image.TheVariants as image
 use Rattle.depot_outside.specs.declared.stops.Stop.{Stop}
-use Rattle.depot_world.specs.Run.{Armed}
+use Rattle.depot_world.specs.Run.{PendingStop}
 use Rattle.depot_world.specs.ScheduleStops.{standing_after}
 
 -- the number of an image, as schedules write it
@@ -16,9 +16,9 @@ number_of image.Written = 1
 number_of image.Blanked = 2
 
 -- the stop that waits on a disk, as a run keeps it
-abbrev pub armed_of : Option Stop → Option Armed
-armed_of None = None
-armed_of (Some stop) = Some (record { call = stop.call; image = number_of stop.image })
+abbrev pub pending_of : Option Stop → Option PendingStop
+pending_of None = None
+pending_of (Some stop) = Some (record { call = stop.call; image = number_of stop.image })
 
 -- All that was written is synced, and no call fails but by a stop.
 pub record IsAtRest (s : State) : Type 0 where
@@ -27,16 +27,16 @@ pub record IsAtRest (s : State) : Type 0 where
 
 -- The stop that waited came in one of so many calls. It left a disk at rest, on which none waits.
 pub record Stopped (s t : State) (calls : ℕ) : Type 0 where
-  pub armed : Armed
-  pub waited : armed_of s.next ≡ Some armed
-  pub within : armed.call ≤ calls
+  pub pending : PendingStop
+  pub waited : pending_of s.next ≡ Some pending
+  pub within : pending.call ≤ calls
   pub at_rest : IsAtRest t
-  pub none_waits : armed_of t.next ≡ None
+  pub none_waits : pending_of t.next ≡ None
 
 -- It came while these records were appended, by four calls each, and so many of them stand as a run says.
 pub record StoppedAppending (s t : State) (bodies texts : List (List ℕ)) : Type 0 where
   pub stopped : Stopped s t (4 * length texts)
-  pub stands : StandsFor t.file (bodies ++ take (standing_after stopped.armed) texts)
+  pub stands : StandsFor t.file (bodies ++ take (standing_after stopped.pending) texts)
 
 -- It came in one of so many calls that write nothing, and left the file as it was.
 pub record StoppedReading (s t : State) (calls : ℕ) : Type 0 where

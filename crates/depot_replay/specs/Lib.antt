@@ -1,4 +1,4 @@
 pub mod Disks
 pub mod PrintedRuns
-pub mod SeatFacts
-pub mod Seats
+pub mod MemHostFacts
+pub mod MemHosts

@@ -3,18 +3,17 @@ ghost use Rattle.std.specs.Prelude.{◌≡◌, ◌++◌, ℕ, take, IsTrue, OnOk
 ghost use Rattle.depot_base.specs.Faults.{HasCause};
 ghost use Rattle.depot_base.specs.Reading.{AddsFrontOf};
 ghost use Rattle.depot_schedule.specs.Schedules.{IsSchedule};
-ghost use Rattle.depot_world.specs.Suite.{suite_of};
+ghost use Rattle.depot_world.specs.Setups.{suite_of};
 ghost use Rattle.depot_world.specs.Transcript.{transcript_of};
-ghost use Rattle.depot_cast.specs.Hands.{AreSigners, hands_of};
+ghost use Rattle.depot_scenario.specs.MemberSigners.{AreSigners, member_signers_of};
 
-use crate::seat::Seat;
-use depot_cast::{plain_signers, roster_of, winter_signers};
+use crate::mem_host::MemHost;
 use depot_model::{Scheme, Signer};
 use depot_outside::Sink;
-use depot_plays::{ReplayError, begun, play_all};
+use depot_scenario::{Scenario, plain_signers, roster_of, winter_signers};
 use depot_schedule::Schedule;
 use depot_sign::PlainScheme;
-use depot_stage::Scene;
+use depot_simulation::{ReplayError, begun, play_all};
 use depot_winter::WinterScheme;
 use std::alloc::Global;
 
@@ -47,7 +46,7 @@ fn replay_with<S: Scheme + Copy, G: Signer<Of = S>, K: Sink>(
 ) -> Result<(), ReplayError>
     requires schedule { IsSchedule schedule.now }
     requires scheme { (suite_of schedule.now.winter).verifies ≡ S.verifies }
-    requires signers { AreSigners (suite_of schedule.now.winter) schedule.now.height schedule.now.members (hands_of G.key_of G.signature_of signers.now) }
+    requires signers { AreSigners (suite_of schedule.now.winter) schedule.now.height schedule.now.members (member_signers_of G.key_of G.signature_of signers.now) }
     ensures done { IsTrue (K.tells out.old) → OnOk result (K.written out.new ≡ K.written out.old ++ transcript_of schedule.now) }
     ensures front { IsTrue (K.tells out.old) → OnErr result (AddsFrontOf (K.written out.old) (transcript_of schedule.now) (K.written out.new)) }
     ensures tells { K.tells out.new ≡ K.tells out.old }
@@ -55,13 +54,13 @@ fn replay_with<S: Scheme + Copy, G: Signer<Of = S>, K: Sink>(
     ensures faultless { K.is_faultless out.old → K.is_faultless out.new × (K.faults out.new ≡ K.faults out.old) }
 {
     let roster = roster_of(alloc, schedule, signers)?;
-    let scene = Scene {
+    let scenario = Scenario {
         roster: &roster,
         scheme,
         height: schedule.height,
         members: schedule.members.as_slice(),
         signers,
     };
-    let mut play = begun::<Seat<S, &G>, S, G>(alloc, schedule, &scene)?;
-    play_all(&mut play, &scene, schedule.events.as_slice(), out)
+    let mut play = begun::<MemHost<S, &G>, S, G>(alloc, schedule, &scenario)?;
+    play_all(&mut play, &scenario, schedule.events.as_slice(), out)
 }

@@ -13,8 +13,8 @@ use Rattle.depot_schedule.proofs.HexWords.{key_lawful, put_key_lawful, value_law
 use Rattle.depot_schedule.proofs.VocabularyLaws.{node_count_lawful}
 use Rattle.depot_schedule.proofs.EventLineLaws.{found_passes}
 use Rattle.depot_script.specs.declared.command.Command.{Command}
-use Rattle.depot_script.specs.declared.command_verb.Verb.{Verb}
-use Rattle.depot_script.specs.declared.command_verb.Verb.TheVariants as verb
+use Rattle.depot_script.specs.declared.command_verb.CommandVerb.{CommandVerb}
+use Rattle.depot_script.specs.declared.command_verb.CommandVerb.TheVariants as verb
 use Rattle.depot_script.specs.declared.command_verb.TheConstants.{VERBS}
 use Rattle.depot_script.specs.Names.{is_file_name, file_name}
 use Rattle.depot_script.specs.Commands.{key_of, value_of, changes_in, file_of, hello_of, id_of, nodes_asked, put, puts, get, hello, bundle, take, receipt, settled, export, checkpoint, sign, trim, tgive, tget, verb_of, name_of, form_of, verb_named}
@@ -129,16 +129,16 @@ tget_lawful = counted_lawful 1 1 _ (
 -- ---- all of them
 
 -- the name of a kind of command is a word and is read as that kind; its line is lawful, and each command that fits it is of that kind
-pub record LawfulForm (v : Verb) : Type 0 where
+pub record LawfulForm (v : CommandVerb) : Type 0 where
   pub again : verb_named (name_of v) ≡ Some v
   pub plain : is_word (name_of v) ≡ true
   pub line : Lawful (form_of v)
   pub is : (c : Command) → (form_of v).fits nothing c → verb_of c ≡ v
 
-lawful_form : (v : Verb) → verb_named (name_of v) ≡ Some v → is_word (name_of v) ≡ true → Lawful (form_of v) → ((c : Command) → (form_of v).fits nothing c → verb_of c ≡ v) → LawfulForm v
+lawful_form : (v : CommandVerb) → verb_named (name_of v) ≡ Some v → is_word (name_of v) ≡ true → Lawful (form_of v) → ((c : Command) → (form_of v).fits nothing c → verb_of c ≡ v) → LawfulForm v
 lawful_form v again plain line is = record { again = again; plain = plain; line = line; is = is }
 
-pub form_lawful : (v : Verb) → LawfulForm v
+pub form_lawful : (v : CommandVerb) → LawfulForm v
 unfolding verb_named put puts get hello bundle take receipt settled export checkpoint sign trim tgive tget
 form_lawful verb.Put = lawful_form verb.Put refl refl put_lawful (λ c h. ap verb_of h.1.1)
 form_lawful verb.Puts = lawful_form verb.Puts refl refl puts_lawful (λ c h. ap verb_of h.1)
@@ -156,6 +156,6 @@ form_lawful verb.Tgive = lawful_form verb.Tgive refl refl tgive_lawful (λ c h. 
 form_lawful verb.Tget = lawful_form verb.Tget refl refl tget_lawful (λ c h. ap verb_of h.1)
 
 -- a word that is read as a kind of command is its name
-pub name_is : (word : List ℕ) (v : Verb) → verb_named word ≡ Some v → word ≡ name_of v
+pub name_is : (word : List ℕ) (v : CommandVerb) → verb_named word ≡ Some v → word ≡ name_of v
 unfolding verb_named
 name_is word v e = is_same word (name_of v) (found_passes (λ v. bytes_eq word (name_of v)) VERBS v e)

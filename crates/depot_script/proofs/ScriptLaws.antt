@@ -12,7 +12,7 @@ use Rattle.depot_schedule.specs.Schedules.{text_of_line, Line, lines_of, are_wor
 use Rattle.depot_schedule.proofs.LanguageLaws.{bind_ok, or_fault_ok}
 use Rattle.depot_schedule.proofs.ScheduleLaws.{checked_ok, line_of_text, are_words_of, checked_again, lines_again, AllEnded, words_of_line, lines_text}
 use Rattle.depot_script.specs.declared.command.Command.{Command}
-use Rattle.depot_script.specs.declared.command_verb.Verb.{Verb}
+use Rattle.depot_script.specs.declared.command_verb.CommandVerb.{CommandVerb}
 use Rattle.depot_script.specs.Commands.{verb_of, name_of, form_of, verb_named}
 use Rattle.depot_script.specs.Scripts.{command_words, text_of_script, FitsCommand, IsScript, read_command, read_lines, script_of}
 use Rattle.depot_script.proofs.CommandLaws.{form_lawful, name_is}
@@ -33,7 +33,7 @@ command_takes (name ∷ ws) c e =
     let v : verb_of c ≡ b.0 = (form_lawful b.0).is c l.0 in
     let named : name ≡ name_of b.0 = name_is name b.0 (or_fault_ok (verb_named name) is.Word b.0 b.1) in
     let both : (form_of (verb_of c)).fits nothing c × (name ∷ ws ≡ name_of (verb_of c) ∷ (form_of (verb_of c)).text c) =
-    subst (λ (x : Verb). (form_of x).fits nothing c × (name ∷ ws ≡ name_of x ∷ (form_of x).text c)) (sym v) (l.0, ap (λ (w : List ℕ). w ∷ ws) named ∙ ap (λ (w : List (List ℕ)). name_of b.0 ∷ w) l.1) in
+    subst (λ (x : CommandVerb). (form_of x).fits nothing c × (name ∷ ws ≡ name_of x ∷ (form_of x).text c)) (sym v) (l.0, ap (λ (w : List ℕ). w ∷ ws) named ∙ ap (λ (w : List (List ℕ)). name_of b.0 ∷ w) l.1) in
     record { fits = both.0; is = both.1 }
 
 command_plain : (c : Command) → FitsCommand c → list_all is_word (command_words c) ≡ true

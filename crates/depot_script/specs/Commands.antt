@@ -8,8 +8,8 @@ use Rattle.depot_schedule.specs.Language.{Words, word, made, counted}
 use Rattle.depot_schedule.specs.Vocabulary.{key, put_key, value, digest, node_count, changes}
 use Rattle.depot_script.specs.declared.command.Command.{Command}
 use Rattle.depot_script.specs.declared.command.Command.TheVariants.{Put, Puts, Get, Hello, Bundle, Take, Receipt, Settled, Export, Checkpoint, Sign, Trim, Tgive, Tget}
-use Rattle.depot_script.specs.declared.command_verb.Verb.{Verb}
-use Rattle.depot_script.specs.declared.command_verb.Verb.TheVariants as verb
+use Rattle.depot_script.specs.declared.command_verb.CommandVerb.{CommandVerb}
+use Rattle.depot_script.specs.declared.command_verb.CommandVerb.TheVariants as verb
 use Rattle.depot_script.specs.declared.command_verb.TheConstants.{VERBS}
 use Rattle.depot_script.specs.Names.{file_name}
 
@@ -121,7 +121,7 @@ tget = counted 1 1 (word key key_of λ k. made (Tget k))
 
 -- ---- all kinds of commands
 
-abbrev pub verb_of : Command → Verb
+abbrev pub verb_of : Command → CommandVerb
 verb_of (Put _ _) = verb.Put
 verb_of (Puts _) = verb.Puts
 verb_of (Get _) = verb.Get
@@ -138,7 +138,7 @@ verb_of (Tgive _) = verb.Tgive
 verb_of (Tget _) = verb.Tget
 
 -- the first word of the line of a command
-abbrev pub name_of : Verb → List ℕ
+abbrev pub name_of : CommandVerb → List ℕ
 name_of verb.Put = codes "put"
 name_of verb.Puts = codes "puts"
 name_of verb.Get = codes "get"
@@ -155,7 +155,7 @@ name_of verb.Tgive = codes "tgive"
 name_of verb.Tget = codes "tget"
 
 -- the words behind it
-abbrev pub form_of : Verb → Form
+abbrev pub form_of : CommandVerb → Form
 form_of verb.Put = put
 form_of verb.Puts = puts
 form_of verb.Get = get
@@ -172,5 +172,5 @@ form_of verb.Tgive = tgive
 form_of verb.Tget = tget
 
 -- the kind of command of this name
-unfoldable pub verb_named : List ℕ → Option Verb
+unfoldable pub verb_named : List ℕ → Option CommandVerb
 verb_named word = find (λ v. bytes_eq word (name_of v)) VERBS

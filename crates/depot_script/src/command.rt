@@ -1,7 +1,7 @@
 //! What a script lets a node do.
 
 use crate::FileName;
-use crate::command_verb::Verb;
+use crate::command_verb::CommandVerb;
 use depot_base::{Changes, Hash32, Key, Value};
 
 /// One command.
@@ -42,24 +42,24 @@ impl Command {
     ghost use Rattle.depot_script.specs.Commands.{verb_of};
 
     /// The kind of command that it is.
-    pub fn verb(&self) -> Verb
+    pub fn verb(&self) -> CommandVerb
         ensures { result ≡ verb_of self.now }
     {
         match self {
-            Command::Put { .. } => Verb::Put,
-            Command::Puts { .. } => Verb::Puts,
-            Command::Get { .. } => Verb::Get,
-            Command::Hello { .. } => Verb::Hello,
-            Command::Bundle { .. } => Verb::Bundle,
-            Command::Take { .. } => Verb::Take,
-            Command::Receipt { .. } => Verb::Receipt,
-            Command::Settled { .. } => Verb::Settled,
-            Command::Export { .. } => Verb::Export,
-            Command::Checkpoint { .. } => Verb::Checkpoint,
-            Command::Sign { .. } => Verb::Sign,
-            Command::Trim { .. } => Verb::Trim,
-            Command::Tgive { .. } => Verb::Tgive,
-            Command::Tget { .. } => Verb::Tget,
+            Command::Put { .. } => CommandVerb::Put,
+            Command::Puts { .. } => CommandVerb::Puts,
+            Command::Get { .. } => CommandVerb::Get,
+            Command::Hello { .. } => CommandVerb::Hello,
+            Command::Bundle { .. } => CommandVerb::Bundle,
+            Command::Take { .. } => CommandVerb::Take,
+            Command::Receipt { .. } => CommandVerb::Receipt,
+            Command::Settled { .. } => CommandVerb::Settled,
+            Command::Export { .. } => CommandVerb::Export,
+            Command::Checkpoint { .. } => CommandVerb::Checkpoint,
+            Command::Sign { .. } => CommandVerb::Sign,
+            Command::Trim { .. } => CommandVerb::Trim,
+            Command::Tgive { .. } => CommandVerb::Tgive,
+            Command::Tget { .. } => CommandVerb::Tget,
         }
     }
 }

@@ -4,7 +4,7 @@ ghost use Rattle.depot_schedule.specs.Readers.{Gives, Reads};
 ghost use Rattle.depot_script.specs.Names.{file_name};
 ghost use Rattle.depot_script.specs.Commands.{put, puts, get, hello, bundle, take, receipt, settled, export, checkpoint, sign, trim, tgive, tget, form_of};
 
-use crate::command_verb::Verb;
+use crate::command_verb::CommandVerb;
 use crate::{Command, FileName};
 use depot_schedule::LineFault;
 use depot_schedule::lines::{
@@ -167,23 +167,27 @@ fn tget(alloc: Global, words: &mut Parts<'_>) -> Result<Command, LineError>
 }
 
 /// The command of the words behind its name.
-pub fn command_of(alloc: Global, verb: Verb, words: &mut Parts<'_>) -> Result<Command, LineError>
+pub fn command_of(
+    alloc: Global,
+    verb: CommandVerb,
+    words: &mut Parts<'_>,
+) -> Result<Command, LineError>
     ensures { Gives result ((form_of verb).read nothing words.old) }
 {
     match verb {
-        Verb::Put => put(alloc, words),
-        Verb::Puts => puts(alloc, words),
-        Verb::Get => get(alloc, words),
-        Verb::Hello => hello(alloc, words),
-        Verb::Bundle => bundle(alloc, words),
-        Verb::Take => take(alloc, words),
-        Verb::Receipt => receipt(alloc, words),
-        Verb::Settled => settled(alloc, words),
-        Verb::Export => export(alloc, words),
-        Verb::Checkpoint => checkpoint(alloc, words),
-        Verb::Sign => sign(alloc, words),
-        Verb::Trim => trim(alloc, words),
-        Verb::Tgive => tgive(alloc, words),
-        Verb::Tget => tget(alloc, words),
+        CommandVerb::Put => put(alloc, words),
+        CommandVerb::Puts => puts(alloc, words),
+        CommandVerb::Get => get(alloc, words),
+        CommandVerb::Hello => hello(alloc, words),
+        CommandVerb::Bundle => bundle(alloc, words),
+        CommandVerb::Take => take(alloc, words),
+        CommandVerb::Receipt => receipt(alloc, words),
+        CommandVerb::Settled => settled(alloc, words),
+        CommandVerb::Export => export(alloc, words),
+        CommandVerb::Checkpoint => checkpoint(alloc, words),
+        CommandVerb::Sign => sign(alloc, words),
+        CommandVerb::Trim => trim(alloc, words),
+        CommandVerb::Tgive => tgive(alloc, words),
+        CommandVerb::Tget => tget(alloc, words),
     }
 }

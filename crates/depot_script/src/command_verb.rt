@@ -6,7 +6,7 @@ use depot_schedule::spelling::is;
 
 /// A kind of command, with the form of its line.
 #[derive(Clone, Copy, Debug, PartialEq, Eq)]
-pub enum Verb {
+pub enum CommandVerb {
     /// `put KEY VALUE`
     Put,
     /// `puts WRITES`
@@ -38,49 +38,49 @@ pub enum Verb {
 }
 
 /// Each kind of command once.
-pub const VERBS: [Verb; 14] = [
-    Verb::Put,
-    Verb::Puts,
-    Verb::Get,
-    Verb::Hello,
-    Verb::Bundle,
-    Verb::Take,
-    Verb::Receipt,
-    Verb::Settled,
-    Verb::Export,
-    Verb::Checkpoint,
-    Verb::Sign,
-    Verb::Trim,
-    Verb::Tgive,
-    Verb::Tget,
+pub const VERBS: [CommandVerb; 14] = [
+    CommandVerb::Put,
+    CommandVerb::Puts,
+    CommandVerb::Get,
+    CommandVerb::Hello,
+    CommandVerb::Bundle,
+    CommandVerb::Take,
+    CommandVerb::Receipt,
+    CommandVerb::Settled,
+    CommandVerb::Export,
+    CommandVerb::Checkpoint,
+    CommandVerb::Sign,
+    CommandVerb::Trim,
+    CommandVerb::Tgive,
+    CommandVerb::Tget,
 ];
 
-impl Verb {
+impl CommandVerb {
     /// The first word of its line.
     pub fn name(self) -> &'static str
         ensures { result.now ≡ name_of self }
     {
         match self {
-            Verb::Put => "put",
-            Verb::Puts => "puts",
-            Verb::Get => "get",
-            Verb::Hello => "hello",
-            Verb::Bundle => "bundle",
-            Verb::Take => "take",
-            Verb::Receipt => "receipt",
-            Verb::Settled => "settled",
-            Verb::Export => "export",
-            Verb::Checkpoint => "checkpoint",
-            Verb::Sign => "sign",
-            Verb::Trim => "trim",
-            Verb::Tgive => "tgive",
-            Verb::Tget => "tget",
+            CommandVerb::Put => "put",
+            CommandVerb::Puts => "puts",
+            CommandVerb::Get => "get",
+            CommandVerb::Hello => "hello",
+            CommandVerb::Bundle => "bundle",
+            CommandVerb::Take => "take",
+            CommandVerb::Receipt => "receipt",
+            CommandVerb::Settled => "settled",
+            CommandVerb::Export => "export",
+            CommandVerb::Checkpoint => "checkpoint",
+            CommandVerb::Sign => "sign",
+            CommandVerb::Trim => "trim",
+            CommandVerb::Tgive => "tgive",
+            CommandVerb::Tget => "tget",
         }
     }
 
     /// The kind of command of this name. None exactly where there is none.
     #[tactic(auto, unfolding(crate::specs::Commands::verb_named))]
-    pub fn named(word: &[u8]) -> Option<Verb>
+    pub fn named(word: &[u8]) -> Option<CommandVerb>
         ensures { result ≡ verb_named word.now }
     {
         VERBS.iter().copied().find(|verb| is(word, verb.name()))

@@ -5,7 +5,7 @@
 //! as lists of bytes.
 //!
 //! `specs/Commands.antt` has the table of commands, in the language of lines of `depot_schedule`, and `Scripts` whole texts. A new
-//! kind of command is a variant of `Command` and of `Verb`, a line of the table with its law, and a reader and a writer with no
+//! kind of command is a variant of `Command` and of `CommandVerb`, a line of the table with its law, and a reader and a writer with no
 //! proof file.
 //!
 //! `command_lines` reads the words of commands, `parse` whole texts; `command_writers` and `print` write what these read.
@@ -25,7 +25,7 @@ mod script_parse;
 mod script_print;
 
 pub use command::Command;
-pub use command_verb::Verb;
+pub use command_verb::CommandVerb;
 pub use file_name::FileName;
 pub use script::Script;
 pub use script_error::ScriptError;

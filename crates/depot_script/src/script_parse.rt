@@ -10,7 +10,7 @@ ghost use Rattle.depot_script.specs.Scripts.{read_command, script_of};
 ghost use Rattle.depot_script.specs.ScriptReading.{Parses, IsTextOf};
 
 use crate::command_lines::command_of;
-use crate::command_verb::Verb;
+use crate::command_verb::CommandVerb;
 use crate::{Command, Script, ScriptError};
 use depot_base::Sequence;
 use depot_schedule::LineFault;
@@ -28,7 +28,7 @@ fn read_command(alloc: Global, line: &[u8]) -> Result<Command, LineError>
     if !are_words(line) {
         return Err(LineError::In(LineFault::Word));
     }
-    let Some(verb) = Verb::named(name) else {
+    let Some(verb) = CommandVerb::named(name) else {
         return Err(LineError::In(LineFault::Word));
     };
     command_of(alloc, verb, &mut words)

@@ -10,14 +10,14 @@ use Rattle.depot_model.specs.Stops.{HasFront, Lasts}
 use Rattle.depot_model.specs.World.{Correct}
 use Rattle.depot_model.specs.declared.replica.Replica.{Ghosts}
 use Rattle.depot_gossip.specs.Bundling.{Bundles, finds_disk, journaled_for}
-use Rattle.depot_offers.specs.declared.bundle_error.BundleError.{BundleError}
-use Rattle.depot_offers.specs.declared.bundle_error.BundleError.TheVariants as error
-use Rattle.depot_offers.specs.declared.bundle_stream.Bundled.{Bundled}
+use Rattle.depot_gossip.specs.declared.bundle_error.BundleError.{BundleError}
+use Rattle.depot_gossip.specs.declared.bundle_error.BundleError.TheVariants as error
+use Rattle.depot_gossip.specs.declared.bundle_stream.Bundled.{Bundled}
 use Rattle.depot_outside.specs.Told.{Shelves, Sinks}
 use Rattle.depot_script.specs.declared.command.Command.TheVariants as command
-use Rattle.depot_world.specs.Deeds.{bundle_by, bundle_with}
-use Rattle.depot_world.specs.ScheduleStops.{Deed}
-use Rattle.depot_deeds.specs.Printing.{SettlesBundle, lines_of_deed}
+use Rattle.depot_world.specs.Effects.{bundle_by, bundle_with}
+use Rattle.depot_world.specs.ScheduleStops.{Effect}
+use Rattle.depot_node_lines.specs.Printing.{SettlesBundle, lines_of_effect}
 use Rattle.depot_session.specs.declared.ending.Ending.{Ending}
 use Rattle.depot_session.specs.declared.ending.Ending.TheVariants as ending
 use Rattle.depot_session.specs.SessionRuns.{disk_line}
@@ -68,25 +68,25 @@ unfolding step_of
 bundles_text here sign s hello file text some = ap (bundle_to here sign s hello file) some
 
 -- its parts, whatever the answer is
-step_journal : (s : Session) (hello file : List ℕ) (d : Deed) (a : BundleAnswer) → (bundle_step s hello file d a).session.correct.journal ≡ d.journal
+step_journal : (s : Session) (hello file : List ℕ) (d : Effect) (a : BundleAnswer) → (bundle_step s hello file d a).session.correct.journal ≡ d.journal
 step_journal s hello file d (bundled b) = refl
 step_journal s hello file d other = refl
 
-step_text : (s : Session) (hello file : List ℕ) (d : Deed) (a : BundleAnswer) → (bundle_step s hello file d a).text ≡ lines_of_command (command.Bundle hello file) d
+step_text : (s : Session) (hello file : List ℕ) (d : Effect) (a : BundleAnswer) → (bundle_step s hello file d a).text ≡ lines_of_command (command.Bundle hello file) d
 step_text s hello file d (bundled b) = refl
 step_text s hello file d other = refl
 
-step_ending : (s : Session) (hello file : List ℕ) (d : Deed) (a : BundleAnswer) → (bundle_step s hello file d a).ending ≡ ending_of_bundle a
+step_ending : (s : Session) (hello file : List ℕ) (d : Effect) (a : BundleAnswer) → (bundle_step s hello file d a).ending ≡ ending_of_bundle a
 step_ending s hello file d (bundled b) = refl
 step_ending s hello file d other = refl
 
 -- where it goes on the bundle is stored
-step_stores : (s : Session) (hello file : List ℕ) (d : Deed) (a : BundleAnswer) (other : List ℕ) → ending_of_bundle a ≡ None → (bundle_step s hello file d a).session.files other ≡ stored s.files file d.bytes other
+step_stores : (s : Session) (hello file : List ℕ) (d : Effect) (a : BundleAnswer) (other : List ℕ) → ending_of_bundle a ≡ None → (bundle_step s hello file d a).session.files other ≡ stored s.files file d.bytes other
 step_stores s hello file d (bundled b) other goes = refl
 step_stores s hello file d none other goes = cc
 
 -- else nothing is
-step_stores_none : (s : Session) (hello file : List ℕ) (d : Deed) (a : BundleAnswer) (other : List ℕ) → (ending_of_bundle a ≡ None → ⊥) → (bundle_step s hello file d a).session.files other ≡ s.files other
+step_stores_none : (s : Session) (hello file : List ℕ) (d : Effect) (a : BundleAnswer) (other : List ℕ) → (ending_of_bundle a ≡ None → ⊥) → (bundle_step s hello file d a).session.files other ≡ s.files other
 step_stores_none s hello file d (bundled b) other ends = absurd (ends refl)
 step_stores_none s hello file d none other ends = refl
 
@@ -94,9 +94,9 @@ answer_journal : (c : Correct) (a : BundleAnswer) → (bundle_with c a).journal 
 answer_journal c (bundled b) = refl
 answer_journal c other = sym (append-nil c.journal)
 
-deed_journal : (here : Setting) (sign : Signs) (c : Correct) (text : List ℕ) → (bundle_by here sign c text).journal ≡ c.journal ++ journaled_for (bundle_answer here sign c.journal text)
+effect_journal : (here : Setting) (sign : Signs) (c : Correct) (text : List ℕ) → (bundle_by here sign c text).journal ≡ c.journal ++ journaled_for (bundle_answer here sign c.journal text)
 unfolding bundle_by
-deed_journal here sign c text = answer_journal c (bundle_answer here sign c.journal text)
+effect_journal here sign c text = answer_journal c (bundle_answer here sign c.journal text)
 
 module _ {N O : Type 0} (g : Ghosts N O) (counts_now : (v : N) (t : ℕ) (image : List ℕ) → t ≤ g.moment v → g.may_leave v image → g.left_since v t image) (old new : N) (s : Session) (hello file text : List ℕ) (shelf : Shelves) (at : IsAt (g.stands old) (g.records old) shelf.file s)
     (there : shelf.file hello ≡ Some text) (runs : g.stopped old ≡ false) (lasts : Lasts g.tells g.stopped g.records g.moment g.left_since g.may_leave old new (journaled_for (bundle_answer (g.stands old) (g.signature_of old) (g.records old) text))) where
@@ -108,28 +108,28 @@ module _ {N O : Type 0} (g : Ghosts N O) (counts_now : (v : N) (t : ℕ) (image 
   abbrev pub answer : BundleAnswer
   answer = bundle_answer (g.stands old) (g.signature_of old) (g.records old) text
 
-  abbrev pub deed : Deed
-  deed = bundle_by (g.stands old) (g.signature_of old) s.correct text
+  abbrev pub effect : Effect
+  effect = bundle_by (g.stands old) (g.signature_of old) s.correct text
 
   -- it answers this hello
-  is : made_step ≡ bundle_step s hello file deed answer
+  is : made_step ≡ bundle_step s hello file effect answer
   is =
       bundles_text (g.stands old) (g.signature_of old) s hello file text (sym (at.same_files hello) ∙ there)
-      ∙ ap (λ (K : List Record). bundle_step s hello file deed (bundle_answer (g.stands old) (g.signature_of old) K text)) at.journal
+      ∙ ap (λ (K : List Record). bundle_step s hello file effect (bundle_answer (g.stands old) (g.signature_of old) K text)) at.journal
 
   -- its journal
   journal : made_step.session.correct.journal ≡ g.records old ++ journaled_for answer
   journal =
-      ap (λ (x : Step). x.session.correct.journal) is ∙ step_journal s hello file deed answer ∙ deed_journal (g.stands old) (g.signature_of old) s.correct text
+      ap (λ (x : Step). x.session.correct.journal) is ∙ step_journal s hello file effect answer ∙ effect_journal (g.stands old) (g.signature_of old) s.correct text
       ∙ ap (λ (K : List Record). K ++ journaled_for (bundle_answer (g.stands old) (g.signature_of old) K text)) at.journal
 
   -- its text
-  text_is : made_step.text ≡ lines_of_command (command.Bundle hello file) deed
-  text_is = ap (λ (x : Step). x.text) is ∙ step_text s hello file deed answer
+  text_is : made_step.text ≡ lines_of_command (command.Bundle hello file) effect
+  text_is = ap (λ (x : Step). x.text) is ∙ step_text s hello file effect answer
 
   -- where a bundle is made the run goes on
   pub goes_on_made : ending_of_bundle answer ≡ None → made_step.ending ≡ None
-  goes_on_made goes = ap (λ (x : Step). x.ending) is ∙ step_ending s hello file deed answer ∙ goes
+  goes_on_made goes = ap (λ (x : Step). x.ending) is ∙ step_ending s hello file effect answer ∙ goes
 
   -- what a stop leaves
   leaves : IsTrue (g.tells old) → (image : List ℕ) → g.may_leave new image → HasFront (g.records old) (journaled_for answer) image
@@ -144,19 +144,19 @@ module _ {N O : Type 0} (g : Ghosts N O) (counts_now : (v : N) (t : ℕ) (image 
   made_to_disk sink e unchanged = disk_told g old new (command.Bundle hello file) made_step shelf sink (journaled_for answer) journal leaves (λ name. inl (unchanged name)) e
 
   -- no bundle was made, and it was told or not
-  pub refused_told : (sink : Sinks) (ends : Option Ending) (lines : List ℕ) (r : Result (Unit {0}) Ending) → IsUnchanged shelf → g.stopped new ≡ false → g.records new ≡ g.records old ++ journaled_for answer → ends ≡ ending_of_bundle answer → (ends ≡ None → ⊥) → lines ≡ lines_of_deed deed
+  pub refused_told : (sink : Sinks) (ends : Option Ending) (lines : List ℕ) (r : Result (Unit {0}) Ending) → IsUnchanged shelf → g.stopped new ≡ false → g.records new ≡ g.records old ++ journaled_for answer → ends ≡ ending_of_bundle answer → (ends ≡ None → ⊥) → lines ≡ lines_of_effect effect
       → Tells sink (command_text (command.Bundle hello file) lines) ends r → Turns g old new (command.Bundle hello file) made_step shelf sink r
   refused_told sink ends lines r unchanged goes grown ends_is not lines_is t =
       told g old new (command.Bundle hello file) made_step shelf sink (journaled_for answer) journal leaves (λ name. inl (unchanged name)) goes (grown ∙ sym journal)
-      (λ other. unchanged other ∙ at.same_files other ∙ sym (step_stores_none s hello file deed answer other (λ none. not (ends_is ∙ none))) ∙ ap (λ (x : Step). x.session.files other) (sym is)) lasts.stable ends r
-      (ap (λ (x : Step). x.ending) is ∙ step_ending s hello file deed answer ∙ sym ends_is)
+      (λ other. unchanged other ∙ at.same_files other ∙ sym (step_stores_none s hello file effect answer other (λ none. not (ends_is ∙ none))) ∙ ap (λ (x : Step). x.session.files other) (sym is)) lasts.stable ends r
+      (ap (λ (x : Step). x.ending) is ∙ step_ending s hello file effect answer ∙ sym ends_is)
       (subst (λ (x : List ℕ). Tells sink x ends r) (ap (command_text (command.Bundle hello file)) lines_is ∙ sym text_is) t)
 
   -- a bundle was made and stored, and it was told or not
-  pub bundle_told : (sink : Sinks) (lines bytes : List ℕ) (r : Result (Unit {0}) Ending) → g.stopped new ≡ false → g.records new ≡ g.records old ++ journaled_for answer → ending_of_bundle answer ≡ None → lines ≡ lines_of_deed deed → bytes ≡ deed.bytes → IsTrue shelf.tells
+  pub bundle_told : (sink : Sinks) (lines bytes : List ℕ) (r : Result (Unit {0}) Ending) → g.stopped new ≡ false → g.records new ≡ g.records old ++ journaled_for answer → ending_of_bundle answer ≡ None → lines ≡ lines_of_effect effect → bytes ≡ effect.bytes → IsTrue shelf.tells
       → Stores shelf sink (command_text (command.Bundle hello file) lines) file bytes r → Turns g old new (command.Bundle hello file) made_step shelf sink r
   bundle_told sink lines bytes r goes grown goes_on lines_is bytes_is tells st =
       stored_told g old new (command.Bundle hello file) made_step shelf sink (journaled_for answer) journal leaves file bytes (λ other same. same)
-      (ap (λ (x : Step). x.ending) is ∙ step_ending s hello file deed answer ∙ goes_on) goes (grown ∙ sym journal) lasts.stable r
-      (λ other. ap (λ (x : Step). x.session.files other) is ∙ step_stores s hello file deed answer other goes_on ∙ stored_alike s.files shelf.file file deed.bytes bytes (λ name. sym (at.same_files name)) (sym bytes_is) other) tells
+      (ap (λ (x : Step). x.ending) is ∙ step_ending s hello file effect answer ∙ goes_on) goes (grown ∙ sym journal) lasts.stable r
+      (λ other. ap (λ (x : Step). x.session.files other) is ∙ step_stores s hello file effect answer other goes_on ∙ stored_alike s.files shelf.file file effect.bytes bytes (λ name. sym (at.same_files name)) (sym bytes_is) other) tells
       (subst (λ (x : List ℕ). Stores shelf sink x file bytes r) (ap (command_text (command.Bundle hello file)) lines_is ∙ sym text_is) st)

@@ -9,11 +9,11 @@ use Rattle.depot_decide.specs.Putting.{Puts, put_records}
 use Rattle.depot_decide.specs.declared.put_answers.PutDone.{PutDone}
 use Rattle.depot_decide.specs.declared.put_answers.PutError.{PutError}
 use Rattle.depot_decide.specs.declared.put_answers.PutError.TheVariants as refused
-use Rattle.depot_deeds.specs.CheckpointPrinting.{SettlesMake}
-use Rattle.depot_deeds.specs.Printing.{IsPrintOf}
-use Rattle.depot_deeds.specs.PutPrinting.{SettlesPut}
-use Rattle.depot_deeds.specs.declared.printed.Printed.{Printed}
-use Rattle.depot_deeds.proofs.FedStreams.{runs_on}
+use Rattle.depot_node_lines.specs.CheckpointPrinting.{SettlesMake}
+use Rattle.depot_node_lines.specs.Printing.{IsPrintOf}
+use Rattle.depot_node_lines.specs.PutPrinting.{SettlesPut}
+use Rattle.depot_node_lines.specs.declared.printed.Printed.{Printed}
+use Rattle.depot_node_lines.proofs.FedStreams.{runs_on}
 use Rattle.depot_model.specs.Bundle.{Signs}
 use Rattle.depot_model.specs.Changes.{AreChanges}
 use Rattle.depot_model.specs.Checks.{Setting}
@@ -44,8 +44,8 @@ use Rattle.depot_session.proofs.UnwrittenTexts.{nothing_written}
 use Rattle.depot_trim.specs.Making.{Makes}
 use Rattle.depot_trim.specs.declared.make_error.MakeError.{MakeError}
 use Rattle.depot_trim.specs.declared.make_error.MakeError.TheVariants as make
-use Rattle.depot_world.specs.Deeds.{checkpoint_by, checkpoint_changes, checkpoint_with, giving_unless, put_by}
-use Rattle.depot_world.specs.ScheduleStops.{Deed}
+use Rattle.depot_world.specs.Effects.{checkpoint_by, checkpoint_changes, checkpoint_with, giving_unless, put_by}
+use Rattle.depot_world.specs.ScheduleStops.{Effect}
 use Rattle.depot_world.proofs.CheckpointChanges.{checkpoint_gives_none, checkpoint_is_change, made_is_good}
 use Rattle.depot_world.proofs.TrueReceipts.{put_stays_true}
 
@@ -99,34 +99,34 @@ unfolding step_of
 made_step here sign s file text made = ap (checkpoint_step here s file (checkpoint_by here s.correct)) made
 
 -- its parts, whatever the limit is
-put_step_journal : (s : Session) (file : List ℕ) (d : Deed) (o : Option Limit) → (checkpoint_put s file d o).session.correct.journal ≡ d.journal
+put_step_journal : (s : Session) (file : List ℕ) (d : Effect) (o : Option Limit) → (checkpoint_put s file d o).session.correct.journal ≡ d.journal
 put_step_journal s file d None = refl
 put_step_journal s file d (Some limit) = refl
 
-put_step_text : (s : Session) (file : List ℕ) (d : Deed) (o : Option Limit) → (checkpoint_put s file d o).text ≡ lines_of_command (command.Checkpoint file) d
+put_step_text : (s : Session) (file : List ℕ) (d : Effect) (o : Option Limit) → (checkpoint_put s file d o).text ≡ lines_of_command (command.Checkpoint file) d
 put_step_text s file d None = refl
 put_step_text s file d (Some limit) = refl
 
-put_step_ending : (s : Session) (file : List ℕ) (d : Deed) (o : Option Limit) → (checkpoint_put s file d o).ending ≡ ending_of_put o
+put_step_ending : (s : Session) (file : List ℕ) (d : Effect) (o : Option Limit) → (checkpoint_put s file d o).ending ≡ ending_of_put o
 put_step_ending s file d None = refl
 put_step_ending s file d (Some limit) = refl
 
 -- where it goes on the text is stored
-put_step_files : (s : Session) (file : List ℕ) (d : Deed) (o : Option Limit) (other : List ℕ) → ending_of_put o ≡ None → (checkpoint_put s file d o).session.files other ≡ stored s.files file d.bytes other
+put_step_files : (s : Session) (file : List ℕ) (d : Effect) (o : Option Limit) (other : List ℕ) → ending_of_put o ≡ None → (checkpoint_put s file d o).session.files other ≡ stored s.files file d.bytes other
 put_step_files s file d None other goes = refl
 put_step_files s file d (Some limit) other goes = cc
 
-put_step_stores : (s : Session) (file : List ℕ) (d : Deed) (o : Option Limit) → ending_of_put o ≡ None → (checkpoint_put s file d o).stores ≡ file ∷ []
+put_step_stores : (s : Session) (file : List ℕ) (d : Effect) (o : Option Limit) → ending_of_put o ≡ None → (checkpoint_put s file d o).stores ≡ file ∷ []
 put_step_stores s file d None goes = refl
 put_step_stores s file d (Some limit) goes = cc
 
 -- else nothing is
-put_step_no_files : (s : Session) (file : List ℕ) (d : Deed) (o : Option Limit) (other : List ℕ) → (ending_of_put o ≡ None → ⊥) → (checkpoint_put s file d o).session.files other ≡ s.files other
+put_step_no_files : (s : Session) (file : List ℕ) (d : Effect) (o : Option Limit) (other : List ℕ) → (ending_of_put o ≡ None → ⊥) → (checkpoint_put s file d o).session.files other ≡ s.files other
 put_step_no_files s file d None other ends = absurd (ends refl)
 put_step_no_files s file d (Some limit) other ends = refl
 
 -- the bytes that are handed out change no journal
-giving_journal : (o : Option Limit) (bytes : List ℕ) (d : Deed) → (giving_unless o bytes d).journal ≡ d.journal
+giving_journal : (o : Option Limit) (bytes : List ℕ) (d : Effect) → (giving_unless o bytes d).journal ≡ d.journal
 giving_journal None bytes d = refl
 giving_journal (Some limit) bytes d = refl
 
@@ -180,8 +180,8 @@ module _ {N O : Type 0} (g : Ghosts N O) (old new : N) (file text : List ℕ) (a
     step = step_of here sign s c
 
     -- what the definition does
-    abbrev deed : Deed
-    deed = checkpoint_by here s.correct
+    abbrev effect : Effect
+    effect = checkpoint_by here s.correct
 
     -- the limit that the put meets, or none, and the records that it brings
     abbrev limit : Option Limit
@@ -198,13 +198,13 @@ module _ {N O : Type 0} (g : Ghosts N O) (old new : N) (file text : List ℕ) (a
     same_made = ap (make_of here) at.journal ∙ made
 
     -- the step by that limit
-    is : step ≡ checkpoint_put s file deed limit
-    is = made_step here sign s file text same_made ∙ ap (checkpoint_put s file deed) same_limit
+    is : step ≡ checkpoint_put s file effect limit
+    is = made_step here sign s file text same_made ∙ ap (checkpoint_put s file effect) same_limit
 
     -- it brings those records
     brings : step.session.correct.journal ≡ J ++ more
     brings =
-        ap (λ (x : Step). x.session.correct.journal) is ∙ put_step_journal s file deed limit ∙ made_journal here s.correct text same_made ∙ put_journal here s c changes limit (sym at.node) same_limit
+        ap (λ (x : Step). x.session.correct.journal) is ∙ put_step_journal s file effect limit ∙ made_journal here s.correct text same_made ∙ put_journal here s c changes limit (sym at.node) same_limit
         ∙ ap (λ (K : List Record). K ++ put_more here K changes limit) at.journal
 
     -- a stop leaves a front of them
@@ -226,19 +226,19 @@ module _ {N O : Type 0} (g : Ghosts N O) (old new : N) (file text : List ℕ) (a
       well : IsErrOf done refused.Disk → ⊥
       well = not_where_some o p (IsErrOf done refused.Disk) some stopped.1
 
-      -- what is printed is printed of the deed
-      printed : IsPrintOf (Some p) deed
-      printed = subst (λ (x : Option Printed). IsPrintOf x deed) some (prints here s.correct (g.records new) (sym at.node) same_made (puts_at here J s.correct.journal changes done (g.records new) at.journal puts))
+      -- what is printed is printed of the effect
+      printed : IsPrintOf (Some p) effect
+      printed = subst (λ (x : Option Printed). IsPrintOf x effect) some (prints here s.correct (g.records new) (sym at.node) same_made (puts_at here J s.correct.journal changes done (g.records new) at.journal puts))
 
       same_text : command_text c p.lines ≡ step.text
-      same_text = ap (command_text c) printed.0 ∙ sym (ap (λ (x : Step). x.text) is ∙ put_step_text s file deed limit)
+      same_text = ap (command_text c) printed.0 ∙ sym (ap (λ (x : Step). x.text) is ∙ put_step_text s file effect limit)
 
       -- the put's limit ends the run as its answer does
       ends_alike : ending_of_put limit ≡ ends
       ends_alike = ends_by g old new changes done running puts lasts without settled well ∙ sym ends_so
 
       same_ending : step.ending ≡ ends
-      same_ending = ap (λ (x : Step). x.ending) is ∙ put_step_ending s file deed limit ∙ ends_alike
+      same_ending = ap (λ (x : Step). x.ending) is ∙ put_step_ending s file effect limit ∙ ends_alike
 
       -- the node runs on, and has those records
       goes : g.stopped new ≡ false
@@ -251,15 +251,15 @@ module _ {N O : Type 0} (g : Ghosts N O) (old new : N) (file text : List ℕ) (a
       pub limit_told : IsUnchanged shelf → (ends ≡ None → ⊥) → (r : Result (Unit {0}) Ending) → Tells sink (command_text c p.lines) ends r → Turns g old new c step shelf sink r
       limit_told unchanged not r t =
           told g old new c step shelf sink more brings leaves (λ name. inl (unchanged name)) goes same_journal
-          (λ other. unchanged other ∙ at.same_files other ∙ sym (ap (λ (x : Step). x.session.files other) is ∙ put_step_no_files s file deed limit other (λ none. not (sym ends_alike ∙ none)))) lasts.stable ends r same_ending
+          (λ other. unchanged other ∙ at.same_files other ∙ sym (ap (λ (x : Step). x.session.files other) is ∙ put_step_no_files s file effect limit other (λ none. not (sym ends_alike ∙ none)))) lasts.stable ends r same_ending
           (subst (λ (x : List ℕ). Tells sink x ends r) same_text t)
 
       -- the text was stored, and it was told, or not
       pub checkpoint_stored : ends ≡ None → IsTrue shelf.tells → (r : Result (Unit {0}) Ending) → Stores shelf sink (command_text c p.lines) file p.bytes r → Turns g old new c step shelf sink r
       checkpoint_stored none tells r st =
           stored_told g old new c step shelf sink more brings leaves file p.bytes (λ other same. same) (same_ending ∙ none) goes same_journal lasts.stable r
-          (λ other. ap (λ (x : Step). x.session.files other) is ∙ put_step_files s file deed limit other (ends_alike ∙ none) ∙ stored_alike s.files shelf.file file deed.bytes p.bytes (λ name. sym (at.same_files name)) (sym printed.1) other) tells
+          (λ other. ap (λ (x : Step). x.session.files other) is ∙ put_step_files s file effect limit other (ends_alike ∙ none) ∙ stored_alike s.files shelf.file file effect.bytes p.bytes (λ name. sym (at.same_files name)) (sym printed.1) other) tells
           (subst (λ (x : List ℕ). Stores shelf sink x file p.bytes r) same_text st)
 
       pub checkpoint_stores : ends ≡ None → step.stores ≡ file ∷ []
-      checkpoint_stores none = ap (λ (x : Step). x.stores) is ∙ put_step_stores s file deed limit (ends_alike ∙ none)
+      checkpoint_stores none = ap (λ (x : Step). x.stores) is ∙ put_step_stores s file effect limit (ends_alike ∙ none)

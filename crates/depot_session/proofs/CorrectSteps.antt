@@ -19,9 +19,9 @@ use Rattle.depot_model.proofs.Members.{in_pushed}
 use Rattle.depot_answers.specs.Answers.{text_of_limit, text_of_put}
 use Rattle.depot_script.specs.declared.command.Command.{Command}
 use Rattle.depot_script.specs.declared.command.Command.TheVariants as command
-use Rattle.depot_world.specs.Deeds.{idle, grown, put_by, read_of, get_by, receipt_with, receipt_by, settled_by, hello_by, bundle_with, bundle_by, checkpoint_by, give_by}
-use Rattle.depot_world.specs.ScheduleStops.{Deed}
-use Rattle.depot_world.proofs.GoodDeeds.{read_is, never_falls}
+use Rattle.depot_world.specs.Effects.{idle, grown, put_by, read_of, get_by, receipt_with, receipt_by, settled_by, hello_by, bundle_with, bundle_by, checkpoint_by, give_by}
+use Rattle.depot_world.specs.ScheduleStops.{Effect}
+use Rattle.depot_world.proofs.GoodEffects.{read_is, never_falls}
 use Rattle.depot_world.proofs.GoodNodes.{begun_grows, read_grows}
 use Rattle.depot_world.proofs.ReadCounts.{checkpoint_keeps, sign_keeps}
 use Rattle.depot_session.specs.SessionRuns.{world_at}
@@ -34,7 +34,7 @@ use Rattle.depot_session.proofs.StepSessions.{checkpoint_session, sign_session, 
 put_reads : (here : Setting) (c : Correct) (changes : List Change) → (put_by here c changes).reads ≡ c.reads
 unfolding put_by
 put_reads here c changes = by_limit (limit_of_put here c.journal changes) where
-  by_limit : (o : Option Limit) → (elim o as (λ x. Deed) [
+  by_limit : (o : Option Limit) → (elim o as (λ x. Effect) [
     | Some limit ↦ idle c (text_of_limit limit)
     | None ↦ grown c (c.journal ++ OwnPut (next_own c.node c.journal changes) (values_of changes) ∷ []) (text_of_put (next_own c.node c.journal changes)) []
   ]).reads ≡ c.reads
@@ -68,7 +68,7 @@ give_reads : (here : Setting) (c : Correct) (stream : List ℕ) → (give_by her
 unfolding give_by
 give_reads here c stream = refl
 
-bundle_step_reads : (s : Session) (hello file : List ℕ) (d : Deed) (a : BundleAnswer) → d.reads ≡ s.correct.reads → (bundle_step s hello file d a).session.correct.reads ≡ s.correct.reads
+bundle_step_reads : (s : Session) (hello file : List ℕ) (d : Effect) (a : BundleAnswer) → d.reads ≡ s.correct.reads → (bundle_step s hello file d a).session.correct.reads ≡ s.correct.reads
 bundle_step_reads s hello file d (bundled b) e = e
 bundle_step_reads s hello file d other e = e
 

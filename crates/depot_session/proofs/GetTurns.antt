@@ -2,7 +2,7 @@
 use Rattle.std.proofs.Common.{◌≡◌, ℕ, List, None, Result, refl, sym, ap, subst, ◌∙◌}
 use Rattle.std.proofs.lemmas.List.{append-nil}
 use Rattle.depot_base.specs.declared.record.Record.{Record}
-use Rattle.depot_deeds.specs.Printing.{shown_text}
+use Rattle.depot_node_lines.specs.Printing.{shown_text}
 use Rattle.depot_model.specs.Bundle.{Signs}
 use Rattle.depot_model.specs.Checks.{Setting}
 use Rattle.depot_model.specs.declared.replica.Replica.{Ghosts}
@@ -15,7 +15,7 @@ use Rattle.depot_session.specs.Turns.{IsAt, IsRunning, Turns}
 use Rattle.depot_session.proofs.Turning.{command_text}
 use Rattle.depot_session.proofs.Uncalled.{uncalled_told}
 use Rattle.depot_model.specs.ShownWrites.{shown_of}
-use Rattle.depot_world.specs.Deeds.{get_by}
+use Rattle.depot_world.specs.Effects.{get_by}
 use Rattle.depot_world.specs.Transcript.{ended}
 
 -- what it prints

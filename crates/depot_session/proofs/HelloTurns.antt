@@ -9,7 +9,7 @@ use Rattle.depot_model.specs.declared.replica.Replica.{Ghosts}
 use Rattle.depot_answers.specs.Answers.{spaced, text_of_named}
 use Rattle.depot_outside.specs.Told.{Shelves, Sinks}
 use Rattle.depot_script.specs.declared.command.Command.TheVariants as command
-use Rattle.depot_world.specs.Deeds.{hello_by}
+use Rattle.depot_world.specs.Effects.{hello_by}
 use Rattle.depot_world.specs.Transcript.{ended}
 use Rattle.depot_session.specs.declared.ending.Ending.{Ending}
 use Rattle.depot_session.specs.Sessions.{Session, step_of, stored}

@@ -16,7 +16,7 @@ use Rattle.depot_traces.specs.SeenTraces as seen
 use Rattle.depot_traces.specs.TraceTexts.{read_text}
 use Rattle.depot_traces.specs.declared.trace.ReadTrace.{ReadTrace}
 use Rattle.depot_world.specs.Audits.{traced_read}
-use Rattle.depot_world.specs.Deeds.{get_by, read_of}
+use Rattle.depot_world.specs.Effects.{get_by, read_of}
 use Rattle.depot_session.specs.KeptReads.{AreOfRun, FitWithin, IsOneMore, KeepsReads, is_export}
 use Rattle.depot_session.specs.Sessions.{Session, answers_of, reads_of_run, step_of}
 use Rattle.depot_session.proofs.CorrectSteps.{IsNoGet, step_reads}

@@ -6,11 +6,11 @@ use Rattle.std.proofs.lemmas.List.{append-nil}
 use Rattle.depot_base.specs.declared.write.Change.{Change}
 use Rattle.depot_base.specs.declared.record.Record.{Record}
 use Rattle.depot_base.specs.declared.record.Record.TheVariants.{OwnPut}
-use Rattle.depot_deeds.specs.declared.printed.Printed.{Printed}
-use Rattle.depot_deeds.specs.Printing.{IsPrintOf, lines_of_deed}
-use Rattle.depot_deeds.specs.PutPrinting.{SettlesPut}
-use Rattle.depot_deeds.proofs.FedStreams.{runs_on}
-use Rattle.depot_deeds.proofs.PutTexts.{deed_within, put_lawful}
+use Rattle.depot_node_lines.specs.declared.printed.Printed.{Printed}
+use Rattle.depot_node_lines.specs.Printing.{IsPrintOf, lines_of_effect}
+use Rattle.depot_node_lines.specs.PutPrinting.{SettlesPut}
+use Rattle.depot_node_lines.proofs.FedStreams.{runs_on}
+use Rattle.depot_node_lines.proofs.PutTexts.{effect_within, put_lawful}
 use Rattle.depot_feeds.specs.Lasting.{LastsIn}
 use Rattle.depot_feeds.proofs.LastingStreams.{all_of, cut_of, lasts_alike, lasts_longer, none_in, to_append, IsPart}
 use Rattle.depot_model.specs.Bundle.{Signs}
@@ -41,8 +41,8 @@ use Rattle.depot_session.proofs.LeftJournals.{leaves_front}
 use Rattle.depot_session.proofs.ToldFaults.{EndsCalmly, NamesFaults}
 use Rattle.depot_session.proofs.Turning.{command_text, disk_told, told, without_memory}
 use Rattle.depot_session.proofs.UnwrittenTexts.{nothing_written}
-use Rattle.depot_world.specs.Deeds.{idle, put_by}
-use Rattle.depot_world.specs.ScheduleStops.{Deed}
+use Rattle.depot_world.specs.Effects.{idle, put_by}
+use Rattle.depot_world.specs.ScheduleStops.{Effect}
 
 -- ---- the records
 
@@ -85,10 +85,10 @@ step_of_put here sign s (command.Tget key) changes is = absurd is
 pub put_journal : (here : Setting) (s : Session) (c : Command) (changes : List Change) (o : Option Limit) → here.me ≡ s.correct.node → limit_of_put here s.correct.journal changes ≡ o
     → (put_step here s c changes).session.correct.journal ≡ s.correct.journal ++ put_more here s.correct.journal changes o
 put_journal here s c changes None same is =
-    let d = deed_within here s.correct changes None is in
+    let d = effect_within here s.correct changes None is in
     let new : OwnPut (next_own s.correct.node s.correct.journal changes) (values_of changes) ∷ [] ≡ put_records here s.correct.journal changes = ap (λ (n : ℕ). OwnPut (next_own n s.correct.journal changes) (values_of changes) ∷ []) (sym same) in
-    ap (λ (x : Deed). x.journal) d ∙ ap (λ (rs : List Record). s.correct.journal ++ rs) new
-put_journal here s c changes (Some limit) same is = ap (λ (x : Deed). x.journal) (deed_within here s.correct changes (Some limit) is) ∙ sym (append-nil s.correct.journal)
+    ap (λ (x : Effect). x.journal) d ∙ ap (λ (rs : List Record). s.correct.journal ++ rs) new
+put_journal here s c changes (Some limit) same is = ap (λ (x : Effect). x.journal) (effect_within here s.correct changes (Some limit) is) ∙ sym (append-nil s.correct.journal)
 
 -- ---- the call on the node
 
@@ -224,7 +224,7 @@ module _ {N O : Type 0} (g : Ghosts N O) (old new : N) (changes : List Change) (
       well : IsErrOf done refused.Disk → ⊥
       well = not_where_some o p (IsErrOf done refused.Disk) is stopped.1
 
-      lines : p.lines ≡ lines_of_deed (put_by here s.correct changes)
+      lines : p.lines ≡ lines_of_effect (put_by here s.correct changes)
       lines = (subst (λ (x : Option Printed). IsPrintOf x (put_by here s.correct changes)) is printed).0
 
       tells_so : Tells sink step.text ends r

@@ -6,8 +6,8 @@ use Rattle.std.proofs.lemmas.List.{append-nil}
 use Rattle.depot_answers.specs.Answers.{spaced, text_of_reader_feed, text_of_trim}
 use Rattle.depot_base.specs.declared.check.Full.{Full}
 use Rattle.depot_base.specs.declared.record.Record.{Record}
-use Rattle.depot_deeds.specs.CheckpointPrinting.{SettlesTrim}
-use Rattle.depot_deeds.specs.Printing.{lines_of_deed}
+use Rattle.depot_node_lines.specs.CheckpointPrinting.{SettlesTrim}
+use Rattle.depot_node_lines.specs.Printing.{lines_of_effect}
 use Rattle.depot_model.specs.Bundle.{Signs}
 use Rattle.depot_model.specs.Checks.{Setting}
 use Rattle.depot_model.specs.ReaderFeeds.{ReaderFeed, reader_feed_of}
@@ -189,11 +189,11 @@ tgive_ends_calmly (Some what) = tt
 -- ---- it reads
 
 -- its line, where there is no reader, and where there is one
-pub nothing_shown : (c : Correct) (o : Option Reader) (key line : List ℕ) → o ≡ None → line ≡ ended [] → line ≡ lines_of_deed (shown_by_last c key o)
-nothing_shown c o key line none is = one_line line [] is ∙ ap (λ (x : Option Reader). lines_of_deed (shown_by_last c key x)) (sym none)
+pub nothing_shown : (c : Correct) (o : Option Reader) (key line : List ℕ) → o ≡ None → line ≡ ended [] → line ≡ lines_of_effect (shown_by_last c key o)
+nothing_shown c o key line none is = one_line line [] is ∙ ap (λ (x : Option Reader). lines_of_effect (shown_by_last c key x)) (sym none)
 
-pub one_shown : (c : Correct) (o : Option Reader) (R : Reader) (key line : List ℕ) → o ≡ Some R → line ≡ ended (answer_of_reader R key) → line ≡ lines_of_deed (shown_by_last c key o)
-one_shown c o R key line one is = one_line line (answer_of_reader R key) is ∙ ap (λ (x : Option Reader). lines_of_deed (shown_by_last c key x)) (sym one)
+pub one_shown : (c : Correct) (o : Option Reader) (R : Reader) (key line : List ℕ) → o ≡ Some R → line ≡ ended (answer_of_reader R key) → line ≡ lines_of_effect (shown_by_last c key o)
+one_shown c o R key line one is = one_line line (answer_of_reader R key) is ∙ ap (λ (x : Option Reader). lines_of_effect (shown_by_last c key x)) (sym one)
 
 -- it leaves the journal
 shown_journal : (s : Session) (o : Option Reader) (key : List ℕ) → (shown_by_last s.correct key o).journal ≡ s.correct.journal
@@ -205,7 +205,7 @@ unfolding step_of
 shown_is here sign s key = refl
 
 -- its line was told, or not
-pub tget_turns : {N O : Type 0} (g : Ghosts N O) (v : N) (s : Session) (key line : List ℕ) (shelf : Shelves) (sink : Sinks) (r : Result (Unit {0}) Ending) → IsRunning g v → IsAt (g.stands v) (g.records v) shelf.file s → IsUnchanged shelf → line ≡ lines_of_deed (shown_by_last s.correct key s.reader)
+pub tget_turns : {N O : Type 0} (g : Ghosts N O) (v : N) (s : Session) (key line : List ℕ) (shelf : Shelves) (sink : Sinks) (r : Result (Unit {0}) Ending) → IsRunning g v → IsAt (g.stands v) (g.records v) shelf.file s → IsUnchanged shelf → line ≡ lines_of_effect (shown_by_last s.correct key s.reader)
     → Tells sink (command_text (command.Tget key) line) None r → Turns g v v (command.Tget key) (step_of (g.stands v) (g.signature_of v) s (command.Tget key)) shelf sink r
 tget_turns g v s key line shelf sink r running at unchanged line_is tells =
     let is = shown_is (g.stands v) (g.signature_of v) s key in

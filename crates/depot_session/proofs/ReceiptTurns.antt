@@ -9,12 +9,12 @@ use Rattle.depot_decide.specs.Putting.{Puts}
 use Rattle.depot_decide.specs.declared.put_answers.PutDone.{PutDone}
 use Rattle.depot_decide.specs.declared.put_answers.PutError.{PutError}
 use Rattle.depot_decide.specs.declared.put_answers.PutError.TheVariants as put
-use Rattle.depot_deeds.specs.declared.printed.Printed.{Printed}
-use Rattle.depot_deeds.specs.Printing.{IsPrintOf, lines_of_deed}
-use Rattle.depot_deeds.specs.PutPrinting.{SettlesPut}
-use Rattle.depot_deeds.specs.ReceiptPrinting.{SettlesGive}
-use Rattle.depot_deeds.proofs.FedStreams.{runs_on}
-use Rattle.depot_deeds.proofs.ReceiptTexts.{receipt_is}
+use Rattle.depot_node_lines.specs.declared.printed.Printed.{Printed}
+use Rattle.depot_node_lines.specs.Printing.{IsPrintOf, lines_of_effect}
+use Rattle.depot_node_lines.specs.PutPrinting.{SettlesPut}
+use Rattle.depot_node_lines.specs.ReceiptPrinting.{SettlesGive}
+use Rattle.depot_node_lines.proofs.FedStreams.{runs_on}
+use Rattle.depot_node_lines.proofs.ReceiptTexts.{receipt_is}
 use Rattle.depot_feeds.proofs.LastingStreams.{lasts_longer, none_in}
 use Rattle.depot_gossip.proofs.StreamLaws.{keeps_alike, stops_alike}
 use Rattle.depot_model.specs.Bundle.{Signs}
@@ -47,7 +47,7 @@ use Rattle.depot_session.proofs.StepGrowth.{step_grows}
 use Rattle.depot_session.proofs.ToldFaults.{EndsCalmly, NamesFaults}
 use Rattle.depot_session.proofs.Turning.{command_text, told, without_memory}
 use Rattle.depot_session.proofs.UnwrittenTexts.{nothing_written}
-use Rattle.depot_world.specs.Deeds.{idle, receipt_by, receipt_with}
+use Rattle.depot_world.specs.Effects.{idle, receipt_by, receipt_with}
 use Rattle.depot_world.proofs.TrueReceipts.{receipts_put_stays_true}
 
 -- ---- the changes of a receipt
@@ -119,7 +119,7 @@ receipt_is_idle here sign s id why is =
     ap (λ (o : Option NoReceipt). carried_out s (command.Receipt id) (receipt_with here s.correct (id ∷ []) o) (ending_of_receipt o (limit_of_put here s.correct.journal (receipt_changes (id ∷ []))))) is
 
 -- what it prints
-receipt_text : (here : Setting) (sign : Signs) (s : Session) (id : List ℕ) → command_text (command.Receipt id) (lines_of_deed (receipt_by here s.correct (id ∷ []))) ≡ (step_of here sign s (command.Receipt id)).text
+receipt_text : (here : Setting) (sign : Signs) (s : Session) (id : List ℕ) → command_text (command.Receipt id) (lines_of_effect (receipt_by here s.correct (id ∷ []))) ≡ (step_of here sign s (command.Receipt id)).text
 unfolding step_of
 receipt_text here sign s id = refl
 
@@ -230,7 +230,7 @@ module _ {N O : Type 0} (g : Ghosts N O) (old new : N) (id : List ℕ) (asked : 
       refused_told : PutsNothing Stays J ids done (g.records new) → (why : NoReceipt) → no_receipt J ids ≡ Some why → ends_of_receipt done ≡ None → Turns g old new c step shelf sink r
       refused_told n why speaks goes_on =
           let same : step ≡ carried_out s c (idle s.correct (text_of_no_receipt why)) None = receipt_is_idle here sign s id why (same_reasons ∙ speaks) in
-          let lines : p.lines ≡ lines_of_deed (receipt_by here s.correct ids) = (subst (λ (x : Option Printed). IsPrintOf x (receipt_by here s.correct ids)) is printed).0 in
+          let lines : p.lines ≡ lines_of_effect (receipt_by here s.correct ids) = (subst (λ (x : Option Printed). IsPrintOf x (receipt_by here s.correct ids)) is printed).0 in
           told g old new c step shelf sink brings.more brings.is (leaves n) others (runs_on _ _ _ _ stops running.runs n.well)
           (n.same ∙ sym at.journal ∙ ap (λ (x : Step). x.session.correct.journal) (sym same)) (λ name. unchanged name ∙ at.same_files name ∙ ap (λ (x : Step). x.session.files name) (sym same)) (n.idle without).stable ends r
           (ap (λ (x : Step). x.ending) same ∙ sym goes_on ∙ sym ends_so) (subst (λ (text : List ℕ). Tells sink text ends r) (ap (command_text c) lines ∙ receipt_text here sign s id) tells)

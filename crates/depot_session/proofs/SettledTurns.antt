@@ -16,7 +16,7 @@ use Rattle.depot_session.specs.ScriptTelling.{IsUnchanged, Tells}
 use Rattle.depot_session.specs.Turns.{IsAt, IsRunning, Turns}
 use Rattle.depot_session.proofs.Turning.{command_text}
 use Rattle.depot_session.proofs.Uncalled.{uncalled_told}
-use Rattle.depot_world.specs.Deeds.{settled_by}
+use Rattle.depot_world.specs.Effects.{settled_by}
 use Rattle.depot_world.specs.Transcript.{ended}
 
 -- what it prints

@@ -8,12 +8,12 @@ use Rattle.depot_decide.specs.Putting.{Puts}
 use Rattle.depot_decide.specs.declared.put_answers.PutDone.{PutDone}
 use Rattle.depot_decide.specs.declared.put_answers.PutError.{PutError}
 use Rattle.depot_decide.specs.declared.put_answers.PutError.TheVariants as refused
-use Rattle.depot_deeds.specs.CheckpointPrinting.{SettlesSign}
-use Rattle.depot_deeds.specs.Printing.{IsPrintOf, lines_of_deed}
-use Rattle.depot_deeds.specs.PutPrinting.{SettlesPut}
-use Rattle.depot_deeds.specs.declared.printed.Printed.{Printed}
-use Rattle.depot_deeds.proofs.CheckpointTexts.{sign_is}
-use Rattle.depot_deeds.proofs.FedStreams.{runs_on}
+use Rattle.depot_node_lines.specs.CheckpointPrinting.{SettlesSign}
+use Rattle.depot_node_lines.specs.Printing.{IsPrintOf, lines_of_effect}
+use Rattle.depot_node_lines.specs.PutPrinting.{SettlesPut}
+use Rattle.depot_node_lines.specs.declared.printed.Printed.{Printed}
+use Rattle.depot_node_lines.proofs.CheckpointTexts.{sign_is}
+use Rattle.depot_node_lines.proofs.FedStreams.{runs_on}
 use Rattle.depot_feeds.proofs.LastingStreams.{lasts_longer, none_in}
 use Rattle.depot_gossip.proofs.StreamLaws.{keeps_alike, stops_alike}
 use Rattle.depot_model.specs.Bundle as bundle
@@ -45,8 +45,8 @@ use Rattle.depot_session.proofs.UnwrittenTexts.{nothing_written}
 use Rattle.depot_trim.specs.Signing.{Signs, signing_records}
 use Rattle.depot_trim.specs.declared.sign_error.CheckpointError.{CheckpointError}
 use Rattle.depot_trim.specs.declared.sign_error.CheckpointError.TheVariants as unsigned
-use Rattle.depot_world.specs.Deeds.{checkpoint_changes, sign_by, sign_with}
-use Rattle.depot_world.specs.ScheduleStops.{Deed}
+use Rattle.depot_world.specs.Effects.{checkpoint_changes, sign_by, sign_with}
+use Rattle.depot_world.specs.ScheduleStops.{Effect}
 use Rattle.depot_world.proofs.CheckpointChanges.{checkpoint_gives_none, checkpoint_is_change, opened_is_good}
 use Rattle.depot_world.proofs.OnlyBytes.{OnlyBytes}
 use Rattle.depot_world.proofs.TrueReceipts.{put_stays_true}
@@ -219,8 +219,8 @@ module _ {N O : Type 0} (g : Ghosts N O) (old new : N) (file text : List ℕ) (d
       refused_told : PutsNothing Stays here J text done (g.records new) → IsUnopened here J text done → Turns g old new c step shelf sink r
       refused_told n u =
           let found : opened_text here s.correct.journal text ≡ u.found = same_opened ∙ u.is in
-          let lines : p.lines ≡ lines_of_deed (sign_by here s.correct text) = (subst (λ (x : Option Printed). IsPrintOf x (sign_by here s.correct text)) some printed).0 in
-          let journal : step.session.correct.journal ≡ J = ap (λ (x : Step). x.session.correct.journal) is ∙ ap (λ (d : Deed). d.journal) (sign_is here s.correct text u.found found) ∙ u.stays s.correct ∙ at.journal in
+          let lines : p.lines ≡ lines_of_effect (sign_by here s.correct text) = (subst (λ (x : Option Printed). IsPrintOf x (sign_by here s.correct text)) some printed).0 in
+          let journal : step.session.correct.journal ≡ J = ap (λ (x : Step). x.session.correct.journal) is ∙ ap (λ (d : Effect). d.journal) (sign_is here s.correct text u.found found) ∙ u.stays s.correct ∙ at.journal in
           told g old new c step shelf sink brings.more brings.is (leaves n) others (runs_on _ _ _ _ stops running.runs n.well) (n.same ∙ sym journal) (λ name. unchanged name ∙ at.same_files name ∙ ap (λ (x : Step). x.session.files name) (sym is)) (n.idle without).stable ends r
           (ap (λ (x : Step). x.ending) is ∙ ap (ending_of_sign (limit_of_put here s.correct.journal changes)) found ∙ u.ends (limit_of_put here s.correct.journal changes) ∙ sym ends_so)
           (subst (λ (x : List ℕ). Tells sink x ends r) (ap (command_text c) lines ∙ ap (λ (x : Step). x.text) (sym is)) tells)

@@ -8,16 +8,16 @@ use Rattle.depot_model.specs.Readers.{Reader}
 use Rattle.depot_model.proofs.FeedGrowth.{IsGrown, grown_none, grown_twice}
 use Rattle.depot_script.specs.declared.command.Command.{Command}
 use Rattle.depot_script.specs.declared.command.Command.TheVariants as command
-use Rattle.depot_world.specs.Deeds.{bundle_by, checkpoint_by}
-use Rattle.depot_world.specs.ScheduleStops.{Deed}
-use Rattle.depot_world.proofs.DeedGrowth.{put_grows, get_grows, hello_grows, bundle_grows, give_grows, receipt_grows, settled_grows, checkpoint_grows, sign_grows}
+use Rattle.depot_world.specs.Effects.{bundle_by, checkpoint_by}
+use Rattle.depot_world.specs.ScheduleStops.{Effect}
+use Rattle.depot_world.proofs.EffectGrowth.{put_grows, get_grows, hello_grows, bundle_grows, give_grows, receipt_grows, settled_grows, checkpoint_grows, sign_grows}
 use Rattle.depot_session.specs.declared.ending.Ending.{Ending}
 use Rattle.depot_session.specs.Sessions.{Answers, Session, Step, answers_of, bundle_step, bundle_to, export_by, followed_by, shown_by_last, step_of, take_from}
 use Rattle.depot_session.proofs.StepSessions.{checkpoint_session, sign_session, tgive_session, trim_session}
 
 -- ---- a step
 
-bundle_step_grows : (s : Session) (hello file : List ℕ) (d : Deed) (a : BundleAnswer) → IsGrown s.correct.journal d.journal → IsGrown s.correct.journal (bundle_step s hello file d a).session.correct.journal
+bundle_step_grows : (s : Session) (hello file : List ℕ) (d : Effect) (a : BundleAnswer) → IsGrown s.correct.journal d.journal → IsGrown s.correct.journal (bundle_step s hello file d a).session.correct.journal
 bundle_step_grows s hello file d (bundled b) g = g
 bundle_step_grows s hello file d other g = g
 
@@ -49,7 +49,7 @@ step_grows here sign s (command.Tget key) = by_reader s.reader where
   by_reader None = grown_none s.correct.journal
   by_reader (Some R) = grown_none s.correct.journal
 
-bundle_step_stays : (s : Session) (hello file : List ℕ) (d : Deed) (a : BundleAnswer) → (bundle_step s hello file d a).session.correct.node ≡ s.correct.node
+bundle_step_stays : (s : Session) (hello file : List ℕ) (d : Effect) (a : BundleAnswer) → (bundle_step s hello file d a).session.correct.node ≡ s.correct.node
 bundle_step_stays s hello file d (bundled b) = refl
 bundle_step_stays s hello file d other = refl
 
@@ -76,7 +76,7 @@ step_stays here sign s (command.Trim file) = ap (λ (t : Session). t.correct.nod
 step_stays here sign s (command.Tgive file) = ap (λ (t : Session). t.correct.node) (tgive_session s file s.reader).1
 step_stays here sign s (command.Tget key) = refl
 
-bundle_step_begun : (s : Session) (hello file : List ℕ) (d : Deed) (a : BundleAnswer) → (bundle_step s hello file d a).session.earlier ≡ s.earlier
+bundle_step_begun : (s : Session) (hello file : List ℕ) (d : Effect) (a : BundleAnswer) → (bundle_step s hello file d a).session.earlier ≡ s.earlier
 bundle_step_begun s hello file d (bundled b) = refl
 bundle_step_begun s hello file d other = refl
 
@@ -110,7 +110,7 @@ MakesNoReader (command.Trim file) = ⊥
 MakesNoReader (command.Tgive file) = ⊥
 MakesNoReader other = Unit {0}
 
-bundle_step_reader : (s : Session) (hello file : List ℕ) (d : Deed) (a : BundleAnswer) → (bundle_step s hello file d a).session.reader ≡ s.reader
+bundle_step_reader : (s : Session) (hello file : List ℕ) (d : Effect) (a : BundleAnswer) → (bundle_step s hello file d a).session.reader ≡ s.reader
 bundle_step_reader s hello file d (bundled b) = refl
 bundle_step_reader s hello file d other = refl
 

@@ -9,8 +9,8 @@ use Rattle.depot_model.specs.Opening.{MadeCheckpoint, made_text, make_of}
 use Rattle.depot_model.specs.Readers.{Reader}
 use Rattle.depot_script.specs.declared.command.Command.{Command}
 use Rattle.depot_script.specs.declared.command.Command.TheVariants as command
-use Rattle.depot_world.specs.Deeds.{bundle_by, checkpoint_by, checkpoint_changes}
-use Rattle.depot_world.specs.ScheduleStops.{Deed}
+use Rattle.depot_world.specs.Effects.{bundle_by, checkpoint_by, checkpoint_changes}
+use Rattle.depot_world.specs.ScheduleStops.{Effect}
 use Rattle.depot_session.specs.declared.ending.Ending.{Ending}
 use Rattle.depot_session.specs.declared.ending.Ending.TheVariants as ending
 use Rattle.depot_session.specs.ScriptTelling.{StoresUnder}
@@ -76,7 +76,7 @@ stores_trace here sign s file = refl
 abbrev pub StoresOrEnds : Step → List ℕ → Type 0
 StoresOrEnds step file = ((step.ending ≡ None) × (step.stores ≡ file ∷ [])) ⊎ ((e : Ending) × ((step.ending ≡ Some e) × (step.stores ≡ [])))
 
-step_or_ends : (s : Session) (hello file : List ℕ) (d : Deed) (a : BundleAnswer) → StoresOrEnds (bundle_step s hello file d a) file
+step_or_ends : (s : Session) (hello file : List ℕ) (d : Effect) (a : BundleAnswer) → StoresOrEnds (bundle_step s hello file d a) file
 step_or_ends s hello file d (bundled b) = inl (refl, refl)
 step_or_ends s hello file d (bad_hello at) = inr (ending.Input, (refl, refl))
 step_or_ends s hello file d (other_roster given) = inr (ending.Identity, (refl, refl))
@@ -93,7 +93,7 @@ bundle_or_ends here sign s hello file = by_file (s.files hello) where
 abbrev pub StoresUnless : Step → List ℕ → Type 0
 StoresUnless step file = ((step.ending ≡ None) × (step.stores ≡ file ∷ [])) ⊎ (step.stores ≡ [])
 
-put_unless : (s : Session) (file : List ℕ) (d : Deed) (o : Option Limit) → StoresUnless (checkpoint_put s file d o) file
+put_unless : (s : Session) (file : List ℕ) (d : Effect) (o : Option Limit) → StoresUnless (checkpoint_put s file d o) file
 put_unless s file d (Some limit) = inr refl
 put_unless s file d None = inl (refl, refl)
 

@@ -13,9 +13,9 @@ use Rattle.depot_feeds.specs.declared.feed_error.FeedError.{FeedError}
 use Rattle.depot_feeds.specs.declared.feed_error.FeedError.TheVariants as error
 use Rattle.depot_outside.specs.Told.{Shelves, Sinks}
 use Rattle.depot_script.specs.declared.command.Command.TheVariants as command
-use Rattle.depot_world.specs.Deeds.{fed_by, give_by}
-use Rattle.depot_deeds.specs.Printing.{IsToldOf, SettlesFeed, lines_of_deed}
-use Rattle.depot_deeds.specs.declared.feeds.Fed.{Fed}
+use Rattle.depot_world.specs.Effects.{fed_by, give_by}
+use Rattle.depot_node_lines.specs.Printing.{IsToldOf, SettlesFeed, lines_of_effect}
+use Rattle.depot_node_lines.specs.declared.feeds.FeedResult.{FeedResult}
 use Rattle.depot_session.specs.declared.ending.Ending.{Ending}
 use Rattle.depot_session.specs.declared.ending.Ending.TheVariants as ending
 use Rattle.depot_session.specs.SessionRuns.{disk_line}
@@ -30,20 +30,20 @@ use Rattle.depot_session.proofs.UnwrittenTexts.{nothing_written}
 -- ---- the answer
 
 -- a stream that is printed was taken whole
-pub is_fed : (fed : Result Fed FeedError) → SettlesFeed fed → (IsErrOf fed error.Disk → ⊥) → (f : Fed) × (fed ≡ Ok f)
+pub is_fed : (fed : Result FeedResult FeedError) → SettlesFeed fed → (IsErrOf fed error.Disk → ⊥) → (f : FeedResult) × (fed ≡ Ok f)
 is_fed (Ok f) settled not = (f, refl)
 is_fed (Err error.Disk) settled not = absurd (not refl)
 is_fed other settled not = absurd settled
 
 -- what holds of a stream that was taken whole
-pub of_fed : (fed : Result Fed FeedError) (P : Type 0) → SettlesFeed fed → (IsErrOf fed error.Disk → ⊥) → IfOk fed (λ _. P) → P
-of_fed fed P settled not p = let whole = is_fed fed settled not in subst (λ (r : Result Fed FeedError). IfOk r (λ _. P)) whole.1 p
+pub of_fed : (fed : Result FeedResult FeedError) (P : Type 0) → SettlesFeed fed → (IsErrOf fed error.Disk → ⊥) → IfOk fed (λ _. P) → P
+of_fed fed P settled not p = let whole = is_fed fed settled not in subst (λ (r : Result FeedResult FeedError). IfOk r (λ _. P)) whole.1 p
 
 -- how it ends the run
-pub ends_fed : (fed : Result Fed FeedError) (x : Feeding) (ends : Option Ending) → SettlesFeed fed → (IsErrOf fed error.Disk → ⊥) → IfOk fed (λ f. IsToldOf x f) → IfOk fed (λ f. (y : Feeding) → IsToldOf y f → ends ≡ ending_of_take y.closed) → ends ≡ ending_of_take x.closed
+pub ends_fed : (fed : Result FeedResult FeedError) (x : Feeding) (ends : Option Ending) → SettlesFeed fed → (IsErrOf fed error.Disk → ⊥) → IfOk fed (λ f. IsToldOf x f) → IfOk fed (λ f. (y : Feeding) → IsToldOf y f → ends ≡ ending_of_take y.closed) → ends ≡ ending_of_take x.closed
 ends_fed (Ok f) x ends settled not t e = e x t
 ends_fed (Err e) x ends settled not t h = let whole = is_fed (Err e) settled not in absurd (no_error e whole.0 whole.1) where
-  no_error : (e : FeedError) (f : Fed) → Err e ≡ Ok f → ⊥
+  no_error : (e : FeedError) (f : FeedResult) → Err e ≡ Ok f → ⊥
   no_error e f is = cc
 
 -- it ends the run for no fault
@@ -101,7 +101,7 @@ module _ {N O : Type 0} (g : Ghosts N O) (counts_now : (v : N) (t : ℕ) (image 
 
   -- the stream was taken, and its lines told or not
   pub taken_told : (sink : Sinks) (ends : Option Ending) (lines : List ℕ) (r : Result (Unit {0}) Ending) → g.stopped new ≡ false → g.records new ≡ (feed_of (g.stands old) (g.records old) stream).journal → ends ≡ ending_of_take (feed_of (g.stands old) (g.records old) stream).closed
-      → lines ≡ lines_of_deed (fed_by s.correct (feed_of (g.stands old) (g.records old) stream)) → Tells sink (command_text (command.Take file) lines) ends r → Turns g old new (command.Take file) taken_step shelf sink r
+      → lines ≡ lines_of_effect (fed_by s.correct (feed_of (g.stands old) (g.records old) stream)) → Tells sink (command_text (command.Take file) lines) ends r → Turns g old new (command.Take file) taken_step shelf sink r
   taken_told sink ends lines r goes grown ends_is lines_is t =
       let here = g.stands old in
       let text_is : taken_step.text ≡ lines_of_command (command.Take file) (fed_by s.correct (feed_of here (g.records old) stream)) = ap (λ (x : Step). x.text) is ∙ take_text here s (g.records old) file stream at.journal in

@@ -10,7 +10,7 @@ use Rattle.depot_traces.specs.SeenTraces as seen
 use Rattle.depot_traces.specs.TraceTexts.{read_text}
 use Rattle.depot_traces.specs.declared.trace.ReadTrace.{ReadTrace}
 use Rattle.depot_world.specs.Audits.{traced_read}
-use Rattle.depot_world.specs.Deeds.{read_of}
+use Rattle.depot_world.specs.Effects.{read_of}
 use Rattle.depot_session.specs.Sessions.{Session, reads_of_run, step_of}
 
 -- the command hands in a trace

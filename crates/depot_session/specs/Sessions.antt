@@ -22,10 +22,10 @@ use Rattle.depot_script.specs.declared.command.Command.{Command}
 use Rattle.depot_script.specs.declared.command.Command.TheVariants as command
 use Rattle.depot_traces.specs.ToldTraces.{file_of_trace}
 use Rattle.depot_world.specs.Audits.{trace_with}
-use Rattle.depot_world.specs.Deeds.{idle, put_by, get_by, hello_by, bundle_by, give_by, receipt_by, settled_by, checkpoint_by, checkpoint_changes, sign_by}
-use Rattle.depot_world.specs.ScheduleStops.{Deed}
+use Rattle.depot_world.specs.Effects.{idle, put_by, get_by, hello_by, bundle_by, give_by, receipt_by, settled_by, checkpoint_by, checkpoint_changes, sign_by}
+use Rattle.depot_world.specs.ScheduleStops.{Effect}
 use Rattle.depot_world.specs.Transcript.{answer_of_reader}
-use Rattle.depot_deeds.specs.Printing.{lines_of_deed}
+use Rattle.depot_node_lines.specs.Printing.{lines_of_effect}
 use Rattle.depot_node.specs.Starting.{started}
 use Rattle.depot_session.specs.declared.ending.Ending.{Ending}
 use Rattle.depot_session.specs.declared.ending.Ending.TheVariants as ending
@@ -76,11 +76,11 @@ printed_count (command.Settled id k) = 3
 printed_count other = 2
 
 -- the lines of a command that a node carries out
-abbrev pub lines_of_command : Command → Deed → List ℕ
-lines_of_command c d = join 32 (take (printed_count c) (command_words c)) ++ codes " ->" ++ lines_of_deed d
+abbrev pub lines_of_command : Command → Effect → List ℕ
+lines_of_command c d = join 32 (take (printed_count c) (command_words c)) ++ codes " ->" ++ lines_of_effect d
 
 -- a command that a node carries out
-abbrev pub carried_out : Session → Command → Deed → Option Ending → Step
+abbrev pub carried_out : Session → Command → Effect → Option Ending → Step
 carried_out s c d ends = record {
   text = lines_of_command c d;
   stores = [];
@@ -89,7 +89,7 @@ carried_out s c d ends = record {
 }
 
 -- the same, and what it hands out becomes a file
-abbrev pub carried_out_storing : Session → Command → Deed → List ℕ → Step
+abbrev pub carried_out_storing : Session → Command → Effect → List ℕ → Step
 carried_out_storing s c d file = record {
   text = lines_of_command c d;
   stores = file ∷ [];
@@ -184,7 +184,7 @@ ending_of_tgive (Some what) = Some ending.Limit
 -- ---- what each command does
 
 -- a bundle that is made becomes a file; where none is, nothing is stored
-abbrev pub bundle_step : Session → List ℕ → List ℕ → Deed → BundleAnswer → Step
+abbrev pub bundle_step : Session → List ℕ → List ℕ → Effect → BundleAnswer → Step
 bundle_step s hello file d (bundled b) = carried_out_storing s (command.Bundle hello file) d file
 bundle_step s hello file d other = carried_out s (command.Bundle hello file) d (ending_of_bundle other)
 
@@ -213,11 +213,11 @@ abbrev pub receipt_step : Setting → Session → Command → List (List ℕ) �
 receipt_step here s c ids = carried_out s c (receipt_by here s.correct ids) (ending_of_receipt (no_receipt s.correct.journal ids) (limit_of_put here s.correct.journal (receipt_changes ids)))
 
 -- a checkpoint whose text is put becomes a file; where it is refused nothing is stored
-abbrev pub checkpoint_put : Session → List ℕ → Deed → Option Limit → Step
+abbrev pub checkpoint_put : Session → List ℕ → Effect → Option Limit → Step
 checkpoint_put s file d (Some limit) = carried_out s (command.Checkpoint file) d (Some ending.Limit)
 checkpoint_put s file d None = carried_out_storing s (command.Checkpoint file) d file
 
-abbrev pub checkpoint_step : Setting → Session → List ℕ → Deed → MadeCheckpoint → Step
+abbrev pub checkpoint_step : Setting → Session → List ℕ → Effect → MadeCheckpoint → Step
 checkpoint_step here s file d (made_text text) = checkpoint_put s file d (limit_of_put here s.correct.journal (checkpoint_changes text))
 checkpoint_step here s file d other = carried_out s (command.Checkpoint file) d None
 
@@ -244,7 +244,7 @@ trim_from here s file None = absent s file
 trim_from here s file (Some text) = trim_step s file (trim_of here s.correct.journal text)
 
 -- nothing is answered, and nothing behind the arrow
-abbrev pub silent : Correct → Deed
+abbrev pub silent : Correct → Effect
 silent c = record { journal = c.journal; reads = c.reads; calls = 0; answer = []; behind = []; bytes = [] }
 
 abbrev pub tgive_step : Session → List ℕ → ReaderFeed → Step
@@ -261,12 +261,12 @@ tgive_to s file None = carried_out s (command.Tgive file) (silent s.correct) Non
 tgive_to s file (Some R) = tgive_from s file R (s.files file)
 
 -- what the last reader made shows of a key
-abbrev pub shown_by_last : Correct → List ℕ → Option Reader → Deed
+abbrev pub shown_by_last : Correct → List ℕ → Option Reader → Effect
 shown_by_last c key None = silent c
 shown_by_last c key (Some R) = record { journal = c.journal; reads = c.reads; calls = 0; answer = answer_of_reader R key; behind = []; bytes = [] }
 
 -- the node hands in its trace, and stays as it is
-unfoldable pub export_by : Session → Deed
+unfoldable pub export_by : Session → Effect
 export_by s = record {
   journal = s.correct.journal;
   reads = s.correct.reads;

@@ -1,13 +1,13 @@
 //! The commands of checkpoints and readers.
 ghost use Rattle.std.specs.Prelude.{◌≡◌, ◌++◌, ◌∷◌, [], IfOk, OnOk, Option, IsTrue, is_some};
 ghost use Rattle.depot_base.specs.Sized.{IsValue};
-ghost use Rattle.depot_deeds.specs.Printing.{lines_of_deed};
+ghost use Rattle.depot_node_lines.specs.Printing.{lines_of_effect};
 ghost use Rattle.depot_laws.specs.Streams.{AreBytes};
 ghost use Rattle.depot_model.specs.Opening.{made_text, make_of};
 ghost use Rattle.depot_model.specs.Readers.{Reader};
 ghost use Rattle.depot_model.specs.World.{Correct};
 ghost use Rattle.depot_outside.specs.Told.{Shelves, shelves, sinks};
-ghost use Rattle.depot_world.specs.Deeds.{checkpoint_changes};
+ghost use Rattle.depot_world.specs.Effects.{checkpoint_changes};
 ghost use Rattle.depot_world.specs.Transcript.{ended};
 ghost use Rattle.depot_session.specs.Sessions.{Session, loads_of, shown_by_last, step_of};
 ghost use Rattle.depot_session.specs.Sessions as sessions;
@@ -16,15 +16,15 @@ ghost use Rattle.depot_session.specs.Turns.{IsAt, IsRunning, IsSomebodys, Keeps,
 
 use crate::ending::Ending;
 use crate::last_reader::LastReader;
-use crate::local::Local;
+use crate::session_node::SessionNode;
 use crate::telling::{disk_failed, load, no_file, store_and_tell, tell};
 use depot_base::{Bytes, Changes, Key, Memory, Value};
-use depot_deeds::{
-    ReaderTold, checkpoint_printed, feed_reader, reader_feed_line, reader_shown_line, sign_printed,
-    trim_line, unmade_printed,
-};
 use depot_model::Scheme;
 use depot_node::{PutDone, PutError};
+use depot_node_lines::{
+    ReaderFeedResult, checkpoint_printed, feed_reader, reader_feed_line, reader_shown_line,
+    sign_printed, trim_line, unmade_printed,
+};
 use depot_outside::{Shelf, Sink};
 use depot_script::{Command, FileName};
 use depot_trim::{CheckpointError, TrimError, Trimmed, checkpoint_key, make_checkpoint};
@@ -53,7 +53,7 @@ fn ending_of_put(done: &Result<PutDone, PutError>) -> Option<Ending>
 }
 
 /// Makes a checkpoint and signs it, stores its text, and tells of it. Where none is made or put nothing is stored.
-pub fn checkpoint<R: Local, F: Shelf, K: Sink>(
+pub fn checkpoint<R: SessionNode, F: Shelf, K: Sink>(
     alloc: Global,
     node: &mut R,
     command: &Command,
@@ -81,7 +81,7 @@ pub fn checkpoint<R: Local, F: Shelf, K: Sink>(
 }
 
 /// Puts the text of a checkpoint that was made, stores it, and tells of it.
-fn put_checkpoint<R: Local, F: Shelf, K: Sink>(
+fn put_checkpoint<R: SessionNode, F: Shelf, K: Sink>(
     alloc: Global,
     node: &mut R,
     command: &Command,
@@ -141,7 +141,7 @@ fn are_bytes(text: &[u8])
 }
 
 /// Signs the checkpoint whose text a file has, and tells of it.
-pub fn sign<R: Local, F: Shelf, K: Sink>(
+pub fn sign<R: SessionNode, F: Shelf, K: Sink>(
     alloc: Global,
     node: &mut R,
     command: &Command,
@@ -186,7 +186,7 @@ fn ending_of_trim<S: Scheme>(made: &Result<Trimmed<S>, TrimError>) -> Option<End
 }
 
 /// Makes a reader of the node, below the checkpoint whose text a file has, and tells of it. A refused one leaves the last reader in place.
-pub fn trim<R: Local, F: Shelf, K: Sink>(
+pub fn trim<R: SessionNode, F: Shelf, K: Sink>(
     alloc: Global,
     node: &R,
     command: &Command,
@@ -228,7 +228,7 @@ fn empty_line(alloc: Global) -> Result<Bytes, Memory>
 }
 
 /// How a stream that a reader takes ends the run.
-fn ending_of_tgive(told: &ReaderTold) -> Option<Ending>
+fn ending_of_tgive(told: &ReaderFeedResult) -> Option<Ending>
     ensures { result ≡ sessions.ending_of_tgive told.now.full }
 {
     match told.full {
@@ -238,7 +238,7 @@ fn ending_of_tgive(told: &ReaderTold) -> Option<Ending>
 }
 
 /// Gives the last reader the stream in a file, and tells of it. Before one is made no file is loaded.
-pub fn tgive<R: Local, F: Shelf, K: Sink>(
+pub fn tgive<R: SessionNode, F: Shelf, K: Sink>(
     alloc: Global,
     node: &R,
     command: &Command,
@@ -280,7 +280,7 @@ fn last_shown_line<S: Scheme + Copy>(
     key: &Key,
 ) -> Result<Bytes, Memory>
     requires { IsSomebodys S.verifies last.now.made }
-    ensures { IfOk result (λ line. (c : Correct) (reader : Option Reader) → KeepsReader S.verifies last.now.made reader → line ≡ lines_of_deed (shown_by_last c key.now reader)) }
+    ensures { IfOk result (λ line. (c : Correct) (reader : Option Reader) → KeepsReader S.verifies last.now.made reader → line ≡ lines_of_effect (shown_by_last c key.now reader)) }
 {
     match &last.made {
         None => empty_line(alloc),
@@ -289,7 +289,7 @@ fn last_shown_line<S: Scheme + Copy>(
 }
 
 /// Tells what the last reader shows of a key.
-pub fn tget<R: Local, K: Sink>(
+pub fn tget<R: SessionNode, K: Sink>(
     alloc: Global,
     node: &R,
     command: &Command,

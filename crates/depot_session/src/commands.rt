@@ -11,7 +11,7 @@ ghost use Rattle.depot_model.specs.Feeding.{Feeding};
 ghost use Rattle.depot_model.specs.Records.{text_of_record};
 ghost use Rattle.depot_outside.specs.Told.{Shelves, shelves, sinks};
 ghost use Rattle.depot_gossip.specs.Bundling.{Bundles};
-ghost use Rattle.depot_deeds.specs.Printing.{IsToldOf, SettlesBundle};
+ghost use Rattle.depot_node_lines.specs.Printing.{IsToldOf, SettlesBundle};
 ghost use Rattle.depot_schedule.specs.PutKeys.{WriteNoReceipts};
 ghost use Rattle.depot_script.specs.Scripts.{FitsCommand};
 ghost use Rattle.depot_traces.specs.SeenTraces as seen;
@@ -29,16 +29,16 @@ use crate::checkpoint_commands::{checkpoint, sign, tget, tgive, trim};
 use crate::ending::Ending;
 use crate::kept_reads::{keep, kept};
 use crate::last_reader::LastReader;
-use crate::local::Local;
+use crate::session_node::SessionNode;
 use crate::telling::{disk_failed, load, no_file, store_and_tell, tell};
 use depot_answers::Closing;
 use depot_base::{Bytes, Changes, Hash32, Ids, Key, Memory, Value};
-use depot_deeds::{
-    Fed, bundle_printed, fed_printed, feed_whole, hello_line, node_trace, put_printed,
-    receipt_printed, settled_line, traced_line,
-};
 use depot_gossip::{BundleError, Bundled, FeedError, bundle, encode_hello, node_hello};
 use depot_node::PutDone;
+use depot_node_lines::{
+    FeedResult, bundle_printed, fed_printed, feed_whole, hello_line, node_trace, put_printed,
+    receipt_printed, settled_line, traced_line,
+};
 use depot_outside::{Shelf, Sink};
 use depot_receipts::GiveError;
 use depot_script::{Command, FileName};
@@ -46,7 +46,7 @@ use depot_traces::{ReadTrace, Reads, encode_trace};
 use std::alloc::Global;
 
 /// Puts these changes, for which the command asks, and tells of it.
-fn put<R: Local, K: Sink>(
+fn put<R: SessionNode, K: Sink>(
     alloc: Global,
     node: &mut R,
     command: &Command,
@@ -80,7 +80,7 @@ fn one_change(alloc: Global, key: &Key, value: &Value) -> Result<Changes, Memory
 }
 
 /// Puts a value under a key, and tells of it.
-fn put_value<R: Local, K: Sink>(
+fn put_value<R: SessionNode, K: Sink>(
     alloc: Global,
     node: &mut R,
     command: &Command,
@@ -100,7 +100,7 @@ fn put_value<R: Local, K: Sink>(
 }
 
 /// Makes several changes at once, and tells of it.
-fn put_changes<R: Local, K: Sink>(
+fn put_changes<R: SessionNode, K: Sink>(
     alloc: Global,
     node: &mut R,
     command: &Command,
@@ -119,7 +119,7 @@ fn put_changes<R: Local, K: Sink>(
 }
 
 /// Reads a key, keeps the read if reads are kept, and tells what it reads.
-fn get<R: Local, K: Sink>(
+fn get<R: SessionNode, K: Sink>(
     alloc: Global,
     node: &R,
     command: &Command,
@@ -159,7 +159,7 @@ fn ending_of_receipt(done: &Result<PutDone, GiveError>) -> Option<Ending>
 }
 
 /// Gives a receipt for an update, and tells of it.
-fn give_receipt<R: Local, K: Sink>(
+fn give_receipt<R: SessionNode, K: Sink>(
     alloc: Global,
     node: &mut R,
     command: &Command,
@@ -183,7 +183,7 @@ fn give_receipt<R: Local, K: Sink>(
 }
 
 /// Tells whether so many nodes gave receipts for an update.
-fn tell_settled<R: Local, K: Sink>(
+fn tell_settled<R: SessionNode, K: Sink>(
     alloc: Global,
     node: &R,
     command: &Command,
@@ -203,7 +203,7 @@ fn tell_settled<R: Local, K: Sink>(
 }
 
 /// Stores the node's hello, and tells of it.
-fn say_hello<R: Local, F: Shelf, K: Sink>(
+fn say_hello<R: SessionNode, F: Shelf, K: Sink>(
     alloc: Global,
     node: &R,
     command: &Command,
@@ -241,7 +241,7 @@ fn ending_of_bundle(made: &Result<Bundled, BundleError>) -> Option<Ending>
 }
 
 /// Stores the node's bundle for the hello in a file, and tells of it. Where none is made nothing is stored.
-fn make_bundle<R: Local, F: Shelf, K: Sink>(
+fn make_bundle<R: SessionNode, F: Shelf, K: Sink>(
     alloc: Global,
     node: &mut R,
     command: &Command,
@@ -284,19 +284,19 @@ fn make_bundle<R: Local, F: Shelf, K: Sink>(
 }
 
 /// How a stream ends the run, where the node answers neither for want of memory nor for its disk.
-fn ending_of_take(fed: &Result<Fed, FeedError>) -> Option<Ending>
+fn ending_of_take(fed: &Result<FeedResult, FeedError>) -> Option<Ending>
     ensures ends { IfOk fed.now (λ told. (s : Feeding) → IsToldOf s told → result ≡ sessions.ending_of_take s.closed) }
     ensures failed { IfErr fed.now (λ _. result ≡ None) }
 {
     match fed {
         Ok(
-            Fed {
+            FeedResult {
                 closing: Some(Closing::IllFormed(_)),
                 ..
             },
         ) => Some(Ending::Input),
         Ok(
-            Fed {
+            FeedResult {
                 closing: Some(Closing::Full(_)),
                 ..
             },
@@ -306,7 +306,7 @@ fn ending_of_take(fed: &Result<Fed, FeedError>) -> Option<Ending>
 }
 
 /// Takes the stream in a file, and tells of it.
-fn take<R: Local, F: Shelf, K: Sink>(
+fn take<R: SessionNode, F: Shelf, K: Sink>(
     alloc: Global,
     node: &mut R,
     command: &Command,
@@ -336,7 +336,7 @@ fn take<R: Local, F: Shelf, K: Sink>(
 }
 
 /// The text of a node's trace with these reads.
-fn trace_text<R: Local>(alloc: Global, node: &R, reads: &[ReadTrace]) -> Result<Bytes, Memory>
+fn trace_text<R: SessionNode>(alloc: Global, node: &R, reads: &[ReadTrace]) -> Result<Bytes, Memory>
     requires few { length reads.now ≤ MOST_READS }
     requires fit { AllByRecursion read_text.fits reads.now }
     ensures { IfOk result (λ text. text ≡ file_of_trace (record { node = (R.stands node.now).me; texts = map text_of_record (R.records node.now); reads = map seen.read_of reads.now })) }
@@ -346,7 +346,7 @@ fn trace_text<R: Local>(alloc: Global, node: &R, reads: &[ReadTrace]) -> Result<
 }
 
 /// Stores the node's trace with these reads, and tells of it.
-fn export<R: Local, F: Shelf, K: Sink>(
+fn export<R: SessionNode, F: Shelf, K: Sink>(
     alloc: Global,
     node: &R,
     command: &Command,
@@ -374,7 +374,7 @@ fn export<R: Local, F: Shelf, K: Sink>(
 
 /// Carries out a command of a script. Ok where the run goes on, and else how it ends. The reads of the run are kept if they were before; one that
 /// hands in a trace wants them.
-pub fn carry_out<R: Local, F: Shelf, K: Sink>(
+pub fn carry_out<R: SessionNode, F: Shelf, K: Sink>(
     alloc: Global,
     node: &mut R,
     command: &Command,

@@ -3,7 +3,7 @@ ghost use Rattle.std.specs.Prelude.{◌≡◌, [], None, Some, false, is_some, I
 ghost use Rattle.std.specs.List.{list_any};
 ghost use Rattle.depot_session.specs.KeptReads.{IsOneMore, is_export};
 
-use crate::local::Local;
+use crate::session_node::SessionNode;
 use depot_base::{Key, Memory};
 use depot_script::Command;
 use depot_traces::{ReadTrace, Reads};
@@ -36,7 +36,7 @@ pub fn place_for(alloc: Global, commands: &[Command]) -> Option<Reads>
 }
 
 /// Keeps a read of a key that a node makes now, if reads are kept.
-pub fn keep<R: Local>(
+pub fn keep<R: SessionNode>(
     alloc: Global,
     node: &R,
     key: &Key,

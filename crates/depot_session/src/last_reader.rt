@@ -1,7 +1,7 @@
 //! The last reader that was made in a run.
 ghost use Rattle.std.specs.Prelude.{◌≡◌, ℕ, List, Option};
 ghost use Rattle.depot_base.specs.declared.record.Record.{Record};
-ghost use Rattle.depot_deeds.specs.CheckpointPrinting.{SettlesTrim};
+ghost use Rattle.depot_node_lines.specs.CheckpointPrinting.{SettlesTrim};
 ghost use Rattle.depot_model.specs.Checks.{Setting};
 ghost use Rattle.depot_model.specs.Readers.{Reader, trim_of};
 ghost use Rattle.depot_session.specs.Sessions.{reader_after};

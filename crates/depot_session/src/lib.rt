@@ -11,7 +11,7 @@
 //!
 //! The last reader that a script made is kept in memory, beside the node (`last_reader`).
 //!
-//! The node is known as a `Local`, a `Peer` that writes and reads, gives receipts and signs checkpoints. `commands` has the commands, each of which changes
+//! The node is known as a `SessionNode`, a `Peer` that writes and reads, gives receipts and signs checkpoints. `commands` has the commands, each of which changes
 //! the node, then the shelf, and tells of it last, and `checkpoint_commands` those of checkpoints and readers; `telling` writes lines, `command_heads` the words of a command, `whole_script` a whole script, and `running` the run with
 //! its start.
 #![tactic(auto)]
@@ -22,9 +22,9 @@ mod commands;
 mod ending;
 mod kept_reads;
 mod last_reader;
-mod local;
 mod running;
 mod session_laws;
+mod session_node;
 mod telling;
 mod whole_script;
 

@@ -13,7 +13,7 @@ use crate::commands::carry_out;
 use crate::ending::Ending;
 use crate::kept_reads::place_for;
 use crate::last_reader::LastReader;
-use crate::local::Local;
+use crate::session_node::SessionNode;
 use depot_base::Memory;
 use depot_outside::{Shelf, Sink};
 use depot_script::Command;
@@ -23,7 +23,7 @@ use std::alloc::Global;
 /// Carries out the commands of a script, each of which has a line, one after the other, up to the first that ends the run. Ok where none does. The
 /// reads of the run are kept where one of the commands hands in a trace. Readers are made with a copy of the node's roster, which may have found no
 /// memory, and with its scheme.
-pub fn play<R: Local, F: Shelf, K: Sink>(
+pub fn play<R: SessionNode, F: Shelf, K: Sink>(
     alloc: Global,
     node: &mut R,
     commands: &[Command],

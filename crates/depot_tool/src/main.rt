@@ -1,11 +1,11 @@
 //! The program `depot`.
 //!
 //! It collects its words, makes the real shelf, disk and sink, calls `depot` and ends with its status. All that it does
-//! is said by the contract of `depot` in `depot_commands`; what the real adapters do is trusted (`depot_outside`).
+//! is said by the contract of `depot` in `depot_cli`; what the real adapters do is trusted (`depot_outside`).
 #![tactic(auto)]
 
 use depot_base::Memory;
-use depot_commands::{Status, Word, depot};
+use depot_cli::{Status, Word, depot};
 use depot_outside::{RealDisk, RealShelf, RealSink};
 use std::env;
 use std::io::ErrorKind;

@@ -28,8 +28,8 @@ use Rattle.depot_laws.proofs.Causes.{lawful_is_causal}
 use Rattle.depot_laws.proofs.OneFinding.{one_finding}
 use Rattle.depot_laws.proofs.Splits.{lawful_front}
 use Rattle.depot_world.specs.Audits.{traced_read, trace_by, comes_before, audited}
-use Rattle.depot_world.specs.Run.{Run, Station, world_by}
-use Rattle.depot_world.specs.Suite.{Stage}
+use Rattle.depot_world.specs.Run.{Run, Host, world_by}
+use Rattle.depot_world.specs.Setups.{Setup}
 
 -- ---- reads
 
@@ -178,15 +178,15 @@ found_in_world verifies listed traces W (named_found n place) of_world are is = 
 
 -- the traces of a run's nodes
 abbrev pub traces_by : Run → List Trace
-traces_by run = map trace_by (map (λ (s : Station). s.correct) run.stations)
+traces_by run = map trace_by (map (λ (s : Host). s.correct) run.hosts)
 
-pub run_is_audited : (stage : Stage) (run : Run) (found : Finding) → IsWorld (world_by stage run) → IsFindingOf stage.suite.verifies stage.listed (traces_by run) found → found ≡ finding_in (audited stage run)
+pub run_is_audited : (setup : Setup) (run : Run) (found : Finding) → IsWorld (world_by setup run) → IsFindingOf setup.suite.verifies setup.listed (traces_by run) found → found ≡ finding_in (audited setup run)
 unfolding world_by audited
-run_is_audited stage run found world is =
-    let W = world_by stage run in
-    let V = audited stage run in
+run_is_audited setup run found world is =
+    let W = world_by setup run in
+    let V = audited setup run in
     let are = traced_world W world.correct in
-    one_finding stage.suite.verifies stage.listed (traces_by run) found (finding_in V) is (found_in_world stage.suite.verifies stage.listed (traces_by run) V (finding_in V) (finding_is_of_world V) are refl)
+    one_finding setup.suite.verifies setup.listed (traces_by run) found (finding_in V) is (found_in_world setup.suite.verifies setup.listed (traces_by run) V (finding_in V) (finding_is_of_world V) are refl)
 
 -- ---- what an audit asks of traces
 
@@ -195,13 +195,13 @@ nodes_of_traces [] = refl
 nodes_of_traces (c ∷ cs) = ap (λ (ns : List ℕ). c.node ∷ ns) (nodes_of_traces cs)
 
 -- they are of distinct nodes
-pub traces_are_apart : (stage : Stage) (run : Run) → IsWorld (world_by stage run) → AreDistinct (map (λ (t : Trace). t.node) (traces_by run))
+pub traces_are_apart : (setup : Setup) (run : Run) → IsWorld (world_by setup run) → AreDistinct (map (λ (t : Trace). t.node) (traces_by run))
 unfolding world_by
-traces_are_apart stage run world = subst AreDistinct (sym (nodes_of_traces (map (λ (s : Station). s.correct) run.stations))) world.distinct
+traces_are_apart setup run world = subst AreDistinct (sym (nodes_of_traces (map (λ (s : Host). s.correct) run.hosts))) world.distinct
 
 -- which the roster has
-pub traces_are_listed : (stage : Stage) (run : Run) → IsWorld (world_by stage run) → (t : Trace) → IsIn t (traces_by run) → has_node stage.listed t.node ≡ true
+pub traces_are_listed : (setup : Setup) (run : Run) → IsWorld (world_by setup run) → (t : Trace) → IsIn t (traces_by run) → has_node setup.listed t.node ≡ true
 unfolding world_by
-traces_are_listed stage run world t on =
-    let c = from_map trace_by t (map (λ (s : Station). s.correct) run.stations) on in
-    subst (λ (x : Trace). has_node stage.listed x.node ≡ true) c.1.1 (world.correct c.0 c.1.0).member
+traces_are_listed setup run world t on =
+    let c = from_map trace_by t (map (λ (s : Host). s.correct) run.hosts) on in
+    subst (λ (x : Trace). has_node setup.listed x.node ≡ true) c.1.1 (world.correct c.0 c.1.0).member

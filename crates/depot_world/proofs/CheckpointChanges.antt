@@ -28,7 +28,7 @@ use Rattle.depot_model.proofs.Members.{from_map}
 use Rattle.depot_model.proofs.RisingUpdates.{by_id_length}
 use Rattle.depot_schedule.specs.PutKeys.{WriteNoReceipts}
 use Rattle.depot_schedule.proofs.KeyForms.{other_front}
-use Rattle.depot_world.specs.Deeds.{checkpoint_changes}
+use Rattle.depot_world.specs.Effects.{checkpoint_changes}
 use Rattle.depot_world.proofs.ByteOwn.{IsByteChange}
 use Rattle.depot_world.proofs.ByteTexts.{only_checkpoint, only_id}
 use Rattle.depot_world.proofs.OnlyBytes.{OnlyBytes, by_places, only_both, only_sha256}

@@ -21,142 +21,142 @@ use Rattle.depot_schedule.specs.declared.event.Event.TheVariants as event
 use Rattle.depot_schedule.specs.declared.event.HistoryWord.{HistoryWord}
 use Rattle.depot_schedule.specs.declared.event.Ref.{Ref}
 use Rattle.depot_answers.specs.Answers.{spaced}
-use Rattle.depot_world.specs.Deeds.{put_by, get_by, hello_by, bundle_by, give_by, restart_by, receipt_by, settled_by, checkpoint_by, sign_by}
-use Rattle.depot_world.specs.Run.{Station, Run, station_in, bytes_of, reader_in, put_reader, referred, seen_with, with_station}
+use Rattle.depot_world.specs.Effects.{put_by, get_by, hello_by, bundle_by, give_by, restart_by, receipt_by, settled_by, checkpoint_by, sign_by}
+use Rattle.depot_world.specs.Run.{Host, Run, host_in, bytes_of, reader_in, put_reader, referred, seen_with, with_host}
 use Rattle.depot_world.specs.FaultySigning.{counted_bytes, no_reference, update_text, updated, vouched_text, proof_text, hollow_text, proof_in, flip_at, all_referred}
-use Rattle.depot_world.specs.ScheduleStops.{Deed}
-use Rattle.depot_world.specs.Suite.{Stage, stands_on, signs_on}
-use Rattle.depot_world.specs.Transcript.{Done, armed_at, done_by_update, done_by_changes, judged_with, receipt_for, settled_for, reader_made, trimmed_with, trim_at, reader_told, tgive_by, done}
+use Rattle.depot_world.specs.ScheduleStops.{Effect}
+use Rattle.depot_world.specs.Setups.{Setup, stands_on, signs_on}
+use Rattle.depot_world.specs.Transcript.{Done, pending_at, done_by_update, done_by_changes, judged_with, receipt_for, settled_for, reader_made, trimmed_with, trim_at, reader_told, tgive_by, done}
 use Rattle.depot_world.proofs.OnlyBytes.{OnlyBytes, by_places, only_both, only_take, only_drop}
 use Rattle.depot_world.proofs.ByteLabels.{IsByteUpdate, bytes_hold, updated_holds, none_holds, counted_holds, update_text_holds, vouched_text_holds, proof_text_holds, hollow_text_holds, flip_holds}
 use Rattle.depot_world.proofs.ByteOwn.{only_change_values}
 use Rattle.depot_world.proofs.ByteSignatures.{SignsBytes}
 use Rattle.depot_world.proofs.EventFacts.{AreByteChanges, IsByteHistory, BringsBytes}
-use Rattle.depot_world.proofs.GoodDeeds.{put_is_good, get_is_good, hello_is_good, bundle_is_good, give_is_good, restart_is_good, receipts_are_good, settled_is_good, checkpoint_is_good, sign_is_good}
+use Rattle.depot_world.proofs.GoodEffects.{put_is_good, get_is_good, hello_is_good, bundle_is_good, give_is_good, restart_is_good, receipts_are_good, settled_is_good, checkpoint_is_good, sign_is_good}
 use Rattle.depot_world.proofs.ReceiptChanges.{ids_of, referred_as_many}
 use Rattle.depot_world.proofs.TrueReceipts.{put_stays_true}
-use Rattle.depot_world.proofs.GoodNodes.{IsGoodDeed}
-use Rattle.depot_world.proofs.GoodRuns.{IsGoodRun, IsJudged, found_is, station_keeps, text_keeps, seen_keeps, readers_keep, node_keeps}
+use Rattle.depot_world.proofs.GoodNodes.{IsGoodEffect}
+use Rattle.depot_world.proofs.GoodRuns.{IsGoodRun, IsJudged, found_is, host_keeps, text_keeps, seen_keeps, readers_keep, node_keeps}
 
 -- ---- stops
 
-armed_keeps : (stage : Stage) (run : Run) (node call image : ℕ) → IsGoodRun stage run → IsGoodRun stage (armed_at run node call image).run
-unfolding armed_at
-armed_keeps stage run node call image g = by_station (station_in run.stations node) refl where
-  by_station : (o : Option Station) → station_in run.stations node ≡ o
-      → IsGoodRun stage (elim o as (λ x. Done) [ None ↦ record { answer = []; behind = []; run = run } | Some s ↦ record { answer = codes " armed"; behind = []; run = with_station run (record { correct = s.correct; armed = Some (record { call = call; image = image }) }) } ]).run
-  by_station None none = g
-  by_station (Some s) is = station_keeps stage run (record { correct = s.correct; armed = Some (record { call = call; image = image }) }) g (g.stations s (found_is run.stations node s is).on)
+pending_keeps : (setup : Setup) (run : Run) (node call image : ℕ) → IsGoodRun setup run → IsGoodRun setup (pending_at run node call image).run
+unfolding pending_at
+pending_keeps setup run node call image g = by_host (host_in run.hosts node) refl where
+  by_host : (o : Option Host) → host_in run.hosts node ≡ o
+      → IsGoodRun setup (elim o as (λ x. Done) [ None ↦ record { answer = []; behind = []; run = run } | Some s ↦ record { answer = codes " armed"; behind = []; run = with_host run (record { correct = s.correct; pending = Some (record { call = call; image = image }) }) } ]).run
+  by_host None none = g
+  by_host (Some s) is = host_keeps setup run (record { correct = s.correct; pending = Some (record { call = call; image = image }) }) g (g.hosts s (found_is run.hosts node s is).on)
 
 -- ---- faulty updates, and the judge
 
-update_keeps : (stage : Stage) (sign : Signs) (run : Run) (label : List ℕ) (values : List (List ℕ)) (o : Option Update) → IsGoodRun stage run → SignsBytes sign → AllByRecursion OnlyBytes values → IsByteUpdate o → IsGoodRun stage (done_by_update sign run label values o).run
-update_keeps stage sign run label values None g signs values_only only = text_keeps stage run label no_reference g none_holds
-update_keeps stage sign run label values (Some u) g signs values_only only =
-    text_keeps stage (record run { seen = seen_with run.seen (u ∷ []) }) label (update_text sign u values) (seen_keeps stage run (seen_with run.seen (u ∷ [])) g) (update_text_holds sign u values signs only values_only)
+update_keeps : (setup : Setup) (sign : Signs) (run : Run) (label : List ℕ) (values : List (List ℕ)) (o : Option Update) → IsGoodRun setup run → SignsBytes sign → AllByRecursion OnlyBytes values → IsByteUpdate o → IsGoodRun setup (done_by_update sign run label values o).run
+update_keeps setup sign run label values None g signs values_only only = text_keeps setup run label no_reference g none_holds
+update_keeps setup sign run label values (Some u) g signs values_only only =
+    text_keeps setup (record run { seen = seen_with run.seen (u ∷ []) }) label (update_text sign u values) (seen_keeps setup run (seen_with run.seen (u ∷ [])) g) (update_text_holds sign u values signs only values_only)
 
-verdict_keeps : (stage : Stage) (run : Run) (p : Proof) → IsGoodRun stage run → IsJudged stage p → IsGoodRun stage (record run { judged = run.judged ++ p ∷ [] })
-verdict_keeps stage run p g is = record {
+verdict_keeps : (setup : Setup) (run : Run) (p : Proof) → IsGoodRun setup run → IsJudged setup p → IsGoodRun setup (record run { judged = run.judged ++ p ∷ [] })
+verdict_keeps setup run p g is = record {
   distinct = g.distinct;
-  stations = g.stations;
+  hosts = g.hosts;
   labels = g.labels;
-  judged = λ q on. elim (in_pushed q run.judged p on) [ inl old ↦ g.judged q old | inr now ↦ subst (λ (x : Proof). IsJudged stage x) now is ];
+  judged = λ q on. elim (in_pushed q run.judged p on) [ inl old ↦ g.judged q old | inr now ↦ subst (λ (x : Proof). IsJudged setup x) now is ];
 }
 
-read_keeps : (stage : Stage) (run : Run) (read : Result Proof ℕ) → IsGoodRun stage run → ((p : Proof) → read ≡ Ok p → IsProof p) → IsGoodRun stage (judged_with stage run read).run
-read_keeps stage run (Err at) g formed = g
-read_keeps stage run (Ok p) g formed = by_point (first_failed_point stage.suite.verifies stage.listed p) refl where
-  by_point : (o : Option JudgeError) → first_failed_point stage.suite.verifies stage.listed p ≡ o
-      → IsGoodRun stage (elim o as (λ x. Done) [ Some f ↦ record { answer = spaced (text_of_point f); behind = []; run = run } | None ↦ record { answer = spaced (text_of_verdict (verdict_of p)); behind = []; run = record run { judged = run.judged ++ p ∷ [] } } ]).run
+read_keeps : (setup : Setup) (run : Run) (read : Result Proof ℕ) → IsGoodRun setup run → ((p : Proof) → read ≡ Ok p → IsProof p) → IsGoodRun setup (judged_with setup run read).run
+read_keeps setup run (Err at) g formed = g
+read_keeps setup run (Ok p) g formed = by_point (first_failed_point setup.suite.verifies setup.listed p) refl where
+  by_point : (o : Option JudgeError) → first_failed_point setup.suite.verifies setup.listed p ≡ o
+      → IsGoodRun setup (elim o as (λ x. Done) [ Some f ↦ record { answer = spaced (text_of_point f); behind = []; run = run } | None ↦ record { answer = spaced (text_of_verdict (verdict_of p)); behind = []; run = record run { judged = run.judged ++ p ∷ [] } } ]).run
   by_point (Some f) is = g
-  by_point None is = verdict_keeps stage run p g (record { formed = formed p refl; judged = is })
+  by_point None is = verdict_keeps setup run p g (record { formed = formed p refl; judged = is })
 
-judge_keeps : (stage : Stage) (run : Run) (label : List ℕ) → IsGoodRun stage run → IsGoodRun stage (judged_with stage run (proof_in (bytes_of run label))).run
-judge_keeps stage run label g =
+judge_keeps : (setup : Setup) (run : Run) (label : List ℕ) → IsGoodRun setup run → IsGoodRun setup (judged_with setup run (proof_in (bytes_of run label))).run
+judge_keeps setup run label g =
     let payload = drop 5 (bytes_of run label) in
-    read_keeps stage run (proof_in (bytes_of run label)) g
+    read_keeps setup run (proof_in (bytes_of run label)) g
     (λ p is. (whole_takes proof _ proof_lawful (record { at = 0; rest = payload }) p (by_places payload (only_drop 5 (bytes_of run label) (bytes_hold run label g.labels))) is).0)
 
 -- ---- all events
 
 -- what is good for a node where it stands is good for the node of that number
-at_number : (stage : Stage) (s : Station) (node : ℕ) (deed : ℕ → Deed) → s.correct.node ≡ node → IsGoodDeed stage s.correct (deed s.correct.node) → IsGoodDeed stage s.correct (deed node)
-at_number stage s node deed same good = subst (λ (n : ℕ). IsGoodDeed stage s.correct (deed n)) same good
+at_number : (setup : Setup) (s : Host) (node : ℕ) (effect : ℕ → Effect) → s.correct.node ≡ node → IsGoodEffect setup s.correct (effect s.correct.node) → IsGoodEffect setup s.correct (effect node)
+at_number setup s node effect same good = subst (λ (n : ℕ). IsGoodEffect setup s.correct (effect n)) same good
 
 -- a faulty update that writes what these changes say
-changes_keep : (stage : Stage) (run : Run) (label : List ℕ) (writer seq clock : ℕ) (prev : Option Ref) (changes : List Change) (deps : List Ref) (history : HistoryWord) → SignsBytes (signs_on stage writer) → AreByteChanges changes → IsByteHistory history → IsGoodRun stage run
-    → IsGoodRun stage (done_by_changes stage run label writer seq clock prev changes deps history).run
-changes_keep stage run label writer seq clock prev changes deps history signs only given g =
-    update_keeps stage (signs_on stage writer) run label (values_of changes) (updated (signs_on stage writer) run writer seq clock prev changes deps history) g signs (only_change_values changes only.bytes)
-    (updated_holds (signs_on stage writer) run writer seq clock prev changes deps history only.bytes given)
+changes_keep : (setup : Setup) (run : Run) (label : List ℕ) (writer seq clock : ℕ) (prev : Option Ref) (changes : List Change) (deps : List Ref) (history : HistoryWord) → SignsBytes (signs_on setup writer) → AreByteChanges changes → IsByteHistory history → IsGoodRun setup run
+    → IsGoodRun setup (done_by_changes setup run label writer seq clock prev changes deps history).run
+changes_keep setup run label writer seq clock prev changes deps history signs only given g =
+    update_keeps setup (signs_on setup writer) run label (values_of changes) (updated (signs_on setup writer) run writer seq clock prev changes deps history) g signs (only_change_values changes only.bytes)
+    (updated_holds (signs_on setup writer) run writer seq clock prev changes deps history only.bytes given)
 
 -- receipts for what 1 to 16 references name
-receipts_keep : (stage : Stage) (run : Run) (node : ℕ) (refs : List Ref) (o : Option (List Update)) → all_referred run refs ≡ o → 1 ≤ length refs → length refs ≤ 16 → IsGoodRun stage run → IsGoodRun stage (receipt_for stage run node o).run
-receipts_keep stage run node refs None is some few g = g
-receipts_keep stage run node refs (Some us) is some few g =
+receipts_keep : (setup : Setup) (run : Run) (node : ℕ) (refs : List Ref) (o : Option (List Update)) → all_referred run refs ≡ o → 1 ≤ length refs → length refs ≤ 16 → IsGoodRun setup run → IsGoodRun setup (receipt_for setup run node o).run
+receipts_keep setup run node refs None is some few g = g
+receipts_keep setup run node refs (Some us) is some few g =
     let many = referred_as_many run refs us is in
-    node_keeps stage run node None (λ s. receipt_by (stands_on stage node) s.correct (ids_of us)) g
-    (λ s same good. at_number stage s node (λ n. receipt_by (stands_on stage n) s.correct (ids_of us)) same (receipts_are_good stage s.correct us good (omega (arith, many, some)) (omega (arith, many, few))))
+    node_keeps setup run node None (λ s. receipt_by (stands_on setup node) s.correct (ids_of us)) g
+    (λ s same good. at_number setup s node (λ n. receipt_by (stands_on setup n) s.correct (ids_of us)) same (receipts_are_good setup s.correct us good (omega (arith, many, some)) (omega (arith, many, few))))
 
 -- whether what a reference names is settled
-settled_keeps : (stage : Stage) (run : Run) (node k : ℕ) (o : Option Update) → IsGoodRun stage run → IsGoodRun stage (settled_for run node k o).run
-settled_keeps stage run node k None g = g
-settled_keeps stage run node k (Some u) g = node_keeps stage run node None (λ s. settled_by s.correct (id_of_update u) k) g (λ s same good. settled_is_good stage s.correct (id_of_update u) k good)
+settled_keeps : (setup : Setup) (run : Run) (node k : ℕ) (o : Option Update) → IsGoodRun setup run → IsGoodRun setup (settled_for run node k o).run
+settled_keeps setup run node k None g = g
+settled_keeps setup run node k (Some u) g = node_keeps setup run node None (λ s. settled_by s.correct (id_of_update u) k) g (λ s same good. settled_is_good setup s.correct (id_of_update u) k good)
 
 -- a reader that is made, or goes on
-trim_keeps : (stage : Stage) (run : Run) (node : ℕ) (text name : List ℕ) → IsGoodRun stage run → IsGoodRun stage (trim_at stage run node text name).run
+trim_keeps : (setup : Setup) (run : Run) (node : ℕ) (text name : List ℕ) → IsGoodRun setup run → IsGoodRun setup (trim_at setup run node text name).run
 unfolding trim_at
-trim_keeps stage run node text name g = by_station (station_in run.stations node) where
-  by_station : (o : Option Station) → IsGoodRun stage (elim o as (λ x. Done) [ None ↦ record { answer = []; behind = []; run = run } | Some s ↦ trimmed_with run name (trim_of (stands_on stage node) s.correct.journal text) ]).run
-  by_station None = g
-  by_station (Some s) = readers_keep stage run (run.readers ++ record { name = name; reader = reader_made (trim_of (stands_on stage node) s.correct.journal text) } ∷ []) g
+trim_keeps setup run node text name g = by_host (host_in run.hosts node) where
+  by_host : (o : Option Host) → IsGoodRun setup (elim o as (λ x. Done) [ None ↦ record { answer = []; behind = []; run = run } | Some s ↦ trimmed_with run name (trim_of (stands_on setup node) s.correct.journal text) ]).run
+  by_host None = g
+  by_host (Some s) = readers_keep setup run (run.readers ++ record { name = name; reader = reader_made (trim_of (stands_on setup node) s.correct.journal text) } ∷ []) g
 
-tgive_keeps : (stage : Stage) (run : Run) (name stream : List ℕ) → IsGoodRun stage run → IsGoodRun stage (tgive_by run name stream).run
+tgive_keeps : (setup : Setup) (run : Run) (name stream : List ℕ) → IsGoodRun setup run → IsGoodRun setup (tgive_by run name stream).run
 unfolding tgive_by
-tgive_keeps stage run name stream g = by_reader (reader_in run.readers name) where
-  by_reader : (o : Option Reader) → IsGoodRun stage (elim o as (λ x. Done) [ None ↦ record { answer = []; behind = []; run = run } | Some R ↦ reader_told run name (reader_feed_of R stream) ]).run
+tgive_keeps setup run name stream g = by_reader (reader_in run.readers name) where
+  by_reader : (o : Option Reader) → IsGoodRun setup (elim o as (λ x. Done) [ None ↦ record { answer = []; behind = []; run = run } | Some R ↦ reader_told run name (reader_feed_of R stream) ]).run
   by_reader None = g
-  by_reader (Some R) = readers_keep stage run (put_reader name (reader_feed_of R stream).reader run.readers) g
+  by_reader (Some R) = readers_keep setup run (put_reader name (reader_feed_of R stream).reader run.readers) g
 
--- each event, on a stage whose members sign bytes
-pub event_keeps : (stage : Stage) (run : Run) (e : Event) → ((node : ℕ) → SignsBytes (signs_on stage node)) → BringsBytes e → IsGoodRun stage run → IsGoodRun stage (done stage run e).run
+-- each event, in a setup whose members sign bytes
+pub event_keeps : (setup : Setup) (run : Run) (e : Event) → ((node : ℕ) → SignsBytes (signs_on setup node)) → BringsBytes e → IsGoodRun setup run → IsGoodRun setup (done setup run e).run
 unfolding done
-event_keeps stage run (event.Put node key value) signs only g = node_keeps stage run node None (λ s. put_by (stands_on stage node) s.correct (one_change key value)) g
-    (λ s same good. at_number stage s node (λ n. put_by (stands_on stage n) s.correct (one_change key value)) same (put_is_good stage s.correct (one_change key value) good only.0.are only.0.bytes (put_stays_true s.correct.node s.correct.journal (one_change key value) only.1 good.receipts)))
-event_keeps stage run (event.Puts node changes) signs only g = node_keeps stage run node None (λ s. put_by (stands_on stage node) s.correct changes) g
-    (λ s same good. at_number stage s node (λ n. put_by (stands_on stage n) s.correct changes) same (put_is_good stage s.correct changes good only.0.are only.0.bytes (put_stays_true s.correct.node s.correct.journal changes only.1 good.receipts)))
-event_keeps stage run (event.Get node key) signs only g = node_keeps stage run node None (λ s. get_by s.correct key) g (λ s same good. get_is_good stage s.correct key good)
-event_keeps stage run (event.Hello node label) signs only g = node_keeps stage run node (Some label) (λ s. hello_by (stands_on stage node) s.correct) g
-    (λ s same good. at_number stage s node (λ n. hello_by (stands_on stage n) s.correct) same (hello_is_good stage s.correct good))
-event_keeps stage run (event.Bundle node hello label) signs only g = node_keeps stage run node (Some label) (λ s. bundle_by (stands_on stage node) (signs_on stage node) s.correct (bytes_of run hello)) g
-    (λ s same good. at_number stage s node (λ n. bundle_by (stands_on stage n) (signs_on stage node) s.correct (bytes_of run hello)) same (bundle_is_good stage s.correct (signs_on stage node) (bytes_of run hello) good (signs node)))
-event_keeps stage run (event.Give node label size) signs only g = node_keeps stage run node None (λ s. give_by (stands_on stage node) s.correct (bytes_of run label)) g
-    (λ s same good. at_number stage s node (λ n. give_by (stands_on stage n) s.correct (bytes_of run label)) same (give_is_good stage s.correct (bytes_of run label) good (bytes_hold run label g.labels)))
-event_keeps stage run (event.Restart node) signs only g = node_keeps stage run node None (λ s. restart_by s.correct) g (λ s same good. restart_is_good stage s.correct good)
-event_keeps stage run (event.Update label writer seq clock prev key value deps history) signs only g =
-    changes_keep stage run label writer seq clock prev (one_change key value) deps history (signs writer) only.0 only.1 g
-event_keeps stage run (event.Updates label writer seq clock prev changes deps history) signs only g = changes_keep stage run label writer seq clock prev changes deps history (signs writer) only.0 only.1 g
-event_keeps stage run (event.Voucher label writer seq refs) signs only g = text_keeps stage run label (vouched_text (signs_on stage writer) run writer seq refs) g (vouched_text_holds (signs_on stage writer) run writer seq refs (signs writer))
-event_keeps stage run (event.Proof label kind first second) signs only g = text_keeps stage run label (proof_text run kind first second) g (proof_text_holds run kind first second g.labels)
-event_keeps stage run (event.Hollow label voucher plain) signs only g = text_keeps stage run label (hollow_text run voucher plain) g (hollow_text_holds run voucher plain g.labels)
-event_keeps stage run (event.Judge label) signs only g = judge_keeps stage run label g
-event_keeps stage run (event.Raw label bytes) signs only g = text_keeps stage run label (counted_bytes bytes) g (counted_holds bytes only)
-event_keeps stage run (event.Cut label source start count) signs only g =
+event_keeps setup run (event.Put node key value) signs only g = node_keeps setup run node None (λ s. put_by (stands_on setup node) s.correct (one_change key value)) g
+    (λ s same good. at_number setup s node (λ n. put_by (stands_on setup n) s.correct (one_change key value)) same (put_is_good setup s.correct (one_change key value) good only.0.are only.0.bytes (put_stays_true s.correct.node s.correct.journal (one_change key value) only.1 good.receipts)))
+event_keeps setup run (event.Puts node changes) signs only g = node_keeps setup run node None (λ s. put_by (stands_on setup node) s.correct changes) g
+    (λ s same good. at_number setup s node (λ n. put_by (stands_on setup n) s.correct changes) same (put_is_good setup s.correct changes good only.0.are only.0.bytes (put_stays_true s.correct.node s.correct.journal changes only.1 good.receipts)))
+event_keeps setup run (event.Get node key) signs only g = node_keeps setup run node None (λ s. get_by s.correct key) g (λ s same good. get_is_good setup s.correct key good)
+event_keeps setup run (event.Hello node label) signs only g = node_keeps setup run node (Some label) (λ s. hello_by (stands_on setup node) s.correct) g
+    (λ s same good. at_number setup s node (λ n. hello_by (stands_on setup n) s.correct) same (hello_is_good setup s.correct good))
+event_keeps setup run (event.Bundle node hello label) signs only g = node_keeps setup run node (Some label) (λ s. bundle_by (stands_on setup node) (signs_on setup node) s.correct (bytes_of run hello)) g
+    (λ s same good. at_number setup s node (λ n. bundle_by (stands_on setup n) (signs_on setup node) s.correct (bytes_of run hello)) same (bundle_is_good setup s.correct (signs_on setup node) (bytes_of run hello) good (signs node)))
+event_keeps setup run (event.Give node label size) signs only g = node_keeps setup run node None (λ s. give_by (stands_on setup node) s.correct (bytes_of run label)) g
+    (λ s same good. at_number setup s node (λ n. give_by (stands_on setup n) s.correct (bytes_of run label)) same (give_is_good setup s.correct (bytes_of run label) good (bytes_hold run label g.labels)))
+event_keeps setup run (event.Restart node) signs only g = node_keeps setup run node None (λ s. restart_by s.correct) g (λ s same good. restart_is_good setup s.correct good)
+event_keeps setup run (event.Update label writer seq clock prev key value deps history) signs only g =
+    changes_keep setup run label writer seq clock prev (one_change key value) deps history (signs writer) only.0 only.1 g
+event_keeps setup run (event.Updates label writer seq clock prev changes deps history) signs only g = changes_keep setup run label writer seq clock prev changes deps history (signs writer) only.0 only.1 g
+event_keeps setup run (event.Voucher label writer seq refs) signs only g = text_keeps setup run label (vouched_text (signs_on setup writer) run writer seq refs) g (vouched_text_holds (signs_on setup writer) run writer seq refs (signs writer))
+event_keeps setup run (event.Proof label kind first second) signs only g = text_keeps setup run label (proof_text run kind first second) g (proof_text_holds run kind first second g.labels)
+event_keeps setup run (event.Hollow label voucher plain) signs only g = text_keeps setup run label (hollow_text run voucher plain) g (hollow_text_holds run voucher plain g.labels)
+event_keeps setup run (event.Judge label) signs only g = judge_keeps setup run label g
+event_keeps setup run (event.Raw label bytes) signs only g = text_keeps setup run label (counted_bytes bytes) g (counted_holds bytes only)
+event_keeps setup run (event.Cut label source start count) signs only g =
     let part = take count (drop start (bytes_of run source)) in
-    text_keeps stage run label (counted_bytes part) g (counted_holds part (only_take count (drop start (bytes_of run source)) (only_drop start (bytes_of run source) (bytes_hold run source g.labels))))
-event_keeps stage run (event.Flip label source place) signs only g =
-    text_keeps stage run label (counted_bytes (flip_at place (bytes_of run source))) g (counted_holds (flip_at place (bytes_of run source)) (flip_holds place (bytes_of run source) (bytes_hold run source g.labels)))
-event_keeps stage run (event.Join label first second) signs only g =
-    text_keeps stage run label (counted_bytes (bytes_of run first ++ bytes_of run second)) g
+    text_keeps setup run label (counted_bytes part) g (counted_holds part (only_take count (drop start (bytes_of run source)) (only_drop start (bytes_of run source) (bytes_hold run source g.labels))))
+event_keeps setup run (event.Flip label source place) signs only g =
+    text_keeps setup run label (counted_bytes (flip_at place (bytes_of run source))) g (counted_holds (flip_at place (bytes_of run source)) (flip_holds place (bytes_of run source) (bytes_hold run source g.labels)))
+event_keeps setup run (event.Join label first second) signs only g =
+    text_keeps setup run label (counted_bytes (bytes_of run first ++ bytes_of run second)) g
     (counted_holds (bytes_of run first ++ bytes_of run second) (only_both (bytes_of run first) (bytes_of run second) (bytes_hold run first g.labels) (bytes_hold run second g.labels)))
-event_keeps stage run (event.Stop node call image) signs only g = armed_keeps stage run node call image g
-event_keeps stage run (event.Receipt node refs) signs only g = receipts_keep stage run node refs (all_referred run refs) refl only.0 only.1 g
-event_keeps stage run (event.Settled node reference k) signs only g = settled_keeps stage run node k (referred run reference) g
-event_keeps stage run event.Audit signs only g = g
-event_keeps stage run (event.Checkpoint node label) signs only g = node_keeps stage run node (Some label) (λ s. checkpoint_by (stands_on stage node) s.correct) g
-    (λ s same good. at_number stage s node (λ n. checkpoint_by (stands_on stage n) s.correct) same (checkpoint_is_good stage s.correct good))
-event_keeps stage run (event.Sign node label) signs only g = node_keeps stage run node None (λ s. sign_by (stands_on stage node) s.correct (bytes_of run label)) g
-    (λ s same good. at_number stage s node (λ n. sign_by (stands_on stage n) s.correct (bytes_of run label)) same (sign_is_good stage s.correct (bytes_of run label) good (bytes_hold run label g.labels)))
-event_keeps stage run (event.Trim node label name) signs only g = trim_keeps stage run node (bytes_of run label) name g
-event_keeps stage run (event.Tgive name label) signs only g = tgive_keeps stage run name (bytes_of run label) g
-event_keeps stage run (event.Tget name key) signs only g = g
+event_keeps setup run (event.Stop node call image) signs only g = pending_keeps setup run node call image g
+event_keeps setup run (event.Receipt node refs) signs only g = receipts_keep setup run node refs (all_referred run refs) refl only.0 only.1 g
+event_keeps setup run (event.Settled node reference k) signs only g = settled_keeps setup run node k (referred run reference) g
+event_keeps setup run event.Audit signs only g = g
+event_keeps setup run (event.Checkpoint node label) signs only g = node_keeps setup run node (Some label) (λ s. checkpoint_by (stands_on setup node) s.correct) g
+    (λ s same good. at_number setup s node (λ n. checkpoint_by (stands_on setup n) s.correct) same (checkpoint_is_good setup s.correct good))
+event_keeps setup run (event.Sign node label) signs only g = node_keeps setup run node None (λ s. sign_by (stands_on setup node) s.correct (bytes_of run label)) g
+    (λ s same good. at_number setup s node (λ n. sign_by (stands_on setup n) s.correct (bytes_of run label)) same (sign_is_good setup s.correct (bytes_of run label) good (bytes_hold run label g.labels)))
+event_keeps setup run (event.Trim node label name) signs only g = trim_keeps setup run node (bytes_of run label) name g
+event_keeps setup run (event.Tgive name label) signs only g = tgive_keeps setup run name (bytes_of run label) g
+event_keeps setup run (event.Tget name key) signs only g = g

@@ -13,17 +13,17 @@ use Rattle.depot_model.specs.World.{Correct, Read, Shown, IsRead, NeverFall}
 use Rattle.depot_laws.proofs.Splits.{lawful_front}
 use Rattle.depot_laws.proofs.Tests.{all_left}
 use Rattle.depot_laws.proofs.TrueReceipts.{front_is_true}
-use Rattle.depot_world.specs.Run.{Armed, Station}
-use Rattle.depot_world.specs.ScheduleStops.{Deed, Went, standing_after, left_of, went_by, stopped_with, went_armed, went}
-use Rattle.depot_world.specs.Suite.{Stage, stands_on}
+use Rattle.depot_world.specs.Run.{PendingStop, Host}
+use Rattle.depot_world.specs.ScheduleStops.{Effect, EventResult, standing_after, left_of, result_by, stopped_with, result_pending, event_result}
+use Rattle.depot_world.specs.Setups.{Setup, stands_on}
 use Rattle.depot_world.proofs.OnlyBytes.{OnlyBytes}
 use Rattle.depot_world.proofs.ByteJournals.{HoldsBytes, AllHold}
 use Rattle.depot_model.proofs.FeedGrowth.{IsGrown}
 
 -- what a world asks of a correct node, and that its journal is made of bytes
-pub record IsGoodNode (stage : Stage) (c : Correct) : Type 0 where
-  pub member : has_node stage.listed c.node ≡ true
-  pub lawful : IsLawful (stands_on stage c.node) c.journal
+pub record IsGoodNode (setup : Setup) (c : Correct) : Type 0 where
+  pub member : has_node setup.listed c.node ≡ true
+  pub lawful : IsLawful (stands_on setup c.node) c.journal
   pub begun : is_empty c.journal ≡ false
   pub reads : (r : Read) → IsIn r c.reads → IsRead c.journal r
   pub in_order : NeverFall c.reads
@@ -31,9 +31,9 @@ pub record IsGoodNode (stage : Stage) (c : Correct) : Type 0 where
   pub receipts : AreReceiptsTrue c.journal
 
 -- what an event leaves where no stop falls into it: more behind the journal, and the reads of the journal
-pub record IsGoodDeed (stage : Stage) (c : Correct) (d : Deed) : Type 0 where
+pub record IsGoodEffect (setup : Setup) (c : Correct) (d : Effect) : Type 0 where
   pub grown : IsGrown c.journal d.journal
-  pub lawful : IsLawful (stands_on stage c.node) d.journal
+  pub lawful : IsLawful (stands_on setup c.node) d.journal
   pub reads : (r : Read) → IsIn r d.reads → IsRead d.journal r
   pub in_order : NeverFall d.reads
   pub holds : AllHold d.journal
@@ -64,7 +64,7 @@ record HasLeft (J K left : List Record) : Type 0 where
   pub rest : List Record
   pub is : K ≡ left ++ rest
 
-left_behind : (J K : List Record) (a : Armed) → IsGrown J K → HasLeft J K (left_of J K a)
+left_behind : (J K : List Record) (a : PendingStop) → IsGrown J K → HasLeft J K (left_of J K a)
 left_behind J K a e =
     let n = standing_after a in
     let new : drop (length J) K ≡ e.more = ap (λ (x : List Record). drop (length J) x) e.is ∙ drop-append_seam J e.more in
@@ -78,47 +78,47 @@ left_behind J K a e =
 -- ---- events
 
 -- what an event leaves, stopped or not
-pub record IsGoodWent (stage : Stage) (s : Station) (w : Went) : Type 0 where
-  pub same : w.station.correct.node ≡ s.correct.node
-  pub good : IsGoodNode stage w.station.correct
+pub record IsGoodResult (setup : Setup) (s : Host) (w : EventResult) : Type 0 where
+  pub same : w.host.correct.node ≡ s.correct.node
+  pub good : IsGoodNode setup w.host.correct
   pub bytes : OnlyBytes w.bytes
 
-stopped_is_good : (stage : Stage) (s : Station) (d : Deed) (a : Armed) → IsGoodNode stage s.correct → IsGoodDeed stage s.correct d → IsGoodWent stage s (stopped_with s (left_of s.correct.journal d.journal a))
-stopped_is_good stage s d a g deed =
+stopped_is_good : (setup : Setup) (s : Host) (d : Effect) (a : PendingStop) → IsGoodNode setup s.correct → IsGoodEffect setup s.correct d → IsGoodResult setup s (stopped_with s (left_of s.correct.journal d.journal a))
+stopped_is_good setup s d a g effect =
     let J = s.correct.journal in
-    let l = left_behind J d.journal a deed.grown in
+    let l = left_behind J d.journal a effect.grown in
     let left = left_of J d.journal a in
     record {
       same = refl;
       good = record {
         member = g.member;
-        lawful = lawful_front (stands_on stage s.correct.node) left l.rest (subst (λ (x : List Record). IsLawful (stands_on stage s.correct.node) x) l.is deed.lawful);
+        lawful = lawful_front (stands_on setup s.correct.node) left l.rest (subst (λ (x : List Record). IsLawful (stands_on setup s.correct.node) x) l.is effect.lawful);
         begun = begun_grows J left l.grown g.begun;
         reads = λ r on. read_grows J left r l.grown (g.reads r on);
         in_order = g.in_order;
-        holds = all_left HoldsBytes left l.rest (subst AllHold l.is deed.holds);
-        receipts = front_is_true left l.rest (subst AreReceiptsTrue l.is deed.receipts);
+        holds = all_left HoldsBytes left l.rest (subst AllHold l.is effect.holds);
+        receipts = front_is_true left l.rest (subst AreReceiptsTrue l.is effect.receipts);
       };
       bytes = tt;
     }
 
-went_is_good : (stage : Stage) (s : Station) (armed : Option Armed) (d : Deed) → IsGoodNode stage s.correct → IsGoodDeed stage s.correct d → IsGoodWent stage s (went_by s armed d)
-went_is_good stage s armed d g deed = record {
+result_is_good : (setup : Setup) (s : Host) (pending : Option PendingStop) (d : Effect) → IsGoodNode setup s.correct → IsGoodEffect setup s.correct d → IsGoodResult setup s (result_by s pending d)
+result_is_good setup s pending d g effect = record {
   same = refl;
-  good = record { member = g.member; lawful = deed.lawful; begun = begun_grows s.correct.journal d.journal deed.grown g.begun; reads = deed.reads; in_order = deed.in_order; holds = deed.holds; receipts = deed.receipts };
-  bytes = deed.bytes;
+  good = record { member = g.member; lawful = effect.lawful; begun = begun_grows s.correct.journal d.journal effect.grown g.begun; reads = effect.reads; in_order = effect.in_order; holds = effect.holds; receipts = effect.receipts };
+  bytes = effect.bytes;
 }
 
-armed_is_good : (stage : Stage) (s : Station) (d : Deed) (a : Armed) → IsGoodNode stage s.correct → IsGoodDeed stage s.correct d → IsGoodWent stage s (went_armed s d a)
-armed_is_good stage s d a g deed = by_call (leb a.call d.calls) (stopped_is_good stage s d a g deed) where
-  by_call : (b : Bool) → IsGoodWent stage s (stopped_with s (left_of s.correct.journal d.journal a)) → IsGoodWent stage s (cond b (stopped_with s (left_of s.correct.journal d.journal a)) (went_by s (Some (record { call = a.call - d.calls; image = a.image })) d))
+pending_is_good : (setup : Setup) (s : Host) (d : Effect) (a : PendingStop) → IsGoodNode setup s.correct → IsGoodEffect setup s.correct d → IsGoodResult setup s (result_pending s d a)
+pending_is_good setup s d a g effect = by_call (leb a.call d.calls) (stopped_is_good setup s d a g effect) where
+  by_call : (b : Bool) → IsGoodResult setup s (stopped_with s (left_of s.correct.journal d.journal a)) → IsGoodResult setup s (cond b (stopped_with s (left_of s.correct.journal d.journal a)) (result_by s (Some (record { call = a.call - d.calls; image = a.image })) d))
   by_call true stopped = stopped
-  by_call false stopped = went_is_good stage s (Some (record { call = a.call - d.calls; image = a.image })) d g deed
+  by_call false stopped = result_is_good setup s (Some (record { call = a.call - d.calls; image = a.image })) d g effect
 
 -- a good event of a good node
-pub events_keep_nodes : (stage : Stage) (s : Station) (d : Deed) → IsGoodNode stage s.correct → IsGoodDeed stage s.correct d → IsGoodWent stage s (went s d)
-unfolding went
-events_keep_nodes stage s d g deed = by_stop s.armed where
-  by_stop : (o : Option Armed) → IsGoodWent stage s (elim o as (λ x. Went) [ None ↦ went_by s None d | Some a ↦ went_armed s d a ])
-  by_stop None = went_is_good stage s None d g deed
-  by_stop (Some a) = armed_is_good stage s d a g deed
+pub events_keep_nodes : (setup : Setup) (s : Host) (d : Effect) → IsGoodNode setup s.correct → IsGoodEffect setup s.correct d → IsGoodResult setup s (event_result s d)
+unfolding event_result
+events_keep_nodes setup s d g effect = by_stop s.pending where
+  by_stop : (o : Option PendingStop) → IsGoodResult setup s (elim o as (λ x. EventResult) [ None ↦ result_by s None d | Some a ↦ result_pending s d a ])
+  by_stop None = result_is_good setup s None d g effect
+  by_stop (Some a) = pending_is_good setup s d a g effect

@@ -11,7 +11,7 @@ pub mod ReceiptChanges
 pub mod CheckpointChanges
 pub mod TrueReceipts
 pub mod GoodNodes
-pub mod GoodDeeds
+pub mod GoodEffects
 pub mod ScheduleMembers
 pub mod ScheduleRosters
 pub mod EventFacts
@@ -20,7 +20,7 @@ pub mod GoodRuns
 pub mod GoodEvents
 pub mod GoodWorlds
 pub mod PutAndGet
-pub mod DeedGrowth
+pub mod EffectGrowth
 pub mod ReadCounts
 pub mod SoundRuns
 pub mod AuditedRuns

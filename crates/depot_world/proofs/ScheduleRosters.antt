@@ -20,7 +20,7 @@ use Rattle.depot_schedule.specs.declared.schedule.Schedule.{Schedule}
 use Rattle.depot_schedule.specs.Schedules.{IsSchedule}
 use Rattle.depot_model.proofs.TreeNodes.{length-node}
 use Rattle.depot_model.specs.Insertion.{order_by}
-use Rattle.depot_world.specs.Suite.{Suite, suite_of, seed_of, entry_of, is_entry_before, roster_of, stage_of}
+use Rattle.depot_world.specs.Setups.{SignatureSuite, suite_of, seed_of, entry_of, is_entry_before, roster_of, setup_of}
 use Rattle.depot_model.proofs.InsertionLaws.{IsOrderOf, AllDiffer, from_order, in_order, long_order, order_rises}
 use Rattle.depot_world.proofs.ScheduleMembers.{nodes_of, members_are, some_member}
 
@@ -53,7 +53,7 @@ nodes_are_ordered = record { trans = λ e f g one two. below_trans e.node f.node
 
 -- ---- the roster of members
 
-differ_by_node : (suite : Suite) (height : ℕ) (ms : List Member) → AreDistinct (nodes_of ms) → AllDiffer HasOtherNode (map (entry_of suite height) ms)
+differ_by_node : (suite : SignatureSuite) (height : ℕ) (ms : List Member) → AreDistinct (nodes_of ms) → AllDiffer HasOtherNode (map (entry_of suite height) ms)
 differ_by_node suite height [] distinct = tt
 differ_by_node suite height (m ∷ ms) distinct = (
   all_from (λ (f : RosterEntry). HasOtherNode f (entry_of suite height m)) (map (entry_of suite height) ms) (λ f on same.
@@ -74,11 +74,11 @@ unfolding roster list_of number
 roster_fits listed rise fit some few =
     ((omega arith, omega arith), ((omega arith, omega arith), ((some, few), ((rising_follow roster_entry roster_entry_rises is_entry_before rises_follow [] listed rise (λ x on. refl) fit, refl), refl))))
 
--- ---- the stage of a schedule
+-- ---- the setup of a schedule
 
-pub stage_has_roster : (s : Schedule) → IsSchedule s → IsRoster (stage_of s).listed
-unfolding stage_of
-stage_has_roster s is =
+pub setup_has_roster : (s : Schedule) → IsSchedule s → IsRoster (setup_of s).listed
+unfolding setup_of
+setup_has_roster s is =
     let ms = members_are s is in
     let entry = entry_of (suite_of s.winter) s.height in
     let entries = map entry s.members in
@@ -101,8 +101,8 @@ listed_has (x ∷ es) e n (inr there) same = later (eqb x.node n) (listed_has es
   later false rest = rest
 
 -- each member is a node of the roster
-pub stage_has_members : (s : Schedule) (m : Member) → IsIn m s.members → has_node (stage_of s).listed m.node ≡ true
-unfolding stage_of
-stage_has_members s m on =
+pub setup_has_members : (s : Schedule) (m : Member) → IsIn m s.members → has_node (setup_of s).listed m.node ≡ true
+unfolding setup_of
+setup_has_members s m on =
     let entry = entry_of (suite_of s.winter) s.height in
     listed_has (roster_of (suite_of s.winter) s.height s.members) (entry m) m.node (in_order is_entry_before (entry m) (map entry s.members) (in_map entry m s.members on)) refl

@@ -13,8 +13,8 @@ use Rattle.depot_schedule.specs.declared.schedule.Schedule.{Schedule}
 use Rattle.depot_schedule.specs.Schedules.{IsSchedule, FitEvents, FitMembers, with_event, with_member, before_events, before_members, count_correct, has_correct, may_join}
 use Rattle.depot_schedule.specs.Vocabulary.{is_declared}
 use Rattle.depot_world.specs.Audits.{IsSound}
-use Rattle.depot_world.specs.Run.{Station, born, run_of}
-use Rattle.depot_world.specs.Suite.{stage_of}
+use Rattle.depot_world.specs.Run.{Host, fresh_host, run_of}
+use Rattle.depot_world.specs.Setups.{setup_of}
 use Rattle.depot_world.specs.Transcript.{run_after}
 use Rattle.depot_world.proofs.ByteSignatures.{members_sign_bytes}
 use Rattle.depot_world.proofs.GoodRuns.{numbers_of}
@@ -53,37 +53,37 @@ some_correct (m ∷ ms) e = by_first m.correct e (some_correct ms) where
   by_first true is rest = omega arith
   by_first false is rest = rest is
 
--- ---- the stations of a run
+-- ---- the hosts of a run
 
-many_numbers : (ss : List Station) → length (numbers_of ss) ≡ length ss
-many_numbers ss = length-map ss (λ (s : Station). s.correct.node)
+many_numbers : (ss : List Host) → length (numbers_of ss) ≡ length ss
+many_numbers ss = length-map ss (λ (s : Host). s.correct.node)
 
-many_after : (s : Schedule) (es : List Event) → length (run_after (stage_of s) (run_of (stage_of s) s.members) es).stations ≡ count_correct s.members
+many_after : (s : Schedule) (es : List Event) → length (run_after (setup_of s) (run_of (setup_of s) s.members) es).hosts ≡ count_correct s.members
 unfolding run_of
 many_after s es =
-    let stage = stage_of s in
-    let run = run_of stage s.members in
-    let after = run_after stage run es in
-    sym (many_numbers after.stations) ∙ ap (λ (ns : List ℕ). length ns) (same_after stage run es) ∙ many_numbers run.stations ∙ length-map (filter (λ (m : Member). m.correct) s.members) (λ (m : Member). born stage m.node)
+    let setup = setup_of s in
+    let run = run_of setup s.members in
+    let after = run_after setup run es in
+    sym (many_numbers after.hosts) ∙ ap (λ (ns : List ℕ). length ns) (same_after setup run es) ∙ many_numbers run.hosts ∙ length-map (filter (λ (m : Member). m.correct) s.members) (λ (m : Member). fresh_host setup m.node)
 
-begins_unread : (s : Schedule) → HaveFewReads 0 (run_of (stage_of s) s.members).stations
+begins_unread : (s : Schedule) → HaveFewReads 0 (run_of (setup_of s) s.members).hosts
 unfolding run_of
 begins_unread s x on =
-    let stage = stage_of s in
-    let m = from_map (λ (y : Member). born stage y.node) x (filter (λ (y : Member). y.correct) s.members) on in
-    subst (λ (y : Station). length y.correct.reads ≤ 0) m.1.1 (omega arith)
+    let setup = setup_of s in
+    let m = from_map (λ (y : Member). fresh_host setup y.node) x (filter (λ (y : Member). y.correct) s.members) on in
+    subst (λ (y : Host). length y.correct.reads ≤ 0) m.1.1 (omega arith)
 
 -- ---- the law
 
-pub runs_are_sound : (s : Schedule) (n : ℕ) → IsSchedule s → IsSound (stage_of s) (run_after (stage_of s) (run_of (stage_of s) s.members) (take n s.events))
+pub runs_are_sound : (s : Schedule) (n : ℕ) → IsSchedule s → IsSound (setup_of s) (run_after (setup_of s) (run_of (setup_of s) s.members) (take n s.events))
 runs_are_sound s n is =
-    let stage = stage_of s in
-    let run = run_of stage s.members in
+    let setup = setup_of s in
+    let run = run_of setup s.members in
     let front = take n s.events in
     let many = many_after s front in
     record {
-      world = run_makes_world stage (run_after stage run front) (events_keep stage (before_events s) run front (members_sign_bytes s) (fit_front (before_events s) n s.events is.events) (begins_good s is));
-      few = λ x on. omega (arith, few_after stage run front 0 (begins_unread s) x on, few_taken n s.events, is.lines);
+      world = run_makes_world setup (run_after setup run front) (events_keep setup (before_events s) run front (members_sign_bytes s) (fit_front (before_events s) n s.events is.events) (begins_good s is));
+      few = λ x on. omega (arith, few_after setup run front 0 (begins_unread s) x on, few_taken n s.events, is.lines);
       some = omega (arith, many, some_correct s.members is.some);
       most = omega (arith, many, all_join (before_members s) s.members is.members (omega arith));
     }

@@ -6,8 +6,8 @@ use Rattle.depot_model.specs.Lists.{IsIn}
 use Rattle.depot_model.specs.Records.{text_of_record}
 use Rattle.depot_model.specs.Traces.{ReadTrace, Trace, answered}
 use Rattle.depot_model.specs.World.{Read, Correct, World, IsWorld}
-use Rattle.depot_world.specs.Run.{Run, Station, world_by}
-use Rattle.depot_world.specs.Suite.{Stage}
+use Rattle.depot_world.specs.Run.{Run, Host, world_by}
+use Rattle.depot_world.specs.Setups.{Setup}
 
 -- ---- traces
 
@@ -30,12 +30,12 @@ abbrev pub comes_before : Correct → Correct → Bool
 comes_before c d = not (nat_lt d.node c.node)
 
 -- The correct nodes of a run in rising order of their numbers, as an audit looks at them. What was judged is no node's, and isn't handed in.
-unfoldable pub audited : Stage → Run → World
-audited stage run = record { verifies = stage.suite.verifies; listed = stage.listed; nodes = order_by comes_before (map (λ s. s.correct) run.stations); judged = [] }
+unfoldable pub audited : Setup → Run → World
+audited setup run = record { verifies = setup.suite.verifies; listed = setup.listed; nodes = order_by comes_before (map (λ s. s.correct) run.hosts); judged = [] }
 
 -- A run whose nodes may be audited: it makes a world of so many nodes, and no node has more reads than a schedule has lines.
-pub record IsSound (stage : Stage) (run : Run) : Type 0 where
-  pub world : IsWorld (world_by stage run)
-  pub few : (s : Station) → IsIn s run.stations → length s.correct.reads ≤ MOST_LINES
-  pub some : 0 < length run.stations
-  pub most : length run.stations ≤ MOST_CORRECT
+pub record IsSound (setup : Setup) (run : Run) : Type 0 where
+  pub world : IsWorld (world_by setup run)
+  pub few : (s : Host) → IsIn s run.hosts → length s.correct.reads ≤ MOST_LINES
+  pub some : 0 < length run.hosts
+  pub most : length run.hosts ≤ MOST_CORRECT

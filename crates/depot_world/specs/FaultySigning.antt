@@ -33,7 +33,7 @@ use Rattle.depot_schedule.specs.declared.event.HistoryWord.TheVariants as histor
 use Rattle.depot_schedule.specs.declared.event.Ref.{Ref}
 use Rattle.depot_answers.specs.Answers.{spaced, numbered}
 use Rattle.depot_world.specs.Run.{Run, bytes_of, referred, id_referred, signed_of}
-use Rattle.depot_world.specs.Suite.{Stage}
+use Rattle.depot_world.specs.Setups.{Setup}
 
 -- What an event that no node takes part in gives its label: bytes, the signed statement where it signs one, whether they are plain bytes,
 -- and what is printed.
@@ -159,9 +159,9 @@ abbrev pub proof_in : List ℕ → Result Proof ℕ
 proof_in bytes = whole proof (record { at = 0; rest = drop 5 bytes })
 
 -- the first point in which what stands in these bytes fails as a proof
-abbrev pub point_by : Stage → Result Proof ℕ → Option JudgeError
-point_by stage (Err at) = Some (point.IllFormed at)
-point_by stage (Ok p) = first_failed_point stage.suite.verifies stage.listed p
+abbrev pub point_by : Setup → Result Proof ℕ → Option JudgeError
+point_by setup (Err at) = Some (point.IllFormed at)
+point_by setup (Ok p) = first_failed_point setup.suite.verifies setup.listed p
 
 -- ---- parts of bytes
 

@@ -1,7 +1,7 @@
 pub mod Audits
-pub mod Deeds
+pub mod Effects
 pub mod Run
 pub mod FaultySigning
 pub mod ScheduleStops
-pub mod Suite
+pub mod Setups
 pub mod Transcript

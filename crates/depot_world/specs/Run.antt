@@ -18,19 +18,19 @@ use Rattle.depot_schedule.specs.declared.event.Ref.{Ref}
 use Rattle.depot_schedule.specs.declared.event.Ref.TheVariants as ref
 use Rattle.depot_schedule.specs.declared.member.Member.{Member}
 use Rattle.depot_schedule.specs.Vocabulary.{first_or}
-use Rattle.depot_world.specs.Suite.{Stage}
+use Rattle.depot_world.specs.Setups.{Setup}
 
 -- ---- what a run keeps
 
 -- A stop that waits on a node's disk: at which call from now on it falls, from 1, and which image the disk then holds.
-pub record Armed : Type 0 where
+pub record PendingStop : Type 0 where
   pub call : ℕ
   pub image : ℕ
 
 -- a correct node at work, and the stop that waits on its disk, if one does
-pub record Station : Type 0 where
+pub record Host : Type 0 where
   pub correct : Correct
-  pub armed : Option Armed
+  pub pending : Option PendingStop
 
 -- What an event made under a label: its bytes, the signed statement where it made one, and whether it is plain: made as bytes, by `raw`,
 -- `cut`, `flip` or `join`. A label whose event was refused or stopped holds no bytes; a plain one may hold none as well.
@@ -49,30 +49,30 @@ pub record NamedReader : Type 0 where
 -- computed over: those that events made and those that correct nodes accepted, each id once, in the order in which they came; and the
 -- readers, in the order in which they were made. A reader is in memory alone, but outlives what happens to its node.
 pub record Run : Type 0 where
-  pub stations : List Station
+  pub hosts : List Host
   pub labels : List Made
   pub judged : List Proof
   pub seen : List Update
   pub readers : List NamedReader
 
 -- a node that was just started on an empty disk
-abbrev pub born : Stage → ℕ → Station
-born stage node = record { correct = record { node = node; journal = Birth node (hash_of_roster stage.listed) ∷ []; reads = [] }; armed = None }
+abbrev pub fresh_host : Setup → ℕ → Host
+fresh_host setup node = record { correct = record { node = node; journal = Birth node (hash_of_roster setup.listed) ∷ []; reads = [] }; pending = None }
 
 -- the run before its first event
-unfoldable pub run_of : Stage → List Member → Run
-run_of stage members = record { stations = map (λ m. born stage m.node) (filter (λ m. m.correct) members); labels = []; judged = []; seen = []; readers = [] }
+unfoldable pub run_of : Setup → List Member → Run
+run_of setup members = record { hosts = map (λ m. fresh_host setup m.node) (filter (λ m. m.correct) members); labels = []; judged = []; seen = []; readers = [] }
 
 -- the world that a run has made so far
-unfoldable pub world_by : Stage → Run → World
-world_by stage run = record { verifies = stage.suite.verifies; listed = stage.listed; nodes = map (λ s. s.correct) run.stations; judged = run.judged }
+unfoldable pub world_by : Setup → Run → World
+world_by setup run = record { verifies = setup.suite.verifies; listed = setup.listed; nodes = map (λ s. s.correct) run.hosts; judged = run.judged }
 
 -- ---- what is found in a run
 
--- the first station of a node
-unfoldable pub station_in : List Station → ℕ → Option Station
-station_in [] node = None
-station_in (s ∷ ss) node = if s.correct.node == node then Some s else station_in ss node
+-- the first host of a node
+unfoldable pub host_in : List Host → ℕ → Option Host
+host_in [] node = None
+host_in (s ∷ ss) node = if s.correct.node == node then Some s else host_in ss node
 
 -- what a label names
 unfoldable pub made_in : List Made → List ℕ → Option Made
@@ -104,7 +104,7 @@ own_update J seq = first_update (filter (λ u. u.seq == seq) (flat_map update_in
 -- the update that a reference names: that of a label, or the own update of a node with a seq
 unfoldable pub referred : Run → Ref → Option Update
 referred run (ref.Label label) = option_and_then (λ s. first_update (update_in s.statement)) (signed_of run label)
-referred run (ref.Own node seq) = option_and_then (λ s. own_update s.correct.journal seq) (station_in run.stations node)
+referred run (ref.Own node seq) = option_and_then (λ s. own_update s.correct.journal seq) (host_in run.hosts node)
 
 -- the bytes of a plain label
 abbrev pub plain_bytes : Run → List ℕ → Option (List ℕ)
@@ -139,11 +139,11 @@ unfoldable pub put_reader : List ℕ → Reader → List NamedReader → List Na
 put_reader name R [] = []
 put_reader name R (r ∷ rs) = if bytes_eq r.name name then record { name = r.name; reader = Some R } ∷ rs else r ∷ put_reader name R rs
 
--- a node's station in place of the one before
-unfoldable pub put_station : Station → List Station → List Station
-put_station s [] = []
-put_station s (t ∷ ts) = if t.correct.node == s.correct.node then s ∷ ts else t ∷ put_station s ts
+-- a node's host in place of the one before
+unfoldable pub put_host : Host → List Host → List Host
+put_host s [] = []
+put_host s (t ∷ ts) = if t.correct.node == s.correct.node then s ∷ ts else t ∷ put_host s ts
 
--- the run with a station as an event left it, whose accepted updates were seen
-unfoldable pub with_station : Run → Station → Run
-with_station run s = record run { stations = put_station s run.stations; seen = seen_with run.seen (accepted s.correct.journal) }
+-- the run with a host as an event left it, whose accepted updates were seen
+unfoldable pub with_host : Run → Host → Run
+with_host run s = record run { hosts = put_host s run.hosts; seen = seen_with run.seen (accepted s.correct.journal) }

@@ -3,11 +3,11 @@ use Rattle.std.specs.Prelude.{ℕ, ◌+◌, ◌-◌, ◌*◌, ◌/◌, ◌%◌, 
 use Rattle.depot_base.specs.declared.record.Record.{Record}
 use Rattle.depot_model.specs.World.{Read}
 use Rattle.depot_answers.specs.Answers.{numbered}
-use Rattle.depot_world.specs.Run.{Armed, Station}
+use Rattle.depot_world.specs.Run.{PendingStop, Host}
 
 -- An event of a node as it goes where no stop falls into it: the journal and the reads after it, how many calls it makes of the disk, what
 -- is printed behind the arrow and on lines of their own, and the bytes that it gives a label.
-pub record Deed : Type 0 where
+pub record Effect : Type 0 where
   pub journal : List Record
   pub reads : List Read
   pub calls : ℕ
@@ -22,47 +22,47 @@ calls_to_append records = 4 * records
 -- How many of the records that an event appends stand in the image of a stop at this call, from 1. Those before the one at hand stand in
 -- each; that one in image 1 alone, which has all that was written, once its gate is written, by the third of its calls. In image 2 the
 -- written gate is 255, which is closed, and so is the gate before it was written.
-unfoldable pub standing_after : Armed → ℕ
+unfoldable pub standing_after : PendingStop → ℕ
 standing_after a = (a.call - 1) / 4 + (if a.image == 1 && nat_le 2 ((a.call - 1) % 4) then 1 else 0)
 
 -- what a stop leaves of a journal that was to grow to another
-abbrev pub left_of : List Record → List Record → Armed → List Record
+abbrev pub left_of : List Record → List Record → PendingStop → List Record
 left_of J longer a = J ++ take (standing_after a) (drop (length J) longer)
 
 -- a node's event as it went, and the stop that still waits
-pub record Went : Type 0 where
-  pub station : Station
+pub record EventResult : Type 0 where
+  pub host : Host
   pub answer : List ℕ
   pub behind : List (List ℕ)
   pub bytes : List ℕ
 
 -- the event went as it goes
-abbrev pub went_by : Station → Option Armed → Deed → Went
-went_by s armed d = record {
-  station = record { correct = record { node = s.correct.node; journal = d.journal; reads = d.reads }; armed = armed };
+abbrev pub result_by : Host → Option PendingStop → Effect → EventResult
+result_by s pending d = record {
+  host = record { correct = record { node = s.correct.node; journal = d.journal; reads = d.reads }; pending = pending };
   answer = d.answer;
   behind = d.behind;
   bytes = d.bytes;
 }
 
 -- the node was stopped, and is started again from what the stop left
-abbrev pub stopped_with : Station → List Record → Went
+abbrev pub stopped_with : Host → List Record → EventResult
 stopped_with s J = record {
-  station = record { correct = record { node = s.correct.node; journal = J; reads = s.correct.reads }; armed = None };
+  host = record { correct = record { node = s.correct.node; journal = J; reads = s.correct.reads }; pending = None };
   answer = 32 ∷ numbered (codes "stopped records") (length J);
   behind = [];
   bytes = [];
 }
 
 -- the stop falls into the event, or waits on, so many calls nearer
-abbrev pub went_armed : Station → Deed → Armed → Went
-went_armed s d a =
+abbrev pub result_pending : Host → Effect → PendingStop → EventResult
+result_pending s d a =
     if nat_le a.call d.calls then stopped_with s (left_of s.correct.journal d.journal a)
-    else went_by s (Some (record { call = a.call - d.calls; image = a.image })) d
+    else result_by s (Some (record { call = a.call - d.calls; image = a.image })) d
 
 -- how an event of a node goes
-unfoldable pub went : Station → Deed → Went
-went s d = elim s.armed [
-  | None ↦ went_by s None d
-  | Some a ↦ went_armed s d a
+unfoldable pub event_result : Host → Effect → EventResult
+event_result s d = elim s.pending [
+  | None ↦ result_by s None d
+  | Some a ↦ result_pending s d a
 ]

@@ -25,11 +25,11 @@ use Rattle.depot_schedule.specs.declared.event.Ref.{Ref}
 use Rattle.depot_schedule.specs.declared.schedule.Schedule.{Schedule}
 use Rattle.depot_answers.specs.Answers.{spaced, text_of_finding, text_of_trim, text_of_reader_feed, text_of_write}
 use Rattle.depot_world.specs.Audits.{audited}
-use Rattle.depot_world.specs.Deeds.{put_by, get_by, hello_by, bundle_by, give_by, restart_by, receipt_by, settled_by, checkpoint_by, sign_by}
-use Rattle.depot_world.specs.Run.{Run, Station, run_of, world_by, station_in, bytes_of, referred, reader_in, seen_with, with_label, with_reader, put_reader, with_station}
+use Rattle.depot_world.specs.Effects.{put_by, get_by, hello_by, bundle_by, give_by, restart_by, receipt_by, settled_by, checkpoint_by, sign_by}
+use Rattle.depot_world.specs.Run.{Run, Host, run_of, world_by, host_in, bytes_of, referred, reader_in, seen_with, with_label, with_reader, put_reader, with_host}
 use Rattle.depot_world.specs.FaultySigning.{Text, no_reference, counted_bytes, updated, update_text, vouched_text, proof_text, hollow_text, proof_in, point_by, flip_at, all_referred}
-use Rattle.depot_world.specs.ScheduleStops.{Deed, Went, went}
-use Rattle.depot_world.specs.Suite.{Stage, stage_of, stands_on, signs_on}
+use Rattle.depot_world.specs.ScheduleStops.{Effect, EventResult, event_result}
+use Rattle.depot_world.specs.Setups.{Setup, setup_of, stands_on, signs_on}
 
 -- an event that was done: what is printed behind the arrow, the lines behind that line, and the run after it
 pub record Done : Type 0 where
@@ -40,22 +40,22 @@ pub record Done : Type 0 where
 -- ---- events of correct nodes
 
 -- what a node's event comes to, and the label that its bytes are given
-abbrev pub done_by_node : Run → Option (List ℕ) → Went → Done
-done_by_node run None w = record { answer = w.answer; behind = w.behind; run = with_station run w.station }
-done_by_node run (Some label) w = record { answer = w.answer; behind = w.behind; run = with_label (with_station run w.station) (record { label = label; bytes = w.bytes; signed = None; plain = false }) }
+abbrev pub done_by_node : Run → Option (List ℕ) → EventResult → Done
+done_by_node run None w = record { answer = w.answer; behind = w.behind; run = with_host run w.host }
+done_by_node run (Some label) w = record { answer = w.answer; behind = w.behind; run = with_label (with_host run w.host) (record { label = label; bytes = w.bytes; signed = None; plain = false }) }
 
 -- an event of a node, by what it does; nothing where there is no such node, which no schedule has
-unfoldable pub by_node : Run → ℕ → Option (List ℕ) → (Station → Deed) → Done
-by_node run node label deed = elim (station_in run.stations node) [
+unfoldable pub by_node : Run → ℕ → Option (List ℕ) → (Host → Effect) → Done
+by_node run node label effect = elim (host_in run.hosts node) [
   | None ↦ record { answer = []; behind = []; run = run }
-  | Some s ↦ done_by_node run label (went s (deed s))
+  | Some s ↦ done_by_node run label (event_result s (effect s))
 ]
 
 -- a stop is set on a node's disk; one that waits there falls away
-unfoldable pub armed_at : Run → ℕ → ℕ → ℕ → Done
-armed_at run node call image = elim (station_in run.stations node) [
+unfoldable pub pending_at : Run → ℕ → ℕ → ℕ → Done
+pending_at run node call image = elim (host_in run.hosts node) [
   | None ↦ record { answer = []; behind = []; run = run }
-  | Some s ↦ record { answer = codes " armed"; behind = []; run = with_station run (record { correct = s.correct; armed = Some (record { call = call; image = image }) }) }
+  | Some s ↦ record { answer = codes " armed"; behind = []; run = with_host run (record { correct = s.correct; pending = Some (record { call = call; image = image }) }) }
 ]
 
 -- a reference names nothing: that is told, and no node is asked
@@ -63,9 +63,9 @@ abbrev pub not_referred : Run → Done
 not_referred run = record { answer = codes " NoRef"; behind = []; run = run }
 
 -- a node gives receipts for what references name, each id once and rising
-abbrev pub receipt_for : Stage → Run → ℕ → Option (List Update) → Done
-receipt_for stage run node None = not_referred run
-receipt_for stage run node (Some us) = by_node run node None (λ s. receipt_by (stands_on stage node) s.correct (rising (map id_of_update us)))
+abbrev pub receipt_for : Setup → Run → ℕ → Option (List Update) → Done
+receipt_for setup run node None = not_referred run
+receipt_for setup run node (Some us) = by_node run node None (λ s. receipt_by (stands_on setup node) s.correct (rising (map id_of_update us)))
 
 -- a node tells whether what a reference names is settled at so many nodes
 abbrev pub settled_for : Run → ℕ → ℕ → Option Update → Done
@@ -75,8 +75,8 @@ settled_for run node k (Some u) = by_node run node None (λ s. settled_by s.corr
 -- ---- the audit
 
 -- all correct nodes are audited, and nothing changes
-abbrev pub audit_by : Stage → Run → Done
-audit_by stage run = record { answer = spaced (text_of_finding (finding_in (audited stage run))); behind = []; run = run }
+abbrev pub audit_by : Setup → Run → Done
+audit_by setup run = record { answer = spaced (text_of_finding (finding_in (audited setup run))); behind = []; run = run }
 
 -- ---- readers
 
@@ -91,10 +91,10 @@ abbrev pub trimmed_with : Run → List ℕ → TrimAnswer → Done
 trimmed_with run name answer = record { answer = spaced (text_of_trim answer); behind = []; run = with_reader run (record { name = name; reader = reader_made answer }) }
 
 -- a reader is made of a node and a checkpoint's text; the node and its disk stay as they are
-unfoldable pub trim_at : Stage → Run → ℕ → List ℕ → List ℕ → Done
-trim_at stage run node text name = elim (station_in run.stations node) [
+unfoldable pub trim_at : Setup → Run → ℕ → List ℕ → List ℕ → Done
+trim_at setup run node text name = elim (host_in run.hosts node) [
   | None ↦ record { answer = []; behind = []; run = run }
-  | Some s ↦ trimmed_with run name (trim_of (stands_on stage node) s.correct.journal text)
+  | Some s ↦ trimmed_with run name (trim_of (stands_on setup node) s.correct.journal text)
 ]
 
 -- what a reader made of a stream is told, and it goes on so
@@ -128,13 +128,13 @@ done_by_update sign run label values None = done_by_text run label no_reference
 done_by_update sign run label values (Some u) = done_by_text (record run { seen = seen_with run.seen (u ∷ []) }) label (update_text sign u values)
 
 -- a faulty node's update that writes what these changes say
-abbrev pub done_by_changes : Stage → Run → List ℕ → ℕ → ℕ → ℕ → Option Ref → List Change → List Ref → HistoryWord → Done
-done_by_changes stage run label writer seq clock prev changes deps history =
-    done_by_update (signs_on stage writer) run label (values_of changes) (updated (signs_on stage writer) run writer seq clock prev changes deps history)
+abbrev pub done_by_changes : Setup → Run → List ℕ → ℕ → ℕ → ℕ → Option Ref → List Change → List Ref → HistoryWord → Done
+done_by_changes setup run label writer seq clock prev changes deps history =
+    done_by_update (signs_on setup writer) run label (values_of changes) (updated (signs_on setup writer) run writer seq clock prev changes deps history)
 
 -- a judge's answer: a point, or a verdict, whose proof was judged from now on
-abbrev pub judged_with : Stage → Run → Result Proof ℕ → Done
-judged_with stage run read = elim (point_by stage read) [
+abbrev pub judged_with : Setup → Run → Result Proof ℕ → Done
+judged_with setup run read = elim (point_by setup read) [
   | Some p ↦ record { answer = spaced (text_of_point p); behind = []; run = run }
   | None ↦ elim read [
     | Err at ↦ record { answer = []; behind = []; run = run }
@@ -144,34 +144,34 @@ judged_with stage run read = elim (point_by stage read) [
 
 -- ---- one event
 
-unfoldable pub done : Stage → Run → Event → Done
-done stage run (event.Put node key value) = by_node run node None (λ s. put_by (stands_on stage node) s.correct (one_change key value))
-done stage run (event.Puts node changes) = by_node run node None (λ s. put_by (stands_on stage node) s.correct changes)
-done stage run (event.Get node key) = by_node run node None (λ s. get_by s.correct key)
-done stage run (event.Hello node label) = by_node run node (Some label) (λ s. hello_by (stands_on stage node) s.correct)
-done stage run (event.Bundle node hello label) = by_node run node (Some label) (λ s. bundle_by (stands_on stage node) (signs_on stage node) s.correct (bytes_of run hello))
-done stage run (event.Give node label size) = by_node run node None (λ s. give_by (stands_on stage node) s.correct (bytes_of run label))
-done stage run (event.Restart node) = by_node run node None (λ s. restart_by s.correct)
-done stage run (event.Update label writer seq clock prev key value deps history) =
-    done_by_changes stage run label writer seq clock prev (one_change key value) deps history
-done stage run (event.Updates label writer seq clock prev changes deps history) = done_by_changes stage run label writer seq clock prev changes deps history
-done stage run (event.Voucher label writer seq refs) = done_by_text run label (vouched_text (signs_on stage writer) run writer seq refs)
-done stage run (event.Proof label kind first second) = done_by_text run label (proof_text run kind first second)
-done stage run (event.Hollow label voucher plain) = done_by_text run label (hollow_text run voucher plain)
-done stage run (event.Judge label) = judged_with stage run (proof_in (bytes_of run label))
-done stage run (event.Raw label bytes) = done_by_text run label (counted_bytes bytes)
-done stage run (event.Cut label source start count) = done_by_text run label (counted_bytes (take count (drop start (bytes_of run source))))
-done stage run (event.Flip label source place) = done_by_text run label (counted_bytes (flip_at place (bytes_of run source)))
-done stage run (event.Join label first second) = done_by_text run label (counted_bytes (bytes_of run first ++ bytes_of run second))
-done stage run (event.Stop node call image) = armed_at run node call image
-done stage run (event.Receipt node refs) = receipt_for stage run node (all_referred run refs)
-done stage run (event.Settled node reference k) = settled_for run node k (referred run reference)
-done stage run event.Audit = audit_by stage run
-done stage run (event.Checkpoint node label) = by_node run node (Some label) (λ s. checkpoint_by (stands_on stage node) s.correct)
-done stage run (event.Sign node label) = by_node run node None (λ s. sign_by (stands_on stage node) s.correct (bytes_of run label))
-done stage run (event.Trim node label name) = trim_at stage run node (bytes_of run label) name
-done stage run (event.Tgive name label) = tgive_by run name (bytes_of run label)
-done stage run (event.Tget name key) = tget_by run name key
+unfoldable pub done : Setup → Run → Event → Done
+done setup run (event.Put node key value) = by_node run node None (λ s. put_by (stands_on setup node) s.correct (one_change key value))
+done setup run (event.Puts node changes) = by_node run node None (λ s. put_by (stands_on setup node) s.correct changes)
+done setup run (event.Get node key) = by_node run node None (λ s. get_by s.correct key)
+done setup run (event.Hello node label) = by_node run node (Some label) (λ s. hello_by (stands_on setup node) s.correct)
+done setup run (event.Bundle node hello label) = by_node run node (Some label) (λ s. bundle_by (stands_on setup node) (signs_on setup node) s.correct (bytes_of run hello))
+done setup run (event.Give node label size) = by_node run node None (λ s. give_by (stands_on setup node) s.correct (bytes_of run label))
+done setup run (event.Restart node) = by_node run node None (λ s. restart_by s.correct)
+done setup run (event.Update label writer seq clock prev key value deps history) =
+    done_by_changes setup run label writer seq clock prev (one_change key value) deps history
+done setup run (event.Updates label writer seq clock prev changes deps history) = done_by_changes setup run label writer seq clock prev changes deps history
+done setup run (event.Voucher label writer seq refs) = done_by_text run label (vouched_text (signs_on setup writer) run writer seq refs)
+done setup run (event.Proof label kind first second) = done_by_text run label (proof_text run kind first second)
+done setup run (event.Hollow label voucher plain) = done_by_text run label (hollow_text run voucher plain)
+done setup run (event.Judge label) = judged_with setup run (proof_in (bytes_of run label))
+done setup run (event.Raw label bytes) = done_by_text run label (counted_bytes bytes)
+done setup run (event.Cut label source start count) = done_by_text run label (counted_bytes (take count (drop start (bytes_of run source))))
+done setup run (event.Flip label source place) = done_by_text run label (counted_bytes (flip_at place (bytes_of run source)))
+done setup run (event.Join label first second) = done_by_text run label (counted_bytes (bytes_of run first ++ bytes_of run second))
+done setup run (event.Stop node call image) = pending_at run node call image
+done setup run (event.Receipt node refs) = receipt_for setup run node (all_referred run refs)
+done setup run (event.Settled node reference k) = settled_for run node k (referred run reference)
+done setup run event.Audit = audit_by setup run
+done setup run (event.Checkpoint node label) = by_node run node (Some label) (λ s. checkpoint_by (stands_on setup node) s.correct)
+done setup run (event.Sign node label) = by_node run node None (λ s. sign_by (stands_on setup node) s.correct (bytes_of run label))
+done setup run (event.Trim node label name) = trim_at setup run node (bytes_of run label) name
+done setup run (event.Tgive name label) = tgive_by run name (bytes_of run label)
+done setup run (event.Tget name key) = tget_by run name key
 
 -- ---- its lines
 
@@ -209,19 +209,19 @@ lines_of e d = ended (join 32 (head_words e) ++ codes " ->" ++ d.answer) ++ flat
 -- ---- all events
 
 -- the run after these events
-unfoldable pub run_after : Stage → Run → List Event → Run
-run_after stage run [] = run
-run_after stage run (e ∷ es) = run_after stage (done stage run e).run es
+unfoldable pub run_after : Setup → Run → List Event → Run
+run_after setup run [] = run
+run_after setup run (e ∷ es) = run_after setup (done setup run e).run es
 
 -- what they print
-unfoldable pub printed : Stage → Run → List Event → List ℕ
-printed stage run [] = []
-printed stage run (e ∷ es) = let d = done stage run e in lines_of e d ++ printed stage d.run es
+unfoldable pub printed : Setup → Run → List Event → List ℕ
+printed setup run [] = []
+printed setup run (e ∷ es) = let d = done setup run e in lines_of e d ++ printed setup d.run es
 
 -- the world that a schedule makes
 unfoldable pub world_of : Schedule → World
-world_of s = let stage = stage_of s in world_by stage (run_after stage (run_of stage s.members) s.events)
+world_of s = let setup = setup_of s in world_by setup (run_after setup (run_of setup s.members) s.events)
 
 -- its transcript
 unfoldable pub transcript_of : Schedule → List ℕ
-transcript_of s = let stage = stage_of s in printed stage (run_of stage s.members) s.events
+transcript_of s = let setup = setup_of s in printed setup (run_of setup s.members) s.events

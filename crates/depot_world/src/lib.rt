@@ -1,7 +1,7 @@
 //! The world and the transcript of a schedule.
 //!
 //! What a schedule makes happen is defined in `specs`, event by event over one journal and one list of reads a correct node, one list
-//! of bytes a label, and one reader a name: `world_of` is the world that comes of it, and `transcript_of` is what is printed. `Deeds`
+//! of bytes a label, and one reader a name: `world_of` is the world that comes of it, and `transcript_of` is what is printed. `Effects`
 //! says what a correct node does, `ScheduleStops` what a stop of its disk leaves, `FaultySigning` what faulty nodes sign, `Transcript`
 //! what readers do, and `Audits` what a node's traces are and in which world an audit looks.
 //!

@@ -18,7 +18,7 @@ ghost use Rattle.depot_schedule.specs.declared.schedule.Schedule.{Schedule};
 ghost use Rattle.depot_model.specs.LatestList.{latest_in};
 ghost use Rattle.depot_world.specs.Audits.{IsSound, audited, trace_by};
 ghost use Rattle.depot_world.specs.Run.{Run, run_of, world_by};
-ghost use Rattle.depot_world.specs.Suite.{Stage, stage_of};
+ghost use Rattle.depot_world.specs.Setups.{Setup, setup_of};
 ghost use Rattle.depot_world.specs.Transcript.{run_after, world_of};
 
 /// In a list of updates in which each parent stands before its children, the list `latest_in` of a key has the latest writes of
@@ -53,10 +53,10 @@ pub fn receipts_of_schedules_are_true()
 /// At each point of a schedule its correct nodes may be audited: they make a world, they are 1 to 32, and none has more reads than a
 /// schedule has lines.
 pub fn runs_of_schedules_are_sound()
-    ensures { (s : Schedule) (n : ℕ) → IsSchedule s → IsSound (stage_of s) (run_after (stage_of s) (run_of (stage_of s) s.members) (take n s.events)) }
+    ensures { (s : Schedule) (n : ℕ) → IsSchedule s → IsSound (setup_of s) (run_after (setup_of s) (run_of (setup_of s) s.members) (take n s.events)) }
 {}
 
 /// Where the correct nodes of a run make a world, what is found in their traces is what is found in that world.
 pub fn audits_of_runs()
-    ensures { (stage : Stage) (run : Run) (found : Finding) → IsWorld (world_by stage run) → IsFindingOf stage.suite.verifies stage.listed (map trace_by (map (λ s. s.correct) run.stations)) found → found ≡ finding_in (audited stage run) }
+    ensures { (setup : Setup) (run : Run) (found : Finding) → IsWorld (world_by setup run) → IsFindingOf setup.suite.verifies setup.listed (map trace_by (map (λ s. s.correct) run.hosts)) found → found ≡ finding_in (audited setup run) }
 {}

@@ -2,7 +2,7 @@ use Rattle.std.proofs.Common.{◌≡◌, ◌+◌, take, get_or, map, arith}
 use Rattle.std.proofs.lemmas.List.{length-map}
 use Rattle.depot_outside.specs.declared.nowhere.Nowhere.{Nowhere}
 use Rattle.depot_store.specs.Holdings.{standing}
-use Rattle.depot_records.proofs.TakenTexts.{IsTaking, store_goes_on, store_stops, store_ends, store_is_lawful}
+use Rattle.depot_node.proofs.TakenTexts.{IsTaking, store_goes_on, store_stops, store_ends, store_is_lawful}
 use Rattle.depot_traces.specs.SeenTraces.{read_of}
 use Rattle.depot_audit.proofs.ReadSteps.{reads_wait, one_wrong}
 use Rattle.depot_audit.proofs.one_node.take_trace.Given.{Over}

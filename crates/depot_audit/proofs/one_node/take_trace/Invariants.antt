@@ -1,6 +1,6 @@
 use Rattle.std.proofs.Common.{◌+◌, length, map, take}
 use Rattle.depot_store.specs.Holdings.{standing}
-use Rattle.depot_records.proofs.TakenTexts.{IsTaking}
+use Rattle.depot_node.proofs.TakenTexts.{IsTaking}
 use Rattle.depot_traces.specs.SeenTraces.{read_of}
 use Rattle.depot_audit.specs.OneNode.{AreRightUpTo}
 use Rattle.depot_audit.proofs.one_node.take_trace.Given as goal

@@ -7,7 +7,7 @@ use Rattle.depot_model.specs.Lists.{AreApart}
 use Rattle.depot_model.specs.Vouching.{is_mine_vouched}
 use Rattle.depot_model.proofs.CallsOnDisk.{nothing_called, called_well}
 use Rattle.depot_model.proofs.StopLaws.{idle_lasts}
-use Rattle.depot_offers.specs.BundleStreams.{IsStream}
+use Rattle.depot_gossip.specs.BundleStreams.{IsStream}
 use Rattle.depot_gossip.proofs.ApartLaws.{unvouched_apart, unvouched_foreign, unvouched_fresh}
 use Rattle.depot_gossip.proofs.StreamLaws.{not_bundled, not_prepared_stops, not_prepared_keeps, no_disk, not_vouched, only_vouched, all_bundled, stops_alike, keeps_alike, same_fault, memory_stops, memory_keeps, still_runs, good_stops, good_keeps}
 use Rattle.depot_feeds.proofs.LastingStreams.{nothing_in}

@@ -4,4 +4,4 @@ use Rattle.depot_load.specs.Summaries.{agrees}
 use Rattle.depot_load.proofs.agreement.agree.Given as goal
 
 abbrev pub invariant-loop-told : goal.invariant-loop-told
-invariant-loop-told l = list_all (agrees l.tolds) (take l.told-index l.tolds) ≡ true
+invariant-loop-told l = list_all (agrees l.told_lines) (take l.told-index l.told_lines) ≡ true

@@ -7,11 +7,11 @@ use Rattle.depot_load.proofs.agreement.all_writes.Goals as goal
 
 pub loop-told-preserved-in_default : goal.loop-told-preserved-in_default
 loop-told-preserved-in_default c =
-    c.loop-told.invariant ∙ sym (none_more (writes_under c.args.key.now) c.args.tolds.now c.loop-told.told-index c.told-item.result c.loop-told-test.true c.told-item.is (sym c.in_default.ensures))
+    c.loop-told.invariant ∙ sym (none_more (writes_under c.args.key.now) c.args.told_lines.now c.loop-told.told-index c.told-item.result c.loop-told-test.true c.told-item.is (sym c.in_default.ensures))
 
 pub loop-told-preserved : goal.loop-told-preserved
 loop-told-preserved c =
     ap (λ (list : List (Bor (List ℕ))). map (λ writes. writes.now) list) c.in_ok-push.ensures.items
     ∙ map-append (λ (writes : Bor (List ℕ)). writes.now) c.loop-told.list.items (c.in-Some.writes ∷ [])
     ∙ ap (λ (texts : List (List ℕ)). texts ++ c.in-Some.writes.now ∷ []) c.loop-told.invariant
-    ∙ sym (some_more (writes_under c.args.key.now) c.args.tolds.now c.loop-told.told-index c.told-item.result c.in-Some.writes.now c.loop-told-test.true c.told-item.is (sym c.in-Some.ensures))
+    ∙ sym (some_more (writes_under c.args.key.now) c.args.told_lines.now c.loop-told.told-index c.told-item.result c.in-Some.writes.now c.loop-told-test.true c.told-item.is (sym c.in-Some.ensures))

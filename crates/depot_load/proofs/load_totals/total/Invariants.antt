@@ -5,6 +5,6 @@ use Rattle.depot_load.proofs.load_totals.total.Given as goal
 
 abbrev pub invariant-loop-told : goal.invariant-loop-told
 invariant-loop-told l = record {
-  so_far : l.total ≡ sum_by (counted_in l.which) (take l.told-index l.tolds);
+  so_far : l.total ≡ sum_by (counted_in l.which) (take l.told-index l.told_lines);
   room : l.total ≤ l.told-index * 18446744073709551615;
 }

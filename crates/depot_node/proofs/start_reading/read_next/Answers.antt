@@ -1,7 +1,7 @@
 use Rattle.std.proofs.Common.{◌≡◌, ◌∷◌, ℕ, List, Err, refl, subst, ◌∙◌}
 use Rattle.depot_store.specs.Holdings.{standing}
-use Rattle.depot_records.specs.ReadRecords.{IsReadAs}
-use Rattle.depot_records.specs.declared.record_check.ReadError.{ReadError}
+use Rattle.depot_node.specs.ReadRecords.{IsReadAs}
+use Rattle.depot_node.specs.declared.record_check.ReadError.{ReadError}
 use Rattle.depot_node.proofs.RecordReads.{read_goes_on, read_is_lawful, read_stands_first}
 use Rattle.depot_node.proofs.start_reading.read_next.Given.{Over}
 use Rattle.depot_node.proofs.start_reading.read_next.Goals as goal

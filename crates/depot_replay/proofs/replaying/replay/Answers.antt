@@ -1,6 +1,6 @@
 use Rattle.std.proofs.Common.{Bool, true, false, ap}
-use Rattle.depot_world.specs.Suite.{suite_of}
-use Rattle.depot_plays.proofs.BegunRuns.{signers_on}
+use Rattle.depot_world.specs.Setups.{suite_of}
+use Rattle.depot_simulation.proofs.BegunRuns.{signers_on}
 use Rattle.depot_replay.proofs.replaying.replay.Goals as goal
 
 pub replay_with-requires-clause-scheme : goal.replay_with-requires-clause-scheme

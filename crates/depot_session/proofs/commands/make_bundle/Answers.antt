@@ -1,7 +1,7 @@
 use Rattle.std.proofs.Common.{ℕ, List, [], ◌∷◌, ◌++◌, Some, refl, sym, ap, subst, ◌∙◌, arith, inl}
 use Rattle.depot_outside.specs.Told.{shelves, sinks}
 use Rattle.depot_model.specs.Bundle.{bundle_answer}
-use Rattle.depot_deeds.proofs.FedStreams.{runs_on}
+use Rattle.depot_node_lines.proofs.FedStreams.{runs_on}
 use Rattle.depot_session.specs.declared.ending.Ending.TheVariants as ending
 use Rattle.depot_session.proofs.AskedShelves.{goes_on_anyhow, not_going_on, not_stored, stored_once, unstored}
 use Rattle.depot_session.proofs.BundleTurns.{bundle_ends_calmly, bundle_told, bundled_whole, bundles_absent, finds_none, goes_on_made, isnt_nothing, made_to_disk, made_without_memory, refused_told}

@@ -1,5 +1,5 @@
 use Rattle.std.proofs.Common.{Some, refl, sym, ap, subst, ◌∙◌, arith}
-use Rattle.depot_deeds.specs.Printing.{is_disk}
+use Rattle.depot_node_lines.specs.Printing.{is_disk}
 use Rattle.depot_outside.specs.Told.{shelves, sinks}
 use Rattle.depot_model.specs.Feeding.{feed_of}
 use Rattle.depot_session.specs.declared.ending.Ending.TheVariants as ending

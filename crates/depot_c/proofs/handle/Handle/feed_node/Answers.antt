@@ -1,5 +1,5 @@
 use Rattle.std.proofs.Common.{refl}
-use Rattle.depot_c.proofs.FedSeats.{fed_runs}
+use Rattle.depot_c.proofs.FedNodeViews.{fed_runs}
 use Rattle.depot_c.proofs.handle.Handle.feed_node.Goals as goal
 
 pub returns : goal.returns

@@ -4,9 +4,9 @@ use Rattle.depot_base.specs.declared.key.RosterEntry.{RosterEntry}
 use Rattle.depot_model.specs.Checks.{Setting}
 use Rattle.depot_model.specs.Winternitz.{winternitz_verifies}
 use Rattle.depot_c.specs.Handles.{Kept}
-use Rattle.depot_c.specs.Seats.{Seat}
+use Rattle.depot_c.specs.NodeViews.{NodeView}
 use Rattle.depot_c.specs.Starts.{IsStartedOn}
-use Rattle.depot_c.specs.contracts.seat.NodeMemDiskWinterSchemeSharedSignerSeated.TheImpl as seats
+use Rattle.depot_c.specs.contracts.node_view.NodeMemDiskWinterSchemeSharedSignerHasNodeView.TheImpl as node_views
 use Rattle.depot_c.specs.contracts.shared_signer.SharedSignerSigner.TheImpl as signers
 use Rattle.depot_c.specs.declared.shared_signer.SharedSigner.{SharedSigner}
 use Rattle.depot_c.proofs.handle.Handle.start.Goals as goal
@@ -17,21 +17,21 @@ standing me listed = record { verifies = winternitz_verifies; me = me; listed = 
 abbrev kept_by : SharedSigner → Kept
 kept_by s = record { key = signers.ghosts.key_of s; sign = signers.ghosts.signature_of s }
 
-none_is : (o : Option Seat) → is_none o ≡ true → o ≡ None
+none_is : (o : Option NodeView) → is_none o ≡ true → o ≡ None
 none_is None e = refl
 none_is (Some s) e = absurd cc
 
 pub returns : goal.returns
 returns c =
     let kept = kept_by c.in-Some-Some.signer in
-    let seat = seats.ghosts.seat c.in_ok-node.node in
+    let node_view = node_views.ghosts.node_view c.in_ok-node.node in
     record {
       listed = c.in-Some-Some.roster;
       roster = c.in-Some-Some.is-0;
       kept = kept;
       signer = ap (option_map kept_by) c.in-Some-Some.is-1;
       free = none_is _ (sym c.if-not-is_free.ensures);
-      seat = seat;
-      started = subst (λ (n : ℕ). IsStartedOn (standing n c.in-Some-Some.roster) kept.key kept.sign c.args.file.now seat) c.in_ok-me.ensures.1 c.in_ok-node.ensures.started;
+      node_view = node_view;
+      started = subst (λ (n : ℕ). IsStartedOn (standing n c.in-Some-Some.roster) kept.key kept.sign c.args.file.now node_view) c.in_ok-me.ensures.1 c.in_ok-node.ensures.started;
       is = c.keep_node.ensures;
     }

@@ -10,7 +10,7 @@ use Rattle.depot_model.specs.Roster.{key_of}
 use Rattle.depot_model.specs.Texts.{IsRoster}
 use Rattle.depot_store.specs.Holdings.{standing}
 use Rattle.depot_node.specs.Starting.{LeavesBetween, StartLeaves, calls_to_start_node, started}
-use Rattle.depot_records.proofs.TakenTexts.{none_accepted}
+use Rattle.depot_node.proofs.TakenTexts.{none_accepted}
 use Rattle.depot_node.proofs.Started.{started_is_lawful, started_has_one}
 use Rattle.depot_node.proofs.node.Node.start.Given.{Over}
 use Rattle.depot_node.proofs.node.Node.start.Goals as goal

@@ -1,2 +1,0 @@
-pub mod CastLaws
-pub mod EntryOrder

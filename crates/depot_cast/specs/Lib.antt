@@ -1,2 +1,0 @@
-pub mod DraftEntries
-pub mod Hands

@@ -1,0 +1,99 @@
+-- What `node` makes of the disk, the shelf and the sink.
+use Rattle.std.specs.Prelude.{◌≡◌, ◌<◌, ◌⊎◌, ℕ, List, Bool, [], ◌∷◌, ◌++◌, IsTrue, Option, Some}
+use Rattle.depot_base.specs.declared.key.RosterEntry.{RosterEntry}
+use Rattle.depot_base.specs.declared.record.Record.{Record}
+use Rattle.depot_model.specs.Checks.{Setting}
+use Rattle.depot_model.specs.Lawful.{IsLawful}
+use Rattle.depot_model.specs.Roster.{key_of}
+use Rattle.depot_model.specs.Stops.{HasRecords}
+use Rattle.depot_model.specs.Winternitz.{winternitz_signature, winternitz_verifies}
+use Rattle.depot_outside.specs.Told.{Disks, HasFile, HasLoaded, LacksFile, Loads, Shelves, Sinks, WhereTold}
+use Rattle.depot_script.specs.ScriptReading.{IsTextOf}
+use Rattle.depot_script.specs.declared.command.Command as line
+use Rattle.depot_session.specs.declared.ending.Ending.{Ending}
+use Rattle.depot_session.specs.declared.ending.Ending.TheVariants as ending
+use Rattle.depot_session.specs.ScriptTelling.{Asked}
+use Rattle.depot_session.specs.SessionRuns as runs
+use Rattle.depot_session.specs.Sessions.{answers_of, loads_given, session_from, shelf_line}
+use Rattle.depot_winter.specs.TreeSigning.{key_of_seed}
+use Rattle.depot_cli.specs.Runs.{Answers, Begins, Ends, IsNoScript, IsRosterText}
+use Rattle.depot_cli.specs.Statuses.{status_of}
+use Rattle.depot_cli.specs.declared.invocation.Command.{Command}
+use Rattle.depot_cli.specs.declared.invocation.Command.TheVariants as asked
+use Rattle.depot_cli.specs.declared.invocation.NodeWords.{NodeWords}
+use Rattle.depot_cli.specs.declared.status.Status.{Status}
+use Rattle.depot_cli.specs.declared.status.Status.TheVariants.{Input, Memory, Shelf}
+
+-- where a node of a roster stands, with the Winternitz scheme
+abbrev pub node_at : List RosterEntry → ℕ → Setting
+node_at listed id = record { verifies = winternitz_verifies; me = id; listed = listed }
+
+-- A script was run on a node of this roster.
+--
+-- Images: what a stop at any moment of the run leaves on the disk it left before, or it is a lawful journal that begins with the one that was
+-- there; where the script ended or met a limit, all that it leaves afterwards is one such journal. Lines, files and journal: over a lawful journal
+-- of this node, or none, they are those of the definition, or the run is cut short; and behind the files of the first names the shelf was asked for
+-- those of the commands that were carried out, and for nothing of a later one. Else the node is refused for its key, its roster or its journal, and
+-- the shelf was asked for no more; where the roster hasn't its key the disk isn't touched.
+pub record RunsScript (listed : List RosterEntry) (n : NodeWords) (commands : List line.Command) (first : List (List ℕ)) (disk : Disks) (shelf : Shelves) (calls : Asked) (sink : Sinks) (same_disk : Type 0) (ends : Ending) : Type 0 where
+  pub images : IsTrue disk.tells → runs.KeepsFile (node_at listed n.id) disk
+  pub stable : IsTrue disk.tells → (ends ≡ ending.Done) ⊎ (ends ≡ ending.Limit) → runs.Settles (node_at listed n.id) disk
+  pub untouched : (key_of listed n.id ≡ Some (key_of_seed n.seed n.height) → ⊥) → same_disk
+  pub begins : runs.Begins (node_at listed n.id) (key_of_seed n.seed n.height) first disk shelf calls sink ends
+  pub answers : runs.AnswersScript (node_at listed n.id) (key_of_seed n.seed n.height) (winternitz_signature n.seed n.height) commands first disk shelf calls sink ends
+  pub disk_failed : ends ≡ ending.Disk → disk.faults_before < disk.faults_after
+  pub sink_failed : ends ≡ ending.Sink → sink.faults_before < sink.faults_after
+
+-- the run loaded the files of these names, and then those that some first commands of its script load, in their order, and no other: a reader was
+-- made before each of these, or none was
+abbrev pub LoadsFrom : List (List ℕ) → List line.Command → Loads → Type 0
+LoadsFrom names commands loads = (made : List Bool) × HasLoaded loads (names ++ loads_given made commands)
+
+-- A script was run, and the run ended with this status.
+pub record RunsNode (n : NodeWords) (disk : Disks) (shelf : Shelves) (loads : Loads) (calls : Asked) (sink : Sinks) (same_disk : Type 0) (status : Status) : Type 0 where
+  pub listed : List RosterEntry
+  pub roster : WhereTold shelf (HasFile shelf n.roster (λ bytes. IsRosterText bytes listed))
+  pub commands : List line.Command
+  pub script : WhereTold shelf (HasFile shelf n.script (λ bytes. IsTextOf bytes commands))
+  pub loaded : LoadsFrom (n.roster ∷ n.script ∷ []) commands loads
+  pub ends : Ending
+  pub status_is : status ≡ status_of ends
+  pub runs : RunsScript listed n commands (n.roster ∷ n.script ∷ []) disk shelf calls sink same_disk ends
+
+-- What the bytes of a script come to on a node of a roster: they are none, which is told, or memory ran out before the node was started, and
+-- nothing else has changed; or the script was run.
+abbrev pub RunsBytes : List RosterEntry → NodeWords → List ℕ → Disks → Shelves → Loads → Asked → Sinks → (same_disk same_files : Type 0) → Status → Type 0
+RunsBytes listed n bytes disk shelf loads calls sink same_disk same_files status =
+    ((same_disk × same_files) × (HasLoaded loads [] × Ends (λ answer text. (answer ≡ Input) × IsNoScript n.script text bytes) (λ text. text ≡ []) sink status)) ⊎
+    ((commands : List line.Command) × (IsTextOf bytes commands × (LoadsFrom [] commands loads × ((ends : Ending) × ((status ≡ status_of ends) × RunsScript listed n commands [] disk shelf calls sink same_disk ends)))))
+
+-- What `node` answers where its script can't be had or is none.
+abbrev pub ScriptInputs : Shelves → Loads → List ℕ → Status → List ℕ → Type 0
+ScriptInputs shelf loads script status text =
+    (HasLoaded loads (script ∷ []) × ((status ≡ Shelf) × (LacksFile shelf script × (text ≡ shelf_line script)))) ⊎
+    (HasLoaded loads (script ∷ []) × ((status ≡ Input) × WhereTold shelf (HasFile shelf script (IsNoScript script text))))
+
+-- What the script of a name comes to on a node of a roster.
+abbrev pub RunsFile : List RosterEntry → NodeWords → Disks → Shelves → Loads → Asked → Sinks → (same_disk same_files : Type 0) → Status → Type 0
+RunsFile listed n disk shelf loads calls sink same_disk same_files status =
+    ((same_disk × same_files) × (HasLoaded loads (n.script ∷ []) × Ends (ScriptInputs shelf loads n.script) (λ text. text ≡ []) sink status)) ⊎
+    ((commands : List line.Command) × (WhereTold shelf (HasFile shelf n.script (λ bytes. IsTextOf bytes commands)) × (LoadsFrom (n.script ∷ []) commands loads × ((ends : Ending) × ((status ≡ status_of ends) × RunsScript listed n commands (n.script ∷ []) disk shelf calls sink same_disk ends)))))
+
+-- What a command comes to. Every command but `node` leaves disk and files as they were and stores nothing, and so does `node` where its roster or its
+-- script can't be had.
+abbrev pub Results : Disks → Shelves → Loads → Asked → Sinks → (same_disk same_files : Type 0) → Option Command → Status → Type 0
+Results disk shelf loads calls sink same_disk same_files (Some (asked.Node n)) status =
+    ((same_disk × same_files) × Ends (Answers shelf loads (Some (asked.Node n))) (Begins shelf loads (Some (asked.Node n))) sink status) ⊎ RunsNode n disk shelf loads calls sink same_disk status
+Results disk shelf loads calls sink same_disk same_files command status = (same_disk × same_files) × Ends (Answers shelf loads command) (Begins shelf loads command) sink status
+
+-- what a run of `node` comes to where nothing fails, over a lawful journal of this node, or none; Memory may stand in its place
+abbrev pub CompletesNode : Disks → Shelves → Option Command → Status → Type 0
+CompletesNode disk shelf (Some (asked.Node n)) status = (listed : List RosterEntry) (commands : List line.Command) (J : List Record) → HasFile shelf n.roster (λ bytes. IsRosterText bytes listed) → HasFile shelf n.script (λ bytes. IsTextOf bytes commands)
+    → key_of listed n.id ≡ Some (key_of_seed n.seed n.height) → IsLawful (node_at listed n.id) J → HasRecords J disk.file
+    → (status ≡ status_of (answers_of (node_at listed n.id) (winternitz_signature n.seed n.height) (session_from (node_at listed n.id) J [] shelf.file) commands).ending) ⊎ (status ≡ Memory)
+CompletesNode disk shelf command status = Unit {0}
+
+-- no count of faults rose in this run, and the disk tells its bytes
+pub record IsWellDisk (disk : Disks) : Type 0 where
+  pub tells : IsTrue disk.tells
+  pub is_well : disk.faults_after ≡ disk.faults_before

@@ -1,0 +1,388 @@
+-- What each command answers and prints, and how a run ends.
+use Rattle.std.specs.Prelude.{◌≡◌, ◌<◌, ◌⊎◌, ◌↔◌, ℕ, ◌+◌, List, [], ◌∷◌, ◌++◌, codes, map, take, true, IsTrue, slice_get, Option, Some, None, Result, Ok, Err}
+use Rattle.std.specs.Fmt.{decimal}
+use Rattle.std.specs.List.{AllByRecursion}
+use Rattle.hex.specs.Hex.{encode_lower}
+use Rattle.depot_base.specs.Statement.{writer_of}
+use Rattle.depot_base.specs.declared.memory.Memory as absent
+use Rattle.depot_base.specs.declared.proof.Kind.{Kind}
+use Rattle.depot_base.specs.declared.proof.Proof.TheVariants.{Pair}
+use Rattle.depot_base.specs.declared.statement.Signed.{Signed}
+use Rattle.depot_base.specs.declared.update.Update.{Update}
+use Rattle.depot_base.specs.declared.key.RosterEntry.{RosterEntry}
+use Rattle.depot_model.specs.declared.judgement.Verdict.{Verdict}
+use Rattle.depot_model.specs.declared.judgement.JudgeError.{JudgeError}
+use Rattle.depot_model.specs.declared.judgement.JudgeError.TheVariants as point
+use Rattle.depot_model.specs.Texts.{IsRoster, text_of_roster}
+use Rattle.depot_model.specs.RosterText.{IsRefusedFor}
+use Rattle.depot_model.specs.declared.roster_format.RosterError.{RosterError}
+use Rattle.depot_model.specs.Log.{IsLog, IsLogFault, first_orphan}
+use Rattle.depot_model.specs.Judgement.{IsJudgementOf}
+use Rattle.depot_model.specs.Winternitz.{root_of, winternitz_verifies}
+use Rattle.depot_model.specs.Lines.{text_of_verdict, text_of_point, text_of_roster_error}
+use Rattle.depot_model.specs.Causality.{IsForkJoinCausal, ConvictsNoCorrectNode}
+use Rattle.depot_model.specs.Items.{AreDistinct}
+use Rattle.depot_model.specs.Lists.{IsIn}
+use Rattle.depot_model.specs.Roster.{has_node}
+use Rattle.depot_model.specs.World.{Correct, World, IsAuthentic, IsCollisionFree, proofs_of}
+use Rattle.depot_model.specs.Audit as audits
+use Rattle.depot_model.specs.Traces.{IsFindingOf, IsCausalWorldOf}
+use Rattle.depot_answers.specs.Answers.{text_of_faulty_line, text_of_finding}
+use Rattle.depot_script.specs.Scripts.{script_of}
+use Rattle.depot_schedule.specs.Readers.{IsTextOf}
+use Rattle.depot_schedule.specs.Schedules.{schedule_of}
+use Rattle.depot_schedule.specs.declared.line_fault.LineFault.{LineFault}
+use Rattle.depot_schedule.specs.declared.schedule.Schedule.{Schedule}
+use Rattle.depot_world.specs.Transcript.{transcript_of, world_of}
+use Rattle.depot_load.specs.Loads.{load_of}
+use Rattle.depot_load.specs.Summaries.{summary_of}
+use Rattle.depot_session.specs.Sessions.{shelf_line}
+use Rattle.depot_scan.specs.LogScans.{IsScanned, HasOrphan}
+use Rattle.depot_outside.specs.Told.{Shelves, Loads, HasLoaded, HasFile, WhereTold, LacksFile, Sinks, Wrote, WroteFront}
+use Rattle.depot_traces.specs.SeenTraces.{trace_of}
+use Rattle.depot_traces.specs.TraceTexts.{IsTrace, text_of_trace}
+use Rattle.depot_traces.specs.declared.trace.Trace.{Trace}
+use Rattle.depot_trace_files.specs.Handing.{AreForAudit, AreHanded, IsGathered, IsRefusedAt, nodes_of}
+use Rattle.depot_trace_files.specs.declared.loading.Gathered.{Gathered}
+use Rattle.depot_trace_files.specs.declared.loading.Gathered.TheVariants as gathered
+use Rattle.depot_trace_files.specs.declared.loading.Refusal.{Refusal}
+use Rattle.depot_trace_files.specs.declared.loading.Refusal.TheVariants as refusal
+use Rattle.depot_cli.specs.declared.invocation.Command.{Command}
+use Rattle.depot_cli.specs.declared.invocation.Command.TheVariants as asked
+use Rattle.depot_cli.specs.declared.outcome.Outcome.{Outcome}
+use Rattle.depot_cli.specs.declared.status.Status.{Status}
+use Rattle.depot_cli.specs.declared.status.Status.TheVariants.{Done, Words, Input, Shelf, Sink, Memory, NoProof, NotLawful, Broken}
+
+-- ---- the shelf
+
+-- what a load of the name gives: the bytes of the file, or nothing
+abbrev pub IsLoaded : Shelves → List ℕ → Option (List ℕ) → Type 0
+IsLoaded shelf name (Some bytes) = WhereTold shelf (shelf.file name ≡ Some bytes) × (shelf.faults_after ≡ shelf.faults_before)
+IsLoaded shelf name None = LacksFile shelf name
+
+-- where the shelf failed nothing else is answered
+abbrev pub EndsAtFault : Shelves → Status → Type 0
+EndsAtFault shelf status = (status ≡ Shelf) ⊎ (shelf.faults_after ≡ shelf.faults_before)
+
+-- ---- scan
+
+-- the bytes are no log, and the text tells where they go wrong
+pub record IsNoLog (name text bytes : List ℕ) : Type 0 where
+  pub at : ℕ
+  pub fault : IsLogFault bytes at
+  pub is : text ≡ codes "input " ++ name ++ codes " at " ++ decimal at ++ codes "\n"
+
+-- the bytes are a log, and the text tells the place of the first body with a parent that doesn't stand before it
+pub record IsOrphaned (text bytes : List ℕ) : Type 0 where
+  pub place : ℕ
+  pub orphan : HasOrphan bytes place
+  pub is : text ≡ codes "not lawful " ++ decimal place ++ codes " 5 Missing\n"
+
+-- what a scan of these bytes answers
+abbrev pub ScanOf : List ℕ → List ℕ → List ℕ → Status → List ℕ → Type 0
+ScanOf log key bytes Done text = IsScanned key text bytes
+ScanOf log key bytes Input text = IsNoLog log text bytes
+ScanOf log key bytes NotLawful text = IsOrphaned text bytes
+ScanOf log key bytes status text = ⊥
+
+-- what a scan answers, whether or not its log can be had
+abbrev pub Scans : Shelves → List ℕ → List ℕ → Status → List ℕ → Type 0
+Scans shelf log key Done text = WhereTold shelf (HasFile shelf log (IsScanned key text))
+Scans shelf log key Input text = WhereTold shelf (HasFile shelf log (IsNoLog log text))
+Scans shelf log key NotLawful text = WhereTold shelf (HasFile shelf log (IsOrphaned text))
+Scans shelf log key Shelf text = LacksFile shelf log × (text ≡ shelf_line log)
+Scans shelf log key status text = ⊥
+
+-- ---- key
+
+-- the root of the Winternitz key of a seed, in hex
+abbrev pub PrintsKey : List ℕ → ℕ → Status → List ℕ → Type 0
+PrintsKey seed height Done text = text ≡ encode_lower (root_of seed height) ++ codes "\n"
+PrintsKey seed height status text = ⊥
+
+-- ---- judge
+
+-- the bytes are the text of this roster
+pub record IsRosterText (bytes : List ℕ) (r : List RosterEntry) : Type 0 where
+  pub fits : IsRoster r
+  pub is : bytes ≡ text_of_roster r
+
+-- the bytes are no roster's, and the text tells why
+pub record IsNoRoster (name text bytes : List ℕ) : Type 0 where
+  pub error : RosterError
+  pub cause : IsRefusedFor bytes error
+  pub is : text ≡ codes "input " ++ name ++ codes " " ++ text_of_roster_error error ++ codes "\n"
+
+-- the roster of the name is there, and is one
+abbrev pub HasRoster : Shelves → List ℕ → Type 0
+HasRoster shelf name = HasFile shelf name (λ bytes. (r : List RosterEntry) × IsRosterText bytes r)
+
+-- a point, and not want of memory
+abbrev pub IsPoint : JudgeError → Type 0
+IsPoint point.Memory = ⊥
+IsPoint e = Unit {0}
+
+-- what judging these bytes under a roster answers
+abbrev pub JudgementOf : List RosterEntry → List ℕ → Status → List ℕ → Type 0
+JudgementOf listed bytes Done text = (v : Verdict) × ((text ≡ text_of_verdict v ++ codes "\n") × IsJudgementOf winternitz_verifies listed bytes (Ok v))
+JudgementOf listed bytes NoProof text = (e : JudgeError) × (IsPoint e × ((text ≡ text_of_point e ++ codes "\n") × IsJudgementOf winternitz_verifies listed bytes (Err e)))
+JudgementOf listed bytes status text = ⊥
+
+-- what judging the proof of a name under a roster answers, whether or not it can be had
+abbrev pub JudgesProof : Shelves → List RosterEntry → List ℕ → Status → List ℕ → Type 0
+JudgesProof shelf listed proof Done text = (v : Verdict) × ((text ≡ text_of_verdict v ++ codes "\n") × WhereTold shelf (HasFile shelf proof (λ bytes. IsJudgementOf winternitz_verifies listed bytes (Ok v))))
+JudgesProof shelf listed proof NoProof text = (e : JudgeError) × (IsPoint e × ((text ≡ text_of_point e ++ codes "\n") × WhereTold shelf (HasFile shelf proof (λ bytes. IsJudgementOf winternitz_verifies listed bytes (Err e)))))
+JudgesProof shelf listed proof Shelf text = LacksFile shelf proof × (text ≡ shelf_line proof)
+JudgesProof shelf listed proof status text = ⊥
+
+-- what `judge` answers: the roster is loaded and parsed first, and then the proof
+abbrev pub Judges : Shelves → Loads → List ℕ → List ℕ → Status → List ℕ → Type 0
+Judges shelf loads roster proof status text =
+    (HasLoaded loads (roster ∷ []) × ((status ≡ Shelf) × (LacksFile shelf roster × (text ≡ shelf_line roster)))) ⊎
+    ((HasLoaded loads (roster ∷ []) × ((status ≡ Input) × WhereTold shelf (HasFile shelf roster (IsNoRoster roster text)))) ⊎
+    (HasLoaded loads (roster ∷ proof ∷ []) × ((listed : List RosterEntry) × (WhereTold shelf (HasFile shelf roster (λ bytes. IsRosterText bytes listed)) × JudgesProof shelf listed proof status text))))
+
+-- ---- replay
+
+-- no proof of two statements in a world names a correct node
+abbrev pub PairsSpareCorrectNodes : World → Type 0
+PairsSpareCorrectNodes W = (c : Correct) (kind : Kind) (a b : Signed) → IsIn c W.nodes → IsIn (Pair kind a b) (proofs_of W) → writer_of a.statement ≡ c.node → ⊥
+
+-- The bytes are the text of a schedule, and the text is its transcript. So it tells of a world that is fork-join causal and convicts no
+-- correct node, while no correct node's signature is forged and no two hashed texts collide in it. No proof of two statements names a
+-- correct node while none is forged, whether texts collide or not.
+pub record IsReplayed (text bytes : List ℕ) : Type 0 where
+  pub schedule : Schedule
+  pub read : IsTextOf bytes schedule
+  pub is : text ≡ transcript_of schedule
+  pub causal : IsAuthentic (world_of schedule) → IsCollisionFree (world_of schedule) → IsForkJoinCausal (world_of schedule)
+  pub convicts : IsAuthentic (world_of schedule) → IsCollisionFree (world_of schedule) → ConvictsNoCorrectNode (world_of schedule)
+  pub pairs : IsAuthentic (world_of schedule) → PairsSpareCorrectNodes (world_of schedule)
+
+-- the bytes are no schedule's, and the text tells the first faulty line and its first fault
+pub record IsNoSchedule (name text bytes : List ℕ) : Type 0 where
+  pub number : ℕ
+  pub fault : LineFault
+  pub first : schedule_of bytes ≡ Err (number, fault)
+  pub is : text ≡ codes "input " ++ name ++ codes " " ++ text_of_faulty_line number fault ++ codes "\n"
+
+-- what a replay of these bytes answers
+abbrev pub ReplayOf : List ℕ → List ℕ → Status → List ℕ → Type 0
+ReplayOf name bytes Done text = IsReplayed text bytes
+ReplayOf name bytes Input text = IsNoSchedule name text bytes
+ReplayOf name bytes status text = ⊥
+
+-- what `replay` answers, whether or not its schedule can be had
+abbrev pub Replays : Shelves → List ℕ → Status → List ℕ → Type 0
+Replays shelf name Done text = WhereTold shelf (HasFile shelf name (IsReplayed text))
+Replays shelf name Input text = WhereTold shelf (HasFile shelf name (IsNoSchedule name text))
+Replays shelf name Shelf text = LacksFile shelf name × (text ≡ shelf_line name)
+Replays shelf name status text = ⊥
+
+-- ---- load
+
+-- what is summed up of the replay of the schedule that the number makes
+abbrev pub PrintsLoad : ℕ → Status → List ℕ → Type 0
+PrintsLoad number Done text = text ≡ summary_of number (transcript_of (load_of number))
+PrintsLoad number status text = ⊥
+
+-- ---- node
+
+-- the bytes are no script's, and the text tells the first faulty line and its first fault
+pub record IsNoScript (name text bytes : List ℕ) : Type 0 where
+  pub number : ℕ
+  pub fault : LineFault
+  pub first : script_of bytes ≡ Err (number, fault)
+  pub is : text ≡ codes "input " ++ name ++ codes " " ++ text_of_faulty_line number fault ++ codes "\n"
+
+-- the bytes are the text of a roster
+abbrev pub IsSomeRoster : List ℕ → Type 0
+IsSomeRoster bytes = (r : List RosterEntry) × IsRosterText bytes r
+
+-- What `node` answers where its roster or its script can't be had or isn't one: the roster is loaded and parsed first, and then the script.
+abbrev pub NodeInputs : Shelves → Loads → List ℕ → List ℕ → Status → List ℕ → Type 0
+NodeInputs shelf loads roster script status text =
+    (HasLoaded loads (roster ∷ []) × ((status ≡ Shelf) × (LacksFile shelf roster × (text ≡ shelf_line roster)))) ⊎
+    ((HasLoaded loads (roster ∷ []) × ((status ≡ Input) × WhereTold shelf (HasFile shelf roster (IsNoRoster roster text)))) ⊎
+    ((HasLoaded loads (roster ∷ script ∷ []) × ((status ≡ Shelf) × (WhereTold shelf (HasFile shelf roster IsSomeRoster) × (LacksFile shelf script × (text ≡ shelf_line script))))) ⊎
+    (HasLoaded loads (roster ∷ script ∷ []) × ((status ≡ Input) × (WhereTold shelf (HasFile shelf roster IsSomeRoster) × WhereTold shelf (HasFile shelf script (IsNoScript script text)))))))
+
+-- ---- audit
+
+-- yes is Done, and all else that an audit finds Broken
+abbrev pub status_of_finding : audits.Finding → Status
+status_of_finding audits.yes_found = Done
+status_of_finding other = Broken
+
+-- What an audit of these traces answers: their one finding. It is yes exactly where they make a world that is fork-join causal, in which no
+-- conviction names one of their nodes.
+pub record IsAudited (listed : List RosterEntry) (ts : List Trace) (status : Status) (text : List ℕ) : Type 0 where
+  pub found : audits.Finding
+  pub is : IsFindingOf winternitz_verifies listed (map trace_of ts) found
+  pub yes : (found ≡ audits.yes_found) ↔ IsCausalWorldOf winternitz_verifies listed (map trace_of ts)
+  pub status_is : status ≡ status_of_finding found
+  pub text_is : text ≡ text_of_finding found ++ codes "\n"
+
+-- why the file of a name is refused, as it is told
+abbrev pub text_of_refusal : List ℕ → Refusal → List ℕ
+text_of_refusal name refusal.Missing = shelf_line name
+text_of_refusal name (refusal.IllFormed at) = codes "input " ++ name ++ codes " at " ++ decimal at ++ codes "\n"
+text_of_refusal name (refusal.Twice node) = codes "input " ++ name ++ codes " twice " ++ decimal node ++ codes "\n"
+text_of_refusal name refusal.Stranger = codes "input " ++ name ++ codes " at " ++ decimal 2 ++ codes "\n"
+
+abbrev pub status_of_refusal : Refusal → Status
+status_of_refusal refusal.Missing = Shelf
+status_of_refusal why = Input
+
+-- the shelf failed in this run
+abbrev pub HasFailed : Shelves → Type 0
+HasFailed shelf = shelf.faults_before < shelf.faults_after
+
+-- What the trace files of these names answer, where this was gathered of them.
+abbrev pub AnswersGathered : List RosterEntry → List (List ℕ) → Gathered → Status → List ℕ → Type 0
+AnswersGathered listed names (gathered.Traces ts) status text = IsAudited listed ts status text
+AnswersGathered listed names (gathered.Refused place why) status text = (status ≡ status_of_refusal why) × ((name : List ℕ) → slice_get names place ≡ Some name → text ≡ text_of_refusal name why)
+
+-- What they answer behind a roster: what was gathered of them, by which files were loaded, and its answer.
+abbrev pub AnswersFiles : Shelves → Loads → List RosterEntry → List (List ℕ) → Status → List ℕ → Type 0
+AnswersFiles shelf loads listed names status text = (g : Gathered) × (IsGathered shelf.tells shelf.file (HasFailed shelf) (shelf.faults_after ≡ shelf.faults_before) loads listed names g × AnswersGathered listed names g status text)
+
+-- The trace file of a place is refused: those before it were loaded and are traces of distinct nodes of the roster, and none behind it was loaded.
+pub record RefusesTrace (shelf : Shelves) (loads : Loads) (listed : List RosterEntry) (roster : List ℕ) (names : List (List ℕ)) (status : Status) (text : List ℕ) : Type 0 where
+  pub place : ℕ
+  pub why : Refusal
+  pub loaded : HasLoaded loads (roster ∷ take (place + 1) names)
+  pub refused : IsRefusedAt shelf.tells shelf.file (HasFailed shelf) listed names place why
+  pub status_is : status ≡ status_of_refusal why
+  pub text_is : text ≡ text_of_refusal refused.name why
+
+-- All trace files are traces of distinct nodes of the roster, and are audited.
+pub record AuditsTraces (shelf : Shelves) (loads : Loads) (listed : List RosterEntry) (roster : List ℕ) (names : List (List ℕ)) (status : Status) (text : List ℕ) : Type 0 where
+  pub traces : List Trace
+  pub loaded : HasLoaded loads (roster ∷ names)
+  pub handed : AreHanded shelf.tells shelf.file names traces
+  pub audited : IsAudited listed traces status text
+
+-- What `audit` answers: the roster is loaded and parsed first, then the trace files one by one, and then they are audited.
+abbrev pub Audits : Shelves → Loads → List ℕ → List (List ℕ) → Status → List ℕ → Type 0
+Audits shelf loads roster names status text =
+    (HasLoaded loads (roster ∷ []) × ((status ≡ Shelf) × (LacksFile shelf roster × (text ≡ shelf_line roster)))) ⊎
+    ((HasLoaded loads (roster ∷ []) × ((status ≡ Input) × WhereTold shelf (HasFile shelf roster (IsNoRoster roster text)))) ⊎
+    ((listed : List RosterEntry) × (WhereTold shelf (HasFile shelf roster (λ bytes. IsRosterText bytes listed)) × (RefusesTrace shelf loads listed roster names status text ⊎ AuditsTraces shelf loads listed roster names status text))))
+
+-- ---- any command
+
+-- what the command answers and prints, and which files it loads, where memory is found and the sink doesn't fail
+abbrev pub Answers : Shelves → Loads → Option Command → Status → List ℕ → Type 0
+Answers shelf loads None status text = HasLoaded loads [] × ((status ≡ Words) × (text ≡ codes "words\n"))
+Answers shelf loads (Some (asked.Scan log key)) status text = HasLoaded loads (log ∷ []) × Scans shelf log key status text
+Answers shelf loads (Some (asked.Key seed height)) status text = HasLoaded loads [] × PrintsKey seed height status text
+Answers shelf loads (Some (asked.Judge roster proof)) status text = Judges shelf loads roster proof status text
+Answers shelf loads (Some (asked.Replay schedule)) status text = HasLoaded loads (schedule ∷ []) × Replays shelf schedule status text
+Answers shelf loads (Some (asked.Load number)) status text = HasLoaded loads [] × PrintsLoad number status text
+Answers shelf loads (Some (asked.Node n)) status text = NodeInputs shelf loads n.roster n.script status text
+Answers shelf loads (Some (asked.Audit roster traces)) status text = Audits shelf loads roster traces status text
+
+-- nothing, or a front of a text of which this holds
+abbrev pub IsFrontOf : (List ℕ → Type 0) → List ℕ → Type 0
+IsFrontOf P text = (text ≡ []) ⊎ ((whole : List ℕ) × ((n : ℕ) × ((text ≡ take n whole) × P whole)))
+
+-- no file was loaded, or that of the name
+abbrev pub LoadsAtMost : Loads → List ℕ → Type 0
+LoadsAtMost loads name = HasLoaded loads [] ⊎ HasLoaded loads (name ∷ [])
+
+-- the same of a roster; or it is one, and the file of the other name was loaded, too
+abbrev pub LoadsBehindRoster : Shelves → Loads → List ℕ → List ℕ → Type 0
+LoadsBehindRoster shelf loads roster other = LoadsAtMost loads roster ⊎ (HasLoaded loads (roster ∷ other ∷ []) × WhereTold shelf (HasRoster shelf roster))
+
+-- no more than the roster was loaded; or it is one, and some first ones of the files of these names were loaded, too
+abbrev pub LoadsSomeBehindRoster : Shelves → Loads → List ℕ → List (List ℕ) → Type 0
+LoadsSomeBehindRoster shelf loads roster names = LoadsAtMost loads roster ⊎ ((n : ℕ) × (HasLoaded loads (roster ∷ take n names) × WhereTold shelf (HasRoster shelf roster)))
+
+-- what had been loaded when memory ran out: the first of the files that the words name
+abbrev pub LoadsFirst : Shelves → Loads → Option Command → Type 0
+LoadsFirst shelf loads (Some (asked.Scan log key)) = LoadsAtMost loads log
+LoadsFirst shelf loads (Some (asked.Judge roster proof)) = LoadsBehindRoster shelf loads roster proof
+LoadsFirst shelf loads (Some (asked.Replay schedule)) = LoadsAtMost loads schedule
+LoadsFirst shelf loads (Some (asked.Node n)) = LoadsBehindRoster shelf loads n.roster n.script
+LoadsFirst shelf loads (Some (asked.Audit roster traces)) = LoadsSomeBehindRoster shelf loads roster traces
+LoadsFirst shelf loads command = HasLoaded loads []
+
+-- what had been loaded and written when memory ran out: no text, or a front of the transcript that `replay` writes line by line
+abbrev pub Begins : Shelves → Loads → Option Command → List ℕ → Type 0
+Begins shelf loads (Some (asked.Replay schedule)) text = LoadsAtMost loads schedule × IsFrontOf (Answers shelf loads (Some (asked.Replay schedule)) Done) text
+Begins shelf loads command text = LoadsFirst shelf loads command × (text ≡ [])
+
+-- ---- how a run ends
+
+-- the run ended as the command answers, and its whole text was written
+pub record EndsWhole (answers : Status → List ℕ → Type 0) (sink : Sinks) (status : Status) : Type 0 where
+  pub text : List ℕ
+  pub answered : answers status text
+  pub wrote : Wrote sink text
+
+-- memory ran out when this had been written
+pub record EndsWithoutMemory (begins : List ℕ → Type 0) (sink : Sinks) (status : Status) : Type 0 where
+  pub is : status ≡ Memory
+  pub text : List ℕ
+  pub begun : begins text
+  pub wrote : Wrote sink text
+
+-- the sink failed in this run: a prefix of the text that the command answers went out
+pub record EndsCutShort (answers : Status → List ℕ → Type 0) (sink : Sinks) (status : Status) : Type 0 where
+  pub is : status ≡ Sink
+  pub rose : sink.faults_before < sink.faults_after
+  pub answer : Status
+  pub text : List ℕ
+  pub answered : answers answer text
+  pub wrote : WroteFront sink text
+
+-- How a run ends.
+abbrev pub Ends : (Status → List ℕ → Type 0) → (List ℕ → Type 0) → Sinks → Status → Type 0
+Ends answers begins sink status = EndsWhole answers sink status ⊎ (EndsWithoutMemory begins sink status ⊎ EndsCutShort answers sink status)
+
+-- how a run ends that writes at once the text that it came to
+abbrev pub Finishes : Result Outcome absent.Memory → Sinks → Status → Type 0
+Finishes (Ok o) sink status = Ends (λ answer text. (answer ≡ o.status) × (text ≡ o.text)) (λ text. text ≡ []) sink status
+Finishes (Err e) sink status = EndsWithoutMemory (λ text. text ≡ []) sink status
+
+-- how a run ends that plays a schedule: the whole transcript is written, or a front of it
+abbrev pub Plays : Schedule → Sinks → Status → Type 0
+Plays s sink status = Ends (λ answer text. (answer ≡ Done) × (text ≡ transcript_of s)) (λ text. (n : ℕ) × (text ≡ take n (transcript_of s))) sink status
+
+-- ---- what nothing stands in the way of
+
+-- no count of faults rose in this run, and the shelf tells its files
+pub record IsWell (shelf : Shelves) (sink : Sinks) : Type 0 where
+  pub tells : IsTrue shelf.tells
+  pub shelf_is_well : shelf.faults_after ≡ shelf.faults_before
+  pub sink_is_well : sink.faults_after ≡ sink.faults_before
+
+-- the bytes are a log in which every parent stands before its child
+pub record IsWholeLog (bytes : List ℕ) : Type 0 where
+  pub updates : List Update
+  pub log : IsLog bytes updates
+  pub whole : first_orphan updates ≡ None
+
+-- the bytes are the text of a schedule
+abbrev pub IsScheduleText : List ℕ → Type 0
+IsScheduleText bytes = (s : Schedule) × IsTextOf bytes s
+
+-- the files of these names are traces
+abbrev pub AreTraceFiles : Shelves → List (List ℕ) → List Trace → Type 0
+AreTraceFiles shelf names ts = AreHanded true shelf.file names ts × AllByRecursion IsTrace ts
+
+-- of distinct nodes of the roster
+abbrev pub AreOfRoster : List RosterEntry → List Trace → Type 0
+AreOfRoster listed ts = AllByRecursion (λ t. has_node listed t.node ≡ true) ts × AreDistinct (nodes_of ts)
+
+-- what such a run comes to, where its files are there and in their grammars; Memory may stand in place of each status. Of `node` it is said beside its runs.
+abbrev pub Completes : Shelves → Option Command → Status → Type 0
+Completes shelf None status = (status ≡ Words) ⊎ (status ≡ Memory)
+Completes shelf (Some (asked.Scan log key)) status = HasFile shelf log IsWholeLog → (status ≡ Done) ⊎ (status ≡ Memory)
+Completes shelf (Some (asked.Key seed height)) status = (status ≡ Done) ⊎ (status ≡ Memory)
+Completes shelf (Some (asked.Judge roster proof)) status = HasRoster shelf roster → HasFile shelf proof (λ bytes. Unit {0}) → (status ≡ Done) ⊎ ((status ≡ NoProof) ⊎ (status ≡ Memory))
+Completes shelf (Some (asked.Load number)) status = (status ≡ Done) ⊎ (status ≡ Memory)
+Completes shelf (Some (asked.Node n)) status = Unit {0}
+Completes shelf (Some (asked.Audit roster names)) status = (listed : List RosterEntry) (ts : List Trace) → HasFile shelf roster (λ bytes. IsRosterText bytes listed) → AreTraceFiles shelf names ts → AreOfRoster listed ts → (status ≡ Done) ⊎ ((status ≡ Broken) ⊎ (status ≡ Memory))
+Completes shelf (Some (asked.Replay schedule)) status = HasFile shelf schedule IsScheduleText → (status ≡ Done) ⊎ (status ≡ Memory)

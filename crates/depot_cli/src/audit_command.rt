@@ -1,0 +1,137 @@
+//! `audit ROSTER TRACE..`: whether what nodes did keeps the headline.
+ghost use Rattle.std.specs.Prelude.{◌≡◌, ◌≤◌, ◌++◌, ℕ, length, take, IfOk, IsOk, codes};
+ghost use Rattle.std.specs.Fmt.{decimal};
+ghost use Rattle.depot_answers.specs.Answers.{text_of_finding};
+ghost use Rattle.depot_outside.specs.Told.{HasLoaded, shelves, loads};
+ghost use Rattle.depot_traces.specs.SeenTraces.{finding_of};
+ghost use Rattle.depot_traces.specs.declared.trace.TheConstants.{MOST_TRACES};
+ghost use Rattle.depot_trace_files.specs.Handing.{AreForAudit};
+ghost use Rattle.depot_cli.specs.Runs.{AnswersFiles, Audits, EndsAtFault, IsAudited, LoadsSomeBehindRoster, status_of_finding, status_of_refusal, text_of_refusal};
+
+use crate::files::load;
+use crate::judge_command::{line, refused_roster};
+use crate::outcome::Outcome;
+use crate::status::Status;
+use crate::trace_names::TraceNames;
+use depot_answers::finding;
+use depot_audit::audit as audit_traces;
+use depot_base::{Bytes, Memory, NodeId};
+use depot_outside::Shelf;
+use depot_script::FileName;
+use depot_sign::Roster;
+use depot_trace_files::{Gathered, Refusal, gather};
+use depot_traces::{Finding, Traces};
+use depot_winter::WinterScheme;
+use std::alloc::Global;
+
+/// The status of what an audit finds.
+fn status_of(found: &Finding) -> Status
+    ensures { result ≡ status_of_finding (finding_of found.now) }
+{
+    match found {
+        Finding::Yes => Status::Done,
+        _ => Status::Broken,
+    }
+}
+
+/// What an audit finds, printed.
+fn found_line(alloc: Global, found: Finding) -> Result<Outcome, Memory>
+    ensures { IfOk result (λ o. o ≡ record { status = status_of_finding (finding_of found); text = text_of_finding (finding_of found) ++ codes "\n" }) }
+{
+    let mut text = Bytes::new(alloc);
+    finding(alloc, &mut text, found)?;
+    line(status_of(&found), text)
+}
+
+/// What an audit finds, printed, where memory was found for it.
+fn found_or_none(alloc: Global, found: Result<Finding, Memory>) -> Result<Outcome, Memory>
+    ensures printed { IfOk result (λ o. IfOk found (λ f. o ≡ record { status = status_of_finding (finding_of f); text = text_of_finding (finding_of f) ++ codes "\n" })) }
+    ensures some { IfOk result (λ _. IsOk found) }
+{
+    match found {
+        Ok(found) => found_line(alloc, found),
+        Err(Memory) => Err(Memory),
+    }
+}
+
+/// What an audit of traces finds, printed.
+fn audited(alloc: Global, roster: &Roster, traces: &Traces) -> Result<Outcome, Memory>
+    requires some { 1 ≤ length traces.now }
+    requires few { length traces.now ≤ MOST_TRACES }
+    requires traces { AreForAudit roster.now traces.now }
+    ensures { IfOk result (λ o. IsAudited roster.now traces.now o.status o.text) }
+{
+    found_or_none(alloc, audit_traces(alloc, roster, &WinterScheme, traces))
+}
+
+/// The file of that name isn't in its grammar from this offset on, printed.
+fn ill_formed(alloc: Global, name: &str, at: u64) -> Result<Outcome, Memory>
+    ensures { IfOk result (λ o. o ≡ record { status = Status.Input; text = codes "input " ++ name.now ++ codes " at " ++ decimal at ++ codes "\n" }) }
+{
+    let line = format!(in alloc; "input {name} at {at}\n")?;
+    Outcome::of_line(alloc, Status::Input, line.as_str())
+}
+
+/// The file of that name has the trace of a node of which a file before it has one, printed.
+fn twice(alloc: Global, name: &str, node: NodeId) -> Result<Outcome, Memory>
+    ensures { IfOk result (λ o. o ≡ record { status = Status.Input; text = codes "input " ++ name.now ++ codes " twice " ++ decimal node ++ codes "\n" }) }
+{
+    let node = node.number();
+    let line = format!(in alloc; "input {name} twice {node}\n")?;
+    Outcome::of_line(alloc, Status::Input, line.as_str())
+}
+
+/// Why the file of that name is no trace for the audit, printed.
+fn refused(alloc: Global, name: &str, why: Refusal) -> Result<Outcome, Memory>
+    ensures { IfOk result (λ o. o ≡ record { status = status_of_refusal why; text = text_of_refusal name.now why }) }
+{
+    match why {
+        Refusal::Missing => Outcome::no_file(alloc, name),
+        Refusal::IllFormed(at) => ill_formed(alloc, name, at),
+        Refusal::Twice(node) => twice(alloc, name, node),
+        Refusal::Stranger => ill_formed(alloc, name, 2),
+    }
+}
+
+/// What the trace files of these names come to under a roster. They are loaded one by one, up to the first that is refused.
+fn audit_files<F: Shelf>(
+    alloc: Global,
+    shelf: &mut F,
+    roster: &Roster,
+    names: &[FileName],
+) -> Result<Outcome, Memory>
+    requires some { 1 ≤ length names.now }
+    requires few { length names.now ≤ MOST_TRACES }
+    ensures answers { IfOk result (λ o. AnswersFiles (shelves F.Shelf shelf.old shelf.new) (loads F.Shelf shelf.old shelf.new) roster.now names.now o.status o.text) }
+    ensures first_fault { IfOk result (λ o. EndsAtFault (shelves F.Shelf shelf.old shelf.new) o.status) }
+    ensures loads { (n : ℕ) × HasLoaded (loads F.Shelf shelf.old shelf.new) (take n names.now) }
+    ensures files { F.file shelf.new ≡ F.file shelf.old }
+    ensures stores { F.stores shelf.new ≡ F.stores shelf.old }
+{
+    match gather(alloc, shelf, roster, names)? {
+        Gathered::Traces(traces) => audited(alloc, roster, &traces),
+        Gathered::Refused { place, why } => refused(alloc, names[place as usize].text(), why),
+    }
+}
+
+/// What an audit of the traces of these names under the roster of another comes to. The roster is loaded and parsed first.
+pub fn audit<F: Shelf>(
+    alloc: Global,
+    shelf: &mut F,
+    roster: &str,
+    traces: &TraceNames,
+) -> Result<Outcome, Memory>
+    ensures audits { IfOk result (λ o. Audits (shelves F.Shelf shelf.old shelf.new) (loads F.Shelf shelf.old shelf.new) roster.now traces.now o.status o.text) }
+    ensures first_fault { IfOk result (λ o. EndsAtFault (shelves F.Shelf shelf.old shelf.new) o.status) }
+    ensures loads { LoadsSomeBehindRoster (shelves F.Shelf shelf.old shelf.new) (loads F.Shelf shelf.old shelf.new) roster.now traces.now }
+    ensures files { F.file shelf.new ≡ F.file shelf.old }
+    ensures stores { F.stores shelf.new ≡ F.stores shelf.old }
+{
+    let Some(text) = load(shelf, roster)? else {
+        return Outcome::no_file(alloc, roster);
+    };
+    match Roster::parse(alloc, text.as_slice()) {
+        Ok(listed) => audit_files(alloc, shelf, &listed, traces.as_slice()),
+        Err(error) => refused_roster(alloc, roster, error),
+    }
+}

@@ -1,0 +1,34 @@
+//! The commands of the program: [`depot`] reads words, does what they ask for over a shelf, a disk and a sink, and says how the run
+//! ended.
+//!
+//! All that the program does is said by the contract of `depot` in `top.rt`, over any shelf, disk and sink; `depot_tool` gives it the
+//! real ones. `specs/Words.antt` says which words are a command, `Runs.antt` and `Nodes.antt` what each command answers and prints,
+//! and `Statuses.antt` the exit statuses.
+//!
+//! `scan_command`, `key_command`, `judge_command`, `replay_command`, `load_command` (for `files`) and `node_command` do a command each. `word`,
+//! `given_words`, `height` and `invocation` read words; `files` loads a file, and `outcome` and `status` say what came of a run.
+//!
+//! Nothing here decides what a log, a proof, a schedule or a script means.
+#![tactic(auto)]
+
+mod audit_command;
+mod files;
+mod given_words;
+mod height;
+mod invocation;
+mod judge_command;
+mod key_command;
+mod load_command;
+mod load_run;
+mod node_command;
+mod outcome;
+mod replay_command;
+mod scan_command;
+mod status;
+mod top;
+mod trace_names;
+mod word;
+
+pub use status::Status;
+pub use top::depot;
+pub use word::Word;

@@ -1,0 +1,104 @@
+//! `node ROSTER SEED HEIGHT ID SCRIPT`: a script is run on a node over the disk.
+ghost use Rattle.std.specs.Prelude.{◌≡◌, ◌<◌, ◌⊎◌, List, ℕ, Some};
+ghost use Rattle.depot_outside.specs.Told.{disks, loads, shelves, sinks};
+ghost use Rattle.depot_session.specs.ScriptTelling.{asked};
+ghost use Rattle.depot_cli.specs.Nodes.{Results, RunsBytes, RunsFile};
+ghost use Rattle.depot_cli.specs.Runs.{EndsAtFault};
+
+use crate::files::load;
+use crate::invocation::{Command, NodeWords};
+use crate::judge_command::refused_roster;
+use crate::outcome::{Outcome, finish};
+use crate::status::Status;
+use depot_base::Memory;
+use depot_outside::{Disk, Shelf, Sink};
+use depot_script::{ScriptError, parse_script};
+use depot_session::run;
+use depot_sign::Roster;
+use depot_winter::{WinterScheme, WinterSigner};
+use std::alloc::Global;
+
+/// Runs the script of these bytes on a node of a roster, or prints where they are none, and says how the run ended.
+fn run_bytes<F: Shelf, D: Disk, S: Sink>(
+    alloc: Global,
+    words: &NodeWords,
+    roster: Roster,
+    bytes: &[u8],
+    shelf: &mut F,
+    disk: &mut D,
+    out: &mut S,
+) -> Status
+    ensures runs { RunsBytes roster words.now bytes.now (disks D.Disk disk.old disk.new) (shelves F.Shelf shelf.old shelf.new) (loads F.Shelf shelf.old shelf.new) (asked F.Shelf shelf.old shelf.new) (sinks S.Sink out.old out.new) (disk.new ≡ disk.old) ((F.file shelf.new ≡ F.file shelf.old) × (F.stores shelf.new ≡ F.stores shelf.old)) result }
+    ensures first_fault { (result ≡ Status.Sink) ⊎ ((result ≡ Status.Memory) ⊎ EndsAtFault (shelves F.Shelf shelf.old shelf.new) result) }
+    ensures sink_fault { S.faults out.old < S.faults out.new → result ≡ Status.Sink }
+    ensures disk_fault { D.faults disk.old < D.faults disk.new → (result ≡ Status.Disk) ⊎ ((result ≡ Status.Sink) ⊎ (result ≡ Status.Memory)) }
+{
+    let script = match parse_script(alloc, bytes) {
+        Ok(script) => script,
+        Err(ScriptError::Memory) => return Status::Memory,
+        Err(ScriptError::Line(number, fault)) => {
+            let told = Outcome::faulty_line(alloc, words.script.text(), number, fault);
+            return finish(told, out);
+        }
+    };
+    let Ok(signer) = WinterSigner::from_seed(alloc, &words.seed, words.height.number()) else {
+        return Status::Memory;
+    };
+    Status::of(run(
+        alloc,
+        disk,
+        roster,
+        WinterScheme,
+        signer,
+        words.id,
+        &script,
+        shelf,
+        out,
+    ))
+}
+
+/// Runs the script of the words on a node of a roster, and says how the run ended.
+fn run_file<F: Shelf, D: Disk, S: Sink>(
+    alloc: Global,
+    words: &NodeWords,
+    roster: Roster,
+    shelf: &mut F,
+    disk: &mut D,
+    out: &mut S,
+) -> Status
+    ensures runs { RunsFile roster words.now (disks D.Disk disk.old disk.new) (shelves F.Shelf shelf.old shelf.new) (loads F.Shelf shelf.old shelf.new) (asked F.Shelf shelf.old shelf.new) (sinks S.Sink out.old out.new) (disk.new ≡ disk.old) ((F.file shelf.new ≡ F.file shelf.old) × (F.stores shelf.new ≡ F.stores shelf.old)) result }
+    ensures first_fault { (result ≡ Status.Sink) ⊎ ((result ≡ Status.Memory) ⊎ EndsAtFault (shelves F.Shelf shelf.old shelf.new) result) }
+    ensures sink_fault { S.faults out.old < S.faults out.new → result ≡ Status.Sink }
+    ensures disk_fault { D.faults disk.old < D.faults disk.new → (result ≡ Status.Disk) ⊎ ((result ≡ Status.Sink) ⊎ (result ≡ Status.Memory)) }
+{
+    match load(shelf, words.script.text()) {
+        Ok(Some(bytes)) => run_bytes(alloc, words, roster, bytes.as_slice(), shelf, disk, out),
+        Ok(None) => finish(Outcome::no_file(alloc, words.script.text()), out),
+        Err(Memory) => Status::Memory,
+    }
+}
+
+/// Runs the node of the words, and says how the run ended. The roster is loaded and parsed first, and then the script; the disk is touched
+/// after that.
+pub fn node<F: Shelf, D: Disk, S: Sink>(
+    alloc: Global,
+    words: &NodeWords,
+    shelf: &mut F,
+    disk: &mut D,
+    out: &mut S,
+) -> Status
+    ensures results { Results (disks D.Disk disk.old disk.new) (shelves F.Shelf shelf.old shelf.new) (loads F.Shelf shelf.old shelf.new) (asked F.Shelf shelf.old shelf.new) (sinks S.Sink out.old out.new) (disk.new ≡ disk.old) ((F.file shelf.new ≡ F.file shelf.old) × (F.stores shelf.new ≡ F.stores shelf.old)) (Some (Command.Node words.now)) result }
+    ensures first_fault { (result ≡ Status.Sink) ⊎ ((result ≡ Status.Memory) ⊎ EndsAtFault (shelves F.Shelf shelf.old shelf.new) result) }
+    ensures sink_fault { S.faults out.old < S.faults out.new → result ≡ Status.Sink }
+    ensures disk_fault { D.faults disk.old < D.faults disk.new → (result ≡ Status.Disk) ⊎ ((result ≡ Status.Sink) ⊎ (result ≡ Status.Memory)) }
+{
+    let text = match load(shelf, words.roster.text()) {
+        Ok(Some(text)) => text,
+        Ok(None) => return finish(Outcome::no_file(alloc, words.roster.text()), out),
+        Err(Memory) => return Status::Memory,
+    };
+    match Roster::parse(alloc, text.as_slice()) {
+        Ok(roster) => run_file(alloc, words, roster, shelf, disk, out),
+        Err(error) => finish(refused_roster(alloc, words.roster.text(), error), out),
+    }
+}

@@ -1,0 +1,73 @@
+//! How a run ends.
+ghost use Rattle.std.specs.Prelude.{◌≡◌};
+ghost use Rattle.depot_cli.specs.Statuses.{number_of_status, status_of};
+
+use depot_session::Ending;
+
+/// How a run ends.
+#[derive(Clone, Copy, Debug, PartialEq, Eq)]
+pub enum Status {
+    /// The command did what it says.
+    Done,
+    /// The words are no command.
+    Words,
+    /// A file that the words name, or one that a script opens, signs, trims by or takes, isn't in its grammar.
+    Input,
+    /// A file isn't on the shelf, or the shelf failed.
+    Shelf,
+    /// The disk failed.
+    Disk,
+    /// The sink failed: a prefix of the text went out.
+    Sink,
+    /// No memory was found.
+    Memory,
+    /// The text proves no contradiction.
+    NoProof,
+    /// A node met a limit.
+    Limit,
+    /// A log or journal isn't lawful.
+    NotLawful,
+    /// The node, its key or a roster is another, that of a script's hello or checkpoint too.
+    Identity,
+    /// What nodes did doesn't keep the headline: an audit found what fails first.
+    Broken,
+}
+
+impl Status {
+    /// How the run of a script ends, as a status.
+    pub fn of(ending: Ending) -> Status
+        ensures { result ≡ status_of ending }
+    {
+        match ending {
+            Ending::Done => Status::Done,
+            Ending::Input => Status::Input,
+            Ending::Shelf => Status::Shelf,
+            Ending::Disk => Status::Disk,
+            Ending::Sink => Status::Sink,
+            Ending::Memory => Status::Memory,
+            Ending::Limit => Status::Limit,
+            Ending::NotLawful => Status::NotLawful,
+            Ending::Identity => Status::Identity,
+        }
+    }
+
+    /// The exit status of the program.
+    pub fn number(self) -> u8
+        ensures { result ≡ number_of_status self }
+    {
+        match self {
+            Status::Done => 0,
+            Status::Words => 1,
+            Status::Input => 2,
+            Status::Shelf => 3,
+            Status::Disk => 4,
+            Status::Sink => 5,
+            Status::Memory => 6,
+            Status::NoProof => 7,
+            Status::Limit => 8,
+            Status::NotLawful => 9,
+            Status::Identity => 10,
+            Status::Broken => 11,
+        }
+    }
+}

@@ -1,0 +1,89 @@
+//! The top call.
+ghost use Rattle.std.specs.Prelude.{◌≡◌, ◌<◌, ◌⊎◌, Some};
+ghost use Rattle.depot_cli.specs.Words.{command_of};
+ghost use Rattle.depot_outside.specs.Told.{disks, shelves, loads, sinks};
+ghost use Rattle.depot_session.specs.ScriptTelling.{asked};
+ghost use Rattle.depot_cli.specs.Nodes.{CompletesNode, IsWellDisk, Results};
+ghost use Rattle.depot_cli.specs.Runs.{EndsAtFault, IsWell, Completes};
+
+use crate::audit_command::audit;
+use crate::invocation::{Command, parse};
+use crate::judge_command::judge;
+use crate::key_command::key;
+use crate::load_command::summed_up;
+use crate::node_command::node;
+use crate::outcome::{Outcome, finish};
+use crate::replay_command::replay;
+use crate::scan_command::scan;
+use crate::status::Status;
+use crate::word::Word;
+use depot_base::Memory;
+use depot_outside::{Disk, Shelf, Sink};
+use std::alloc::Global;
+
+/// Does what a command asks for, and says how the run ended.
+fn run<F: Shelf, D: Disk, S: Sink>(
+    alloc: Global,
+    command: &Command,
+    shelf: &mut F,
+    disk: &mut D,
+    out: &mut S,
+) -> Status
+    ensures results { Results (disks D.Disk disk.old disk.new) (shelves F.Shelf shelf.old shelf.new) (loads F.Shelf shelf.old shelf.new) (asked F.Shelf shelf.old shelf.new) (sinks S.Sink out.old out.new) (disk.new ≡ disk.old) ((F.file shelf.new ≡ F.file shelf.old) × (F.stores shelf.new ≡ F.stores shelf.old)) (Some command.now) result }
+    ensures first_fault { (result ≡ Status.Sink) ⊎ ((result ≡ Status.Memory) ⊎ EndsAtFault (shelves F.Shelf shelf.old shelf.new) result) }
+    ensures sink_fault { S.faults out.old < S.faults out.new → result ≡ Status.Sink }
+    ensures disk_fault { D.faults disk.old < D.faults disk.new → (result ≡ Status.Disk) ⊎ ((result ≡ Status.Sink) ⊎ (result ≡ Status.Memory)) }
+{
+    match command {
+        Command::Scan(log, key) => finish(scan(alloc, shelf, log.text(), key), out),
+        Command::Key(seed, height) => finish(key(alloc, seed, *height), out),
+        Command::Judge(roster, proof) => finish(
+            judge(alloc, shelf, roster.text(), proof.text()),
+            out,
+        ),
+        Command::Replay(schedule) => replay(alloc, shelf, schedule.text(), out),
+        Command::Load(number) => finish(summed_up(alloc, *number), out),
+        Command::Node(words) => node(alloc, words, shelf, disk, out),
+        Command::Audit(roster, traces) => {
+            finish(audit(alloc, shelf, roster.text(), traces), out)
+        }
+    }
+}
+
+/// Runs the program: does what the words ask for, writes its text to `out`, and says how the run ended. The first
+/// fault ends the run.
+///
+/// The commands built so far are `scan LOG KEY`, `key SEED HEIGHT`, `judge ROSTER PROOF`, `replay SCHEDULE`, `load NUMBER`,
+/// `node ROSTER SEED HEIGHT ID SCRIPT` and `audit ROSTER TRACE..`; other words are refused as Words. `docs/FORMATS.md` has each text that is
+/// printed, and `docs/PROMISES.md` the clauses in plain words.
+pub fn depot<F: Shelf, D: Disk, S: Sink>(
+    alloc: Global,
+    words: &[Word],
+    shelf: &mut F,
+    disk: &mut D,
+    out: &mut S,
+) -> Status
+    // The run ends as its command answers, with the whole text written; or for want of memory, with nothing written, or
+    // with a front of the transcript that `replay` writes, and no more loaded than the first of the files that its words
+    // name, further ones only behind a roster; or because the sink failed in this run, with a prefix of the text written.
+    // `node` runs its script over the disk, as its record says: images, lines and journal, what the shelf is asked for,
+    // runs cut short. Every other command leaves the disk and the shelf's files as they were, and stores nothing.
+    ensures results { Results (disks D.Disk disk.old disk.new) (shelves F.Shelf shelf.old shelf.new) (loads F.Shelf shelf.old shelf.new) (asked F.Shelf shelf.old shelf.new) (sinks S.Sink out.old out.new) (disk.new ≡ disk.old) ((F.file shelf.new ≡ F.file shelf.old) × (F.stores shelf.new ≡ F.stores shelf.old)) (command_of words.now) result }
+
+    // Where no count of faults rises, each file is there and each is in its grammar, the command does what it says.
+    ensures complete { IsWell (shelves F.Shelf shelf.old shelf.new) (sinks S.Sink out.old out.new) → Completes (shelves F.Shelf shelf.old shelf.new) (command_of words.now) result }
+    ensures complete_node { IsWell (shelves F.Shelf shelf.old shelf.new) (sinks S.Sink out.old out.new) → IsWellDisk (disks D.Disk disk.old disk.new) → CompletesNode (disks D.Disk disk.old disk.new) (shelves F.Shelf shelf.old shelf.new) (command_of words.now) result }
+
+    // Where the shelf failed, nothing else is answered.
+    ensures first_fault { (result ≡ Status.Sink) ⊎ ((result ≡ Status.Memory) ⊎ EndsAtFault (shelves F.Shelf shelf.old shelf.new) result) }
+
+    // Where the sink failed, nothing but Sink is answered, and where the disk failed, nothing but Disk, Sink or Memory.
+    ensures sink_fault { S.faults out.old < S.faults out.new → result ≡ Status.Sink }
+    ensures disk_fault { D.faults disk.old < D.faults disk.new → (result ≡ Status.Disk) ⊎ ((result ≡ Status.Sink) ⊎ (result ≡ Status.Memory)) }
+{
+    match parse(alloc, words) {
+        Ok(Some(command)) => run(alloc, &command, shelf, disk, out),
+        Ok(None) => finish(Outcome::words(alloc), out),
+        Err(Memory) => Status::Memory,
+    }
+}

@@ -1,8 +1,0 @@
-use Rattle.std.proofs.Common.{◌≡◌, ◌++◌, map, take}
-use Rattle.std.specs.List.{flat_map}
-use Rattle.depot_answers.specs.Answers.{text_of_refusal}
-use Rattle.depot_world.specs.Transcript.{ended}
-use Rattle.depot_deeds.proofs.feeds.refused_lines.Given as goal
-
-abbrev pub invariant-loop-one : goal.invariant-loop-one
-invariant-loop-one l = l.lines ≡ l.initial.lines ++ flat_map ended (map text_of_refusal (take l.one-index l.refused))

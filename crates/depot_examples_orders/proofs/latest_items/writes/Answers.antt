@@ -1,4 +1,0 @@
-use Rattle.depot_examples_orders.proofs.latest_items.writes.Goals as goal
-
-pub add-requires-clause-items : goal.add-requires-clause-items
-add-requires-clause-items g c = λ i d inside. tt

@@ -1,7 +1,0 @@
-mod StationReads
-mod ReadsTold
-mod SessionReads
-mod ReadsAndVerdicts
-mod SessionExamples
-mod ShelfExamples
-mod DamageExamples

@@ -1,0 +1,11 @@
+use Rattle.std.proofs.Common.{◌≤◌, map, take}
+use Rattle.depot_model.specs.Bundle.{voucher_frame}
+use Rattle.depot_gossip.specs.Fronts.{AreFrames}
+use Rattle.depot_gossip.proofs.FrontLaws.{vouchers_at}
+use Rattle.depot_gossip.proofs.front.voucher_frames.Given as goal
+
+abbrev pub invariant-loop-place : goal.invariant-loop-place
+invariant-loop-place g l = record {
+  made : AreFrames (map (voucher_frame (g.R.Replica.signature_of l.node)) (vouchers_at (g.R.Replica.records l.node) (take l.place-index l.place-items))) l.frames;
+  few : l.frames.count ≤ l.place-index;
+}

@@ -1,0 +1,22 @@
+-- What stands in front of the updates and values of a bundle.
+use Rattle.std.specs.Prelude.{◌≡◌, ℕ, List, length, map}
+use Rattle.std.specs.List.{flat_map}
+use Rattle.depot_base.specs.declared.record.Record.{Record}
+use Rattle.depot_model.specs.declared.hello.Hello.{Hello}
+use Rattle.depot_model.specs.Frames.{Frame, text_of_frame}
+use Rattle.depot_model.specs.Bundle.{Signs, proof_frame, proofs_for, vouchers_for, voucher_frame}
+use Rattle.depot_gossip.specs.declared.front.BundleFront.{BundleFront}
+use Rattle.depot_gossip.specs.declared.front.FrontFrames.{FrontFrames}
+
+-- These are the frames of the proofs for a hello and of the own vouchers that name one of these ids, as far as these records go,
+-- and how many there are.
+pub record IsFront (sign : Signs) (J : List Record) (h : Hello) (ids : List (List ℕ)) (f : BundleFront) : Type 0 where
+  pub proofs : f.proofs ≡ flat_map text_of_frame (map proof_frame (proofs_for J h))
+  pub proof_count : f.proof_count ≡ length (proofs_for J h)
+  pub vouchers : f.vouchers ≡ flat_map text_of_frame (map (voucher_frame sign) (vouchers_for J ids))
+  pub voucher_count : f.voucher_count ≡ length (vouchers_for J ids)
+
+-- The bytes are those of these frames, and they are counted.
+pub record AreFrames (fs : List Frame) (made : FrontFrames) : Type 0 where
+  pub bytes : made.bytes ≡ flat_map text_of_frame fs
+  pub count : made.count ≡ length fs

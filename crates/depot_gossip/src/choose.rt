@@ -1,0 +1,195 @@
+//! What a bundle sends for a hello.
+ghost use Rattle.std.specs.Prelude.{◌≡◌, ◌++◌, ◌≤◌, List, [], ◌∷◌, false, length, map, nat_lt, Some, OnOk, IfOk, option_to_list, option_copied, slice_get};
+ghost use Rattle.std.specs.List.{AllByRecursion, flat_map};
+ghost use Rattle.sha2.specs.Sha256.{sha256};
+ghost use Rattle.depot_base.specs.declared.limits.TheConstants.{MOST_PAYLOAD, MOST_WRITES};
+ghost use Rattle.depot_base.specs.declared.record.Record.{Record};
+ghost use Rattle.depot_model.specs.Bundle.{Parcel, candidate_parcel, candidate_parcels, wanted_parcel, hashes_of, parcels, sent_for};
+ghost use Rattle.depot_frames.specs.Sendings.{Holds, IsShort, ArePayloads, payloads_of};
+ghost use Rattle.depot_gossip.specs.Choosing.{AddsTo, AddsFound, TellsAt, records_at, AddsHashes, AreHashesOf, value_parcels};
+
+use crate::candidate::{foreign_id, values_behind};
+use crate::hashes::{Hashes, has_hash};
+use depot_base::{Hash32, Ids, Memory};
+use depot_frames::Sending;
+use depot_model::{Hello, HelloLeaves, Peer};
+use std::alloc::Global;
+
+/// The ids of leaves, in their order.
+fn ids_of(alloc: Global, leaves: &HelloLeaves) -> Result<Ids, Memory>
+    ensures { IfOk result (λ ids. ids ≡ map (λ l. l.id) leaves.now) }
+{
+    let mut ids = Ids::new(alloc);
+    for leaf in leaves.as_slice() {
+        ids.push(leaf.id)?;
+    }
+    Ok(ids)
+}
+
+/// Adds an id, if there is one.
+fn push_id(ids: &mut Ids, id: Option<Hash32>) -> Result<(), Memory>
+    ensures { OnOk result (ids.new ≡ ids.old ++ option_to_list id) }
+{
+    match id {
+        Some(id) => ids.push(id),
+        None => Ok(()),
+    }
+}
+
+/// Chooses a candidate: its signed statement, with this text, and the values that were found behind it; and its id, if it is to be
+/// vouched for. Says whether it has room.
+fn add_found(
+    sending: &mut Sending,
+    told: &[u8],
+    found: &[&[u8]],
+    foreign: Option<Hash32>,
+) -> Result<bool, Memory>
+    requires short { IsShort sending.old }
+    requires few { length found.now ≤ MOST_WRITES }
+    requires told { length told.now ≤ MOST_PAYLOAD }
+    requires found { ArePayloads (payloads_of found.now) }
+    ensures { AddsFound sending.old (told.now ∷ []) (payloads_of found.now) (option_to_list foreign) result sending.new }
+{
+    if !sending.add(&[told], found)? {
+        return Ok(false);
+    }
+    push_id(&mut sending.ids, foreign)?;
+    Ok(true)
+}
+
+/// Chooses the candidate of a place, with the held values that it names, but for those whose hashes are among these. Says whether
+/// it has room.
+fn add_candidate<R: Peer>(
+    alloc: Global,
+    sending: &mut Sending,
+    hashes: &mut Hashes,
+    node: &R,
+    place: u32,
+) -> Result<bool, Memory>
+    requires running { R.stopped node.now ≡ false }
+    requires tells { TellsAt (R.records node.now) place }
+    requires short { IsShort sending.old }
+    ensures adds { (xs : List Parcel) (r : Record) → Holds (R.stands node.now).me xs sending.old → slice_get (R.records node.now) place ≡ Some r → AddsTo (R.stands node.now).me (xs ++ candidate_parcel (R.signature_of node.now) (R.records node.now) hashes.old.keys r ∷ []) sending.new result }
+    ensures hashes { (r : Record) → slice_get (R.records node.now) place ≡ Some r → AddsHashes hashes.old.keys (map sha256 (candidate_parcel (R.signature_of node.now) (R.records node.now) hashes.old.keys r).values) result hashes.new.keys }
+{
+    let Some(update) = node.update_at(place) else {
+        unreachable!()
+    };
+    let Some(id) = node.id_at(place) else {
+        unreachable!()
+    };
+    let told = node.signed_text(place)?;
+    let found = values_behind(alloc, node, hashes, update.writes.as_slice())?;
+    let foreign = foreign_id(update, id, node.me());
+    add_found(sending, told.as_slice(), found.as_slice(), foreign)
+}
+
+/// Chooses the candidates of these places, as long as there is room. Says whether all have room.
+fn add_candidates<R: Peer>(
+    alloc: Global,
+    sending: &mut Sending,
+    hashes: &mut Hashes,
+    node: &R,
+    places: &[u32],
+) -> Result<bool, Memory>
+    requires running { R.stopped node.now ≡ false }
+    requires tell { AllByRecursion (TellsAt (R.records node.now)) places.now }
+    requires none { Holds (R.stands node.now).me [] sending.old }
+    requires new { hashes.old.keys ≡ [] }
+    ensures adds { AddsTo (R.stands node.now).me (candidate_parcels (R.signature_of node.now) (R.records node.now) [] (records_at (R.records node.now) places.now)) sending.new result }
+    ensures hashes { AreHashesOf (candidate_parcels (R.signature_of node.now) (R.records node.now) [] (records_at (R.records node.now) places.now)) result hashes.new.keys }
+{
+    for place in places {
+        if !add_candidate(alloc, sending, hashes, node, *place)? {
+            return Ok(false);
+        }
+    }
+    Ok(true)
+}
+
+/// The held value of a hash, unless it is among these.
+fn wanted_value<'n, R: Peer>(node: &'n R, hashes: &Hashes, hash: &Hash32) -> Option<&'n [u8]>
+    requires { R.stopped node.now ≡ false }
+    ensures { wanted_parcel (R.records node.now) hashes.now.keys hash.now ≡ value_parcels (option_copied result) }
+{
+    if has_hash(hashes, hash) {
+        return None;
+    }
+    node.held(hash)
+}
+
+/// Chooses the value of a wanted hash, if it is held and its hash isn't among these. Says whether it has room.
+fn add_wanted_value<R: Peer>(
+    sending: &mut Sending,
+    hashes: &Hashes,
+    node: &R,
+    hash: &Hash32,
+) -> Result<bool, Memory>
+    requires running { R.stopped node.now ≡ false }
+    requires short { IsShort sending.old }
+    ensures { (xs : List Parcel) → Holds (R.stands node.now).me xs sending.old → AddsTo (R.stands node.now).me (xs ++ wanted_parcel (R.records node.now) hashes.now.keys hash.now) sending.new result }
+{
+    match wanted_value(node, hashes, hash) {
+        Some(value) => sending.add(&[], &[value]),
+        None => Ok(true),
+    }
+}
+
+/// Chooses the wanted values that are held and whose hashes aren't among these, as long as there is room. Says whether all have room.
+fn add_wanted<R: Peer>(
+    sending: &mut Sending,
+    hashes: &Hashes,
+    node: &R,
+    wanted: &[Hash32],
+) -> Result<bool, Memory>
+    requires running { R.stopped node.now ≡ false }
+    requires some { (xs : List Parcel) × Holds (R.stands node.now).me xs sending.old }
+    ensures { (xs : List Parcel) → Holds (R.stands node.now).me xs sending.old → AddsTo (R.stands node.now).me (xs ++ flat_map (wanted_parcel (R.records node.now) hashes.now.keys) wanted.now) sending.new result }
+{
+    for hash in wanted {
+        if !add_wanted_value(sending, hashes, node, hash)? {
+            return Ok(false);
+        }
+    }
+    Ok(true)
+}
+
+/// Chooses the candidates of these places, and then the wanted values. Says whether all have room.
+fn add_all<R: Peer>(
+    alloc: Global,
+    sending: &mut Sending,
+    node: &R,
+    places: &[u32],
+    wanted: &[Hash32],
+) -> Result<bool, Memory>
+    requires running { R.stopped node.now ≡ false }
+    requires tell { AllByRecursion (TellsAt (R.records node.now)) places.now }
+    requires none { Holds (R.stands node.now).me [] sending.old }
+    ensures { AddsTo (R.stands node.now).me (candidate_parcels (R.signature_of node.now) (R.records node.now) [] (records_at (R.records node.now) places.now) ++ flat_map (wanted_parcel (R.records node.now) (hashes_of (candidate_parcels (R.signature_of node.now) (R.records node.now) [] (records_at (R.records node.now) places.now)))) wanted.now) sending.new result }
+{
+    let mut hashes = Hashes::new(alloc);
+    if !add_candidates(alloc, sending, &mut hashes, node, places)? {
+        return Ok(false);
+    }
+    add_wanted(sending, &hashes, node, wanted)
+}
+
+/// What a bundle sends for a hello, and whether something is left out.
+pub(crate) fn chosen<R: Peer>(alloc: Global, node: &R, hello: &Hello) -> Result<Sending, Memory>
+    requires { R.stopped node.now ≡ false }
+    ensures holds { IfOk result (λ s. Holds (R.stands node.now).me (sent_for (R.signature_of node.now) (R.records node.now) hello.now) s) }
+    ensures more { IfOk result (λ s. s.more ≡ nat_lt (length (sent_for (R.signature_of node.now) (R.records node.now) hello.now)) (length (parcels (R.signature_of node.now) (R.records node.now) hello.now))) }
+{
+    let ids = ids_of(alloc, &hello.leaves)?;
+    let places = node.candidates(&ids, hello.node)?;
+    let mut sending = Sending::new(alloc);
+    let all = add_all(
+        alloc,
+        &mut sending,
+        node,
+        places.as_slice(),
+        hello.wanted.as_slice(),
+    )?;
+    sending.more = !all;
+    Ok(sending)
+}

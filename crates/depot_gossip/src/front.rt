@@ -1,0 +1,147 @@
+//! What stands in front of the updates and values of a bundle: proofs, and own vouchers.
+ghost use Rattle.std.specs.Prelude.{◌≡◌, ◌<◌, ◌≤◌, ◌+◌, ◌++◌, List, [], ◌∷◌, false, length, map, Some, OnOk, IfOk, slice_get};
+ghost use Rattle.depot_base.specs.declared.limits.TheConstants.{MOST_PAYLOAD, MOST_RECORDS};
+ghost use Rattle.depot_base.specs.declared.record.Record.TheVariants.{OwnVoucher, Conviction};
+ghost use Rattle.depot_base.specs.declared.proof.Proof.{Proof};
+ghost use Rattle.depot_base.specs.declared.voucher.Voucher.{Voucher};
+ghost use Rattle.depot_model.specs.Frames.{Frame};
+ghost use Rattle.depot_model.specs.Bundle.{proof_frame, proofs_for, voucher_frame, vouchers_for};
+ghost use Rattle.depot_model.specs.Texts.{text_of_proof};
+ghost use Rattle.depot_gossip.specs.Fronts.{AreFrames, IsFront};
+
+use depot_base::{Bytes, Ids, Memory};
+use depot_frames::put_frame;
+use depot_model::{Hello, Peer};
+use std::alloc::Global;
+
+/// The frames in front of the updates and values of a bundle.
+#[derive(Drop)]
+pub(crate) struct BundleFront {
+    /// Those of the proofs.
+    pub proofs: Bytes,
+    /// How many these are.
+    pub proof_count: u32,
+    /// Those of the own vouchers.
+    pub vouchers: Bytes,
+    /// How many these are.
+    pub voucher_count: u32,
+}
+
+/// Frames one behind the other, and how many there are.
+#[derive(Drop)]
+pub(crate) struct FrontFrames {
+    pub bytes: Bytes,
+    pub count: u32,
+}
+
+impl FrontFrames {
+    /// Nothing yet. It takes no memory.
+    fn new(alloc: Global) -> FrontFrames
+        ensures { AreFrames [] result }
+    {
+        FrontFrames {
+            bytes: Bytes::new(alloc),
+            count: 0,
+        }
+    }
+
+    /// Adds a frame.
+    fn put(&mut self, tag: u8, payload: &[u8]) -> Result<(), Memory>
+        requires short { length payload.now ≤ MOST_PAYLOAD }
+        requires few { self.old.count < MOST_RECORDS }
+        ensures added { (fs : List Frame) → AreFrames fs self.old → OnOk result (AreFrames (fs ++ (record { tag = tag; payload = payload.now }) ∷ []) self.new) }
+        ensures count { OnOk result (self.new.count ≡ self.old.count + 1) }
+    {
+        put_frame(&mut self.bytes, tag, payload)?;
+        self.count += 1;
+        Ok(())
+    }
+
+    /// Adds the frame of the proof of a place. Its text stands behind the record's tag: nothing is decoded.
+    fn put_proof<R: Peer>(&mut self, node: &R, place: u32) -> Result<(), Memory>
+        requires at { (p : Proof) × (slice_get (R.records node.now) place ≡ Some (Conviction p)) }
+        requires few { self.old.count < MOST_RECORDS }
+        ensures added { (p : Proof) (fs : List Frame) → slice_get (R.records node.now) place ≡ Some (Conviction p) → AreFrames fs self.old → OnOk result (AreFrames (fs ++ proof_frame p ∷ []) self.new) }
+        ensures count { OnOk result (self.new.count ≡ self.old.count + 1) }
+    {
+        self.put(1, proof_text(node, place))
+    }
+
+    /// Adds the frame of the own voucher of a place.
+    fn put_voucher<R: Peer>(&mut self, node: &R, place: u32) -> Result<(), Memory>
+        requires at { (v : Voucher) × (slice_get (R.records node.now) place ≡ Some (OwnVoucher v)) }
+        requires few { self.old.count < MOST_RECORDS }
+        ensures added { (v : Voucher) (fs : List Frame) → slice_get (R.records node.now) place ≡ Some (OwnVoucher v) → AreFrames fs self.old → OnOk result (AreFrames (fs ++ voucher_frame (R.signature_of node.now) v ∷ []) self.new) }
+        ensures count { OnOk result (self.new.count ≡ self.old.count + 1) }
+    {
+        let text = node.signed_text(place)?;
+        self.put(2, text.as_slice())
+    }
+}
+
+/// The text of the proof of a place. It takes no memory.
+fn proof_text<R: Peer>(node: &R, place: u32) -> &[u8]
+    requires { (p : Proof) × (slice_get (R.records node.now) place ≡ Some (Conviction p)) }
+    ensures { (p : Proof) → slice_get (R.records node.now) place ≡ Some (Conviction p) → result.now ≡ text_of_proof p }
+{
+    let text = node.record_text(place);
+    // A record's text has a tag.
+    let [_, proof @ ..] = text else {
+        return text;
+    };
+    proof
+}
+
+/// The frames of the proofs against nodes that a hello doesn't list as convicted.
+fn proof_frames<R: Peer>(alloc: Global, node: &R, hello: &Hello) -> Result<FrontFrames, Memory>
+    requires { R.stopped node.now ≡ false }
+    ensures { IfOk result (AreFrames (map proof_frame (proofs_for (R.records node.now) hello.now))) }
+{
+    let places = node.proof_places(&hello.convicted)?;
+    let mut frames = FrontFrames::new(alloc);
+    for place in places.as_slice() {
+        frames.put_proof(node, *place)?;
+    }
+    Ok(frames)
+}
+
+/// The frames of the own vouchers that name one of these ids.
+fn voucher_frames<R: Peer>(alloc: Global, node: &R, ids: &Ids) -> Result<FrontFrames, Memory>
+    requires { R.stopped node.now ≡ false }
+    ensures { IfOk result (AreFrames (map (voucher_frame (R.signature_of node.now)) (vouchers_for (R.records node.now) ids.now))) }
+{
+    let places = node.voucher_places(ids)?;
+    let mut frames = FrontFrames::new(alloc);
+    for place in places.as_slice() {
+        frames.put_voucher(node, *place)?;
+    }
+    Ok(frames)
+}
+
+impl BundleFront {
+    /// The frames of the proofs for a hello and of the own vouchers that name one of these ids. No other record is looked at.
+    pub(crate) fn of<R: Peer>(
+        alloc: Global,
+        node: &R,
+        hello: &Hello,
+        ids: &Ids,
+    ) -> Result<BundleFront, Memory>
+        requires { R.stopped node.now ≡ false }
+        ensures { IfOk result (λ f. IsFront (R.signature_of node.now) (R.records node.now) hello.now ids.now f) }
+    {
+        let FrontFrames {
+            bytes: proofs,
+            count: proof_count,
+        } = proof_frames(alloc, node, hello)?;
+        let FrontFrames {
+            bytes: vouchers,
+            count: voucher_count,
+        } = voucher_frames(alloc, node, ids)?;
+        Ok(BundleFront {
+            proofs,
+            proof_count,
+            vouchers,
+            voucher_count,
+        })
+    }
+}

@@ -1,0 +1,60 @@
+//! Whether an item is one of some others, or precedes one.
+ghost use Rattle.std.specs.Prelude.{◌≡◌, ◌<◌, ◌↔◌, ℕ, List, length, IsTrue};
+ghost use Rattle.depot_model.specs.Items.{PrecedesAt, children_of};
+ghost use Rattle.depot_model.specs.Lists.{IsIn};
+ghost use Rattle.depot_virtual.specs.Spots.{number_of_chains};
+ghost use Rattle.depot_graph.specs.Kept.{prev_places};
+ghost use Rattle.depot_graph.specs.UpdateRows.{IsJoinedRow};
+ghost use Rattle.depot_graph.specs.PastChains.{IsCovered};
+
+use crate::graph::Graph;
+use depot_base::Steps;
+use depot_model::Past;
+use std::marker::Brand;
+use std::sync::ledger::{Blank, Ledger};
+
+/// Whether the item `a` precedes the item `b`. The step is counted for nobody.
+pub fn precedes(graph: &Graph, a: u32, b: u32) -> bool
+    requires a { a < length (⟦<Graph as Past>⟧.updates graph.now) }
+    requires b { b < length (⟦<Graph as Past>⟧.updates graph.now) }
+    ensures { IsTrue result ↔ PrecedesAt (⟦<Graph as Past>⟧.updates graph.now) a b }
+{
+    precedes_with::<Brand>(graph, a, b, Blank::new(1))
+}
+
+/// The same, where the step goes into a ledger that is still blank.
+fn precedes_with<L: Ledger>(graph: &Graph, a: u32, b: u32, blank: Blank) -> bool
+    requires name { blank.name ≡ L.name }
+    requires parts { blank.parts ≡ L.parts }
+    requires some { 0 < blank.parts }
+    requires a { a < length (⟦<Graph as Past>⟧.updates graph.now) }
+    requires b { b < length (⟦<Graph as Past>⟧.updates graph.now) }
+    ensures { IsTrue result ↔ PrecedesAt (⟦<Graph as Past>⟧.updates graph.now) a b }
+{
+    let mut steps = Steps::<L>::new(blank);
+    graph.before(a, b, &mut steps)
+}
+
+/// Whether a row that joins those of some items counts this one: whether it is one of them, or precedes one.
+pub fn is_covered(graph: &Graph, row: &[u32], item: u32) -> bool
+    requires item { item < length (⟦<Graph as Past>⟧.updates graph.now) }
+    requires row { length row.now ≡ number_of_chains (prev_places (⟦<Graph as Past>⟧.updates graph.now)) }
+    ensures { (items : List ℕ) → IsJoinedRow (⟦<Graph as Past>⟧.updates graph.now) items row.now → (IsTrue result ↔ IsCovered (⟦<Graph as Past>⟧.updates graph.now) items item) }
+{
+    let spot = graph.spot(item);
+    spot.place < row[spot.chain as usize]
+}
+
+/// Whether such a row counts one of the items whose prev is this one.
+pub fn has_covered_child(graph: &Graph, row: &[u32], item: u32) -> bool
+    requires item { item < length (⟦<Graph as Past>⟧.updates graph.now) }
+    requires row { length row.now ≡ number_of_chains (prev_places (⟦<Graph as Past>⟧.updates graph.now)) }
+    ensures { (items : List ℕ) → IsJoinedRow (⟦<Graph as Past>⟧.updates graph.now) items row.now → (IsTrue result ↔ ((child : ℕ) × (IsIn child (children_of (⟦<Graph as Past>⟧.updates graph.now) item) × IsCovered (⟦<Graph as Past>⟧.updates graph.now) items child))) }
+{
+    for child in graph.children(item) {
+        if is_covered(graph, row, *child) {
+            return true;
+        }
+    }
+    false
+}

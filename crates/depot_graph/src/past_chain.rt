@@ -1,0 +1,52 @@
+//! The leaves of a past, by the chains of the forest by prev.
+ghost use Rattle.std.specs.Prelude.{◌≡◌, ◌<◌, ◌≤◌, ◌↔◌, ℕ, length, IfOk, IfSome, IfNone, slice_index};
+ghost use Rattle.std.specs.List.{AllByRecursion};
+ghost use Rattle.depot_model.specs.Lists.{IsIn};
+ghost use Rattle.depot_virtual.specs.Spots.{number_of_chains};
+ghost use Rattle.depot_graph.specs.Kept.{prev_places};
+ghost use Rattle.depot_graph.specs.PastChains.{IsLast, IsLastCounted};
+
+use crate::covered::has_covered_child;
+use crate::graph::Graph;
+use depot_base::Memory;
+use depot_model::Past;
+use std::alloc::Global;
+
+/// The last item of a chain that stands before this place, if one does.
+fn last_before(graph: &Graph, chain: u32, place: u32) -> Option<u32>
+    requires { chain < number_of_chains (prev_places (⟦<Graph as Past>⟧.updates graph.now)) }
+    ensures some { IfSome result (IsLastCounted (⟦<Graph as Past>⟧.updates graph.now) chain place) }
+    ensures none { IfNone result (place ≡ 0) }
+{
+    if place == 0 {
+        return None;
+    }
+    let mut item = graph.tip(chain);
+    while graph.spot(item).place >= place {
+        item = graph.prev(item)?;
+    }
+    Some(item)
+}
+
+/// The leaves of what these items are with all that precedes one of them: of each chain at most one, the last item that their
+/// joined row counts.
+pub fn leaves_of_past(alloc: Global, graph: &Graph, items: &[u32]) -> Result<Vec<u32>, Memory>
+    requires { AllByRecursion (λ item. item < length (⟦<Graph as Past>⟧.updates graph.now)) items.now }
+    ensures leaves { IfOk result (λ found. (n : ℕ) → n < length (⟦<Graph as Past>⟧.updates graph.now) → (IsIn n found.items ↔ IsLast (⟦<Graph as Past>⟧.updates graph.now) items.now n)) }
+    ensures inside { IfOk result (λ found. AllByRecursion (λ item. item < length (⟦<Graph as Past>⟧.updates graph.now)) found.items) }
+{
+    let mut found = Vec::new(alloc);
+    if items.is_empty() {
+        return Ok(found);
+    }
+    let row = graph.joined_row(items)?;
+    for chain in 0..graph.chain_count() {
+        let Some(item) = last_before(graph, chain, row[chain as usize]) else {
+            continue;
+        };
+        if !has_covered_child(graph, row.as_slice(), item) {
+            found.push(item)?;
+        }
+    }
+    Ok(found)
+}

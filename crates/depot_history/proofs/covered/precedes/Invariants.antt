@@ -1,4 +1,0 @@
-use Rattle.depot_history.proofs.covered.precedes.Given as goal
-
-abbrev pub ghosts-precedes_with : goal.ghosts-precedes_with
-ghosts-precedes_with a = record { name = a.blank.name; parts = a.blank.parts }

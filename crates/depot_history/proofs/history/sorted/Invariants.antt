@@ -1,8 +1,0 @@
-use Rattle.std.proofs.Common.{◌≡◌, map, take}
-use Rattle.depot_model.specs.History.{by_id}
-use Rattle.depot_graph.specs.Kept.{updates_in}
-use Rattle.depot_history.specs.PastLeaves.{leaf_in, standing}
-use Rattle.depot_history.proofs.history.sorted.Given as goal
-
-abbrev pub invariant-loop-item : goal.invariant-loop-item
-invariant-loop-item l = l.leaves.keys ≡ map (leaf_in (updates_in l.graph.items.entries)) (by_id (standing (updates_in l.graph.items.entries) (take l.item-index l.items)))

@@ -1,0 +1,185 @@
+//! What the lines of a transcript tell.
+ghost use Rattle.std.specs.Prelude.{◌≡◌, None, Some, IfOk, MatchOption};
+ghost use Rattle.depot_schedule.specs.Language.{split};
+ghost use Rattle.depot_schedule.specs.Readers.{behind_spaces};
+ghost use Rattle.depot_load.specs.TranscriptLines.{hello_in, is_pair, named_number, report_in, told_by, told_by_put, told_of, told_lines_of};
+
+use depot_base::{Bytes, Memory};
+use depot_schedule::lines::{Parts, word};
+use depot_schedule::spelling::{is, number_word};
+use std::alloc::Global;
+
+/// The greatest number of a transcript.
+const MOST: u64 = 9_223_372_036_854_775_807;
+
+/// What a line of a transcript tells of a load.
+#[derive(Debug, Drop)]
+pub enum TranscriptLine {
+    /// A put was done.
+    Put,
+    /// A key was read.
+    Read {
+        /// The key, as it was written.
+        key: Bytes,
+        /// What stands behind the arrow.
+        writes: Bytes,
+    },
+    /// A stream was taken.
+    Report {
+        /// How many of its frames were new.
+        accepted: u64,
+        /// How many were known.
+        known: u64,
+        /// How many were refused.
+        refused: u64,
+    },
+    /// A hello was made.
+    Hello {
+        /// How many nodes it names as convicted.
+        convicted: u64,
+    },
+    /// Nothing that is summed up.
+    Other,
+}
+
+/// Whether a word is two numbers with a slash between them.
+fn is_pair(word: &[u8]) -> bool
+    ensures { result ≡ is_pair word.now }
+{
+    let mut parts = Parts::new(word, b'/');
+    let Some(seq) = parts.next() else {
+        return false;
+    };
+    let Some(clock) = parts.next() else {
+        return false;
+    };
+    parts.is_done() && number_word(seq, 0, MOST).is_some() && number_word(clock, 0, MOST).is_some()
+}
+
+/// Takes a name and the number behind it.
+fn named_number(words: &mut Parts<'_>, name: &str) -> Option<u64>
+    ensures { MatchOption result (named_number name.now words.old ≡ None) (λ n. named_number name.now words.old ≡ Some (n, words.new)) }
+{
+    let Some(first) = words.next() else {
+        return None;
+    };
+    let Some(number) = words.next() else {
+        return None;
+    };
+    if !is(first, name) {
+        return None;
+    }
+    number_word(number, 0, MOST)
+}
+
+/// What the answer of a put tells.
+fn told_by_put(answer: &mut Parts<'_>) -> TranscriptLine
+    ensures { result ≡ told_by_put answer.old }
+{
+    let Some(word) = answer.next() else {
+        return TranscriptLine::Other;
+    };
+    if answer.is_done() && is_pair(word) {
+        TranscriptLine::Put
+    } else {
+        TranscriptLine::Other
+    }
+}
+
+/// The numbers of a report.
+fn report_in(answer: &mut Parts<'_>) -> Option<TranscriptLine>
+    ensures { result ≡ report_in answer.old }
+{
+    let accepted = named_number(answer, "accepted")?;
+    let known = named_number(answer, "known")?;
+    let refused = named_number(answer, "refused")?;
+    Some(TranscriptLine::Report {
+        accepted,
+        known,
+        refused,
+    })
+}
+
+/// The number of a hello's line that is summed up.
+fn hello_in(answer: &mut Parts<'_>) -> Option<TranscriptLine>
+    ensures { result ≡ hello_in answer.old }
+{
+    let convicted = named_number(answer, "convicted")?;
+    Some(TranscriptLine::Hello { convicted })
+}
+
+/// The words that are left, each behind a space.
+#[tactic(auto, using(depot_base::proofs::Writing::texts))]
+fn behind_spaces(alloc: Global, words: &mut Parts<'_>) -> Result<Bytes, Memory>
+    ensures { IfOk result (λ text. text ≡ behind_spaces words.old) }
+{
+    let mut text = Bytes::new(alloc);
+    while let Some(next) = words.next() {
+        word(&mut text, next)?;
+    }
+    Ok(text)
+}
+
+/// What a line tells, by the name of its event, the second word behind that, and its answer.
+fn told_by(
+    alloc: Global,
+    name: &[u8],
+    word: &[u8],
+    answer: &mut Parts<'_>,
+) -> Result<TranscriptLine, Memory>
+    ensures { IfOk result (λ told. told ≡ told_by name.now word.now answer.old) }
+{
+    if is(name, "put") {
+        return Ok(told_by_put(answer));
+    }
+    if is(name, "get") {
+        return Ok(TranscriptLine::Read {
+            key: Bytes::from_slice(alloc, word)?,
+            writes: behind_spaces(alloc, answer)?,
+        });
+    }
+    if is(name, "give") {
+        return Ok(report_in(answer).unwrap_or(TranscriptLine::Other));
+    }
+    if is(name, "hello") {
+        return Ok(hello_in(answer).unwrap_or(TranscriptLine::Other));
+    }
+    Ok(TranscriptLine::Other)
+}
+
+/// What a line tells.
+fn told_of(alloc: Global, line: &[u8]) -> Result<TranscriptLine, Memory>
+    ensures { IfOk result (λ told. told ≡ told_of (split 32 line.now)) }
+{
+    let mut words = Parts::new(line, b' ');
+    let Some(name) = words.next() else {
+        return Ok(TranscriptLine::Other);
+    };
+    let Some(_) = words.next() else {
+        return Ok(TranscriptLine::Other);
+    };
+    let Some(word) = words.next() else {
+        return Ok(TranscriptLine::Other);
+    };
+    let Some(arrow) = words.next() else {
+        return Ok(TranscriptLine::Other);
+    };
+    if is(arrow, "->") {
+        told_by(alloc, name, word, &mut words)
+    } else {
+        Ok(TranscriptLine::Other)
+    }
+}
+
+/// What the lines of a text tell, one by one.
+#[tactic(auto, unfolding(crate::specs::TranscriptLines::told_lines_of), using(depot_base::proofs::Writing::texts))]
+pub fn told_lines_of(alloc: Global, text: &[u8]) -> Result<Vec<TranscriptLine>, Memory>
+    ensures { IfOk result (λ told_lines. told_lines.items ≡ told_lines_of text.now) }
+{
+    let mut told_lines = Vec::new(alloc);
+    let mut lines = Parts::new(text, b'\n');
+    while let Some(line) = lines.next() {
+        told_lines.push(told_of(alloc, line)?)?;
+    }
+    Ok(told_lines)
+}

@@ -1,0 +1,9 @@
+use Rattle.std.proofs.Common.{◌≡◌, take}
+use Rattle.depot_model.specs.Items.{updates_at}
+use Rattle.depot_model.specs.Journal.{accepted}
+use Rattle.depot_node_lines.specs.Printing.{shown_text}
+use Rattle.depot_node_lines.proofs.ShownWrites.{shown_as}
+use Rattle.depot_node_lines.proofs.reads.shown_line.Given as goal
+
+abbrev pub invariant-loop-item : goal.invariant-loop-item
+invariant-loop-item g l = l.line ≡ shown_text (shown_as l.node.store.records l.key (updates_at (accepted l.node.store.records) (take l.item-index l.item-items)))

@@ -1,0 +1,74 @@
+-- What is printed of what a node does.
+use Rattle.std.specs.Prelude.{◌≡◌, ℕ, List, ◌++◌, map, Bool, true, false, Option, Some, None, Result, Ok, Err, codes}
+use Rattle.std.specs.List.{flat_map}
+use Rattle.depot_gossip.specs.declared.bundle_error.BundleError.{BundleError}
+use Rattle.depot_gossip.specs.declared.bundle_error.BundleError.TheVariants as bundle_error
+use Rattle.depot_feeds.specs.declared.feed_error.FeedError.{FeedError}
+use Rattle.depot_feeds.specs.declared.feed_error.FeedError.TheVariants as feed_error
+use Rattle.depot_gossip.specs.declared.bundle_stream.Bundled.{Bundled}
+use Rattle.depot_model.specs.Contents.{Sighting, held_value, not_held}
+use Rattle.depot_model.specs.Feeding.{Feeding, report_of}
+use Rattle.depot_model.specs.Limits.{full, spent}
+use Rattle.depot_model.specs.World.{Shown}
+use Rattle.depot_answers.specs.Answers.{numbered, spaced, text_of_limit, text_of_refusal, text_of_report, text_of_write}
+use Rattle.depot_answers.specs.Closings.{closing_of}
+use Rattle.depot_world.specs.ScheduleStops.{Effect}
+use Rattle.depot_world.specs.Transcript.{lines_after_arrow}
+use Rattle.depot_node_lines.specs.declared.feeds.FeedResult.{FeedResult}
+use Rattle.depot_node_lines.specs.declared.printed.Printed.{Printed}
+
+-- ---- lines
+
+-- the lines of an event that goes as it goes
+abbrev pub lines_of_effect : Effect → List ℕ
+lines_of_effect d = lines_after_arrow d.answer d.behind
+
+-- the lines of a stream that was fed
+abbrev pub fed_lines : Feeding → List ℕ
+fed_lines s = lines_after_arrow (spaced (text_of_report s)) (map text_of_refusal s.refused)
+
+-- what a read shows of a write that is no deletion: its value, if that is held
+abbrev pub shown_value : Option (List ℕ) → Sighting
+shown_value (Some v) = held_value v
+shown_value None = not_held
+
+-- what is printed of the writes that a read shows
+abbrev pub shown_text : List Shown → List ℕ
+shown_text ws = flat_map (λ w. spaced (text_of_write w)) ws
+
+-- ---- what a node answered
+
+-- these are the lines of an event that goes as it goes, and the bytes that it gives a label
+abbrev pub IsPrintOf : Option Printed → Effect → Type 0
+IsPrintOf None d = Unit {0}
+IsPrintOf (Some p) d = (p.lines ≡ lines_of_effect d) × (p.bytes ≡ d.bytes)
+
+-- a line has grown by why no bundle is made
+abbrev pub IsRefusalOf : BundleError → List ℕ → List ℕ → Type 0
+IsRefusalOf (bundle_error.IllFormed at) old new = new ≡ old ++ numbered (codes "IllFormed") at
+IsRefusalOf (bundle_error.OtherRoster given mine) old new = new ≡ old ++ codes "OtherRoster"
+IsRefusalOf (bundle_error.Spent n) old new = new ≡ old ++ text_of_limit (spent n)
+IsRefusalOf (bundle_error.Full what) old new = new ≡ old ++ text_of_limit (full what)
+IsRefusalOf other old new = ⊥
+
+-- the answer is that of a node that was found running, and memory was found
+abbrev pub SettlesBundle : Result Bundled BundleError → Type 0
+SettlesBundle (Err bundle_error.Memory) = ⊥
+SettlesBundle (Err bundle_error.Stopped) = ⊥
+SettlesBundle other = Unit {0}
+
+-- the same of a stream
+abbrev pub SettlesFeed : Result FeedResult FeedError → Type 0
+SettlesFeed (Ok told) = Unit {0}
+SettlesFeed (Err feed_error.Disk) = Unit {0}
+SettlesFeed (Err other) = ⊥
+
+-- what is told of a stream is what became of this feed, and why it was closed
+pub record IsToldOf (s : Feeding) (f : FeedResult) : Type 0 where
+  pub report : report_of s ≡ f.report
+  pub closing : s.closed ≡ closing_of f.closing
+
+-- the feed was cut short by the disk
+abbrev pub is_disk : Result FeedResult FeedError → Bool
+is_disk (Err feed_error.Disk) = true
+is_disk other = false

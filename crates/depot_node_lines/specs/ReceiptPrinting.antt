@@ -1,0 +1,27 @@
+-- What is printed of receipts.
+use Rattle.std.specs.Prelude.{Result, Ok, Err}
+use Rattle.depot_decide.specs.declared.put_answers.PutDone.{PutDone}
+use Rattle.depot_decide.specs.declared.put_answers.PutError.TheVariants as put
+use Rattle.depot_receipts.specs.declared.give_error.GiveError.{GiveError}
+use Rattle.depot_receipts.specs.declared.give_error.GiveError.TheVariants as give
+use Rattle.depot_node_lines.specs.declared.receipts.Outcome.{Outcome}
+use Rattle.depot_node_lines.specs.declared.receipts.Outcome.TheVariants.{Put, Unknown, NoValue}
+
+-- the answer is that of a node that was found running, and memory was found
+abbrev pub SettlesGive : Result PutDone GiveError → Type 0
+SettlesGive (Err give.Memory) = ⊥
+SettlesGive (Err give.Stopped) = ⊥
+SettlesGive other = Unit {0}
+
+-- what giving receipts came to: their put with its answer, unless none was due
+abbrev pub outcome_of : Result PutDone GiveError → Outcome
+outcome_of (Ok done) = Put (Ok done)
+outcome_of (Err (give.Unknown h)) = Unknown
+outcome_of (Err (give.NoValue h)) = NoValue
+outcome_of (Err give.Memory) = Put (Err put.Memory)
+outcome_of (Err give.Disk) = Put (Err put.Disk)
+outcome_of (Err give.Stopped) = Put (Err put.Stopped)
+outcome_of (Err (give.Spent n)) = Put (Err (put.Spent n))
+outcome_of (Err (give.Tips n)) = Put (Err (put.Tips n))
+outcome_of (Err (give.Collides h)) = Put (Err (put.Collides h))
+outcome_of (Err (give.Full what)) = Put (Err (put.Full what))

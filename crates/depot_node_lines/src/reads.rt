@@ -1,0 +1,71 @@
+//! What is printed of a read.
+ghost use Rattle.std.specs.Prelude.{◌≡◌, ◌++◌, List, false, OnOk, IfOk, option_copied};
+ghost use Rattle.depot_base.specs.declared.record.Record.{Record};
+ghost use Rattle.depot_model.specs.Journal.{seen_under};
+ghost use Rattle.depot_answers.specs.Answers.{spaced, text_of_write};
+ghost use Rattle.depot_answers.specs.Sightings.{sighting_of};
+ghost use Rattle.depot_node.specs.ShownValues.{value_seen};
+ghost use Rattle.depot_model.specs.ShownWrites.{shown_of};
+ghost use Rattle.depot_world.specs.Transcript.{ended};
+ghost use Rattle.depot_node_lines.specs.Printing.{shown_text, shown_value};
+
+use depot_answers::{Seen, write};
+use depot_base::{Bytes, Key, Memory, Update, Wrote};
+use depot_model::{Replica, Scheme, Signer};
+use depot_node::Node;
+use depot_outside::Disk;
+use std::alloc::Global;
+
+/// What a read shows of an update's write of a key, of which this value is held, if one is.
+pub fn seen<'a>(update: &Update, key: &Key, value: Option<&'a [u8]>) -> Seen<'a>
+    ensures { (J : List Record) → option_copied value.entry ≡ value_seen (seen_under J key.now update.now) → sighting_of result ≡ seen_under J key.now update.now }
+{
+    match update.wrote(key.bytes()) {
+        Some(Wrote::Put { .. }) => held(value),
+        Some(Wrote::Gone) => Seen::Gone,
+        None => Seen::NotHeld,
+    }
+}
+
+/// A value that is held, or that none is.
+pub(crate) fn held(value: Option<&[u8]>) -> Seen<'_>
+    ensures { sighting_of result ≡ shown_value (option_copied value.entry) }
+{
+    match value {
+        Some(value) => Seen::Held(value),
+        None => Seen::NotHeld,
+    }
+}
+
+/// Adds a write that a read shows, behind a space.
+#[tactic(auto, using(depot_base::proofs::Writing::texts))]
+pub(crate) fn add_write(
+    alloc: Global,
+    line: &mut Bytes,
+    update: &Update,
+    seen: Seen<'_>,
+) -> Result<(), Memory>
+    ensures { OnOk result (line.new ≡ line.old ++ spaced (text_of_write (record { update = update.now; seen = sighting_of seen.entry }))) }
+{
+    line.push_all(b" ")?;
+    write(alloc, line, update, seen)
+}
+
+/// The line of a read: the latest writes of a key, each behind a space.
+pub fn shown_line<D: Disk, S: Scheme, G: Signer<Of = S>>(
+    alloc: Global,
+    node: &Node<D, S, G>,
+    key: &Key,
+) -> Result<Bytes, Memory>
+    requires { ⟦<Node<D, S, G> as Replica>⟧.stopped node.now ≡ false }
+    ensures { IfOk result (λ line. line ≡ ended (shown_text (shown_of (⟦<Node<D, S, G> as Replica>⟧.records node.now) key.now))) }
+{
+    let mut line = Bytes::new(alloc);
+    for item in node.latest(key) {
+        let update = node.update(*item);
+        let shown = seen(update, key, node.value_of(*item, key));
+        add_write(alloc, &mut line, update, shown)?;
+    }
+    line.push_all(b"\n")?;
+    Ok(line)
+}

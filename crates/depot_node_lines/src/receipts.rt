@@ -1,0 +1,127 @@
+//! What is printed of receipts.
+ghost use Rattle.std.specs.Prelude.{◌≡◌, ◌↔◌, ℕ, false, None, Err, List, length, nat_le, IfOk, IsErrOf};
+ghost use Rattle.depot_base.specs.declared.record.Record.{Record};
+ghost use Rattle.depot_model.specs.Checks.{Setting};
+ghost use Rattle.depot_model.specs.Receipts.{receipts, unknown, lacks_value};
+ghost use Rattle.depot_model.specs.World.{Correct};
+ghost use Rattle.depot_answers.specs.Answers.{name_of_settled, spaced, text_of_no_receipt};
+ghost use Rattle.depot_receipts.specs.Giving.{Gives};
+ghost use Rattle.depot_world.specs.Effects.{receipt_by};
+ghost use Rattle.depot_world.specs.Transcript.{ended};
+ghost use Rattle.depot_node_lines.specs.Printing.{IsPrintOf};
+ghost use Rattle.depot_node_lines.specs.ReceiptPrinting.{SettlesGive, outcome_of};
+
+use crate::printed::Printed;
+use crate::puts::put_printed;
+use depot_answers::{no_value, settled, unknown};
+use depot_base::{Bytes, Hash32, Memory};
+use depot_model::{Replica, Scheme, Signer};
+use depot_node::{Node, PutDone, PutError};
+use depot_outside::Disk;
+use depot_receipts::{Book, GiveError};
+use std::alloc::Global;
+
+/// What giving receipts came to.
+enum Outcome {
+    /// Their put was tried, and answered this.
+    Put(Result<PutDone, PutError>),
+    /// An id isn't that of an accepted update.
+    Unknown,
+    /// A value isn't held.
+    NoValue,
+}
+
+/// What giving receipts came to, by their answer.
+fn outcome_of(done: Result<PutDone, GiveError>) -> Outcome
+    ensures { result ≡ outcome_of done }
+{
+    match done {
+        Ok(done) => Outcome::Put(Ok(done)),
+        Err(error) => refused(error),
+    }
+}
+
+/// The same of a refusal.
+fn refused(error: GiveError) -> Outcome
+    ensures { result ≡ outcome_of (Err error) }
+{
+    match error {
+        GiveError::Unknown(_) => Outcome::Unknown,
+        GiveError::NoValue(_) => Outcome::NoValue,
+        GiveError::Memory => Outcome::Put(Err(PutError::Memory)),
+        GiveError::Disk => Outcome::Put(Err(PutError::Disk)),
+        GiveError::Stopped => Outcome::Put(Err(PutError::Stopped)),
+        GiveError::Spent(count) => Outcome::Put(Err(PutError::Spent(count))),
+        GiveError::Tips(count) => Outcome::Put(Err(PutError::Tips(count))),
+        GiveError::Collides(id) => Outcome::Put(Err(PutError::Collides(id))),
+        GiveError::Full(what) => Outcome::Put(Err(PutError::Full(what))),
+    }
+}
+
+/// The line of a receipt for an id that is none of an accepted update.
+fn unknown_line(alloc: Global) -> Result<Bytes, Memory>
+    ensures { IfOk result (λ line. (id : List ℕ) → line ≡ ended (spaced (text_of_no_receipt (unknown id)))) }
+{
+    let mut line = Bytes::from_slice(alloc, b" ")?;
+    unknown(&mut line)?;
+    line.push_all(b"\n")?;
+    Ok(line)
+}
+
+/// The line of a receipt for an update of which a value isn't held.
+fn no_value_line(alloc: Global) -> Result<Bytes, Memory>
+    ensures { IfOk result (λ line. (id : List ℕ) → line ≡ ended (spaced (text_of_no_receipt (lacks_value id)))) }
+{
+    let mut line = Bytes::from_slice(alloc, b" ")?;
+    no_value(&mut line)?;
+    line.push_all(b"\n")?;
+    Ok(line)
+}
+
+/// What is printed of a node's answer where it is asked for receipts, and nothing where its disk failed.
+pub fn receipt_printed(
+    alloc: Global,
+    done: Result<PutDone, GiveError>,
+) -> Result<Option<Printed>, Memory>
+    ensures stopped { IfOk result (λ printed. (printed ≡ None) ↔ IsErrOf done GiveError.Disk) }
+    ensures settled { IfOk result (λ _. SettlesGive done) }
+    ensures printed { IfOk result (λ printed. (here : Setting) (c : Correct) (ids : List (List ℕ)) (then : List Record) → here.me ≡ c.node → Gives here c.journal ids done then → IsPrintOf printed (receipt_by here c ids)) }
+{
+    match outcome_of(done) {
+        Outcome::Put(put) => put_printed(alloc, put),
+        Outcome::Unknown => Ok(Some(Printed {
+            lines: unknown_line(alloc)?,
+            bytes: Bytes::new(alloc),
+        })),
+        Outcome::NoValue => Ok(Some(Printed {
+            lines: no_value_line(alloc)?,
+            bytes: Bytes::new(alloc),
+        })),
+    }
+}
+
+/// Whether at least `k` nodes gave receipts for an id, among all updates that a node accepted, which a new book reads.
+pub fn has_receipts<D: Disk, S: Scheme, G: Signer<Of = S>>(
+    alloc: Global,
+    node: &Node<D, S, G>,
+    id: &Hash32,
+    k: u32,
+) -> Result<bool, Memory>
+    requires { ⟦<Node<D, S, G> as Replica>⟧.stopped node.now ≡ false }
+    ensures { IfOk result (λ enough. enough ≡ nat_le k (length (receipts (⟦<Node<D, S, G> as Replica>⟧.records node.now) id.now))) }
+{
+    let mut book = Book::new(alloc);
+    book.catch_up(node.graph())?;
+    Ok(book.settled(id, k))
+}
+
+/// The line of whether enough nodes gave receipts.
+#[tactic(auto, using(depot_base::proofs::Writing::texts))]
+pub fn settled_line(alloc: Global, enough: bool) -> Result<Bytes, Memory>
+    ensures { IfOk result (λ line. line ≡ ended (spaced (name_of_settled enough))) }
+{
+    let mut line = Bytes::from_slice(alloc, b" ")?;
+    settled(&mut line, enough)?;
+    line.push_all(b"\n")?;
+    Ok(line)
+}

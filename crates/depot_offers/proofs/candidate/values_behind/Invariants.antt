@@ -1,8 +1,0 @@
-use Rattle.std.proofs.Common.{take}
-use Rattle.depot_base.specs.Writes.{values_in}
-use Rattle.depot_frames.specs.Sendings.{payloads_of}
-use Rattle.depot_offers.specs.Choosing.{Finds}
-use Rattle.depot_offers.proofs.candidate.values_behind.Given as goal
-
-abbrev pub invariant-loop-write : goal.invariant-loop-write
-invariant-loop-write g l = Finds (g.R.Replica.records l.node) l.initial.hashes.keys (values_in (take l.write-index l.writes)) (payloads_of l.found.items) l.hashes.keys

@@ -1,8 +1,0 @@
-use Rattle.std.proofs.Common.{List, ◌++◌, take}
-use Rattle.std.specs.List.{flat_map}
-use Rattle.depot_model.specs.Bundle.{Parcel, wanted_parcel}
-use Rattle.depot_frames.specs.Sendings.{Holds}
-use Rattle.depot_offers.proofs.choose.add_wanted.Given as goal
-
-abbrev pub invariant-loop-hash : goal.invariant-loop-hash
-invariant-loop-hash g l = (xs : List Parcel) → Holds (g.R.Replica.stands l.node).me xs l.initial.sending → Holds (g.R.Replica.stands l.node).me (xs ++ flat_map (wanted_parcel (g.R.Replica.records l.node) l.hashes.keys) (take l.hash-index l.wanted)) l.sending

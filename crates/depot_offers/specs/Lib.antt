@@ -1,5 +1,0 @@
-pub mod BundleStreams
-pub mod Choosing
-pub mod Errors
-pub mod Fronts
-pub mod Preparing

@@ -1,8 +1,0 @@
-use Rattle.std.proofs.Common.{sym, ◌∙◌}
-use Rattle.std.proofs.lemmas.Result.{IfOk-weaker}
-use Rattle.depot_plays.proofs.LabelledUpdates.{entries_named}
-use Rattle.depot_plays.proofs.play.Play.entries_of.Goals as goal
-
-pub returns : goal.returns
-returns g c = IfOk-weaker c.entries_of_others.result _ _ (λ deps made stage run at.
-    entries_named run c.args.writer c.args.refs.now c.in-Some.named c.as_slice.result.now deps (sym c.in-Some.is ∙ c.in_ok-named.ensures stage run at) c.as_slice.ensures made) c.entries_of_others.ensures

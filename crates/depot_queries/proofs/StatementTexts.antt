@@ -1,0 +1,153 @@
+-- The statements that the records of a journal hold, and their texts.
+use Rattle.std.proofs.Common.{◌≡◌, ℕ, suc, ◌^◌, ◌<◌, ◌≤◌, List, [], ◌∷◌, length, map, take, drop, Some, Option, refl, sym, ap, subst, ◌∙◌, arith, inl, inr}
+use Rattle.std.specs.Prelude.{slice_get, option_map, Result, Ok, Err, IfOk}
+use Rattle.std.specs.Option.{option_map_or}
+use Rattle.std.proofs.lemmas.Option.{slice_get-map}
+use Rattle.std.proofs.lemmas.Result.{IfOk-weaker}
+use Rattle.depot_base.specs.Statement.{seq_of}
+use Rattle.depot_base.specs.declared.key.PublicKey.{PublicKey}
+use Rattle.depot_base.specs.declared.update.Update.{Update}
+use Rattle.depot_base.specs.declared.statement.Statement.{Statement}
+use Rattle.depot_base.specs.declared.statement.Signed.{Signed}
+use Rattle.depot_base.specs.declared.record.Record.{Record}
+use Rattle.depot_base.specs.declared.record.Record.TheVariants.{Birth, OwnPut, OwnVoucher, Foreign, Conviction, Held}
+use Rattle.depot_model.specs.Bundle.{Signs, signed_by, signed_with}
+use Rattle.depot_model.specs.Checks.{Setting}
+use Rattle.depot_model.specs.Journal.{own, own_by}
+use Rattle.depot_model.specs.Lawful.{MayFollow, IsLawful}
+use Rattle.depot_model.specs.Lists.{IsIn}
+use Rattle.depot_model.specs.Own.{leaf_count}
+use Rattle.depot_base.specs.Cursor.{numeral}
+use Rattle.depot_base.specs.Format.{number}
+use Rattle.depot_model.specs.Records.{record_text, tagged, text_of_record}
+use Rattle.depot_model.specs.Roster.{key_of}
+use Rattle.depot_model.specs.Texts.{IsStatement, IsSigned, text_of_statement, text_of_signed}
+use Rattle.depot_model.proofs.Elements.{in_at}
+use Rattle.depot_laws.proofs.Candidates.{signed_fits}
+use Rattle.depot_laws.proofs.Nexts.{next_of}
+use Rattle.depot_laws.proofs.OwnTexts.{own_statement_fits}
+use Rattle.depot_laws.proofs.Splits.{flat_gives, lawful_texts}
+use Rattle.depot_store.specs.RecordTexts.{IsTextOf}
+use Rattle.depot_queries.specs.Telling.{IsLeafText}
+use Rattle.depot_base.proofs.GeneralLaws.{parts_at}
+
+-- ---- the text of a place
+
+-- the text that stands at a place is that of the record there
+pub text_of_place : (here : Setting) (J : List Record) (place : ℕ) (r : Record) (text : List ℕ) → IsLawful here J → slice_get J place ≡ Some r → slice_get (map text_of_record J) place ≡ Some text → IsTextOf r text
+text_of_place here J place r text l at e =
+    let same : option_map text_of_record (slice_get J place) ≡ Some text = sym (slice_get-map text_of_record J place) ∙ e in
+    let is : Some (text_of_record r) ≡ Some text = ap (option_map text_of_record) (sym at) ∙ same in
+    record { fits = lawful_texts here J r l (in_at J place r at); is = cc }
+
+-- ---- own statements
+
+leaf_of : (here : Setting) (before : List Record) (r : Record) (s : Statement) → MayFollow here before r → IsIn s (own_by r) → seq_of s < leaf_count here.listed here.me
+leaf_of here before (OwnPut u values) s may (inl is) =
+    let seq : seq_of s ≡ length (own before) = ap seq_of (sym is) ∙ ap (λ (x : Update). x.seq) (next_of may) in
+    omega (arith, seq, may.leaf)
+leaf_of here before (OwnPut u values) s may (inr never) = absurd never
+leaf_of here before (OwnVoucher v) s may (inl is) =
+    let seq : seq_of s ≡ length (own before) = ap seq_of (sym is) ∙ may.seq in
+    omega (arith, seq, may.leaf)
+leaf_of here before (OwnVoucher v) s may (inr never) = absurd never
+leaf_of here before (Birth node h) s may never = absurd never
+leaf_of here before (Foreign t) s may never = absurd never
+leaf_of here before (Conviction p) s may never = absurd never
+leaf_of here before (Held value) s may never = absurd never
+
+-- the leaf that signs an own statement is one of the key's tree
+own_leaf : (here : Setting) (J : List Record) (place : ℕ) (r : Record) (s : Statement) (key : PublicKey) → IsLawful here J → slice_get J place ≡ Some r → IsIn s (own_by r) → key_of here.listed here.me ≡ Some key → seq_of s < 2 ^ key.height
+unfolding leaf_count
+own_leaf here J place r s key l at on keyed =
+    let below = leaf_of here (take place J) r s (l.each (take place J) r (drop (suc place) J) (parts_at J place r at)).may on in
+    let leaves : leaf_count here.listed here.me ≡ 2 ^ key.height = ap (λ (o : Option PublicKey). option_map_or (λ (k : PublicKey). 2 ^ k.height) o 0) keyed in
+    subst (λ (n : ℕ). seq_of s < n) leaves below
+
+-- a statement with its text and the signature of that is the one that is signed
+pub signed_by_parts : (sign : Signs) (s : Statement) (body signature : List ℕ) (seq : ℕ) → body ≡ text_of_statement s → seq ≡ seq_of s → signature ≡ sign seq body → record { statement = s; body = body; signature = signature } ≡ signed_with sign s
+unfolding signed_with
+signed_by_parts sign s body signature seq text number signed =
+    let signature_is = signed ∙ ap (λ (n : ℕ). sign n body) number ∙ ap (sign (seq_of s)) text in
+    λ i. record { statement = s; body = text i; signature = signature_is i }
+
+-- it has a text, where signatures aren't too long
+pub parts_fit : (sign : Signs) (s : Statement) (body signature : List ℕ) (seq : ℕ) → IsStatement s → ((n : ℕ) (b : List ℕ) → length (sign n b) ≤ 8192) → body ≡ text_of_statement s → seq ≡ seq_of s → signature ≡ sign seq body
+    → IsSigned (record { statement = s; body = body; signature = signature })
+unfolding signed_with
+parts_fit sign s body signature seq fits short text number signed =
+    subst (λ (x : Signed). IsSigned x) (sym (signed_by_parts sign s body signature seq text number signed)) (signed_fits sign s fits (short (seq_of s) (text_of_statement s)))
+
+-- ---- another's statement
+
+-- behind the tag of its record stands its text
+foreign_record : (s : Signed) → text_of_record (Foreign s) ≡ 4 ∷ text_of_signed s
+unfolding record_text tagged number numeral
+foreign_record s = refl
+
+foreign_text : (r : Record) (s : Signed) (text : List ℕ) → r ≡ Foreign s → IsTextOf r text → text ≡ 4 ∷ text_of_signed s
+foreign_text r s text is t = t.is ∙ ap (λ (x : Record). text_of_record x) is ∙ foreign_record s
+
+-- what stands behind the first byte, where some are given
+behind_tag : {E : Type 0} (result : Result (List ℕ) E) (text rest : List ℕ) (tag : ℕ) → text ≡ tag ∷ rest → IfOk result (λ made. (n : ℕ) (ns : List ℕ) → text ≡ n ∷ ns → made ≡ ns) → IfOk result (λ made. made ≡ rest)
+behind_tag (Ok made) text rest tag is each = each tag rest is
+behind_tag (Err e) text rest tag is each = tt
+
+-- ---- what is told of a place
+
+-- what a record holds of own statements has this body
+pub record IsOwnBody (r : Record) (body : List ℕ) : Type 0 where
+  pub statement : Statement
+  pub on : own_by r ≡ statement ∷ []
+  pub is : body ≡ text_of_statement statement
+
+pub own_body : (r : Record) (body : List ℕ) → body ∷ [] ≡ map text_of_statement (own_by r) → IsOwnBody r body
+own_body r body e = by_list (own_by r) refl e where
+  by_list : (ss : List Statement) → own_by r ≡ ss → body ∷ [] ≡ map text_of_statement ss → IsOwnBody r body
+  by_list [] on same = absurd cc
+  by_list (s ∷ []) on same = record { statement = s; on = on; is = cc }
+  by_list (s ∷ t ∷ ss) on same = absurd cc
+
+-- it is that of a statement which one of the key's leaves signs
+pub own_leaf_text : (here : Setting) (J : List Record) (place : ℕ) (r : Record) (body : List ℕ) (key : PublicKey) → IsLawful here J → slice_get J place ≡ Some r → key_of here.listed here.me ≡ Some key → (b : IsOwnBody r body) → IsLeafText key b.statement body
+own_leaf_text here J place r body key l at keyed b =
+    let on : IsIn b.statement (own_by r) = subst (λ (ss : List Statement). IsIn b.statement ss) (sym b.on) (inl refl) in
+    record { fits = own_statement_fits here J b.statement l (flat_gives own_by b.statement r J (in_at J place r at) on); is = b.is; leaf = own_leaf here J place r b.statement key l at on keyed }
+
+-- such a record is told by that statement, signed now
+signed_own : (sign : Signs) (r : Record) (s : Statement) → own_by r ≡ s ∷ [] → signed_by sign r ≡ signed_with sign s ∷ []
+signed_own sign (OwnPut u values) s e = ap (map (signed_with sign)) e
+signed_own sign (OwnVoucher v) s e = ap (map (signed_with sign)) e
+signed_own sign (Birth node h) s e = absurd cc
+signed_own sign (Foreign t) s e = absurd cc
+signed_own sign (Conviction p) s e = absurd cc
+signed_own sign (Held value) s e = absurd cc
+
+-- and one that holds none, and is told by one, is another's
+pub told_by_another : (sign : Signs) (r : Record) → [] ≡ map text_of_statement (own_by r) → length (signed_by sign r) ≡ 1 → (s : Signed) × (r ≡ Foreign s)
+told_by_another sign (OwnPut u values) none one = absurd cc
+told_by_another sign (OwnVoucher v) none one = absurd cc
+told_by_another sign (Birth node h) none one = absurd (omega (arith, one))
+told_by_another sign (Foreign s) none one = (s, refl)
+told_by_another sign (Conviction p) none one = absurd (omega (arith, one))
+told_by_another sign (Held value) none one = absurd (omega (arith, one))
+
+-- the text of the one signed statement of the record at a place
+told_text : {E : Type 0} (sign : Signs) (J : List Record) (place : ℕ) (r : Record) (s : Signed) (result : Result (List ℕ) E) → slice_get J place ≡ Some r → signed_by sign r ≡ s ∷ [] → IfOk result (λ text. text ≡ text_of_signed s)
+    → IfOk result (λ text. (q : Record) → slice_get J place ≡ Some q → map text_of_signed (signed_by sign q) ≡ text ∷ [])
+told_text sign J place r s (Ok text) at is made = λ q there.
+    let both : Some r ≡ Some q = sym at ∙ there in
+    let one : r ≡ q = cc in
+    ap (λ (x : Record). map text_of_signed (signed_by sign x)) (sym one) ∙ ap (map text_of_signed) is ∙ ap (λ (x : List ℕ). x ∷ []) (sym made)
+told_text sign J place r s (Err e) at is made = tt
+
+-- that of an own record
+pub told_own : {E : Type 0} (sign : Signs) (J : List Record) (place : ℕ) (r : Record) (body : List ℕ) (result : Result (List ℕ) E) → slice_get J place ≡ Some r → (b : IsOwnBody r body) → IsStatement b.statement
+    → IfOk result (λ text. (s : Statement) → IsStatement s → body ≡ text_of_statement s → text ≡ text_of_signed (signed_with sign s)) → IfOk result (λ text. (q : Record) → slice_get J place ≡ Some q → map text_of_signed (signed_by sign q) ≡ text ∷ [])
+told_own sign J place r body result at b fits made =
+    told_text sign J place r (signed_with sign b.statement) result at (signed_own sign r b.statement b.on) (IfOk-weaker result (λ text. (s : Statement) → IsStatement s → body ≡ text_of_statement s → text ≡ text_of_signed (signed_with sign s)) (λ text. text ≡ text_of_signed (signed_with sign b.statement)) (λ text each. each b.statement fits b.is) made)
+
+-- and that of another's
+pub told_foreign : {E : Type 0} (sign : Signs) (J : List Record) (place : ℕ) (r : Record) (s : Signed) (result : Result (List ℕ) E) (record_text : List ℕ) → slice_get J place ≡ Some r → r ≡ Foreign s → IsTextOf r record_text
+    → IfOk result (λ made. (n : ℕ) (ns : List ℕ) → record_text ≡ n ∷ ns → made ≡ ns) → IfOk result (λ text. (q : Record) → slice_get J place ≡ Some q → map text_of_signed (signed_by sign q) ≡ text ∷ [])
+told_foreign sign J place r s result text at is t made = told_text sign J place r s result at (ap (signed_by sign) is) (behind_tag result text (text_of_signed s) 4 (foreign_text r s text is t) made)

@@ -1,0 +1,44 @@
+//! The update that the record of a place accepts.
+ghost use Rattle.std.specs.Prelude.{◌≡◌, false, map, option_copied, option_to_list};
+ghost use Rattle.depot_model.specs.Journal.{accepted_at};
+ghost use Rattle.depot_model.specs.Texts.{id_of_update};
+ghost use Rattle.depot_queries.specs.Telling.{IsItemAt};
+
+use depot_base::{Hash32, Update};
+use depot_model::{Past, Scheme};
+use depot_outside::Disk;
+use depot_store::Store;
+
+/// The update that the record of a place, from 0, accepts. None exactly where it accepts none. It takes no memory.
+pub fn update_at<D: Disk, S: Scheme>(store: &Store<D, S>, place: u32) -> Option<&Update>
+    requires runs { store.now.stopped ≡ false }
+    ensures { option_to_list (option_copied result) ≡ accepted_at store.now.records place }
+{
+    match item_at(store, place) {
+        Some(item) => Some(store.state().graph().update(item)),
+        None => None,
+    }
+}
+
+/// The id of the update that the record of a place, from 0, accepts. None exactly where it accepts none. It takes no memory.
+pub fn id_at<D: Disk, S: Scheme>(store: &Store<D, S>, place: u32) -> Option<&Hash32>
+    requires runs { store.now.stopped ≡ false }
+    ensures { option_to_list (option_copied result) ≡ map id_of_update (accepted_at store.now.records place) }
+{
+    match item_at(store, place) {
+        Some(item) => Some(store.state().graph().id(item)),
+        None => None,
+    }
+}
+
+/// The item of the update that the record of a place accepts. None exactly where it accepts none. The places of the items rise, so
+/// it takes logarithmic time.
+fn item_at<D: Disk, S: Scheme>(store: &Store<D, S>, place: u32) -> Option<u32>
+    requires runs { store.now.stopped ≡ false }
+    ensures { IsItemAt store.now.records place result }
+{
+    match store.places().binary_search(&place) {
+        Ok(item) => Some(item as u32),
+        Err(_) => None,
+    }
+}

@@ -1,5 +1,0 @@
-mod RecordParts
-mod RecordChecks
-mod PutValues
-mod RecordFaultExamples
-pub mod TakenTexts

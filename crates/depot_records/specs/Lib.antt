@@ -1,2 +1,0 @@
-pub mod ReadRecords
-pub mod TextFaults

@@ -1,0 +1,27 @@
+use Rattle.std.proofs.Common.{◌≡◌, List, [], ◌∷◌, refl, ap, ◌∙◌}
+use Rattle.depot_base.specs.declared.key.RosterEntry.{RosterEntry}
+use Rattle.depot_base.specs.declared.record.Record.TheVariants.{Birth}
+use Rattle.depot_model.specs.Bundle.{Signs}
+use Rattle.depot_model.specs.Texts.{hash_of_roster}
+use Rattle.depot_outside.specs.Stopping.{fresh, state_of}
+use Rattle.depot_replay.proofs.MemHostEvents.{view_is}
+use Rattle.depot_replay.proofs.MemHostStarts.{fresh_from}
+use Rattle.depot_replay.proofs.mem_host.MemHost.fresh_host.Goals as goal
+
+pub invariant_of-result : goal.invariant_of-result
+invariant_of-result g c =
+    let is : state_of c.new-disk.result ≡ fresh [] [] = c.new-disk.ensures.state ∙ rw (c.new.ensures, c.new-2.ensures) refl in
+    let x = fresh_from _ (state_of c.new-disk.result) (state_of c.in-Ok.node.store.disk) c.in-Ok.node.store.records is c.in-Ok.ensures.records c.in-Ok.ensures.calls in
+    record {
+      runs = c.in-Ok.ensures.runs;
+      is_me = c.in-Ok.ensures.me;
+      is_listed = c.in-Ok.ensures.listed;
+      signs = λ seq body. ap (λ (s : Signs). s seq body) c.in-Ok.ensures.signs;
+      kept = x.kept;
+    }
+
+pub returns-in-Ok : goal.returns-in-Ok
+returns-in-Ok g c =
+    let is : state_of c.new-disk.result ≡ fresh [] [] = c.new-disk.ensures.state ∙ rw (c.new.ensures, c.new-2.ensures) refl in
+    let x = fresh_from _ (state_of c.new-disk.result) (state_of c.in-Ok.node.store.disk) c.in-Ok.node.store.records is c.in-Ok.ensures.records c.in-Ok.ensures.calls in
+    view_is _ _ _ _ _ _ _ _ _ c.in_ok-copy.ensures (x.journal ∙ ap (λ (r : List RosterEntry). Birth c.args.node (hash_of_roster r) ∷ []) c.in_ok-copy.ensures) x.none_waits

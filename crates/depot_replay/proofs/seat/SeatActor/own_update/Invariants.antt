@@ -1,7 +1,0 @@
-use Rattle.std.proofs.Common.{◌≡◌, [], take}
-use Rattle.depot_model.specs.Journal.{accepted}
-use Rattle.depot_replay.proofs.OwnUpdates.{of_seq}
-use Rattle.depot_replay.proofs.seat.SeatActor.own_update.Given as goal
-
-abbrev pub invariant-loop-item : goal.invariant-loop-item
-invariant-loop-item g l = of_seq l.self.means.me l.seq (take l.item (accepted l.self.node.store.records)) ≡ []

@@ -1,0 +1,77 @@
+-- A node that is hosted: how its disk stands between two events, and what a call on it came to.
+use Rattle.std.specs.Prelude.{◌≡◌, ◌≤◌, ◌<◌, ℕ, ◌-◌, List, [], ◌∷◌, ◌++◌, length, map, take, false, Some, None, slice_get, codes}
+use Rattle.depot_base.specs.Calls.{FailsAmong, made}
+use Rattle.depot_base.specs.File.{blocks}
+use Rattle.depot_base.specs.declared.record.Record.{Record}
+use Rattle.depot_model.specs.Bundle.{Signs}
+use Rattle.depot_model.specs.Checks.{Setting}
+use Rattle.depot_model.specs.Lawful.{IsLawful, is_empty}
+use Rattle.depot_model.specs.Records.{text_of_record}
+use Rattle.depot_model.specs.Stops.{calls_to_record}
+use Rattle.depot_outside.specs.Stopping.{State, Leads}
+use Rattle.depot_answers.specs.Answers.{numbered}
+use Rattle.depot_world.specs.Run.{PendingStop}
+use Rattle.depot_world.specs.ScheduleStops.{Effect, calls_to_append}
+use Rattle.depot_world.specs.Transcript.{ended}
+use Rattle.depot_simulation.specs.Acting.{View}
+use Rattle.depot_replay.specs.Disks.{IsAtRest, pending_of}
+
+-- ---- its disk
+
+-- These records stand in the file behind open gates, and the gate behind them is closed.
+pub record StandIn (file : List ℕ) (bodies : List (List ℕ)) : Type 0 where
+  pub inside : length (blocks bodies) < length file
+  pub front : take (length (blocks bodies)) file ≡ blocks bodies
+  pub closed : slice_get file (length (blocks bodies)) ≡ Some 1 → ⊥
+
+-- The disk is at rest and has these records, and a stop that waits comes in a call to come.
+pub record IsKeptOn (s : State) (J : List Record) : Type 0 where
+  pub at_rest : IsAtRest s
+  pub stand : StandIn s.file (map text_of_record J)
+  pub to_come : (a : PendingStop) → pending_of s.next ≡ Some a → 1 ≤ a.call
+
+-- The records are those of a node that has begun, and the disk has them.
+pub record IsBegunOn (here : Setting) (s : State) (J : List Record) : Type 0 where
+  pub lawful : IsLawful here J
+  pub some : is_empty J ≡ false
+  pub kept : IsKeptOn s J
+
+-- ---- a call
+
+-- A call on a node that was seen so, and had this disk, was to make its journal a longer one. It did so, or it failed on the disk while
+-- it appended.
+pub record IsCalled (v : View) (s t : State) (K longer : List Record) (failed : Type 0) : Type 0 where
+  pub pending : v.pending ≡ pending_of s.next
+  pub begun : IsBegunOn v.here s v.journal
+  pub new : List Record
+  pub grows : longer ≡ v.journal ++ new
+  pub lawful : IsLawful v.here longer
+  pub whole : (failed → ⊥) → (K ≡ longer) × Leads s (made (calls_to_record v.journal new)) t
+  pub part : failed → FailsAmong Leads s t (calls_to_record v.journal new)
+
+-- the same of a node that was seen so here, and had some disk
+pub record WasCalled (here : Setting) (t : State) (K : List Record) (failed : Type 0) : Type 0 where
+  pub view : View
+  pub before : State
+  pub longer : List Record
+  pub here_is : view.here ≡ here
+  pub called : IsCalled view before t K longer failed
+
+-- an event whose calls are those that append what its journal grows by
+pub record Appends (d : Effect) (J longer : List Record) : Type 0 where
+  pub journal : d.journal ≡ longer
+  pub calls : d.calls ≡ calls_to_append (length longer - length J)
+
+-- the line of a node that was stopped and has these records
+abbrev pub stopped_line : List Record → List ℕ
+stopped_line J = ended (32 ∷ numbered (codes "stopped records") (length J))
+
+-- A node was started again from a disk that had a journal that has begun, and is hosted: it is seen so, and these are the lines of the event
+-- into which the stop fell, and the bytes that it gives a label.
+pub record IsHostedAgain (here : Setting) (sign : Signs) (s : State) (w : View) (lines bytes : List ℕ) : Type 0 where
+  pub here_is : w.here ≡ here
+  pub sign_is : w.sign ≡ sign
+  pub journal : (J : List Record) → IsBegunOn here s J → w.journal ≡ J
+  pub none_waits : pending_of s.next ≡ None → w.pending ≡ None
+  pub line : lines ≡ stopped_line w.journal
+  pub none : bytes ≡ []

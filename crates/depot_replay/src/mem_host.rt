@@ -1,0 +1,457 @@
+//! A correct node over a disk in memory.
+ghost use Rattle.std.specs.Prelude.{◌≡◌, ◌≢◌, ◌≤◌, [], ◌∷◌, ℕ, List, length, false, nat_le, Some, None, Ok, IfOk, IfErr, IfSome, IsOk, refl};
+ghost use Rattle.depot_base.specs.Calls.{FailsAmong, made};
+ghost use Rattle.depot_base.specs.declared.record.Record.{Record};
+ghost use Rattle.depot_base.specs.declared.record.Record.TheVariants.{Birth};
+ghost use Rattle.depot_answers.specs.Answers.{name_of_settled, numbered, spaced, text_of_named};
+ghost use Rattle.depot_node_lines.specs.Printing.{shown_text};
+ghost use Rattle.depot_model.specs.Hello.{hello_of, text_of_hello};
+ghost use Rattle.depot_model.specs.Opening.{made_text, make_of};
+ghost use Rattle.depot_model.specs.Receipts.{receipts};
+ghost use Rattle.depot_model.specs.Roster.{key_of};
+ghost use Rattle.depot_model.specs.Stops.{HasRecords};
+ghost use Rattle.depot_model.specs.Texts.{hash_of_roster};
+ghost use Rattle.depot_node.specs.Starting.{IsStartedFrom, calls_to_start_node};
+ghost use Rattle.depot_node.specs.declared.start_error.StartError.TheVariants as start_error;
+ghost use Rattle.depot_outside.specs.Stopping.{State, Leads, state_of};
+ghost use Rattle.depot_store.specs.Holdings.{standing};
+ghost use Rattle.depot_model.specs.ShownWrites.{shown_of};
+ghost use Rattle.depot_world.specs.Effects.{checkpoint_by};
+ghost use Rattle.depot_world.specs.Run.{Host, own_update};
+ghost use Rattle.depot_world.specs.ScheduleStops.{event_result};
+ghost use Rattle.depot_world.specs.Setups.{Setup, stands_on};
+ghost use Rattle.depot_world.specs.Transcript.{ended};
+ghost use Rattle.depot_simulation.specs.Acting.{CameTo, IsHosted, View};
+ghost use Rattle.depot_replay.specs.Disks.{pending_of};
+ghost use Rattle.depot_replay.specs.PrintedRuns.{EndsAs};
+ghost use Rattle.depot_replay.specs.MemHostFacts.{IsKeptOn-prop, is_node-prop, is_roster-prop, same_signs-prop, lawful_there};
+ghost use Rattle.depot_replay.specs.MemHosts.{IsBegunOn, IsCalled, IsKeptOn, IsHostedAgain, WasCalled};
+
+use crate::mem_host_reader::{MemHostReader, trimming};
+use depot_base::{Bytes, Changes, Hash32, Ids, Items, Key, Memory, NodeId, Update, Value};
+use depot_gossip::{bundle, encode_hello, node_hello};
+use depot_model::{Past, Replica, Scheme, Signer};
+use depot_node::{Node, StartError};
+use depot_node_lines::{
+    Printed, bundle_printed, checkpoint_printed, counted_line, fed_printed, feed_all, has_receipts,
+    hello_line, node_trace, put_printed, read_traced, receipt_printed, settled_line, shown_line,
+    sign_printed, unmade_printed,
+};
+use depot_outside::{Back, MemDisk};
+use depot_receipts::give;
+use depot_scenario::{Numbered, is_by};
+use depot_sign::Roster;
+use depot_simulation::{Actor, EventOutcome, StartsFresh, Trimming};
+use depot_traces::{ReadTrace, Trace};
+use depot_trim::{checkpoint_key, make_checkpoint, sign_checkpoint, trim};
+use std::alloc::Global;
+
+/// How many calls on a disk start a node from a journal that has begun.
+const START_CALLS: u32 = 3;
+
+/// What a node is started with, the first time and again.
+#[derive(Drop)]
+struct StartConfig<S: Scheme + Copy, G: Signer<Of = S> + Copy> {
+    alloc: Global,
+    me: NodeId,
+    roster: Roster,
+    scheme: S,
+    signer: G,
+}
+
+/// A correct node over a disk in memory. Between two events it isn't stopped, and its disk is at rest and has its journal.
+#[derive(Drop)]
+pub struct MemHost<S: Scheme + Copy, G: Signer<Of = S> + Copy> {
+    node: Node<MemDisk, S, G>,
+    start_config: StartConfig<S, G>,
+    ghost runs: { node.store.stopped ≡ false },
+    ghost is_me: { node.store.me ≡ start_config.me } by { is_node-prop node.store.me start_config.me },
+    ghost is_listed: { node.store.listed ≡ start_config.roster } by { is_roster-prop node.store.listed start_config.roster },
+    ghost signs: { (seq : ℕ) (body : List ℕ) → G.signature_of node.signer seq body ≡ G.signature_of start_config.signer seq body } by { same_signs-prop (G.signature_of node.signer) (G.signature_of start_config.signer) },
+    ghost kept: { IsKeptOn (state_of node.store.disk) node.store.records } by { IsKeptOn-prop (state_of node.store.disk) node.store.records },
+}
+
+impl<S: Scheme + Copy, G: Signer<Of = S> + Copy> StartConfig<S, G> {
+    /// Starts the node from a disk.
+    fn start(&self, disk: MemDisk) -> Result<Node<MemDisk, S, G>, Back<StartError, MemDisk>>
+        ensures me { IfOk result (λ n. n.store.me ≡ self.now.me) }
+        ensures listed { IfOk result (λ n. n.store.listed ≡ self.now.roster) }
+        ensures signs { IfOk result (λ n. G.signature_of n.signer ≡ G.signature_of self.now.signer) }
+        ensures runs { IfOk result (λ n. n.store.stopped ≡ false) }
+        ensures records { IfOk result (λ n. IsStartedFrom (record { verifies = S.verifies; me = self.now.me; listed = self.now.roster }) (state_of disk).file n.store.records) }
+        ensures calls { IfOk result (λ n. (J : List Record) → HasRecords J (state_of disk).file → Leads (state_of disk) (made (calls_to_start_node (record { verifies = S.verifies; me = self.now.me; listed = self.now.roster }) (state_of disk).file J)) (state_of n.store.disk)) }
+        ensures failing { IfErr result (λ b. b.error ≡ start_error.Disk → (J : List Record) → HasRecords J (state_of disk).file → FailsAmong Leads (state_of disk) (state_of b.disk) (calls_to_start_node (record { verifies = S.verifies; me = self.now.me; listed = self.now.roster }) (state_of disk).file J)) }
+    {
+        let Ok(roster) = self.roster.copy() else {
+            return Err(Back {
+                error: StartError::Memory,
+                disk,
+            });
+        };
+        Node::start(self.alloc, disk, roster, self.scheme, self.signer, self.me)
+    }
+
+    /// Hosts the node that was stopped while its disk has a journal that has begun: it is started again.
+    fn stopped(self, disk: MemDisk) -> Result<EventOutcome<MemHost<S, G>>, Memory>
+        requires { (J : List Record) × IsBegunOn (record { verifies = S.verifies; me = self.me; listed = self.roster }) (state_of disk) J }
+        ensures { IfOk result (λ t. IsHostedAgain (record { verifies = S.verifies; me = self.me; listed = self.roster }) (G.signature_of self.signer) (state_of disk) (⟦<MemHost<S, G> as Actor>⟧.view t.actor) t.lines t.bytes) }
+    {
+        let Ok(node) = self.start(disk) else {
+            return Err(Memory);
+        };
+        let printed = counted_printed(self.alloc, "stopped records", node.record_count());
+        told(
+            MemHost {
+                node,
+                start_config: self,
+            },
+            printed,
+        )
+    }
+}
+
+impl<S: Scheme + Copy, G: Signer<Of = S> + Copy> StartConfig<S, G> {
+    /// Hosts the node of which a start was refused. Where a stop fell into it, it is started again; nothing but memory can be wanting else.
+    fn refused(self, back: Back<StartError, MemDisk>) -> Result<EventOutcome<MemHost<S, G>>, Memory>
+        requires { back.error ≡ start_error.Disk → (J : List Record) × IsBegunOn (record { verifies = S.verifies; me = self.me; listed = self.roster }) (state_of back.disk) J }
+        ensures stopped { IfOk result (λ _. back.error ≡ start_error.Disk) }
+        ensures again { IfOk result (λ t. IsHostedAgain (record { verifies = S.verifies; me = self.me; listed = self.roster }) (G.signature_of self.signer) (state_of back.disk) (⟦<MemHost<S, G> as Actor>⟧.view t.actor) t.lines t.bytes) }
+    {
+        match back.error {
+            StartError::Disk => self.stopped(back.disk),
+            _ => Err(Memory),
+        }
+    }
+}
+
+/// How many bytes each piece of a stream has, at least one: so many as are asked for, or all of it.
+fn piece_of(stream: &[u8], size: Option<u32>) -> usize
+    ensures some { 1 ≤ result }
+    ensures asked { IfSome size (λ n. 1 ≤ n → result ≡ n) }
+{
+    match size {
+        Some(size) => (size as usize).max(1),
+        None => stream.len().max(1),
+    }
+}
+
+/// What an event came to for a node, with what is printed of it. Where memory is wanting for that, the node is gone.
+fn told<A: Drop>(actor: A, printed: Result<Printed, Memory>) -> Result<EventOutcome<A>, Memory>
+    ensures actor { IfOk result (λ t. t.actor ≡ actor) }
+    ensures printed { IfOk result (λ t. printed ≡ Ok (record { lines = t.lines; bytes = t.bytes })) }
+{
+    let Printed { lines, bytes } = printed?;
+    Ok(EventOutcome {
+        actor,
+        lines,
+        bytes,
+    })
+}
+
+/// What is printed of a start: a number of records behind a name. It gives a label nothing.
+fn counted_printed(alloc: Global, name: &str, count: u32) -> Result<Printed, Memory>
+    ensures lines { IfOk result (λ p. p.lines ≡ ended (spaced (numbered name.now count))) }
+    ensures bytes { IfOk result (λ p. p.bytes ≡ []) }
+{
+    Ok(Printed {
+        lines: counted_line(alloc, name, count)?,
+        bytes: Bytes::new(alloc),
+    })
+}
+
+/// What is printed of a read. It gives a label nothing.
+fn shown_printed<S: Scheme, G: Signer<Of = S>>(
+    alloc: Global,
+    node: &Node<MemDisk, S, G>,
+    key: &Key,
+) -> Result<Printed, Memory>
+    requires { node.now.store.stopped ≡ false }
+    ensures lines { IfOk result (λ p. p.lines ≡ ended (shown_text (shown_of node.now.store.records key.now))) }
+    ensures bytes { IfOk result (λ p. p.bytes ≡ []) }
+{
+    Ok(Printed {
+        lines: shown_line(alloc, node, key)?,
+        bytes: Bytes::new(alloc),
+    })
+}
+
+/// What is printed of whether enough nodes gave receipts. It gives a label nothing.
+fn settled_printed<S: Scheme, G: Signer<Of = S>>(
+    alloc: Global,
+    node: &Node<MemDisk, S, G>,
+    id: &Hash32,
+    k: u32,
+) -> Result<Printed, Memory>
+    requires { node.now.store.stopped ≡ false }
+    ensures lines { IfOk result (λ p. p.lines ≡ ended (spaced (name_of_settled (nat_le k (length (receipts node.now.store.records id.now)))))) }
+    ensures bytes { IfOk result (λ p. p.bytes ≡ []) }
+{
+    let enough = has_receipts(alloc, node, id, k)?;
+    Ok(Printed {
+        lines: settled_line(alloc, enough)?,
+        bytes: Bytes::new(alloc),
+    })
+}
+
+/// What is printed of a hello. It gives a label its text.
+fn hello_printed<S: Scheme, G: Signer<Of = S>>(
+    alloc: Global,
+    node: &Node<MemDisk, S, G>,
+) -> Result<Printed, Memory>
+    requires { node.now.store.stopped ≡ false }
+    ensures lines { IfOk result (λ p. p.lines ≡ ended (spaced (text_of_named (hello_of (standing S.verifies node.now.store) node.now.store.records)))) }
+    ensures bytes { IfOk result (λ p. p.bytes ≡ text_of_hello (hello_of (standing S.verifies node.now.store) node.now.store.records)) }
+{
+    let told = node_hello(node)?;
+    let bytes = encode_hello(alloc, &told)?;
+    let lines = hello_line(alloc, &told)?;
+    Ok(Printed { lines, bytes })
+}
+
+/// Seats a node behind a call, with what is printed of it. Where a stop fell into the call, nothing is printed of that, and the node is
+/// started again. Where memory is wanting for what is printed, the node is gone.
+fn hosted<S: Scheme + Copy, G: Signer<Of = S> + Copy>(
+    node: Node<MemDisk, S, G>,
+    start_config: StartConfig<S, G>,
+    printed: Result<Option<Printed>, Memory>,
+) -> Result<EventOutcome<MemHost<S, G>>, Memory>
+    requires me { node.store.me ≡ start_config.me }
+    requires listed { node.store.listed ≡ start_config.roster }
+    requires signs { G.signature_of node.signer ≡ G.signature_of start_config.signer }
+    requires runs { IfOk printed (λ p. p ≢ None → node.store.stopped ≡ false) }
+    requires called { IfOk printed (λ p. WasCalled (record { verifies = S.verifies; me = start_config.me; listed = start_config.roster }) (state_of node.store.disk) node.store.records (p ≡ None)) }
+    ensures printed { IfOk result (λ _. IsOk printed) }
+    ensures ends { IfOk result (λ t. IfOk printed (λ p. (v : View) (s : State) (longer : List Record) → v.here ≡ record { verifies = S.verifies; me = start_config.me; listed = start_config.roster } → v.sign ≡ G.signature_of start_config.signer → IsCalled v s (state_of node.store.disk) node.store.records longer (p ≡ None) → EndsAs v longer p (⟦<MemHost<S, G> as Actor>⟧.view t.actor) t.lines t.bytes)) }
+{
+    match printed {
+        Ok(Some(printed)) => Ok(EventOutcome {
+            actor: MemHost { node, start_config },
+            lines: printed.lines,
+            bytes: printed.bytes,
+        }),
+        Ok(None) => start_config.stopped(node.into_disk()),
+        Err(Memory) => {
+            drop(node);
+            drop(start_config);
+            Err(Memory)
+        }
+    }
+}
+
+impl<S: Scheme + Copy, G: Signer<Of = S> + Copy> MemHost<S, G> {
+    /// A node that is started on an empty disk.
+    pub fn fresh_host(
+        alloc: Global,
+        roster: &Roster,
+        scheme: S,
+        signer: G,
+        node: NodeId,
+    ) -> Result<MemHost<S, G>, Memory>
+        requires { key_of roster.now node ≡ Some (G.key_of signer) }
+        ensures { IfOk result (λ a. ⟦<MemHost<S, G> as Actor>⟧.view a ≡ record { here = record { verifies = S.verifies; me = node; listed = roster.now }; sign = G.signature_of signer; journal = Birth node (hash_of_roster roster.now) ∷ []; pending = None }) }
+    {
+        let start_config = StartConfig {
+            alloc,
+            me: node,
+            roster: roster.copy()?,
+            scheme,
+            signer,
+        };
+        let disk = MemDisk::new(Bytes::new(alloc), Items::new(alloc));
+        match start_config.start(disk) {
+            Ok(node) => Ok(MemHost { node, start_config }),
+            Err(_) => Err(Memory),
+        }
+    }
+
+    /// Puts the text of the checkpoint that it made under its key.
+    fn put_checkpoint(self, text: Bytes) -> Result<EventOutcome<MemHost<S, G>>, Memory>
+        requires { make_of (standing S.verifies self.node.store) self.node.store.records ≡ made_text text }
+        ensures { IfOk result (λ t. (setup : Setup) (s : Host) → IsHosted setup s (⟦<MemHost<S, G> as Actor>⟧.view self) → CameTo setup (event_result s (checkpoint_by (stands_on setup s.correct.node) s.correct)) (⟦<MemHost<S, G> as Actor>⟧.view t.actor) t.lines t.bytes) }
+    {
+        let MemHost {
+            mut node,
+            start_config,
+        } = self;
+        let key = checkpoint_key(start_config.alloc, text.as_slice())?;
+        let value = Value::from_bytes(text.copy()?);
+        let done = node.put(key, value);
+        let printed = checkpoint_printed(start_config.alloc, text, done);
+        hosted(node, start_config, printed)
+    }
+}
+
+impl<S: Scheme + Copy, G: Signer<Of = S> + Copy> Numbered for MemHost<S, G> {
+    ghost number_of = { λ a. a.start_config.me };
+
+    fn number(&self) -> NodeId {
+        self.start_config.me
+    }
+}
+
+impl<S: Scheme + Copy, G: Signer<Of = S> + Copy> Actor for MemHost<S, G> {
+    type Reader = MemHostReader<S>;
+
+    ghost view = { λ a. record { here = record { verifies = S.verifies; me = a.start_config.me; listed = a.start_config.roster }; sign = G.signature_of a.start_config.signer; journal = a.node.store.records; pending = pending_of (state_of a.node.store.disk).next } };
+
+    fn update_count(&self) -> u32 {
+        self.node.update_count()
+    }
+
+    fn update(&self, item: u32) -> &Update {
+        self.node.update(item)
+    }
+
+    fn id(&self, item: u32) -> &Hash32 {
+        self.node.graph().id(item)
+    }
+
+    fn own_update(&self, seq: u32) -> Option<&Update> {
+        for item in 0..self.node.update_count() {
+            let update = self.node.update(item);
+            if is_by(update, self.start_config.me, seq) {
+                return Some(update);
+            }
+        }
+        None
+    }
+
+    fn put(self, changes: Changes) -> Result<EventOutcome<Self>, Memory> {
+        let MemHost {
+            mut node,
+            start_config,
+        } = self;
+        let done = node.put_all(changes);
+        let printed = put_printed(start_config.alloc, done);
+        hosted(node, start_config, printed)
+    }
+
+    fn read(&self, key: &Key) -> Result<ReadTrace, Memory> {
+        read_traced(self.start_config.alloc, &self.node, key)
+    }
+
+    fn trace(&self, reads: &[ReadTrace]) -> Result<Trace, Memory> {
+        node_trace(self.start_config.alloc, &self.node, reads)
+    }
+
+    fn get(self, key: &Key) -> Result<EventOutcome<Self>, Memory> {
+        let printed = shown_printed(self.start_config.alloc, &self.node, key);
+        told(self, printed)
+    }
+
+    fn receipt(self, ids: &Ids) -> Result<EventOutcome<Self>, Memory> {
+        let MemHost {
+            mut node,
+            start_config,
+        } = self;
+        let done = give(start_config.alloc, &mut node, ids);
+        let printed = receipt_printed(start_config.alloc, done);
+        hosted(node, start_config, printed)
+    }
+
+    fn settled(self, id: &Hash32, k: u32) -> Result<EventOutcome<Self>, Memory> {
+        let printed = settled_printed(self.start_config.alloc, &self.node, id, k);
+        told(self, printed)
+    }
+
+    fn checkpoint(self) -> Result<EventOutcome<Self>, Memory> {
+        match make_checkpoint(self.start_config.alloc, &self.node) {
+            Ok(text) => self.put_checkpoint(text),
+            Err(refused) => {
+                let printed = unmade_printed(self.start_config.alloc, refused);
+                told(self, printed)
+            }
+        }
+    }
+
+    fn sign(self, text: &[u8]) -> Result<EventOutcome<Self>, Memory> {
+        let MemHost {
+            mut node,
+            start_config,
+        } = self;
+        let done = sign_checkpoint(start_config.alloc, &mut node, text);
+        let printed = sign_printed(start_config.alloc, done);
+        hosted(node, start_config, printed)
+    }
+
+    fn trim(&self, text: &[u8]) -> Result<Trimming<MemHostReader<S>>, Memory> {
+        let roster = self.start_config.roster.copy()?;
+        let made = trim(
+            self.start_config.alloc,
+            &self.node,
+            roster,
+            self.start_config.scheme,
+            text,
+        );
+        trimming(self.start_config.alloc, made)
+    }
+
+    fn hello(self) -> Result<EventOutcome<Self>, Memory> {
+        let printed = hello_printed(self.start_config.alloc, &self.node);
+        told(self, printed)
+    }
+
+    fn bundle(self, hello: &[u8]) -> Result<EventOutcome<Self>, Memory> {
+        let MemHost {
+            mut node,
+            start_config,
+        } = self;
+        let made = bundle(start_config.alloc, &mut node, hello);
+        let printed = bundle_printed(start_config.alloc, made);
+        hosted(node, start_config, printed)
+    }
+
+    fn give(self, stream: &[u8], size: Option<u32>) -> Result<EventOutcome<Self>, Memory> {
+        let MemHost {
+            mut node,
+            start_config,
+        } = self;
+        let fed = feed_all(
+            start_config.alloc,
+            &mut node,
+            stream,
+            piece_of(stream, size),
+        );
+        let printed = fed_printed(start_config.alloc, fed);
+        hosted(node, start_config, printed)
+    }
+
+    fn restart(self) -> Result<EventOutcome<Self>, Memory> {
+        let MemHost { node, start_config } = self;
+        match start_config.start(node.into_disk()) {
+            Ok(node) => {
+                let printed = counted_printed(start_config.alloc, "records", node.record_count());
+                told(MemHost { node, start_config }, printed)
+            }
+            Err(back) => start_config.refused(back),
+        }
+    }
+
+    fn stop_at(self, call: u32, image: u8) -> Result<Self, Memory> {
+        let MemHost { node, start_config } = self;
+        let mut disk = node.into_disk();
+        disk.stop_at(call + START_CALLS, image);
+        match start_config.start(disk) {
+            Ok(node) => Ok(MemHost { node, start_config }),
+            Err(_) => Err(Memory),
+        }
+    }
+
+    ghost named = { λ a. refl };
+
+    ghost lawful = { λ a. lawful_there S.verifies a.node.store.me a.start_config.me a.node.store.listed a.start_config.roster a.node.store.records a.is_me a.is_listed a.node.lawful };
+
+    ghost to_come = { λ a. a.kept.to_come };
+}
+
+impl<S: Scheme + Copy, G: Signer<Of = S> + Copy> StartsFresh<S, G> for MemHost<S, G> {
+    fn fresh_host(
+        alloc: Global,
+        roster: &Roster,
+        scheme: S,
+        signer: G,
+        node: NodeId,
+    ) -> Result<MemHost<S, G>, Memory> {
+        MemHost::fresh_host(alloc, roster, scheme, signer, node)
+    }
+}

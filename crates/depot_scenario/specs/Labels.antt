@@ -1,0 +1,51 @@
+-- What labels name, in a map that keeps them in order.
+use Rattle.std.specs.Prelude.{◌≡◌, ℕ, List, [], ◌∷◌, ◌++◌, false, Option, Some, None, Vec, option_map, option_and_then}
+use Rattle.std.specs.Cmp.Lexicographic.{slice_cmp}
+use Rattle.std.specs.Map.{lookup}
+use Rattle.std.specs.Option.{option_map_or}
+use Rattle.std.specs.Ordering.{nat_cmp, is_eq}
+use Rattle.std.specs.declared.alloc.Global.{Global}
+use Rattle.depot_base.specs.declared.statement.Signed.{Signed}
+use Rattle.depot_model.specs.Lists.{when}
+use Rattle.depot_schedule.specs.declared.event.Event.{Event}
+use Rattle.depot_schedule.specs.declared.event.Event.TheVariants as event
+use Rattle.depot_world.specs.Run.{Made, made_in}
+use Rattle.depot_scenario.specs.declared.label_table.Given.{Given}
+
+-- what a label names among these
+abbrev pub named_in : {V : Type 0} → List ℕ → List (Vec ℕ Global × V) → Option V
+named_in label entries = lookup (λ k. is_eq (slice_cmp nat_cmp label k.items)) entries
+
+-- what was made under a label, as it is kept
+abbrev pub given_by : Made → Given
+given_by m = record { bytes = m.bytes; signed = m.signed; plain = m.plain }
+
+-- each label names what it names in a run
+abbrev pub AreLabels : List (Vec ℕ Global × Given) → List Made → Type 0
+AreLabels entries labels = (label : List ℕ) → named_in label entries ≡ option_map given_by (made_in labels label)
+
+-- the bytes of a label of a run with these labels
+abbrev pub bytes_in : List Made → List ℕ → List ℕ
+bytes_in labels label = option_map_or (λ m. m.bytes) (made_in labels label) []
+
+-- the signed statement of a label of a run with these labels
+abbrev pub signed_in : List Made → List ℕ → Option Signed
+signed_in labels label = option_and_then (λ m. m.signed) (made_in labels label)
+
+-- the bytes of a plain label of a run with these labels
+abbrev pub plain_in : List Made → List ℕ → Option (List ℕ)
+plain_in labels label = option_and_then (λ m. when m.plain m.bytes) (made_in labels label)
+
+-- ---- labels of nodes' events
+
+-- the label that a node's bytes are given
+abbrev pub label_by : Event → Option (List ℕ)
+label_by (event.Hello node label) = Some label
+label_by (event.Bundle node hello label) = Some label
+label_by (event.Checkpoint node label) = Some label
+label_by e = None
+
+-- labels, and that one with these bytes
+abbrev pub labels_with : List Made → Option (List ℕ) → List ℕ → List Made
+labels_with labels None bytes = labels
+labels_with labels (Some label) bytes = labels ++ record { label = label; bytes = bytes; signed = None; plain = false } ∷ []

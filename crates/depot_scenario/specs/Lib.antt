@@ -1,0 +1,6 @@
+pub mod DraftEntries
+pub mod MemberSigners
+pub mod Scenarios
+pub mod Labels
+pub mod KnownUpdates
+pub mod ScenarioTexts

@@ -1,0 +1,23 @@
+-- Who signs: the keys of members, and the signatures that are made under them.
+use Rattle.std.specs.Prelude.{◌≡◌, ℕ, List, map}
+use Rattle.depot_base.specs.declared.key.PublicKey.{PublicKey}
+use Rattle.depot_model.specs.Bundle.{Signs}
+use Rattle.depot_schedule.specs.declared.member.Member.{Member}
+use Rattle.depot_world.specs.Setups.{SignatureSuite, seed_of}
+
+-- a key, and the signatures that are made under it
+pub record MemberSigner : Type 0 where
+  pub key : PublicKey
+  pub sign : Signs
+
+-- that of a node
+abbrev pub member_signer_of : SignatureSuite → ℕ → ℕ → MemberSigner
+member_signer_of suite height node = record { key = record { root = suite.root (seed_of node) height; height = height }; sign = suite.sign (seed_of node) height }
+
+-- those of signers
+abbrev pub member_signers_of : {G : Type 0} → (G → PublicKey) → (G → Signs) → List G → List MemberSigner
+member_signers_of key sign signers = map (λ g. record { key = key g; sign = sign g }) signers
+
+-- they are those of the members, in their order
+abbrev pub AreSigners : SignatureSuite → ℕ → List Member → List MemberSigner → Type 0
+AreSigners suite height members member_signers = member_signers ≡ map (λ m. member_signer_of suite height m.node) members

@@ -1,0 +1,25 @@
+use Rattle.std.proofs.Common.{arith}
+use Rattle.depot_simulation.proofs.NodeEvents.{left_is, place_within}
+use Rattle.depot_simulation.proofs.ReceiptEvents.{receipts_given, receipts_had_seen}
+use Rattle.depot_simulation.proofs.simulation.Simulation.give_receipts.Goals as goal
+
+pub come_back-requires-clause-place : goal.come_back-requires-clause-place
+come_back-requires-clause-place g c =
+    let l = c.requires.left.1 in
+    omega (arith, place_within _ g.A.Actor.view c.requires.left.0 l.before c.args.self.now c.args.acting l.left, c.args.self.now.participants.ok.0)
+
+pub come_back-requires-clause-seen : goal.come_back-requires-clause-seen
+come_back-requires-clause-seen g c =
+    let node = c.requires.left.0 in
+    let l = c.requires.left.1 in
+    let p = l.played in
+    let t = c.in_ok-actor.field-0 in
+    let i = left_is _ g.A.Actor.view g.A.Reader.Reading.reads p.setup p.run node l.before c.args.self.now c.args.acting l.left p.at in
+    receipts_had_seen _ g.A.Actor.view g.A.Reader.Reading.reads p.setup p.run node c.args.ids.now c.args.self.now c.args.acting t.actor t.lines t.bytes i (c.in_ok-actor.ensures p.setup i.host i.hosted)
+
+pub returns : goal.returns
+returns g c = λ node before left. λ setup run at.
+    let t = c.in_ok-actor.field-0 in
+    let i = left_is _ g.A.Actor.view g.A.Reader.Reading.reads setup run node before c.args.self.now c.args.acting left at in
+    receipts_given _ g.A.Actor.view g.A.Reader.Reading.reads setup run node c.args.ids.now before c.args.self.now c.come_back.new.self c.args.acting t.actor t.lines t.bytes (g.met.A.Actor.lawful t.actor) at i (c.in_ok-actor.ensures setup i.host i.hosted)
+    c.in_ok-come_back.ensures.participants c.in_ok-come_back.ensures.seen c.in_ok-come_back.ensures.labels c.in_ok-come_back.ensures.readers

@@ -1,0 +1,48 @@
+use Rattle.std.proofs.Common.{◌≡◌, List, [], ◌∷◌, take, Some, refl, sym, ap, subst, ◌∙◌}
+use Rattle.depot_base.specs.declared.update.Update.{Update}
+use Rattle.depot_graph.specs.Kept.{updates_in}
+use Rattle.depot_model.specs.Journal.{accepted}
+use Rattle.depot_model.specs.Texts.{id_of_update}
+use Rattle.depot_world.specs.Run.{seen_with}
+use Rattle.depot_scenario.specs.KnownUpdates.{HasSeenParents}
+use Rattle.depot_simulation.proofs.NewUpdates.{added_fits, added_has_parents, adding_goes_on}
+use Rattle.depot_simulation.proofs.Remembered.{seen_add_nothing}
+use Rattle.depot_simulation.proofs.simulation.Simulation.see.Goals as goal
+
+pub loop-item-init : goal.loop-item-init
+loop-item-init g c = record {
+  participants = refl;
+  labels = refl;
+  readers = refl;
+  seen = sym (seen_add_nothing (updates_in c.args.self.now.seen.graph.items.entries) (take c.args.count (accepted (g.A.Actor.view c.args.actor.now).journal)) c.requires);
+}
+
+pub add-requires-clause-id : goal.add-requires-clause-id
+add-requires-clause-id g c =
+    let t = c.id.ensures in
+    let both : Some t.0 ≡ Some c.update.result.now = sym t.1.0 ∙ c.update.ensures in
+    let same : t.0 ≡ c.update.result.now = cc in
+    sym t.1.1 ∙ ap (λ (u : Update). id_of_update u) same
+
+pub add-requires-clause-text : goal.add-requires-clause-text
+add-requires-clause-text g c =
+    let v = g.A.Actor.view c.args.actor.now in
+    added_fits v.here v.journal c.loop-item.item c.update.result.now (g.met.A.Actor.lawful c.args.actor.now) c.update.ensures
+
+pub add-requires-clause-parents : goal.add-requires-clause-parents
+add-requires-clause-parents g c =
+    let v = g.A.Actor.view c.args.actor.now in
+    let old = updates_in c.args.self.now.seen.graph.items.entries in
+    subst (λ (us : List Update). HasSeenParents us c.update.result.now) (sym c.loop-item.invariant.seen) (added_has_parents v.here v.journal c.loop-item.item c.update.result.now old (g.met.A.Actor.lawful c.args.actor.now) c.update.ensures)
+
+pub loop-item-preserved : goal.loop-item-preserved
+loop-item-preserved g c =
+    let us = accepted (g.A.Actor.view c.args.actor.now).journal in
+    let old = updates_in c.args.self.now.seen.graph.items.entries in
+    let next = adding_goes_on us c.loop-item.item c.update.result.now old c.update.ensures in
+    record {
+      participants = c.loop-item.invariant.participants;
+      labels = c.loop-item.invariant.labels;
+      readers = c.loop-item.invariant.readers;
+      seen = c.in_ok-add.ensures.ok ∙ ap (λ (xs : List Update). seen_with xs (c.update.result.now ∷ [])) c.loop-item.invariant.seen ∙ next;
+    }

@@ -1,0 +1,21 @@
+use Rattle.std.proofs.Common.{ℕ, List, [], ◌∷◌, sym, subst}
+use Rattle.depot_world.specs.Transcript.{pending_at}
+use Rattle.depot_simulation.specs.Doing.{HasDone}
+use Rattle.depot_simulation.specs.declared.simulation.Simulation.{Simulation}
+use Rattle.depot_simulation.proofs.NodeEvents.{nothing_pending}
+use Rattle.depot_simulation.proofs.simulation.Simulation.stop.Goals as goal
+
+pub arm-requires-clause-left : goal.arm-requires-clause-left
+arm-requires-clause-left g c = (c.args.node, record { before = c.args.self.now; played = c.requires.played; left = c.in-Some.ensures })
+
+pub returns-in-Some : goal.returns-in-Some
+returns-in-Some g c = c.arm.ensures c.args.node c.args.self.now c.in-Some.ensures
+
+pub returns-in_ok-from_slice-in-None : goal.returns-in_ok-from_slice-in-None
+returns-in_ok-from_slice-in-None g c = λ setup run at.
+    let view = g.A.Actor.view in
+    let reads = g.A.Reader.Reading.reads in
+    let done = pending_at run c.args.node c.args.call c.args.image in
+    let here = nothing_pending g.row.A.Denot view reads setup run c.args.node c.args.call c.args.image c.args.self.now c.in-None.ensures.1 at in
+    let now = subst (λ (p : Simulation g.row.A.Denot _). HasDone g.row.A.Denot view reads setup done (10 ∷ []) p) (sym c.in-None.ensures.0) here in
+    subst (λ (lines : List ℕ). HasDone g.row.A.Denot view reads setup done lines c.leave.new.self) (sym c.in_ok-from_slice-in-None.ensures) now

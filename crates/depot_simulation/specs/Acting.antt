@@ -1,0 +1,61 @@
+-- A correct node at work, and what an event makes of it.
+use Rattle.std.specs.Prelude.{◌≡◌, ℕ, List, [], ◌∷◌, map, Option}
+use Rattle.std.specs.List.{AllByRecursion}
+use Rattle.depot_base.specs.declared.record.Record.{Record}
+use Rattle.depot_model.specs.Bundle.{Signs}
+use Rattle.depot_model.specs.Checks.{Setting}
+use Rattle.depot_model.specs.World.{Read}
+use Rattle.depot_traces.specs.SeenTraces.{read_of}
+use Rattle.depot_traces.specs.TraceTexts.{read_text}
+use Rattle.depot_traces.specs.declared.trace.ReadTrace.{ReadTrace}
+use Rattle.depot_world.specs.Audits.{traced_read}
+use Rattle.depot_world.specs.Run.{PendingStop, Host}
+use Rattle.depot_world.specs.ScheduleStops.{EventResult}
+use Rattle.depot_world.specs.Transcript.{lines_after_arrow}
+use Rattle.depot_world.specs.Setups.{Setup, stands_on, signs_on}
+
+-- where a node stands, how it signs, its journal, and the stop that waits on its disk
+pub record View : Type 0 where
+  pub here : Setting
+  pub sign : Signs
+  pub journal : List Record
+  pub pending : Option PendingStop
+
+-- it is the node of this host
+pub record IsHosted (setup : Setup) (s : Host) (v : View) : Type 0 where
+  pub here : v.here ≡ stands_on setup s.correct.node
+  pub sign : v.sign ≡ signs_on setup s.correct.node
+  pub journal : v.journal ≡ s.correct.journal
+  pub pending : v.pending ≡ s.pending
+
+-- each of these reads has a text
+abbrev pub HaveTexts : List ReadTrace → Type 0
+HaveTexts = AllByRecursion (λ r. read_text.fits r)
+
+-- these are the reads of a node, as a trace tells them
+pub record TellReads (rs : List Read) (told : List ReadTrace) : Type 0 where
+  pub are : map read_of told ≡ map traced_read rs
+  pub fit : HaveTexts told
+
+-- a node as a simulation has it: how it is seen, and the reads that were kept of it
+pub record ParticipantView : Type 0 where
+  pub view : View
+  pub reads : List ReadTrace
+
+-- it is the node of this host, and these are its reads
+pub record IsParticipant (setup : Setup) (s : Host) (p : ParticipantView) : Type 0 where
+  pub hosted : IsHosted setup s p.view
+  pub told : TellReads s.correct.reads p.reads
+
+-- they are the nodes of these hosts, in their order
+abbrev pub AreHosted : Setup → List Host → List ParticipantView → Type 0
+AreHosted setup [] [] = Unit {0}
+AreHosted setup [] (p ∷ ps) = ⊥
+AreHosted setup (s ∷ ss) [] = ⊥
+AreHosted setup (s ∷ ss) (p ∷ ps) = IsParticipant setup s p × AreHosted setup ss ps
+
+-- An event of a node came to this: the node after it, these lines, and these bytes for a label.
+pub record CameTo (setup : Setup) (w : EventResult) (v : View) (lines bytes : List ℕ) : Type 0 where
+  pub hosted : IsHosted setup w.host v
+  pub lines_are : lines ≡ lines_after_arrow w.answer w.behind
+  pub bytes_are : bytes ≡ w.bytes

@@ -1,0 +1,138 @@
+-- What an event does to a simulation.
+use Rattle.std.specs.Prelude.{◌≡◌, ◌==◌, ℕ, List, [], ◌∷◌, ◌++◌, length, take, drop, remove, position, slice_get, Bool, true, false, Option, Some, None}
+use Rattle.depot_base.specs.Writes.{one_change}
+use Rattle.depot_base.specs.declared.record.Record.{Record}
+use Rattle.depot_base.specs.declared.update.Update.{Update}
+use Rattle.depot_base.specs.declared.write.Change.{Change}
+use Rattle.depot_model.specs.Bundle.{Signs}
+use Rattle.depot_model.specs.Changes.{AreChanges}
+use Rattle.depot_model.specs.Journal.{accepted}
+use Rattle.depot_model.specs.Own.{values_of}
+use Rattle.depot_model.specs.Readers.{Reader}
+use Rattle.depot_model.specs.Traces.{ReadTrace}
+use Rattle.depot_schedule.specs.declared.event.Event.{Event}
+use Rattle.depot_schedule.specs.declared.event.Event.TheVariants as event
+use Rattle.depot_world.specs.Audits.{traced_read}
+use Rattle.depot_world.specs.Effects.{read_of, put_by, get_by, hello_by, bundle_by, give_by, restart_by, checkpoint_by, sign_by}
+use Rattle.depot_world.specs.Run.{Run, Host, bytes_of, seen_with}
+use Rattle.depot_world.specs.FaultySigning.{Text, no_reference, counted_bytes, updated, update_text, vouched_text, proof_text, hollow_text, flip_at}
+use Rattle.depot_world.specs.ScheduleStops.{Effect}
+use Rattle.depot_world.specs.Setups.{Setup, stands_on, signs_on}
+use Rattle.depot_world.specs.Transcript.{Done, lines_after_arrow, lines_of}
+use Rattle.depot_simulation.specs.Acting.{View}
+use Rattle.depot_simulation.specs.Playing.{IsSimulationAt, IsPlayed}
+use Rattle.depot_simulation.specs.declared.acting.ActingNode.{ActingNode}
+use Rattle.depot_simulation.specs.declared.simulation.Simulation.{Simulation}
+
+-- ---- all events
+
+-- This was done: these lines say so from the arrow on, and the simulation is at the run after it.
+pub record HasDone (A : Type 0) {R : Type 0} (view : A → View) (reads : Reader → R → Type 0) (setup : Setup) (d : Done) (lines : List ℕ) (simulation : Simulation A R) : Type 0 where
+  pub lines_are : lines ≡ lines_after_arrow d.answer d.behind
+  pub at : IsSimulationAt view reads setup d.run simulation
+
+-- the same of the whole lines of an event
+pub record HasTold (A : Type 0) {R : Type 0} (view : A → View) (reads : Reader → R → Type 0) (setup : Setup) (e : Event) (d : Done) (lines : List ℕ) (simulation : Simulation A R) : Type 0 where
+  pub lines_are : lines ≡ lines_of e d
+  pub at : IsSimulationAt view reads setup d.run simulation
+
+-- ---- events of nodes
+
+-- a node acts in it
+abbrev pub is_effect : Event → Bool
+is_effect (event.Put node key value) = true
+is_effect (event.Puts node changes) = true
+is_effect (event.Get node key) = true
+is_effect (event.Hello node label) = true
+is_effect (event.Bundle node hello label) = true
+is_effect (event.Give node label size) = true
+is_effect (event.Restart node) = true
+is_effect (event.Checkpoint node label) = true
+is_effect (event.Sign node label) = true
+is_effect e = false
+
+-- what it lets the node put are changes that a node may be asked for
+abbrev pub PutsChanges : Event → Type 0
+PutsChanges (event.Put node key value) = AreChanges (one_change key value)
+PutsChanges (event.Puts node changes) = AreChanges changes
+PutsChanges e = Unit {0}
+
+-- what it lets the node do
+abbrev pub effect_of : Setup → Run → Event → Host → Effect
+effect_of setup run (event.Put node key value) s = put_by (stands_on setup s.correct.node) s.correct (one_change key value)
+effect_of setup run (event.Puts node changes) s = put_by (stands_on setup s.correct.node) s.correct changes
+effect_of setup run (event.Get node key) s = get_by s.correct key
+effect_of setup run (event.Hello node label) s = hello_by (stands_on setup s.correct.node) s.correct
+effect_of setup run (event.Bundle node hello label) s = bundle_by (stands_on setup s.correct.node) (signs_on setup s.correct.node) s.correct (bytes_of run hello)
+effect_of setup run (event.Give node label size) s = give_by (stands_on setup s.correct.node) s.correct (bytes_of run label)
+effect_of setup run (event.Checkpoint node label) s = checkpoint_by (stands_on setup s.correct.node) s.correct
+effect_of setup run (event.Sign node label) s = sign_by (stands_on setup s.correct.node) s.correct (bytes_of run label)
+effect_of setup run e s = restart_by s.correct
+
+-- the read that a node makes in it, as a trace tells it, if it makes one
+abbrev pub reads_by : List Record → Event → List ReadTrace
+reads_by J (event.Get node key) = traced_read (read_of J key) ∷ []
+reads_by J e = []
+
+-- The first node of this number left its place.
+pub record HasLeft (A : Type 0) {R : Type 0} (view : A → View) (node : ℕ) (old new : Simulation A R) (acting : ActingNode A) : Type 0 where
+  pub place_is : position (λ p. (view p.actor).here.me == node) old.participants.items ≡ Some acting.place
+  pub part_is : slice_get old.participants.items acting.place ≡ Some acting.participant
+  pub count_is : acting.count ≡ length (accepted (view acting.participant.actor).journal)
+  pub others : new.participants.items ≡ remove old.participants.items acting.place
+  pub labels_stay : new.labels ≡ old.labels
+  pub seen_stays : new.seen ≡ old.seen
+  pub readers_stay : new.readers ≡ old.readers
+
+-- the same, of a simulation that was at some point of some run
+pub record HasLeftSimulation (A : Type 0) {R : Type 0} (view : A → View) (reads : Reader → R → Type 0) (node : ℕ) (new : Simulation A R) (acting : ActingNode A) : Type 0 where
+  pub before : Simulation A R
+  pub played : IsPlayed view reads before
+  pub left : HasLeft A view node before new acting
+
+-- ---- events that only make a label
+
+-- what it gives the label
+abbrev pub text_by : Setup → Run → Event → Text
+text_by setup run (event.Voucher label writer seq refs) = vouched_text (signs_on setup writer) run writer seq refs
+text_by setup run (event.Proof label kind first second) = proof_text run kind first second
+text_by setup run (event.Hollow label voucher plain) = hollow_text run voucher plain
+text_by setup run (event.Raw label bytes) = counted_bytes bytes
+text_by setup run (event.Cut label source start count) = counted_bytes (take count (drop start (bytes_of run source)))
+text_by setup run (event.Flip label source place) = counted_bytes (flip_at place (bytes_of run source))
+text_by setup run (event.Join label first second) = counted_bytes (bytes_of run first ++ bytes_of run second)
+text_by setup run e = no_reference
+
+abbrev pub is_text : Event → Bool
+is_text (event.Voucher label writer seq refs) = true
+is_text (event.Proof label kind first second) = true
+is_text (event.Hollow label voucher plain) = true
+is_text (event.Raw label bytes) = true
+is_text (event.Cut label source start count) = true
+is_text (event.Flip label source place) = true
+is_text (event.Join label first second) = true
+is_text e = false
+
+-- ---- updates that faulty nodes sign
+
+-- a faulty node signs an update in it
+abbrev pub is_signing : Event → Bool
+is_signing (event.Update label writer seq clock prev key value deps history) = true
+is_signing (event.Updates label writer seq clock prev changes deps history) = true
+is_signing e = false
+
+-- the update that an event signs, if its references name updates
+abbrev pub update_by : Setup → Run → Event → Option Update
+update_by setup run (event.Update label writer seq clock prev key value deps history) = updated (signs_on setup writer) run writer seq clock prev (one_change key value) deps history
+update_by setup run (event.Updates label writer seq clock prev changes deps history) = updated (signs_on setup writer) run writer seq clock prev changes deps history
+update_by setup run e = None
+
+-- it is seen
+abbrev pub with_update : Run → Option Update → Run
+with_update run None = run
+with_update run (Some u) = record run { seen = seen_with run.seen (u ∷ []) }
+
+-- what its label is given
+abbrev pub signed_text : Signs → List Change → Option Update → Text
+signed_text sign changes None = no_reference
+signed_text sign changes (Some u) = update_text sign u (values_of changes)

@@ -1,0 +1,63 @@
+-- Readers of a simulation, and what is told of them.
+use Rattle.std.specs.Prelude.{◌≡◌, ℕ, List, [], ◌∷◌, Option, Some, None, Vec, if◌then◌else◌}
+use Rattle.std.specs.Str.{bytes_eq}
+use Rattle.std.specs.declared.alloc.Global.{Global}
+use Rattle.depot_answers.specs.Answers.{spaced, text_of_reader_feed, text_of_trim}
+use Rattle.depot_model.specs.ReaderFeeds.{reader_feed_of}
+use Rattle.depot_model.specs.Readers.{Reader, TrimAnswer}
+use Rattle.depot_world.specs.Run.{NamedReader, put_reader}
+use Rattle.depot_world.specs.Transcript.{answer_of_reader, ended, reader_made}
+use Rattle.depot_scenario.specs.Labels.{named_in}
+use Rattle.depot_simulation.specs.declared.reading.Trimming.{Trimming}
+
+-- ---- one reader
+
+-- what is kept of a reader is that reader, where there is one
+abbrev pub IsMade : {R : Type 0} → (Reader → R → Type 0) → Option R → Option Reader → Type 0
+IsMade reads None None = Unit {0}
+IsMade reads None (Some r) = ⊥
+IsMade reads (Some x) None = ⊥
+IsMade reads (Some x) (Some r) = reads r x
+
+-- what a node answered where a reader was to be made of it: that is told, and the reader is there if it was made
+pub record HasTrimmed {R : Type 0} (reads : Reader → R → Type 0) (answer : TrimAnswer) (t : Trimming R) : Type 0 where
+  pub lines_are : t.lines ≡ ended (spaced (text_of_trim answer))
+  pub reader_is : IsMade reads t.reader (reader_made answer)
+
+-- the lines of a reader that takes a stream, or of none
+abbrev pub told_of : Option Reader → List ℕ → List ℕ
+told_of None stream = ended []
+told_of (Some r) stream = ended (spaced (text_of_reader_feed (reader_feed_of r stream)))
+
+-- the reader that has taken a stream
+abbrev pub gone_on : Option Reader → List ℕ → Option Reader
+gone_on None stream = None
+gone_on (Some r) stream = Some (reader_feed_of r stream).reader
+
+-- the lines of a reader that reads a key, or of none
+abbrev pub shown_of : Option Reader → List ℕ → List ℕ
+shown_of None key = ended []
+shown_of (Some r) key = ended (answer_of_reader r key)
+
+-- ---- readers by their names
+
+-- what was made first under a name
+unfoldable pub first_named : List NamedReader → List ℕ → Option NamedReader
+first_named [] name = None
+first_named (r ∷ rs) name = if bytes_eq r.name name then Some r else first_named rs name
+
+-- what is kept of a name is what was made under it
+abbrev pub IsNamed : {R : Type 0} → (Reader → R → Type 0) → Option (Option R) → Option NamedReader → Type 0
+IsNamed reads None None = Unit {0}
+IsNamed reads None (Some r) = ⊥
+IsNamed reads (Some o) None = ⊥
+IsNamed reads (Some o) (Some r) = IsMade reads o r.reader
+
+-- the same of each name of a run
+abbrev pub AreReaders : {R : Type 0} → (Reader → R → Type 0) → List (Vec ℕ Global × Option R) → List NamedReader → Type 0
+AreReaders reads entries readers = (name : List ℕ) → IsNamed reads (named_in name entries) (first_named readers name)
+
+-- the reader of a name in place of the one before, if there was one
+abbrev pub readers_with : List ℕ → Option Reader → List NamedReader → List NamedReader
+readers_with name None readers = readers
+readers_with name (Some r) readers = put_reader name r readers

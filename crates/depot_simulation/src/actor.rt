@@ -1,0 +1,141 @@
+//! A correct node at work.
+ghost use Rattle.std.specs.Prelude.{◌≡◌, ◌<◌, ◌≤◌, true, Some, IfOk, length, map, option_copied, slice_get};
+ghost use Rattle.depot_base.specs.Pairs.{AllPairsByRecursion};
+ghost use Rattle.depot_base.specs.Parts.{is_below};
+ghost use Rattle.depot_base.specs.declared.limits.TheConstants.{MOST_STOP_CALL};
+ghost use Rattle.depot_model.specs.Changes.{AreChanges};
+ghost use Rattle.depot_model.specs.Items.{at};
+ghost use Rattle.depot_model.specs.Journal.{accepted};
+ghost use Rattle.depot_model.specs.Lawful.{IsLawful};
+ghost use Rattle.depot_model.specs.Readers.{trim_of};
+ghost use Rattle.depot_model.specs.Receipts.{receipt_changes};
+ghost use Rattle.depot_model.specs.Records.{text_of_record};
+ghost use Rattle.depot_model.specs.Texts.{id_of_update};
+ghost use Rattle.depot_traces.specs.SeenTraces as seen_traces;
+ghost use Rattle.depot_traces.specs.TraceTexts.{IsTrace, read_text};
+ghost use Rattle.depot_traces.specs.declared.trace.TheConstants.{MOST_READS};
+ghost use Rattle.depot_world.specs.Audits.{traced_read};
+ghost use Rattle.depot_world.specs.Effects.{read_of, put_by, get_by, receipt_by, settled_by, checkpoint_by, sign_by, hello_by, bundle_by, give_by, restart_by};
+ghost use Rattle.depot_world.specs.Run.{PendingStop, Host, own_update};
+ghost use Rattle.depot_world.specs.ScheduleStops.{event_result};
+ghost use Rattle.depot_world.specs.Setups.{Setup, stands_on, signs_on};
+ghost use Rattle.depot_simulation.specs.Acting.{CameTo, HaveTexts, IsHosted, View};
+ghost use Rattle.depot_simulation.specs.Readers.{HasTrimmed};
+
+use crate::reading::{Reading, Trimming};
+use depot_base::{Bytes, Changes, Hash32, Ids, Key, Memory, Update};
+use depot_scenario::Numbered;
+use depot_traces::{ReadTrace, Trace};
+
+/// What an event of a node came to.
+#[derive(Drop)]
+pub struct EventOutcome<A> {
+    /// The node after it.
+    pub actor: A,
+    /// What is printed behind the arrow, and the lines behind that line, each with its LF.
+    pub lines: Bytes,
+    /// What a label is given.
+    pub bytes: Bytes,
+}
+
+/// A correct node at work, which keeps its journal on a disk in memory. Each event that it takes part in makes of it what the
+/// definitions of runs say (`depot_world`): where a stop falls into it the node is started again. After Memory it is gone.
+pub trait Actor: Drop + Numbered {
+    /// A reader that is made of it.
+    type Reader: Reading;
+
+    /// Where it stands, how it signs, its journal, and the stop that waits on its disk.
+    ghost view: { Self → View };
+
+    /// How many updates it accepted. It takes no memory.
+    fn update_count(&self) -> u32
+        ensures { result ≡ length (accepted (view self.now).journal) };
+
+    /// An update that it accepted, from 0. It takes no memory.
+    fn update(&self, item: u32) -> &Update
+        requires { item < length (accepted (view self.now).journal) }
+        ensures { slice_get (accepted (view self.now).journal) item ≡ Some result.now };
+
+    /// The id of that update. It takes no memory.
+    fn id(&self, item: u32) -> &Hash32
+        requires { item < length (accepted (view self.now).journal) }
+        ensures { at (accepted (view self.now).journal) item (λ u. id_of_update u ≡ result.now) };
+
+    /// Its own update of a number. None exactly where there is none. It takes no memory.
+    fn own_update(&self, seq: u32) -> Option<&Update>
+        ensures { option_copied result ≡ own_update (view self.now).journal seq };
+
+    /// It gives keys values, or deletes them.
+    fn put(self, changes: Changes) -> Result<EventOutcome<Self>, Memory>
+        requires { AreChanges changes }
+        ensures { IfOk result (λ t. (setup : Setup) (s : Host) → IsHosted setup s (view self) → CameTo setup (event_result s (put_by (stands_on setup s.correct.node) s.correct changes)) (view t.actor) t.lines t.bytes) };
+
+    /// A read of a key at its records as they are, as a trace tells it.
+    fn read(&self, key: &Key) -> Result<ReadTrace, Memory>
+        ensures { IfOk result (λ r. read_text.fits r × (seen_traces.read_of r ≡ traced_read (read_of (view self.now).journal key.now))) };
+
+    /// What it hands in for an audit: its records, and these of its reads, which are copied.
+    fn trace(&self, reads: &[ReadTrace]) -> Result<Trace, Memory>
+        requires few { length reads.now ≤ MOST_READS }
+        requires fit { HaveTexts reads.now }
+        ensures { IfOk result (λ t. IsTrace t × (seen_traces.trace_of t ≡ record { node = (view self.now).here.me; texts = map text_of_record (view self.now).journal; reads = map seen_traces.read_of reads.now })) };
+
+    /// It reads a key.
+    fn get(self, key: &Key) -> Result<EventOutcome<Self>, Memory>
+        ensures { IfOk result (λ t. (setup : Setup) (s : Host) → IsHosted setup s (view self) → CameTo setup (event_result s (get_by s.correct key.now)) (view t.actor) t.lines t.bytes) };
+
+    /// It gives receipts for 1 to 16 ids, rising strictly.
+    fn receipt(self, ids: &Ids) -> Result<EventOutcome<Self>, Memory>
+        requires changes { AreChanges (receipt_changes ids.now) }
+        requires rising { AllPairsByRecursion (λ g h. is_below g h ≡ true) ids.now }
+        ensures { IfOk result (λ t. (setup : Setup) (s : Host) → IsHosted setup s (view self) → CameTo setup (event_result s (receipt_by (stands_on setup s.correct.node) s.correct ids.now)) (view t.actor) t.lines t.bytes) };
+
+    /// It tells whether at least so many nodes gave a receipt for an id, among all updates that it accepted.
+    fn settled(self, id: &Hash32, k: u32) -> Result<EventOutcome<Self>, Memory>
+        ensures { IfOk result (λ t. (setup : Setup) (s : Host) → IsHosted setup s (view self) → CameTo setup (event_result s (settled_by s.correct id.now k)) (view t.actor) t.lines t.bytes) };
+
+    /// It makes a checkpoint and signs it.
+    fn checkpoint(self) -> Result<EventOutcome<Self>, Memory>
+        ensures { IfOk result (λ t. (setup : Setup) (s : Host) → IsHosted setup s (view self) → CameTo setup (event_result s (checkpoint_by (stands_on setup s.correct.node) s.correct)) (view t.actor) t.lines t.bytes) };
+
+    /// It signs a checkpoint's text.
+    fn sign(self, text: &[u8]) -> Result<EventOutcome<Self>, Memory>
+        ensures { IfOk result (λ t. (setup : Setup) (s : Host) → IsHosted setup s (view self) → CameTo setup (event_result s (sign_by (stands_on setup s.correct.node) s.correct text.now)) (view t.actor) t.lines t.bytes) };
+
+    /// A reader is made of it, below the checkpoint of this text.
+    fn trim(&self, text: &[u8]) -> Result<Trimming<Self::Reader>, Memory>
+        ensures { IfOk result (λ t. HasTrimmed Self.Reader.reads (trim_of (view self.now).here (view self.now).journal text.now) t) };
+
+    /// It says hello.
+    fn hello(self) -> Result<EventOutcome<Self>, Memory>
+        ensures { IfOk result (λ t. (setup : Setup) (s : Host) → IsHosted setup s (view self) → CameTo setup (event_result s (hello_by (stands_on setup s.correct.node) s.correct)) (view t.actor) t.lines t.bytes) };
+
+    /// It makes a bundle for the bytes of a hello.
+    fn bundle(self, hello: &[u8]) -> Result<EventOutcome<Self>, Memory>
+        ensures { IfOk result (λ t. (setup : Setup) (s : Host) → IsHosted setup s (view self) → CameTo setup (event_result s (bundle_by (stands_on setup s.correct.node) (signs_on setup s.correct.node) s.correct hello.now)) (view t.actor) t.lines t.bytes) };
+
+    /// It takes a stream, whole or in pieces of so many bytes.
+    fn give(self, stream: &[u8], size: Option<u32>) -> Result<EventOutcome<Self>, Memory>
+        ensures { IfOk result (λ t. (setup : Setup) (s : Host) → IsHosted setup s (view self) → CameTo setup (event_result s (give_by (stands_on setup s.correct.node) s.correct stream.now)) (view t.actor) t.lines t.bytes) };
+
+    /// It is started again from its disk.
+    fn restart(self) -> Result<EventOutcome<Self>, Memory>
+        ensures { IfOk result (λ t. (setup : Setup) (s : Host) → IsHosted setup s (view self) → CameTo setup (event_result s (restart_by s.correct)) (view t.actor) t.lines t.bytes) };
+
+    /// A stop is set on its disk, and it is started again: in which call from then on the stop comes, from 1, and which image it leaves, in
+    /// place of one that waits.
+    fn stop_at(self, call: u32, image: u8) -> Result<Self, Memory>
+        requires call { 1 ≤ call }
+        requires most { call ≤ MOST_STOP_CALL }
+        requires image { image ≤ 2 }
+        ensures { IfOk result (λ a. view a ≡ record (view self) { pending = Some (record { call = call; image = image }) }) };
+
+    /// Its number is that of the node that it is.
+    ghost named: { (a : Self) → Self.number_of a ≡ (view a).here.me };
+
+    /// Its journal is lawful.
+    ghost lawful: { (a : Self) → IsLawful (view a).here (view a).journal };
+
+    /// A stop that waits on its disk comes in a call to come.
+    ghost to_come: { (a : Self) (stop : PendingStop) → (view a).pending ≡ Some stop → 1 ≤ stop.call };
+}

@@ -1,0 +1,93 @@
+//! Receipts that a node gives, and whether enough nodes gave some, for what references name.
+ghost use Rattle.std.specs.Prelude.{◌≡◌, ◌≤◌, ℕ, length, true, None, IfOk};
+ghost use Rattle.depot_base.specs.Pairs.{AllPairsByRecursion};
+ghost use Rattle.depot_base.specs.Parts.{is_below};
+ghost use Rattle.depot_base.specs.declared.limits.TheConstants.{MOST_WRITES};
+ghost use Rattle.depot_model.specs.Changes.{AreChanges};
+ghost use Rattle.depot_model.specs.Receipts.{receipt_changes};
+ghost use Rattle.depot_world.specs.Effects.{receipt_by, settled_by};
+ghost use Rattle.depot_world.specs.FaultySigning.{all_referred};
+ghost use Rattle.depot_world.specs.Run.{Run, referred};
+ghost use Rattle.depot_world.specs.Setups.{Setup, stands_on};
+ghost use Rattle.depot_world.specs.Transcript.{by_node, receipt_for, settled_for};
+ghost use Rattle.depot_simulation.specs.Doing.{HasDone, HasLeft, HasLeftSimulation};
+ghost use Rattle.depot_simulation.specs.Playing.{IsSimulationAt, IsPlayed};
+ghost use Rattle.depot_simulation.specs.declared.simulation.Simulation.{Simulation};
+
+use crate::acting::ActingNode;
+use crate::actor::{Actor, EventOutcome};
+use crate::participant::Participant;
+use crate::simulation::Simulation;
+use depot_base::{Bytes, Hash32, Ids, Memory, NodeId};
+use depot_schedule::Ref;
+
+impl<A: Actor> Simulation<A> {
+    /// A node gives receipts for what 1 to 16 references name; they are looked up while the node is at its place, since they may name
+    /// its own updates. The lines are those from the arrow on.
+    pub fn receipt(&mut self, node: NodeId, refs: &[Ref]) -> Result<Bytes, Memory>
+        requires few { (1 ≤ length refs.now) × (length refs.now ≤ MOST_WRITES) }
+        requires played { IsPlayed A.view A.Reader.reads self.old }
+        ensures { IfOk result (λ lines. (setup : Setup) (run : Run) → IsSimulationAt A.view A.Reader.reads setup run self.old → HasDone A A.view A.Reader.reads setup (receipt_for setup run node (all_referred run refs.now)) lines self.new) }
+    {
+        let Some(ids) = self.receipt_ids(refs)? else {
+            return Ok(Bytes::from_slice(self.alloc, b" NoRef\n")?);
+        };
+        match self.leave(node) {
+            Some(acting) => self.give_receipts(acting, &ids),
+            None => Ok(Bytes::from_slice(self.alloc, b"\n")?),
+        }
+    }
+
+    /// The same with the node that left its place for it, and the ids.
+    fn give_receipts(&mut self, acting: ActingNode<A>, ids: &Ids) -> Result<Bytes, Memory>
+        requires changes { AreChanges (receipt_changes ids.now) }
+        requires rising { AllPairsByRecursion (λ g h. is_below g h ≡ true) ids.now }
+        requires left { (node : ℕ) × HasLeftSimulation A A.view A.Reader.reads node self.old acting }
+        ensures { (node : ℕ) (before : Simulation A A.Reader) → HasLeft A A.view node before self.old acting → IfOk result (λ lines. (setup : Setup) (run : Run) → IsSimulationAt A.view A.Reader.reads setup run before → HasDone A A.view A.Reader.reads setup (by_node run node None (λ s. receipt_by (stands_on setup node) s.correct ids.now)) lines self.new) }
+    {
+        let ActingNode {
+            place,
+            count,
+            participant,
+        } = acting;
+        let Participant { actor, reads } = participant;
+        let EventOutcome { actor, lines, .. } = actor.receipt(ids)?;
+        self.come_back(place, count, Participant { actor, reads })?;
+        Ok(lines)
+    }
+
+    /// Whether so many nodes gave receipts for what a reference names, as a node knows. The lines are those from the arrow on.
+    pub fn settled(&mut self, node: NodeId, update: &Ref, k: u32) -> Result<Bytes, Memory>
+        requires played { IsPlayed A.view A.Reader.reads self.old }
+        ensures { IfOk result (λ lines. (setup : Setup) (run : Run) → IsSimulationAt A.view A.Reader.reads setup run self.old → HasDone A A.view A.Reader.reads setup (settled_for run node k (referred run update.now)) lines self.new) }
+    {
+        let Some(id) = self.update_id(update)? else {
+            return Ok(Bytes::from_slice(self.alloc, b" NoRef\n")?);
+        };
+        match self.leave(node) {
+            Some(acting) => self.count_receipts(acting, &id, k),
+            None => Ok(Bytes::from_slice(self.alloc, b"\n")?),
+        }
+    }
+
+    /// The same with the node that left its place for it, and the id.
+    fn count_receipts(
+        &mut self,
+        acting: ActingNode<A>,
+        id: &Hash32,
+        k: u32,
+    ) -> Result<Bytes, Memory>
+        requires left { (node : ℕ) × HasLeftSimulation A A.view A.Reader.reads node self.old acting }
+        ensures { (node : ℕ) (before : Simulation A A.Reader) → HasLeft A A.view node before self.old acting → IfOk result (λ lines. (setup : Setup) (run : Run) → IsSimulationAt A.view A.Reader.reads setup run before → HasDone A A.view A.Reader.reads setup (by_node run node None (λ s. settled_by s.correct id.now k)) lines self.new) }
+    {
+        let ActingNode {
+            place,
+            count,
+            participant,
+        } = acting;
+        let Participant { actor, reads } = participant;
+        let EventOutcome { actor, lines, .. } = actor.settled(id, k)?;
+        self.come_back(place, count, Participant { actor, reads })?;
+        Ok(lines)
+    }
+}

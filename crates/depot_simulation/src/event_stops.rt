@@ -1,0 +1,50 @@
+//! Stops that are set on the disk of a node.
+ghost use Rattle.std.specs.Prelude.{◌≤◌, ℕ, IfOk};
+ghost use Rattle.depot_base.specs.declared.limits.TheConstants.{MOST_STOP_CALL};
+ghost use Rattle.depot_world.specs.Run.{Run};
+ghost use Rattle.depot_world.specs.Setups.{Setup};
+ghost use Rattle.depot_world.specs.Transcript.{pending_at};
+ghost use Rattle.depot_simulation.specs.Doing.{HasDone, HasLeft, HasLeftSimulation};
+ghost use Rattle.depot_simulation.specs.Playing.{IsSimulationAt, IsPlayed};
+ghost use Rattle.depot_simulation.specs.declared.simulation.Simulation.{Simulation};
+
+use crate::acting::ActingNode;
+use crate::actor::Actor;
+use crate::participant::Participant;
+use crate::simulation::Simulation;
+use depot_base::{Bytes, Memory, NodeId};
+
+impl<A: Actor> Simulation<A> {
+    /// A stop is set on a node's disk. The lines are those from the arrow on.
+    pub fn stop(&mut self, node: NodeId, call: u32, image: u8) -> Result<Bytes, Memory>
+        requires call { 1 ≤ call }
+        requires most { call ≤ MOST_STOP_CALL }
+        requires image { image ≤ 2 }
+        requires played { IsPlayed A.view A.Reader.reads self.old }
+        ensures { IfOk result (λ lines. (setup : Setup) (run : Run) → IsSimulationAt A.view A.Reader.reads setup run self.old → HasDone A A.view A.Reader.reads setup (pending_at run node call image) lines self.new) }
+    {
+        match self.leave(node) {
+            Some(acting) => self.arm(acting, call, image),
+            None => Ok(Bytes::from_slice(self.alloc, b"\n")?),
+        }
+    }
+
+    /// The same with the node that left its place for it.
+    fn arm(&mut self, acting: ActingNode<A>, call: u32, image: u8) -> Result<Bytes, Memory>
+        requires call { 1 ≤ call }
+        requires most { call ≤ MOST_STOP_CALL }
+        requires image { image ≤ 2 }
+        requires left { (node : ℕ) × HasLeftSimulation A A.view A.Reader.reads node self.old acting }
+        ensures { (node : ℕ) (before : Simulation A A.Reader) → HasLeft A A.view node before self.old acting → IfOk result (λ lines. (setup : Setup) (run : Run) → IsSimulationAt A.view A.Reader.reads setup run before → HasDone A A.view A.Reader.reads setup (pending_at run node call image) lines self.new) }
+    {
+        let ActingNode {
+            place,
+            count,
+            participant,
+        } = acting;
+        let Participant { actor, reads } = participant;
+        let actor = actor.stop_at(call, image)?;
+        self.come_back(place, count, Participant { actor, reads })?;
+        Ok(Bytes::from_slice(self.alloc, b" armed\n")?)
+    }
+}

@@ -1,0 +1,94 @@
+//! One event of a schedule.
+ghost use Rattle.std.specs.Prelude.{IfOk};
+ghost use Rattle.depot_world.specs.Audits.{IsSound};
+ghost use Rattle.depot_world.specs.Run.{Run, bytes_of};
+ghost use Rattle.depot_world.specs.FaultySigning.{proof_in};
+ghost use Rattle.depot_world.specs.Setups.{Setup};
+ghost use Rattle.depot_world.specs.Transcript.{done, judged_with};
+ghost use Rattle.depot_scenario.specs.Scenarios.{IsScenarioOf, MayHappen};
+ghost use Rattle.depot_simulation.specs.Doing.{HasDone, HasTold};
+ghost use Rattle.depot_simulation.specs.Playing.{IsSimulationAt, IsPlayedOn};
+
+use crate::actor::Actor;
+use crate::simulation::Simulation;
+use depot_base::{Bytes, Memory};
+use depot_model::{Scheme, Signer};
+use depot_scenario::{Scenario, event_head, judged};
+use depot_schedule::{Event, Label};
+
+impl<A: Actor> Simulation<A> {
+    /// Does an event, and gives its lines. After Memory the simulation isn't one any more.
+    pub fn event<S: Scheme, G: Signer>(
+        &mut self,
+        scenario: &Scenario<'_, S, G>,
+        event: &Event,
+    ) -> Result<Bytes, Memory>
+        requires may { MayHappen scenario.now.height scenario.now.members.now event.now }
+        requires played { IsPlayedOn S.verifies G.key_of G.signature_of scenario.now A.view A.Reader.reads self.old }
+        ensures { IfOk result (λ lines. (setup : Setup) (run : Run) → IsScenarioOf S.verifies G.key_of G.signature_of setup scenario.now → IsSound setup run → IsSimulationAt A.view A.Reader.reads setup run self.old → HasTold A A.view A.Reader.reads setup event.now (done setup run event.now) lines self.new) }
+    {
+        let mut lines = Bytes::new(self.alloc);
+        event_head(self.alloc, &mut lines, event)?;
+        let behind = self.lines(scenario, event)?;
+        lines.push_all(behind.as_slice())?;
+        Ok(lines)
+    }
+
+    /// The same; the lines are those from the arrow on.
+    fn lines<S: Scheme, G: Signer>(
+        &mut self,
+        scenario: &Scenario<'_, S, G>,
+        event: &Event,
+    ) -> Result<Bytes, Memory>
+        requires may { MayHappen scenario.now.height scenario.now.members.now event.now }
+        requires played { IsPlayedOn S.verifies G.key_of G.signature_of scenario.now A.view A.Reader.reads self.old }
+        ensures { IfOk result (λ lines. (setup : Setup) (run : Run) → IsScenarioOf S.verifies G.key_of G.signature_of setup scenario.now → IsSound setup run → IsSimulationAt A.view A.Reader.reads setup run self.old → HasDone A A.view A.Reader.reads setup (done setup run event.now) lines self.new) }
+    {
+        match event {
+            Event::Put { node, .. } => self.effect(*node, event),
+            Event::Puts { node, .. } => self.effect(*node, event),
+            Event::Get { node, .. } => self.effect(*node, event),
+            Event::Hello { node, .. } => self.effect(*node, event),
+            Event::Bundle { node, .. } => self.effect(*node, event),
+            Event::Give { node, .. } => self.effect(*node, event),
+            Event::Restart { node } => self.effect(*node, event),
+            Event::Update { label, .. } => self.update(scenario, label, event),
+            Event::Updates { label, .. } => self.update(scenario, label, event),
+            Event::Voucher { label, .. } => self.make(scenario, label, event),
+            Event::Proof { label, .. } => self.make(scenario, label, event),
+            Event::Hollow { label, .. } => self.make(scenario, label, event),
+            Event::Judge { label } => self.judge(scenario, label),
+            Event::Raw { label, .. } => self.make(scenario, label, event),
+            Event::Cut { label, .. } => self.make(scenario, label, event),
+            Event::Flip { label, .. } => self.make(scenario, label, event),
+            Event::Join { label, .. } => self.make(scenario, label, event),
+            Event::Stop { node, call, image } => self.stop(*node, *call, *image),
+            Event::Receipt { node, refs } => self.receipt(*node, refs.as_slice()),
+            Event::Settled { node, reference, k } => self.settled(*node, reference, *k),
+            Event::Audit => self.audit(scenario),
+            Event::Checkpoint { node, .. } => self.effect(*node, event),
+            Event::Sign { node, .. } => self.effect(*node, event),
+            Event::Trim { node, label, name } => self.trim(*node, label, name),
+            Event::Tgive { name, label } => self.tgive(name, label),
+            Event::Tget { name, key } => self.tget(name, key),
+        }
+    }
+
+    /// The bytes of a label are judged as a proof. The lines are those from the arrow on.
+    fn judge<S: Scheme, G: Signer>(
+        &self,
+        scenario: &Scenario<'_, S, G>,
+        label: &Label,
+    ) -> Result<Bytes, Memory>
+        ensures { IfOk result (λ lines. (setup : Setup) (run : Run) → IsScenarioOf S.verifies G.key_of G.signature_of setup scenario.now → IsSimulationAt A.view A.Reader.reads setup run self.now → HasDone A A.view A.Reader.reads setup (judged_with setup run (proof_in (bytes_of run label.now))) lines self.now) }
+    {
+        let mut lines = judged(
+            self.alloc,
+            scenario.roster,
+            &scenario.scheme,
+            self.bytes_of(label),
+        )?;
+        lines.push_all(b"\n")?;
+        Ok(lines)
+    }
+}

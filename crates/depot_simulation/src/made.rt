@@ -1,0 +1,143 @@
+//! Events that only make a label.
+ghost use Rattle.std.specs.Prelude.{◌≡◌, [], ℕ, List, None, true, IfOk, IfSome};
+ghost use Rattle.depot_base.specs.Shown.{IsPairKind};
+ghost use Rattle.depot_model.specs.Journal.{update_in};
+ghost use Rattle.depot_model.specs.Texts.{IsSigned};
+ghost use Rattle.depot_schedule.specs.EventLines.{label_of};
+ghost use Rattle.depot_schedule.specs.declared.event.Event.TheVariants as event;
+ghost use Rattle.depot_world.specs.Run.{Run};
+ghost use Rattle.depot_world.specs.FaultySigning.{hollow_text, proof_text, vouched_text};
+ghost use Rattle.depot_world.specs.Setups.{Setup, signs_on};
+ghost use Rattle.depot_world.specs.Transcript.{done};
+ghost use Rattle.depot_scenario.specs.Scenarios.{IsScenarioOf, IsSomeScenario, MayHappen};
+ghost use Rattle.depot_simulation.specs.Doing.{HasDone, is_text, text_by};
+ghost use Rattle.depot_simulation.specs.Playing.{IsSimulationAt, IsPlayed};
+ghost use Rattle.depot_scenario.specs.ScenarioTexts.{IsText};
+
+use crate::actor::Actor;
+use crate::simulation::Simulation;
+use depot_base::limits::MOST_VALUE;
+use depot_base::{Bytes, Kind, Memory, NodeId};
+use depot_model::{Scheme, Signer};
+use depot_scenario::texts::Text;
+use depot_scenario::{Scenario, texts};
+use depot_schedule::{Event, Label, Ref};
+
+impl<A: Actor> Simulation<A> {
+    /// An event that only makes a label. The lines are those from the arrow on.
+    pub fn make<S: Scheme, G: Signer>(
+        &mut self,
+        scenario: &Scenario<'_, S, G>,
+        label: &Label,
+        event: &Event,
+    ) -> Result<Bytes, Memory>
+        requires text { is_text event.now ≡ true }
+        requires label { label_of event.now ≡ label.now }
+        requires scenario { IsSomeScenario S.verifies G.key_of G.signature_of scenario.now }
+        requires may { MayHappen scenario.now.height scenario.now.members.now event.now }
+        requires played { IsPlayed A.view A.Reader.reads self.old }
+        ensures { IfOk result (λ lines. (setup : Setup) (run : Run) → IsScenarioOf S.verifies G.key_of G.signature_of setup scenario.now → IsSimulationAt A.view A.Reader.reads setup run self.old → HasDone A A.view A.Reader.reads setup (done setup run event.now) lines self.new) }
+    {
+        let text = self.text(scenario, event)?;
+        let lines = self.labels.give(label, text)?;
+        Ok(lines)
+    }
+
+    /// What such an event makes.
+    fn text<S: Scheme, G: Signer>(
+        &self,
+        scenario: &Scenario<'_, S, G>,
+        event: &Event,
+    ) -> Result<Text, Memory>
+        requires text { is_text event.now ≡ true }
+        requires scenario { IsSomeScenario S.verifies G.key_of G.signature_of scenario.now }
+        requires may { MayHappen scenario.now.height scenario.now.members.now event.now }
+        requires played { IsPlayed A.view A.Reader.reads self.now }
+        ensures is { IfOk result (λ text. (setup : Setup) (run : Run) → IsScenarioOf S.verifies G.key_of G.signature_of setup scenario.now → IsSimulationAt A.view A.Reader.reads setup run self.now → IsText text (text_by setup run event.now)) }
+        ensures fits { IfOk result (λ text. IfSome text.signed IsSigned) }
+        ensures none { IfOk result (λ text. IfSome text.signed (λ s. update_in s.statement ≡ [])) }
+    {
+        match event {
+            Event::Voucher {
+                writer,
+                seq,
+                refs,
+                ..
+            } => self.voucher(scenario, *writer, *seq, refs.as_slice()),
+            Event::Proof {
+                kind,
+                first,
+                second,
+                ..
+            } => self.proof(*kind, first, second),
+            Event::Hollow { voucher, text, .. } => self.hollow(voucher, text),
+            Event::Raw { bytes, .. } => texts::raw(self.alloc, bytes.as_slice()),
+            Event::Cut {
+                source,
+                start,
+                count,
+                ..
+            } => texts::cut(self.alloc, self.bytes_of(source), *start, *count),
+            Event::Flip { source, place, .. } => {
+                texts::flip(self.alloc, self.bytes_of(source), *place)
+            }
+            Event::Join { first, second, .. } => {
+                texts::join(self.alloc, self.bytes_of(first), self.bytes_of(second))
+            }
+            _ => unreachable!(),
+        }
+    }
+
+    /// A voucher that a faulty node signs, if its references name updates or plain bytes.
+    fn voucher<S: Scheme, G: Signer>(
+        &self,
+        scenario: &Scenario<'_, S, G>,
+        writer: NodeId,
+        seq: u32,
+        refs: &[Ref],
+    ) -> Result<Text, Memory>
+        requires scenario { IsSomeScenario S.verifies G.key_of G.signature_of scenario.now }
+        requires may { (label : List ℕ) × MayHappen scenario.now.height scenario.now.members.now (event.Voucher label writer seq refs.now) }
+        requires played { IsPlayed A.view A.Reader.reads self.now }
+        ensures is { IfOk result (λ text. (setup : Setup) (run : Run) → IsScenarioOf S.verifies G.key_of G.signature_of setup scenario.now → IsSimulationAt A.view A.Reader.reads setup run self.now → IsText text (vouched_text (signs_on setup writer) run writer seq refs.now)) }
+        ensures fits { IfOk result (λ text. IfSome text.signed IsSigned) }
+        ensures none { IfOk result (λ text. IfSome text.signed (λ s. update_in s.statement ≡ [])) }
+    {
+        match self.vouched_ids(refs)? {
+            Some(ids) => texts::voucher(self.alloc, scenario.signer_of(writer), writer, seq, ids),
+            None => texts::no_reference(self.alloc),
+        }
+    }
+
+    /// The halves of a proof, if both labels name signed statements.
+    fn proof(&self, kind: Kind, first: &Label, second: &Label) -> Result<Text, Memory>
+        requires kind { IsPairKind kind }
+        requires played { IsPlayed A.view A.Reader.reads self.now }
+        ensures is { IfOk result (λ text. (setup : Setup) (run : Run) → IsSimulationAt A.view A.Reader.reads setup run self.now → IsText text (proof_text run kind first.now second.now)) }
+        ensures none { IfOk result (λ text. text.signed ≡ None) }
+    {
+        let Some(one) = self.signed_of(first) else {
+            return texts::no_reference(self.alloc);
+        };
+        let Some(other) = self.signed_of(second) else {
+            return texts::no_reference(self.alloc);
+        };
+        texts::proof(self.alloc, kind, one, other)
+    }
+
+    /// A voucher and the bytes of a plain label as a hollow proof, if the label of the voucher names one and the bytes aren't too many.
+    fn hollow(&self, voucher: &Label, text: &Label) -> Result<Text, Memory>
+        requires { IsPlayed A.view A.Reader.reads self.now }
+        ensures is { IfOk result (λ made. (setup : Setup) (run : Run) → IsSimulationAt A.view A.Reader.reads setup run self.now → IsText made (hollow_text run voucher.now text.now)) }
+        ensures none { IfOk result (λ made. made.signed ≡ None) }
+    {
+        let Some(signed) = self.signed_of(voucher) else {
+            return texts::no_reference(self.alloc);
+        };
+        let bytes = self.bytes_of(text);
+        if bytes.len() > MOST_VALUE {
+            return texts::no_reference(self.alloc);
+        }
+        texts::hollow(self.alloc, signed, bytes)
+    }
+}

@@ -1,0 +1,96 @@
+//! A run from its begin on: events are played, and what they print is written.
+ghost use Rattle.std.specs.Prelude.{◌≡◌, ◌++◌, IsTrue, OnOk, OnErr, IsErrOf, IfOk};
+ghost use Rattle.depot_base.specs.Faults.{HasCause};
+ghost use Rattle.depot_base.specs.Reading.{AddsFrontOf};
+ghost use Rattle.depot_model.specs.Lists.{IsIn};
+ghost use Rattle.depot_schedule.specs.Schedules.{IsSchedule};
+ghost use Rattle.depot_schedule.specs.declared.event.Event.{Event};
+ghost use Rattle.depot_world.specs.Run.{Run, run_of};
+ghost use Rattle.depot_world.specs.Setups.{Setup, setup_of};
+ghost use Rattle.depot_world.specs.Transcript.{printed};
+ghost use Rattle.depot_scenario.specs.Scenarios.{IsScenarioOf, MayHappen};
+ghost use Rattle.depot_simulation.specs.Playing.{IsSimulationAt, MayPlay, StaysSound};
+
+use crate::actor::Actor;
+use crate::participant::Participant;
+use crate::readers::Readers;
+use crate::replay_error::ReplayError;
+use crate::simulation::Simulation;
+use crate::starts_fresh::StartsFresh;
+use depot_base::Memory;
+use depot_model::{Scheme, Signer};
+use depot_outside::{OutError, Sink};
+use depot_scenario::{KnownUpdates, Labels, Scenario};
+use depot_schedule::{Event, Schedule};
+use depot_traces::Reads;
+use std::alloc::Global;
+
+/// The run before its first event.
+pub fn begun<'a, A: StartsFresh<S, &'a G>, S: Scheme + Copy, G: Signer<Of = S>>(
+    alloc: Global,
+    schedule: &Schedule,
+    scenario: &Scenario<'a, S, G>,
+) -> Result<Simulation<A>, Memory>
+    requires schedule { IsSchedule schedule.now }
+    requires members { scenario.now.members.now ≡ schedule.now.members }
+    requires scenario { IsScenarioOf S.verifies G.key_of G.signature_of (setup_of schedule.now) scenario.now }
+    ensures { IfOk result (λ simulation. IsSimulationAt A.view A.Reader.reads (setup_of schedule.now) (run_of (setup_of schedule.now) schedule.now.members) simulation) }
+{
+    let mut participants = Vec::new(alloc);
+    for place in 0..scenario.members.len() {
+        let member = scenario.members[place];
+        if !member.correct {
+            continue;
+        }
+        let signer = &scenario.signers[place];
+        let actor = A::fresh_host(alloc, scenario.roster, scenario.scheme, signer, member.node)?;
+        participants.push(Participant {
+            actor,
+            reads: Reads::new(alloc),
+        })?;
+    }
+    Ok(Simulation {
+        alloc,
+        participants,
+        labels: Labels::new(alloc),
+        seen: KnownUpdates::new(alloc),
+        readers: Readers::new(alloc),
+    })
+}
+
+/// Plays events, one after the other, and writes the lines of each after it was done. After an error a front of them all went out.
+pub fn play_all<A: Actor, S: Scheme, G: Signer, K: Sink>(
+    simulation: &mut Simulation<A>,
+    scenario: &Scenario<'_, S, G>,
+    events: &[Event],
+    out: &mut K,
+) -> Result<(), ReplayError>
+    requires may { (e : Event) → IsIn e events.now → MayHappen scenario.now.height scenario.now.members.now e }
+    requires played { MayPlay S.verifies G.key_of G.signature_of scenario.now events.now A.view A.Reader.reads simulation.old }
+    ensures done { (setup : Setup) (run : Run) → IsScenarioOf S.verifies G.key_of G.signature_of setup scenario.now → StaysSound setup run events.now → IsSimulationAt A.view A.Reader.reads setup run simulation.old → IsTrue (K.tells out.old) → OnOk result (K.written out.new ≡ K.written out.old ++ printed setup run events.now) }
+    ensures front { (setup : Setup) (run : Run) → IsScenarioOf S.verifies G.key_of G.signature_of setup scenario.now → StaysSound setup run events.now → IsSimulationAt A.view A.Reader.reads setup run simulation.old → IsTrue (K.tells out.old) → OnErr result (AddsFrontOf (K.written out.old) (printed setup run events.now) (K.written out.new)) }
+    ensures tells { K.tells out.new ≡ K.tells out.old }
+    ensures cause { HasCause (K.faults out.old) (K.faults out.new) (IsErrOf result ReplayError.Sink) }
+    ensures faultless { K.is_faultless out.old → K.is_faultless out.new × (K.faults out.new ≡ K.faults out.old) }
+{
+    for event in events {
+        let lines = simulation.event(scenario, event)?;
+        write(out, lines.as_slice())?;
+    }
+    Ok(())
+}
+
+/// Writes bytes to a sink. After an error a front of them went out; `Sink` has its cause in a call that failed.
+pub fn write<K: Sink>(out: &mut K, bytes: &[u8]) -> Result<(), ReplayError>
+    ensures done { IsTrue (K.tells out.old) → OnOk result (K.written out.new ≡ K.written out.old ++ bytes.now) }
+    ensures front { IsTrue (K.tells out.old) → OnErr result (AddsFrontOf (K.written out.old) bytes.now (K.written out.new)) }
+    ensures tells { K.tells out.new ≡ K.tells out.old }
+    ensures cause { HasCause (K.faults out.old) (K.faults out.new) (IsErrOf result ReplayError.Sink) }
+    ensures faultless { K.is_faultless out.old → K.is_faultless out.new × (K.faults out.new ≡ K.faults out.old) }
+{
+    match out.write(bytes) {
+        Ok(()) => Ok(()),
+        Err(OutError::Memory) => Err(ReplayError::Memory),
+        Err(OutError::Failed) => Err(ReplayError::Sink),
+    }
+}

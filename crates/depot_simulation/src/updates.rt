@@ -1,0 +1,163 @@
+//! Updates that faulty nodes sign.
+ghost use Rattle.std.specs.Prelude.{◌≡◌, ◌<◌, ◌^◌, ◌∷◌, [], true, IfOk, IfSome, OnOk};
+ghost use Rattle.depot_model.specs.Journal.{update_in};
+ghost use Rattle.depot_model.specs.Own.{values_of};
+ghost use Rattle.depot_model.specs.Texts.{IsSigned, IsUpdate};
+ghost use Rattle.depot_schedule.specs.EventLines.{changes_in, label_of, node_of};
+ghost use Rattle.depot_schedule.specs.Vocabulary.{is_declared};
+ghost use Rattle.depot_world.specs.Run.{Run, seen_with};
+ghost use Rattle.depot_world.specs.FaultySigning.{update_text};
+ghost use Rattle.depot_world.specs.Setups.{Setup, signs_on};
+ghost use Rattle.depot_world.specs.Transcript.{done};
+ghost use Rattle.depot_scenario.specs.Scenarios.{IsScenarioOf, IsSomeScenario, MayHappen};
+ghost use Rattle.depot_simulation.specs.Doing.{HasDone, is_signing, signed_text, update_by, with_update};
+ghost use Rattle.depot_simulation.specs.Drafts.{HasLeaf, IsNumbered};
+ghost use Rattle.depot_simulation.specs.Playing.{IsSimulationAt, IsPlayed, WereSeen};
+ghost use Rattle.depot_scenario.specs.KnownUpdates.{HasSeenParents};
+ghost use Rattle.depot_scenario.specs.ScenarioTexts.{IsText};
+
+use crate::actor::Actor;
+use crate::simulation::Simulation;
+use depot_base::{Bytes, Change, Changes, Memory, NodeId, Update};
+use depot_graph::Graph;
+use depot_model::{Past, Scheme, Signer};
+use depot_scenario::texts::Text;
+use depot_scenario::{Scenario, texts};
+use depot_schedule::{Event, Label};
+use depot_update::id_of;
+
+impl<A: Actor> Simulation<A> {
+    /// A faulty node signs an update, which is seen from now on. The lines are those from the arrow on.
+    pub fn update<S: Scheme, G: Signer>(
+        &mut self,
+        scenario: &Scenario<'_, S, G>,
+        label: &Label,
+        event: &Event,
+    ) -> Result<Bytes, Memory>
+        requires signing { is_signing event.now ≡ true }
+        requires label { label_of event.now ≡ label.now }
+        requires scenario { IsSomeScenario S.verifies G.key_of G.signature_of scenario.now }
+        requires may { MayHappen scenario.now.height scenario.now.members.now event.now }
+        requires played { IsPlayed A.view A.Reader.reads self.old }
+        ensures { IfOk result (λ lines. (setup : Setup) (run : Run) → IsScenarioOf S.verifies G.key_of G.signature_of setup scenario.now → IsSimulationAt A.view A.Reader.reads setup run self.old → HasDone A A.view A.Reader.reads setup (done setup run event.now) lines self.new) }
+    {
+        let text = self.signed(scenario, event)?;
+        let lines = self.labels.give(label, text)?;
+        Ok(lines)
+    }
+
+    /// What the update's label is given, and the update is seen, if its references name updates.
+    fn signed<S: Scheme, G: Signer>(
+        &mut self,
+        scenario: &Scenario<'_, S, G>,
+        event: &Event,
+    ) -> Result<Text, Memory>
+        requires signing { is_signing event.now ≡ true }
+        requires scenario { IsSomeScenario S.verifies G.key_of G.signature_of scenario.now }
+        requires may { MayHappen scenario.now.height scenario.now.members.now event.now }
+        requires played { IsPlayed A.view A.Reader.reads self.old }
+        ensures is { IfOk result (λ text. (setup : Setup) (run : Run) → IsScenarioOf S.verifies G.key_of G.signature_of setup scenario.now → IsSimulationAt A.view A.Reader.reads setup run self.old → IsText text (signed_text (signs_on setup (node_of event.now)) (changes_in event.now) (update_by setup run event.now))) }
+        ensures at { OnOk result ((setup : Setup) (run : Run) → IsSimulationAt A.view A.Reader.reads setup run self.old → IsSimulationAt A.view A.Reader.reads setup (with_update run (update_by setup run event.now)) self.new) }
+        ensures fits { IfOk result (λ text. IfSome text.signed IsSigned) }
+        ensures were { IfOk result (λ text. IfSome text.signed (λ s. WereSeen (⟦<Graph as Past>⟧.updates self.new.seen.graph) (update_in s.statement))) }
+    {
+        match event {
+            Event::Update {
+                writer,
+                seq,
+                clock,
+                prev,
+                key,
+                value,
+                deps,
+                history,
+                ..
+            } => {
+                let changes = Changes::one(self.alloc, key.copy()?, value.copy()?)?;
+                let made = self.updated(
+                    *writer,
+                    *seq,
+                    *clock,
+                    prev,
+                    changes.as_slice(),
+                    deps.as_slice(),
+                    *history,
+                )?;
+                self.given(scenario, *writer, *seq, made, changes.as_slice())
+            }
+            Event::Updates {
+                writer,
+                seq,
+                clock,
+                prev,
+                changes,
+                deps,
+                history,
+                ..
+            } => {
+                let made = self.updated(
+                    *writer,
+                    *seq,
+                    *clock,
+                    prev,
+                    changes.as_slice(),
+                    deps.as_slice(),
+                    *history,
+                )?;
+                self.given(scenario, *writer, *seq, made, changes.as_slice())
+            }
+            _ => unreachable!(),
+        }
+    }
+
+    /// What the label is given where this update was made or none, and the update is seen.
+    fn given<S: Scheme, G: Signer>(
+        &mut self,
+        scenario: &Scenario<'_, S, G>,
+        writer: NodeId,
+        seq: u32,
+        made: Option<Update>,
+        changes: &[Change],
+    ) -> Result<Text, Memory>
+        requires text { IfSome made (λ u. IsUpdate u) }
+        requires parents { IfSome made (λ u. HasSeenParents (⟦<Graph as Past>⟧.updates self.old.seen.graph) u) }
+        requires numbered { IfSome made (λ u. IsNumbered writer seq u) }
+        requires leaf { HasLeaf scenario.now.height scenario.now.members.now writer seq }
+        requires scenario { IsSomeScenario S.verifies G.key_of G.signature_of scenario.now }
+        ensures is { IfOk result (λ text. (setup : Setup) → IsScenarioOf S.verifies G.key_of G.signature_of setup scenario.now → IsText text (signed_text (signs_on setup writer) changes.now made)) }
+        ensures at { OnOk result ((setup : Setup) (run : Run) → IsSimulationAt A.view A.Reader.reads setup run self.old → IsSimulationAt A.view A.Reader.reads setup (with_update run made) self.new) }
+        ensures fits { IfOk result (λ text. IfSome text.signed IsSigned) }
+        ensures were { IfOk result (λ text. IfSome text.signed (λ s. WereSeen (⟦<Graph as Past>⟧.updates self.new.seen.graph) (update_in s.statement))) }
+    {
+        match made {
+            Some(update) => self.sign(scenario, update, changes),
+            None => texts::no_reference(self.alloc),
+        }
+    }
+
+    /// What the label of an update is given, which is seen.
+    fn sign<S: Scheme, G: Signer>(
+        &mut self,
+        scenario: &Scenario<'_, S, G>,
+        update: Update,
+        changes: &[Change],
+    ) -> Result<Text, Memory>
+        requires text { IsUpdate update }
+        requires parents { HasSeenParents (⟦<Graph as Past>⟧.updates self.old.seen.graph) update }
+        requires declared { is_declared scenario.now.members.now update.writer ≡ true }
+        requires leaf { update.seq < 2 ^ scenario.now.height }
+        requires scenario { IsSomeScenario S.verifies G.key_of G.signature_of scenario.now }
+        ensures is { IfOk result (λ text. (setup : Setup) → IsScenarioOf S.verifies G.key_of G.signature_of setup scenario.now → IsText text (update_text (signs_on setup update.writer) update (values_of changes.now))) }
+        ensures participants { self.new.participants ≡ self.old.participants }
+        ensures labels { self.new.labels ≡ self.old.labels }
+        ensures readers { self.new.readers ≡ self.old.readers }
+        ensures seen { OnOk result (⟦<Graph as Past>⟧.updates self.new.seen.graph ≡ seen_with (⟦<Graph as Past>⟧.updates self.old.seen.graph) (update ∷ [])) }
+        ensures fits { IfOk result (λ text. IfSome text.signed IsSigned) }
+        ensures were { IfOk result (λ text. IfSome text.signed (λ s. WereSeen (⟦<Graph as Past>⟧.updates self.new.seen.graph) (update_in s.statement))) }
+    {
+        let id = id_of(self.alloc, &update)?;
+        self.seen.add(&update, &id)?;
+        let signer = scenario.signer_of(update.writer);
+        Ok(texts::update(self.alloc, signer, update, changes)?)
+    }
+}

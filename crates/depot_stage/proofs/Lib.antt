@@ -1,6 +1,0 @@
-pub mod FlipLaws
-pub mod JudgedLaws
-pub mod LabelTables
-pub mod SeenUpdates
-pub mod SignedLaws
-pub mod ValueFrames

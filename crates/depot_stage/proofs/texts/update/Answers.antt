@@ -1,5 +1,0 @@
-use Rattle.depot_model.proofs.BodyLaws.{IsStatement-from_update}
-use Rattle.depot_stage.proofs.texts.update.Goals as goal
-
-pub signed-requires-clause-fits : goal.signed-requires-clause-fits
-signed-requires-clause-fits g c = IsStatement-from_update c.args.update c.requires.fits

@@ -1,4 +1,0 @@
-pub mod Casting
-pub mod Labels
-pub mod Seen
-pub mod StageTexts

@@ -1,6 +1,0 @@
-use Rattle.std.proofs.Common.{take}
-use Rattle.depot_tell.specs.InFront.{AreVoucherPlaces}
-use Rattle.depot_tell.proofs.in_front.places_found.Given as goal
-
-abbrev pub invariant-loop-id : goal.invariant-loop-id
-invariant-loop-id g l = AreVoucherPlaces l.store.records (take l.id-index l.ids) l.found.items

@@ -1,5 +1,0 @@
-use Rattle.depot_tell.proofs.LeafInserts.{told_names}
-use Rattle.depot_tell.proofs.leaf_order.leaves.Goals as goal
-
-pub returns : goal.returns
-returns g c = told_names c.args.store.now.records c.in_ok-leaves.leaves.keys c.names_of.result c.in_ok-leaves.ensures c.names_of.ensures

@@ -1,0 +1,7 @@
+mod HostReads
+mod ReadsTold
+mod SessionReads
+mod ReadsAndVerdicts
+mod SessionExamples
+mod ShelfExamples
+mod DamageExamples
