@@ -4,7 +4,7 @@ use Rattle.depot_answers.specs.declared.journal_answers.Seen.TheVariants.{Held, 
 use Rattle.depot_model.specs.Contents.{Sighting, held_value, not_held, gone}
 
 -- what that is in the answer of a read
-abbrev pub sighting_of : Seen → Sighting
-sighting_of (Held value) = held_value value.now
-sighting_of NotHeld = not_held
-sighting_of Gone = gone
+abbrev pub sighting_of_seen : Seen → Sighting
+sighting_of_seen (Held value) = held_value value.now
+sighting_of_seen NotHeld = not_held
+sighting_of_seen Gone = gone

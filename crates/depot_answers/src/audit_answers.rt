@@ -1,6 +1,6 @@
 //! What an audit finds, and how much a trace has.
 ghost use Rattle.std.specs.Prelude.{◌≡◌, ◌++◌, OnOk};
-ghost use Rattle.depot_answers.specs.Answers.{text_of_finding, text_of_op, text_of_spot, text_of_traced};
+ghost use Rattle.depot_answers.specs.AnswerTexts.{text_of_finding, text_of_op, text_of_spot, text_of_traced};
 ghost use Rattle.depot_traces.specs.SeenTraces.{finding_of, op_of};
 
 use crate::record_faults::record_fault;
@@ -82,7 +82,7 @@ fn one_spot(
 }
 
 /// What an audit finds: `yes`, or what fails first and where. After Memory a front of that may have been added.
-#[tactic(auto, using(depot_base::proofs::Writing::texts), unfolding(crate::specs::Answers::text_of_finding))]
+#[tactic(auto, using(depot_base::proofs::Writing::texts), unfolding(crate::specs::AnswerTexts::text_of_finding))]
 pub fn finding(alloc: Global, out: &mut Bytes, found: Finding) -> Result<(), Memory>
     ensures { OnOk result (out.new ≡ out.old ++ text_of_finding (finding_of found)) }
 {

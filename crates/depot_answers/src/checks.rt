@@ -1,16 +1,16 @@
 //! Failed checks, and frames that were refused.
 ghost use Rattle.std.specs.Prelude.{◌≡◌, ◌++◌, OnOk};
-ghost use Rattle.depot_answers.specs.Answers.{text_of_check, text_of_refusal};
+ghost use Rattle.depot_answers.specs.AnswerTexts.{text_of_check, text_of_refused};
 
 use crate::words::{numbered, numbered_node, spaced_number, text, two_words};
 use depot_base::{Bytes, Check, Memory};
+use depot_lines::spelling::name_of_kind;
 use depot_model::Refusal;
-use depot_schedule::spelling::name_of_kind;
 use std::alloc::Global;
 
 /// A failed check: its number, its name, and what it carries where that is a number or a kind. After Memory a front of that may have
 /// been added.
-#[tactic(auto, unfolding(crate::specs::Answers::text_of_check))]
+#[tactic(auto, unfolding(crate::specs::AnswerTexts::text_of_check))]
 pub fn check(alloc: Global, out: &mut Bytes, check: &Check) -> Result<(), Memory>
     ensures { OnOk result (out.new ≡ out.old ++ text_of_check check.now) }
 {
@@ -38,7 +38,7 @@ pub fn check(alloc: Global, out: &mut Bytes, check: &Check) -> Result<(), Memory
 /// added.
 #[tactic(auto, using(depot_base::proofs::Writing::texts))]
 pub fn refusal(alloc: Global, out: &mut Bytes, refusal: &Refusal) -> Result<(), Memory>
-    ensures { OnOk result (out.new ≡ out.old ++ text_of_refusal refusal.now) }
+    ensures { OnOk result (out.new ≡ out.old ++ text_of_refused refusal.now) }
 {
     spaced_number(alloc, out, "refused", refusal.frame as u64)?;
     text(out, " ")?;

@@ -1,14 +1,14 @@
 //! Hellos, bundles, and what became of a stream.
 ghost use Rattle.std.specs.Prelude.{◌≡◌, ◌++◌, OnOk};
 ghost use Rattle.depot_model.specs.Feeding.{Feeding, report_of};
-ghost use Rattle.depot_answers.specs.Answers.{name_of_more, spaced, text_of_closing, text_of_counts, text_of_end, text_of_ending, text_of_named, text_of_report};
+ghost use Rattle.depot_answers.specs.AnswerTexts.{name_of_more, spaced, text_of_counts, text_of_end, text_of_ending, text_of_named, text_of_report};
 ghost use Rattle.depot_answers.specs.Closings.{closing_of};
 
 use crate::limit_answers::full;
 use crate::words::{numbered, spaced_number, text};
 use depot_base::{Bytes, Full, Memory};
+use depot_lines::word_writers::word;
 use depot_model::{Counts, Ending, Hello, Report};
-use depot_schedule::lines::word;
 use std::alloc::Global;
 
 /// Why a feed was closed.
@@ -80,7 +80,7 @@ fn end(alloc: Global, out: &mut Bytes, closing: Option<Closing>, how: Ending) ->
 /// What became of the frames of a stream: how many were new, known and refused, and how the stream ended. `closing` is why the last
 /// piece closed its feed: where `FeedError::IllFormed` or `Full` answered it, and None where no piece was answered with an error.
 /// After Memory a front of that may have been added.
-#[tactic(auto, using(depot_base::proofs::Writing::texts), unfolding(crate::specs::Answers::text_of_report, depot_model::specs::Feeding::report_of))]
+#[tactic(auto, using(depot_base::proofs::Writing::texts), unfolding(crate::specs::AnswerTexts::text_of_report, depot_model::specs::Feeding::report_of))]
 pub fn report(
     alloc: Global,
     out: &mut Bytes,

@@ -1,11 +1,11 @@
 //! Which line of a text isn't in its form, and why.
 ghost use Rattle.std.specs.Prelude.{◌≡◌, ◌++◌, OnOk};
-ghost use Rattle.depot_answers.specs.Answers.{name_of_line_fault, text_of_faulty_line};
+ghost use Rattle.depot_answers.specs.AnswerTexts.{name_of_line_fault, text_of_faulty_line};
 
 use crate::words::numbered;
 use depot_base::{Bytes, Memory};
-use depot_schedule::LineFault;
-use depot_schedule::lines::word;
+use depot_lines::LineFault;
+use depot_lines::word_writers::word;
 use std::alloc::Global;
 
 /// The name of a fault.

@@ -2,8 +2,8 @@
 ghost use Rattle.std.specs.Prelude.{◌≡◌, ◌++◌, List, length, OnOk};
 ghost use Rattle.depot_base.specs.declared.record.Record.{Record};
 ghost use Rattle.depot_base.specs.declared.update.Update.{Update};
-ghost use Rattle.depot_answers.specs.Answers.{text_of_put, text_of_records, text_of_sighting, text_of_write};
-ghost use Rattle.depot_answers.specs.Sightings.{sighting_of};
+ghost use Rattle.depot_answers.specs.AnswerTexts.{text_of_put, text_of_records, text_of_sighting, text_of_write};
+ghost use Rattle.depot_answers.specs.Sightings.{sighting_of_seen};
 
 use crate::words::{numbered, text};
 use depot_base::{Bytes, Memory, Update};
@@ -31,7 +31,7 @@ pub enum Seen<'a> {
 /// What stands behind a write: `=` and the value in lower-case hexadecimal, `=?` where it isn't held, or `!` of a deletion.
 #[tactic(auto, using(depot_base::proofs::Writing::texts))]
 fn sighting(alloc: Global, out: &mut Bytes, seen: Seen<'_>) -> Result<(), Memory>
-    ensures { OnOk result (out.new ≡ out.old ++ text_of_sighting (sighting_of seen.entry)) }
+    ensures { OnOk result (out.new ≡ out.old ++ text_of_sighting (sighting_of_seen seen.entry)) }
 {
     match seen {
         Seen::Held(value) => {
@@ -48,7 +48,7 @@ fn sighting(alloc: Global, out: &mut Bytes, seen: Seen<'_>) -> Result<(), Memory
 /// front of that may have been added.
 #[tactic(auto, using(depot_base::proofs::Writing::texts))]
 pub fn write(alloc: Global, out: &mut Bytes, update: &Update, seen: Seen<'_>) -> Result<(), Memory>
-    ensures { OnOk result (out.new ≡ out.old ++ text_of_write (record { update = update.now; seen = sighting_of seen.entry })) }
+    ensures { OnOk result (out.new ≡ out.old ++ text_of_write (record { update = update.now; seen = sighting_of_seen seen.entry })) }
 {
     let writer = update.writer.number();
     let seq = update.seq;

@@ -4,8 +4,8 @@ ghost use Rattle.depot_model.specs.Lines.{name_of_half, text_of_point, text_of_r
 
 use crate::words::{numbered, numbered_node, text, two_words};
 use depot_base::{Bytes, Memory, NodeId};
+use depot_lines::spelling::name_of_kind;
 use depot_model::{Half, JudgeError, RosterError, Verdict};
-use depot_schedule::spelling::name_of_kind;
 use std::alloc::Global;
 
 /// The name of a half.

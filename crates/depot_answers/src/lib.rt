@@ -1,10 +1,12 @@
 //! What is printed of answers: of a put and a read, of a refusal, of what two nodes exchanged, of a judgement.
 //!
-//! Each function adds one text at the end of the bytes so far: the one that `specs/Answers.antt` or `depot_model/specs/Lines.antt`
+//! Each function adds one text at the end of the bytes so far: the one that `specs/AnswerTexts.antt` or `depot_model/specs/Lines.antt`
 //! gives for that answer, without LF. Where no memory is found, a front of it may have been added.
 //!
-//! `checks` has failed checks and refusals, `limits` the limits that a node meets, `journals` what is put, read and counted of a
-//! journal, `exchanges` hellos, bundles and streams, `receipts` why none is given and whether a put is settled, `readers` checkpoints and the readers made by them, `judgements` rosters and proofs, `audits` what an audit finds, `record_faults` faulty records, `faults` faulty lines, and `words` what these are made of.
+//! `checks` has failed checks and refusals, `limit_answers` the limits that a node meets, `journal_answers` what is put, read and
+//! counted of a journal, `exchange_answers` hellos, bundles and streams, `receipt_answers` why none is given and whether a put is settled,
+//! `reader_answers` checkpoints and the readers made by them, `judgement_answers` rosters and proofs, `audit_answers` what an audit finds,
+//! `record_faults` faulty records, `fault_answers` faulty lines, and `words` what these are made of.
 //!
 //! Nothing here reads, decides or prints.
 #![tactic(auto)]

@@ -1,7 +1,7 @@
 //! The limits that what a node writes may meet.
 ghost use Rattle.std.specs.Prelude.{◌≡◌, ℕ, List, ◌++◌, OnOk};
 ghost use Rattle.depot_model.specs.Limits.{spent, tips, collides};
-ghost use Rattle.depot_answers.specs.Answers.{name_of_full, text_of_full, text_of_limit};
+ghost use Rattle.depot_answers.specs.AnswerTexts.{name_of_full, text_of_full, text_of_limit};
 
 use crate::words::{numbered, text};
 use depot_base::{Bytes, Full, FullOf, Memory};
@@ -26,7 +26,7 @@ pub fn full(alloc: Global, out: &mut Bytes, full: &Full) -> Result<(), Memory>
 }
 
 /// So many own statements were made, and too few leaves are left. After Memory a front of that may have been added.
-#[tactic(auto, unfolding(crate::specs::Answers::text_of_limit))]
+#[tactic(auto, unfolding(crate::specs::AnswerTexts::text_of_limit))]
 pub fn spent(alloc: Global, out: &mut Bytes, count: u32) -> Result<(), Memory>
     ensures { OnOk result (out.new ≡ out.old ++ text_of_limit (spent count)) }
 {
@@ -34,7 +34,7 @@ pub fn spent(alloc: Global, out: &mut Bytes, count: u32) -> Result<(), Memory>
 }
 
 /// An update would have so many entries, more than 1,024. After Memory a front of that may have been added.
-#[tactic(auto, unfolding(crate::specs::Answers::text_of_limit))]
+#[tactic(auto, unfolding(crate::specs::AnswerTexts::text_of_limit))]
 pub fn tips(alloc: Global, out: &mut Bytes, count: u32) -> Result<(), Memory>
     ensures { OnOk result (out.new ≡ out.old ++ text_of_limit (tips count)) }
 {
@@ -42,7 +42,7 @@ pub fn tips(alloc: Global, out: &mut Bytes, count: u32) -> Result<(), Memory>
 }
 
 /// An update's id isn't fresh, whatever the id. After Memory a front of that may have been added.
-#[tactic(auto, unfolding(crate::specs::Answers::text_of_limit))]
+#[tactic(auto, unfolding(crate::specs::AnswerTexts::text_of_limit))]
 pub fn collides(out: &mut Bytes) -> Result<(), Memory>
     ensures { OnOk result ((id : List ℕ) → out.new ≡ out.old ++ text_of_limit (collides id)) }
 {

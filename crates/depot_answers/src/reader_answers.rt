@@ -1,7 +1,7 @@
 //! Checkpoints that are made or not, and readers that are made by them.
 ghost use Rattle.std.specs.Prelude.{◌≡◌, ◌++◌, OnOk};
-ghost use Rattle.depot_model.specs.ReaderFeeds.{ReaderFeed};
-ghost use Rattle.depot_answers.specs.Answers.{text_of_empty, text_of_kept, text_of_many, text_of_reader_feed, text_of_unsigned, text_where_full};
+ghost use Rattle.depot_answers.specs.AnswerTexts.{text_of_empty, text_of_kept, text_of_many, text_of_unsigned, text_where_full};
+ghost use Rattle.depot_answers.specs.CountedFeeds.{TellsFeed};
 
 use crate::limit_answers::full;
 use crate::words::{numbered, numbered_node, spaced_number, text};
@@ -67,14 +67,14 @@ fn full_behind(alloc: Global, out: &mut Bytes, met: Option<Full>) -> Result<(), 
 
 /// How many frames of a stream a reader found new, known, to be refused and below, and what was full where one found no room. After
 /// Memory a front of that may have been added.
-#[tactic(auto, using(depot_base::proofs::Writing::texts), unfolding(crate::specs::Answers::text_of_reader_feed))]
+#[tactic(auto, using(depot_base::proofs::Writing::texts), unfolding(crate::specs::AnswerTexts::text_of_reader_feed))]
 pub fn reader_feed(
     alloc: Global,
     out: &mut Bytes,
     counts: ReaderCounts,
     met: Option<Full>,
 ) -> Result<(), Memory>
-    ensures { OnOk result ((s : ReaderFeed) → s.accepted ≡ counts.accepted → s.known ≡ counts.known → s.refused ≡ counts.refused → s.below ≡ counts.below → s.full ≡ met → out.new ≡ out.old ++ text_of_reader_feed s) }
+    ensures { OnOk result (TellsFeed counts met out.old out.new) }
 {
     numbered(alloc, out, "accepted", counts.accepted as u64)?;
     spaced_number(alloc, out, "known", counts.known as u64)?;

@@ -1,6 +1,6 @@
 //! What is wrong with a record of a journal.
 ghost use Rattle.std.specs.Prelude.{◌≡◌, ◌++◌, OnOk};
-ghost use Rattle.depot_answers.specs.Answers.{text_of_record_fault};
+ghost use Rattle.depot_answers.specs.AnswerTexts.{text_of_record_fault};
 
 use crate::checks::check;
 use crate::words::{numbered, text};

@@ -1,9 +1,9 @@
 //! Words, and words with a number.
 ghost use Rattle.std.specs.Prelude.{◌≡◌, ◌++◌, OnOk};
-ghost use Rattle.depot_answers.specs.Answers.{numbered, spaced};
+ghost use Rattle.depot_answers.specs.AnswerTexts.{text_of_number, spaced};
 
 use depot_base::{Bytes, Memory, NodeId};
-use depot_schedule::lines::word;
+use depot_lines::word_writers::word;
 use std::alloc::Global;
 
 /// A text as it is.
@@ -15,7 +15,7 @@ pub(crate) fn text(out: &mut Bytes, text: &str) -> Result<(), Memory>
 
 /// A name, a space, and a number in decimal. After Memory a front of that may have been added.
 pub fn numbered(alloc: Global, out: &mut Bytes, name: &str, n: u64) -> Result<(), Memory>
-    ensures { OnOk result (out.new ≡ out.old ++ numbered name.now n) }
+    ensures { OnOk result (out.new ≡ out.old ++ text_of_number name.now n) }
 {
     let words = format!(in alloc; "{name} {n}")?;
     text(out, words.as_str())
@@ -28,7 +28,7 @@ pub(crate) fn numbered_node(
     name: &str,
     node: NodeId,
 ) -> Result<(), Memory>
-    ensures { OnOk result (out.new ≡ out.old ++ numbered name.now node) }
+    ensures { OnOk result (out.new ≡ out.old ++ text_of_number name.now node) }
 {
     numbered(alloc, out, name, node.number() as u64)
 }
@@ -41,7 +41,7 @@ pub(crate) fn spaced_number(
     name: &str,
     n: u64,
 ) -> Result<(), Memory>
-    ensures { OnOk result (out.new ≡ out.old ++ spaced (numbered name.now n)) }
+    ensures { OnOk result (out.new ≡ out.old ++ spaced (text_of_number name.now n)) }
 {
     text(out, " ")?;
     numbered(alloc, out, name, n)

@@ -3,15 +3,15 @@ use Rattle.std.proofs.Common.{◌≡◌, ℕ, List, [], ◌∷◌, Result, Ok, E
 use Rattle.std.proofs.lemmas.Bool.{eqb-true}
 use Rattle.depot_base.specs.declared.write.Change.{Change}
 use Rattle.depot_model.specs.Changes.{AreChanges}
-use Rattle.depot_schedule.specs.Language.{next, nothing, split}
-use Rattle.depot_schedule.specs.Readers.{Reads}
-use Rattle.depot_schedule.specs.Vocabulary.{changes}
-use Rattle.depot_schedule.specs.declared.changes.Keys.TheVariants as keys
-use Rattle.depot_schedule.specs.declared.line_fault.LineError.{LineError}
-use Rattle.depot_schedule.specs.declared.line_fault.LineError.TheVariants.{In}
-use Rattle.depot_schedule.specs.declared.line_fault.LineFault.{LineFault}
-use Rattle.depot_schedule.proofs.ChangeWords.{changes_are, changes_lawful}
-use Rattle.depot_schedule.proofs.LanguageLaws.{bind_ok, ok_is}
+use Rattle.depot_lines.specs.Language.{next, nothing, split}
+use Rattle.depot_lines.specs.LineReading.{TakesReading}
+use Rattle.depot_lines.specs.Vocabulary.{changes}
+use Rattle.depot_lines.specs.declared.changes.Keys.TheVariants as keys
+use Rattle.depot_lines.specs.declared.line_fault.LineError.{LineError}
+use Rattle.depot_lines.specs.declared.line_fault.LineError.TheVariants.{In}
+use Rattle.depot_lines.specs.declared.line_fault.LineFault.{LineFault}
+use Rattle.depot_lines.proofs.ChangeWords.{changes_are, changes_lawful}
+use Rattle.depot_lines.proofs.LanguageLaws.{bind_ok, ok_is}
 use Rattle.depot_c.specs.Serving.{ChangesGiven, asked_changes, changes_read}
 use Rattle.depot_c.specs.declared.refused.Refused.TheVariants as refused
 
@@ -40,8 +40,8 @@ none_behind input [] cs e whole = absurd cc
 none_behind input (word ∷ words) cs e whole = ap changes_read e
 
 -- and for none where the word isn't one of changes
-pub none_read : (input : List ℕ) (words left : List (List ℕ)) (e : LineError) (f : LineFault) → words ≡ split 32 input → e ≡ In f → Reads {A = List Change} (Err e) left (next read_word words) → ChangesGiven input (Err refused.Input)
+pub none_read : (input : List ℕ) (words left : List (List ℕ)) (e : LineError) (f : LineFault) → words ≡ split 32 input → e ≡ In f → TakesReading {A = List Change} (Err e) left (next read_word words) → ChangesGiven input (Err refused.Input)
 unfolding asked_changes
 none_read input words left e f are is reads =
-    let told : next read_word words ≡ Err f = subst (λ (x : LineError). Reads {A = List Change} (Err x) left (next read_word words)) is reads in
+    let told : next read_word words ≡ Err f = subst (λ (x : LineError). TakesReading {A = List Change} (Err x) left (next read_word words)) is reads in
     ap (λ (ws : List (List ℕ)). changes_read (next read_word ws)) (sym are) ∙ ap changes_read told

@@ -9,7 +9,7 @@ use Rattle.depot_base.specs.declared.record.Record.{Record}
 use Rattle.depot_base.specs.declared.update.Update.{Update}
 use Rattle.depot_base.specs.declared.write.Wrote.{Wrote}
 use Rattle.depot_base.specs.declared.write.Wrote.TheVariants.{Put, Gone}
-use Rattle.depot_answers.specs.Answers.{text_of_write}
+use Rattle.depot_answers.specs.AnswerTexts.{text_of_write}
 use Rattle.depot_model.specs.Contents.{NamedValue, Sighting, Writes, held_value, not_held}
 use Rattle.depot_model.specs.Items.{updates_at}
 use Rattle.depot_model.specs.Journal.{accepted, held_as, seen_as, seen_under}

@@ -3,7 +3,7 @@ use Rattle.std.specs.Prelude.{◌≡◌, ◌≤◌, ◌⊎◌, ℕ, List, Bool, 
 use Rattle.depot_base.specs.declared.key.PublicKey.{PublicKey}
 use Rattle.depot_base.specs.declared.key.RosterEntry.{RosterEntry}
 use Rattle.depot_base.specs.declared.limits.TheConstants.{GREATEST_HEIGHT, LEAST_HEIGHT}
-use Rattle.depot_answers.specs.Answers.{text_of_refusal, text_of_report}
+use Rattle.depot_answers.specs.AnswerTexts.{text_of_refused, text_of_report}
 use Rattle.depot_answers.specs.Closings.{closing_of}
 use Rattle.depot_answers.specs.declared.exchange_answers.Closing.{Closing}
 use Rattle.depot_answers.specs.declared.exchange_answers.Closing.TheVariants as closing
@@ -188,7 +188,7 @@ EndsFeed v told w = EndsStream v.feed v told w
 
 -- a refused frame, by its place among them, from 0
 abbrev pub IsRefusedFrame : Report → ℕ → CallAnswer → Type 0
-IsRefusedFrame report place (Ok (answer.Text text)) = (r : Refusal) × ((slice_get report.refused place ≡ Some r) × (text ≡ text_of_refusal r))
+IsRefusedFrame report place (Ok (answer.Text text)) = (r : Refusal) × ((slice_get report.refused place ≡ Some r) × (text ≡ text_of_refused r))
 IsRefusedFrame report place (Err refused.Absent) = length report.refused ≤ place
 IsRefusedFrame report place (Err refused.Memory) = Unit {0}
 IsRefusedFrame report place other = ⊥

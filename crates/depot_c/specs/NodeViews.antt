@@ -6,7 +6,7 @@ use Rattle.depot_base.specs.declared.update.Update.{Update}
 use Rattle.depot_base.specs.declared.write.Change.{Change}
 use Rattle.depot_base.specs.declared.write.Wrote.{Wrote}
 use Rattle.depot_base.specs.declared.write.Wrote.TheVariants.{Put, Gone}
-use Rattle.depot_answers.specs.Answers.{text_of_write}
+use Rattle.depot_answers.specs.AnswerTexts.{text_of_write}
 use Rattle.depot_decide.specs.Putting.{Puts}
 use Rattle.depot_decide.specs.declared.put_answers.PutError.TheVariants as put_error
 use Rattle.depot_feeds.specs.declared.feed_error.FeedError.TheVariants as feed_error

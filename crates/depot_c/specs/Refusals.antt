@@ -1,6 +1,6 @@
 -- Why a call is refused, as its caller is told.
 use Rattle.std.specs.Prelude.{◌≡◌, ◌⊎◌, ℕ, List, [], ◌++◌, codes}
-use Rattle.depot_answers.specs.Answers.{numbered, spaced, text_of_full, text_of_limit, text_of_record_fault}
+use Rattle.depot_answers.specs.AnswerTexts.{text_of_number, spaced, text_of_full, text_of_limit, text_of_record_fault}
 use Rattle.depot_decide.specs.declared.put_answers.PutError.{PutError}
 use Rattle.depot_decide.specs.declared.put_answers.PutError.TheVariants as put_error
 use Rattle.depot_feeds.specs.declared.feed_error.FeedError.{FeedError}
@@ -100,7 +100,7 @@ abbrev pub words_of_bundle : BundleError → List ℕ
 words_of_bundle bundle_error.Memory = []
 words_of_bundle bundle_error.Disk = []
 words_of_bundle bundle_error.Stopped = []
-words_of_bundle (bundle_error.IllFormed at) = numbered (codes "IllFormed") at
+words_of_bundle (bundle_error.IllFormed at) = text_of_number (codes "IllFormed") at
 words_of_bundle (bundle_error.OtherRoster given mine) = codes "OtherRoster"
 words_of_bundle (bundle_error.Spent n) = text_of_limit (spent n)
 words_of_bundle (bundle_error.Full what) = text_of_limit (full what)
@@ -109,7 +109,7 @@ abbrev pub words_of_feed : FeedError → List ℕ
 words_of_feed feed_error.Memory = []
 words_of_feed feed_error.Disk = []
 words_of_feed feed_error.Stopped = []
-words_of_feed (feed_error.IllFormed at) = numbered (codes "ill-formed") at
+words_of_feed (feed_error.IllFormed at) = text_of_number (codes "ill-formed") at
 words_of_feed (feed_error.Full what) = text_of_full what
 
 abbrev pub words_of_start : StartError → List ℕ
@@ -119,8 +119,8 @@ words_of_start start_error.UnknownMe = codes "identity UnknownMe"
 words_of_start (start_error.OtherKey roster signer) = codes "identity OtherKey"
 words_of_start (start_error.OtherNode node) = codes "identity OtherNode"
 words_of_start (start_error.OtherRoster kept given) = codes "identity OtherRoster"
-words_of_start (start_error.Damaged at) = numbered (codes "damaged") at
-words_of_start (start_error.NotLawful place fault) = numbered (codes "not lawful") place ++ spaced (text_of_record_fault fault)
+words_of_start (start_error.Damaged at) = text_of_number (codes "damaged") at
+words_of_start (start_error.NotLawful place fault) = text_of_number (codes "not lawful") place ++ spaced (text_of_record_fault fault)
 
 -- why a call is refused, in the words of the program's lines
 abbrev pub words_of : Refused → List ℕ

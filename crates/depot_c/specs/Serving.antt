@@ -4,10 +4,10 @@ use Rattle.depot_base.specs.Sized.{IsKey, IsValue}
 use Rattle.depot_base.specs.Writes.{one_change}
 use Rattle.depot_base.specs.declared.write.Change.{Change}
 use Rattle.depot_model.specs.Changes.{AreChanges}
-use Rattle.depot_schedule.specs.Language.{nothing, next, split}
-use Rattle.depot_schedule.specs.Vocabulary.{changes}
-use Rattle.depot_schedule.specs.declared.changes.Keys.TheVariants as keys
-use Rattle.depot_schedule.specs.declared.line_fault.LineFault.{LineFault}
+use Rattle.depot_lines.specs.Language.{nothing, next, split}
+use Rattle.depot_lines.specs.Vocabulary.{changes}
+use Rattle.depot_lines.specs.declared.changes.Keys.TheVariants as keys
+use Rattle.depot_lines.specs.declared.line_fault.LineFault.{LineFault}
 use Rattle.depot_c.specs.NodeViews.{Bundling, Counting, Helloing, Putting, Reading, Recording, NodeView, CallAnswer, Valuing}
 use Rattle.depot_c.specs.declared.ask.NodeAsk.{NodeAsk}
 use Rattle.depot_c.specs.declared.ask.NodeAsk.TheVariants as ask

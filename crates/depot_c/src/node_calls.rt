@@ -1,8 +1,8 @@
 //! What a node does for a caller.
 ghost use Rattle.std.specs.Prelude.{◌≡◌, false, option_copied};
 ghost use Rattle.depot_base.specs.Writes.{one_change, wrote_under};
-ghost use Rattle.depot_answers.specs.Answers.{text_of_write};
-ghost use Rattle.depot_answers.specs.Sightings.{sighting_of};
+ghost use Rattle.depot_answers.specs.AnswerTexts.{text_of_write};
+ghost use Rattle.depot_answers.specs.Sightings.{sighting_of_seen};
 ghost use Rattle.depot_c.specs.NodeViews.{Bundling, Helloing, IsItemAt, IsText, Putting, Reading, Recording, RunsOn, Stays, Valuing, seen_by, shown_value};
 ghost use Rattle.depot_c.specs.Serving.{AsksNode, ChangesGiven, KeyGiven, OfKey, PuttingAll, PuttingAt};
 
@@ -15,10 +15,11 @@ use depot_answers::{Seen, write};
 use depot_base::limits::MOST_VALUE;
 use depot_base::{Bytes, Changes, Key, LengthError, Update, Value, Wrote};
 use depot_gossip::{bundle, hello};
+use depot_lines::word_readers::changes;
+use depot_lines::{Keys, LineError, Parts};
 use depot_model::Replica;
 use depot_node::Node;
 use depot_outside::MemDisk;
-use depot_schedule::lines::{Keys, LineError, Parts, changes};
 use depot_winter::WinterScheme;
 use std::alloc::Global;
 
@@ -108,7 +109,7 @@ fn text(alloc: Global, bytes: &[u8]) -> Result<Answer, Refused>
 
 /// What a read shows of an update's write of a key, of which this value is held, if one is.
 fn seen<'a>(update: &Update, key: &Key, value: Option<&'a [u8]>) -> Seen<'a>
-    ensures { sighting_of result ≡ seen_by (wrote_under key.now update.now.writes) (option_copied value.entry) }
+    ensures { sighting_of_seen result ≡ seen_by (wrote_under key.now update.now.writes) (option_copied value.entry) }
 {
     match update.wrote(key.bytes()) {
         Some(Wrote::Put { .. }) => held(value),
@@ -119,7 +120,7 @@ fn seen<'a>(update: &Update, key: &Key, value: Option<&'a [u8]>) -> Seen<'a>
 
 /// A value that is held, or that none is.
 fn held(value: Option<&[u8]>) -> Seen<'_>
-    ensures { sighting_of result ≡ shown_value (option_copied value.entry) }
+    ensures { sighting_of_seen result ≡ shown_value (option_copied value.entry) }
 {
     match value {
         Some(value) => Seen::Held(value),
@@ -129,7 +130,7 @@ fn held(value: Option<&[u8]>) -> Seen<'_>
 
 /// A write that a read shows, in words.
 fn shown(alloc: Global, update: &Update, seen: Seen<'_>) -> Result<Answer, Refused>
-    ensures { IsText (text_of_write (record { update = update.now; seen = sighting_of seen.entry })) result }
+    ensures { IsText (text_of_write (record { update = update.now; seen = sighting_of_seen seen.entry })) result }
 {
     let mut line = Bytes::new(alloc);
     match write(alloc, &mut line, update, seen) {

@@ -1,6 +1,6 @@
 //! Why a call is refused.
 ghost use Rattle.std.specs.Prelude.{◌≡◌, ◌++◌, OnOk, codes};
-ghost use Rattle.depot_answers.specs.Answers.{numbered, spaced, text_of_limit, text_of_record_fault};
+ghost use Rattle.depot_answers.specs.AnswerTexts.{text_of_number, spaced, text_of_limit, text_of_record_fault};
 ghost use Rattle.depot_c.specs.Refusals.{IsTold, outcome_of, outcome_of_bundle, outcome_of_feed, outcome_of_put, outcome_of_roster, outcome_of_start, words_of, words_of_bundle, words_of_feed, words_of_put, words_of_start};
 
 use crate::outcome::Outcome;
@@ -103,7 +103,7 @@ fn of_feed(error: FeedError) -> Outcome
 }
 
 /// Adds the limit that a put met.
-#[tactic(auto, unfolding(depot_answers::specs::Answers::text_of_limit))]
+#[tactic(auto, unfolding(depot_answers::specs::AnswerTexts::text_of_limit))]
 fn say_put(alloc: Global, out: &mut Bytes, error: PutError) -> Result<(), Memory>
     ensures { OnOk result (out.new ≡ out.old ++ words_of_put error) }
 {
@@ -117,7 +117,7 @@ fn say_put(alloc: Global, out: &mut Bytes, error: PutError) -> Result<(), Memory
 }
 
 /// Adds why no bundle is made.
-#[tactic(auto, unfolding(depot_answers::specs::Answers::text_of_limit))]
+#[tactic(auto, unfolding(depot_answers::specs::AnswerTexts::text_of_limit))]
 fn say_bundle(alloc: Global, out: &mut Bytes, error: BundleError) -> Result<(), Memory>
     ensures { OnOk result (out.new ≡ out.old ++ words_of_bundle error) }
 {
@@ -149,7 +149,7 @@ fn say_unlawful(
     place: u32,
     fault: &RecordFault,
 ) -> Result<(), Memory>
-    ensures { OnOk result (out.new ≡ out.old ++ (numbered (codes "not lawful") place ++ spaced (text_of_record_fault fault.now))) }
+    ensures { OnOk result (out.new ≡ out.old ++ (text_of_number (codes "not lawful") place ++ spaced (text_of_record_fault fault.now))) }
 {
     numbered(alloc, out, "not lawful", place as u64)?;
     out.push_all(b" ")?;

@@ -3,7 +3,7 @@ use Rattle.std.proofs.Common.{◌≡◌, ◌<◌, ◌≤◌, ℕ, map, true, Res
 use Rattle.std.specs.Result.{IfOk, IsOk}
 use Rattle.std.proofs.lemmas.Option.{get_or_from_slice_get}
 use Rattle.std.proofs.lemmas.Result.{IfOk-weaker}
-use Rattle.depot_answers.specs.Answers.{text_of_finding}
+use Rattle.depot_answers.specs.AnswerTexts.{text_of_finding}
 use Rattle.depot_base.specs.Format.{number}
 use Rattle.depot_base.specs.declared.key.RosterEntry.{RosterEntry}
 use Rattle.depot_base.specs.declared.memory.Memory as absent
@@ -23,8 +23,8 @@ use Rattle.depot_traces.specs.TraceTexts.{IsTrace, trace_text}
 use Rattle.depot_traces.specs.declared.finding.Finding as told
 use Rattle.depot_traces.specs.declared.trace.Trace.{Trace}
 use Rattle.depot_trace_files.specs.Handing.{AreForAudit, nodes_of}
-use Rattle.depot_trace_files.specs.declared.loading.Gathered.{Gathered}
-use Rattle.depot_trace_files.specs.declared.loading.Gathered.TheVariants as gathered
+use Rattle.depot_trace_files.specs.declared.loading.GatheredTraces.{GatheredTraces}
+use Rattle.depot_trace_files.specs.declared.loading.GatheredTraces.TheVariants as gathered
 use Rattle.depot_cli.specs.declared.outcome.Outcome.{Outcome}
 use Rattle.depot_cli.specs.declared.status.Status.{Status}
 use Rattle.depot_cli.specs.Runs.{AnswersFiles, Audits, IsAudited, IsRosterText, status_of_finding}

@@ -5,7 +5,7 @@ use Rattle.std.proofs.lemmas.Result.{IfOk-weaker}
 use Rattle.depot_base.specs.declared.memory.Memory as absent
 use Rattle.depot_model.specs.Causality.{IsForkJoinCausal, ConvictsNoCorrectNode}
 use Rattle.depot_model.specs.World.{IsAuthentic, IsCollisionFree}
-use Rattle.depot_schedule.specs.Readers.{IsTextOf}
+use Rattle.depot_schedule.specs.Schedules.{IsTextOfSchedule}
 use Rattle.depot_schedule.specs.declared.schedule.Schedule.{Schedule}
 use Rattle.depot_world.specs.Transcript.{transcript_of, world_of}
 use Rattle.depot_cli.specs.declared.invocation.Command.TheVariants as asked
@@ -40,7 +40,7 @@ finished_by answers begins sink found one status is answered none ends =
     finished answers begins sink found status (IfOk-weaker found _ _ (λ o same. subst (λ (x : Outcome). answers x.status x.text) (sym same) answered) is) none ends
 
 -- a schedule that was played from its text was replayed
-pub replayed : (name bytes : List ℕ) (s : Schedule) (sink : Sinks) (status : Status) → IsTextOf bytes s
+pub replayed : (name bytes : List ℕ) (s : Schedule) (sink : Sinks) (status : Status) → IsTextOfSchedule bytes s
     → (IsAuthentic (world_of s) → IsCollisionFree (world_of s) → IsForkJoinCausal (world_of s)) → (IsAuthentic (world_of s) → IsCollisionFree (world_of s) → ConvictsNoCorrectNode (world_of s))
     → (IsAuthentic (world_of s) → PairsSpareCorrectNodes (world_of s))
     → Plays s sink status → Ends (ReplayOf name bytes) (IsFrontOf (λ text. IsReplayed text bytes)) sink status

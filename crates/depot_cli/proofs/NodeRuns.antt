@@ -17,8 +17,7 @@ use Rattle.depot_model.specs.Texts.{roster}
 use Rattle.depot_model.proofs.TextLaws.{roster_lawful}
 use Rattle.depot_outside.specs.Told.{Disks, HasFile, HasLoaded, LacksFile, Loads, Shelves, Sinks, WhereTold, shelves}
 use Rattle.depot_outside.specs.declared.shelf.Shelf.{Ghosts}
-use Rattle.depot_script.specs.ScriptReading as script
-use Rattle.depot_script.specs.Scripts.{script_of}
+use Rattle.depot_script.specs.Scripts.{IsTextOfScript, script_of}
 use Rattle.depot_script.specs.declared.command.Command as line
 use Rattle.depot_script.proofs.ScriptLaws.{script_again}
 use Rattle.depot_session.specs.declared.ending.Ending.{Ending}
@@ -190,7 +189,7 @@ file_run listed n disk behind shelf first loads calls whole sink same_disk same_
       listed = listed;
       roster = has;
       commands = commands;
-      script = subst (λ (s : Shelves). WhereTold s (HasFile s n.script (λ bytes. script.IsTextOf bytes commands))) same is;
+      script = subst (λ (s : Shelves). WhereTold s (HasFile s n.script (λ bytes. IsTextOfScript bytes commands))) same is;
       loaded = loads_from_more first loads n.roster (n.script ∷ []) commands before after loaded;
       ends = e;
       status_is = ends;
@@ -204,15 +203,15 @@ pub results_complete : (disk : Disks) (shelf : Shelves) (loads : Loads) (calls :
 results_complete disk shelf loads calls sink same_disk same_files (Some (asked.Node n)) status r well = tt
 results_complete disk shelf loads calls sink same_disk same_files other status r well = ends_complete shelf loads sink other status r.1 well
 
-no_script : (shelf : Shelves) (name text : List ℕ) (commands : List line.Command) → HasFile shelf name (λ bytes. script.IsTextOf bytes commands) → HasFile shelf name (IsNoScript name text) → ⊥
+no_script : (shelf : Shelves) (name text : List ℕ) (commands : List line.Command) → HasFile shelf name (λ bytes. IsTextOfScript bytes commands) → HasFile shelf name (IsNoScript name text) → ⊥
 no_script shelf name text commands good broken =
     let same = one_file shelf name good.bytes broken.bytes good.there broken.there in
-    let is = subst (λ (x : List ℕ). script.IsTextOf x commands) same good.holds in
+    let is = subst (λ (x : List ℕ). IsTextOfScript x commands) same good.holds in
     let read = ap script_of is.is ∙ script_again commands is.has in
     let first = broken.holds.first in
     cc
 
-no_fault_of_inputs : (shelf : Shelves) (loads : Loads) (sink : Sinks) (n : NodeWords) (listed : List RosterEntry) (commands : List line.Command) (answer : Status) (text : List ℕ) → IsWell shelf sink → HasFile shelf n.roster (λ bytes. IsRosterText bytes listed) → HasFile shelf n.script (λ bytes. script.IsTextOf bytes commands)
+no_fault_of_inputs : (shelf : Shelves) (loads : Loads) (sink : Sinks) (n : NodeWords) (listed : List RosterEntry) (commands : List line.Command) (answer : Status) (text : List ℕ) → IsWell shelf sink → HasFile shelf n.roster (λ bytes. IsRosterText bytes listed) → HasFile shelf n.script (λ bytes. IsTextOfScript bytes commands)
     → NodeInputs shelf loads n.roster n.script answer text → ⊥
 no_fault_of_inputs shelf loads sink n listed commands answer text well has has_script (inl (loaded, (is, (lacks, line_is)))) = not_lacking shelf sink n.roster has.bytes well has.there lacks
 no_fault_of_inputs shelf loads sink n listed commands answer text well has has_script (inr (inl (loaded, (is, broken)))) = no_roster shelf n.roster text (record { bytes = has.bytes; there = has.there; holds = (listed, has.holds) }) (broken well.tells)
@@ -227,7 +226,7 @@ ok_is_one : {A E : Type 0} (a b : A) → ◌≡◌ {A = Result A E} (Ok a) (Ok b
 ok_is_one a b e = cc
 
 -- and one script's
-one_script : (bytes : List ℕ) (a b : List line.Command) → script.IsTextOf bytes a → script.IsTextOf bytes b → a ≡ b
+one_script : (bytes : List ℕ) (a b : List line.Command) → IsTextOfScript bytes a → IsTextOfScript bytes b → a ≡ b
 one_script bytes a b is other = ok_is_one a b (sym (ap script_of is.is ∙ script_again a is.has) ∙ ap script_of other.is ∙ script_again b other.has)
 
 -- where nothing fails a run is cut short for want of memory alone
@@ -251,7 +250,7 @@ node_completes disk shelf loads calls sink same_disk same_files n status (inr r)
     let found = r.roster well.tells in
     let found_script = r.script well.tells in
     let listed_is : r.listed ≡ listed = one_roster has.bytes r.listed listed (subst (λ (x : List ℕ). IsRosterText x r.listed) (one_file shelf n.roster found.bytes has.bytes found.there has.there) found.holds) has.holds in
-    let commands_are : r.commands ≡ commands = one_script has_script.bytes r.commands commands (subst (λ (x : List ℕ). script.IsTextOf x r.commands) (one_file shelf n.script found_script.bytes has_script.bytes found_script.there has_script.there) found_script.holds) has_script.holds in
+    let commands_are : r.commands ≡ commands = one_script has_script.bytes r.commands commands (subst (λ (x : List ℕ). IsTextOfScript x r.commands) (one_file shelf n.script found_script.bytes has_script.bytes found_script.there has_script.there) found_script.holds) has_script.holds in
     let ran = subst (λ (c : List line.Command). RunsScript listed n c (n.roster ∷ n.script ∷ []) disk shelf calls sink same_disk r.ends) commands_are (subst (λ (l : List RosterEntry). RunsScript l n r.commands (n.roster ∷ n.script ∷ []) disk shelf calls sink same_disk r.ends) listed_is r.runs) in
     elim (ran.answers.over disk_well.tells well.tells keyed J [] lawful records (record { each = λ read on. absurd on; in_order = tt })) [
       | inl whole ↦ inl (r.status_is ∙ ap status_of whole.0.ending_is)

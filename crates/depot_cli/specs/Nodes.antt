@@ -8,7 +8,7 @@ use Rattle.depot_model.specs.Roster.{key_of}
 use Rattle.depot_model.specs.Stops.{HasRecords}
 use Rattle.depot_model.specs.Winternitz.{winternitz_signature, winternitz_verifies}
 use Rattle.depot_outside.specs.Told.{Disks, HasFile, HasLoaded, LacksFile, Loads, Shelves, Sinks, WhereTold}
-use Rattle.depot_script.specs.ScriptReading.{IsTextOf}
+use Rattle.depot_script.specs.Scripts.{IsTextOfScript}
 use Rattle.depot_script.specs.declared.command.Command as line
 use Rattle.depot_session.specs.declared.ending.Ending.{Ending}
 use Rattle.depot_session.specs.declared.ending.Ending.TheVariants as ending
@@ -54,7 +54,7 @@ pub record RunsNode (n : NodeWords) (disk : Disks) (shelf : Shelves) (loads : Lo
   pub listed : List RosterEntry
   pub roster : WhereTold shelf (HasFile shelf n.roster (λ bytes. IsRosterText bytes listed))
   pub commands : List line.Command
-  pub script : WhereTold shelf (HasFile shelf n.script (λ bytes. IsTextOf bytes commands))
+  pub script : WhereTold shelf (HasFile shelf n.script (λ bytes. IsTextOfScript bytes commands))
   pub loaded : LoadsFrom (n.roster ∷ n.script ∷ []) commands loads
   pub ends : Ending
   pub status_is : status ≡ status_of ends
@@ -65,7 +65,7 @@ pub record RunsNode (n : NodeWords) (disk : Disks) (shelf : Shelves) (loads : Lo
 abbrev pub RunsBytes : List RosterEntry → NodeWords → List ℕ → Disks → Shelves → Loads → Asked → Sinks → (same_disk same_files : Type 0) → Status → Type 0
 RunsBytes listed n bytes disk shelf loads calls sink same_disk same_files status =
     ((same_disk × same_files) × (HasLoaded loads [] × Ends (λ answer text. (answer ≡ Input) × IsNoScript n.script text bytes) (λ text. text ≡ []) sink status)) ⊎
-    ((commands : List line.Command) × (IsTextOf bytes commands × (LoadsFrom [] commands loads × ((ends : Ending) × ((status ≡ status_of ends) × RunsScript listed n commands [] disk shelf calls sink same_disk ends)))))
+    ((commands : List line.Command) × (IsTextOfScript bytes commands × (LoadsFrom [] commands loads × ((ends : Ending) × ((status ≡ status_of ends) × RunsScript listed n commands [] disk shelf calls sink same_disk ends)))))
 
 -- What `node` answers where its script can't be had or is none.
 abbrev pub ScriptInputs : Shelves → Loads → List ℕ → Status → List ℕ → Type 0
@@ -77,7 +77,7 @@ ScriptInputs shelf loads script status text =
 abbrev pub RunsFile : List RosterEntry → NodeWords → Disks → Shelves → Loads → Asked → Sinks → (same_disk same_files : Type 0) → Status → Type 0
 RunsFile listed n disk shelf loads calls sink same_disk same_files status =
     ((same_disk × same_files) × (HasLoaded loads (n.script ∷ []) × Ends (ScriptInputs shelf loads n.script) (λ text. text ≡ []) sink status)) ⊎
-    ((commands : List line.Command) × (WhereTold shelf (HasFile shelf n.script (λ bytes. IsTextOf bytes commands)) × (LoadsFrom (n.script ∷ []) commands loads × ((ends : Ending) × ((status ≡ status_of ends) × RunsScript listed n commands (n.script ∷ []) disk shelf calls sink same_disk ends)))))
+    ((commands : List line.Command) × (WhereTold shelf (HasFile shelf n.script (λ bytes. IsTextOfScript bytes commands)) × (LoadsFrom (n.script ∷ []) commands loads × ((ends : Ending) × ((status ≡ status_of ends) × RunsScript listed n commands (n.script ∷ []) disk shelf calls sink same_disk ends)))))
 
 -- What a command comes to. Every command but `node` leaves disk and files as they were and stores nothing, and so does `node` where its roster or its
 -- script can't be had.
@@ -88,7 +88,7 @@ Results disk shelf loads calls sink same_disk same_files command status = (same_
 
 -- what a run of `node` comes to where nothing fails, over a lawful journal of this node, or none; Memory may stand in its place
 abbrev pub CompletesNode : Disks → Shelves → Option Command → Status → Type 0
-CompletesNode disk shelf (Some (asked.Node n)) status = (listed : List RosterEntry) (commands : List line.Command) (J : List Record) → HasFile shelf n.roster (λ bytes. IsRosterText bytes listed) → HasFile shelf n.script (λ bytes. IsTextOf bytes commands)
+CompletesNode disk shelf (Some (asked.Node n)) status = (listed : List RosterEntry) (commands : List line.Command) (J : List Record) → HasFile shelf n.roster (λ bytes. IsRosterText bytes listed) → HasFile shelf n.script (λ bytes. IsTextOfScript bytes commands)
     → key_of listed n.id ≡ Some (key_of_seed n.seed n.height) → IsLawful (node_at listed n.id) J → HasRecords J disk.file
     → (status ≡ status_of (answers_of (node_at listed n.id) (winternitz_signature n.seed n.height) (session_from (node_at listed n.id) J [] shelf.file) commands).ending) ⊎ (status ≡ Memory)
 CompletesNode disk shelf command status = Unit {0}

@@ -27,11 +27,10 @@ use Rattle.depot_model.specs.Roster.{has_node}
 use Rattle.depot_model.specs.World.{Correct, World, IsAuthentic, IsCollisionFree, proofs_of}
 use Rattle.depot_model.specs.Audit as audits
 use Rattle.depot_model.specs.Traces.{IsFindingOf, IsCausalWorldOf}
-use Rattle.depot_answers.specs.Answers.{text_of_faulty_line, text_of_finding}
+use Rattle.depot_answers.specs.AnswerTexts.{text_of_faulty_line, text_of_finding}
 use Rattle.depot_script.specs.Scripts.{script_of}
-use Rattle.depot_schedule.specs.Readers.{IsTextOf}
-use Rattle.depot_schedule.specs.Schedules.{schedule_of}
-use Rattle.depot_schedule.specs.declared.line_fault.LineFault.{LineFault}
+use Rattle.depot_schedule.specs.Schedules.{IsTextOfSchedule, schedule_of}
+use Rattle.depot_lines.specs.declared.line_fault.LineFault.{LineFault}
 use Rattle.depot_schedule.specs.declared.schedule.Schedule.{Schedule}
 use Rattle.depot_world.specs.Transcript.{transcript_of, world_of}
 use Rattle.depot_load.specs.Loads.{load_of}
@@ -43,10 +42,10 @@ use Rattle.depot_traces.specs.SeenTraces.{trace_of}
 use Rattle.depot_traces.specs.TraceTexts.{IsTrace, text_of_trace}
 use Rattle.depot_traces.specs.declared.trace.Trace.{Trace}
 use Rattle.depot_trace_files.specs.Handing.{AreForAudit, AreHanded, IsGathered, IsRefusedAt, nodes_of}
-use Rattle.depot_trace_files.specs.declared.loading.Gathered.{Gathered}
-use Rattle.depot_trace_files.specs.declared.loading.Gathered.TheVariants as gathered
-use Rattle.depot_trace_files.specs.declared.loading.Refusal.{Refusal}
-use Rattle.depot_trace_files.specs.declared.loading.Refusal.TheVariants as refusal
+use Rattle.depot_trace_files.specs.declared.loading.GatheredTraces.{GatheredTraces}
+use Rattle.depot_trace_files.specs.declared.loading.GatheredTraces.TheVariants as gathered
+use Rattle.depot_trace_files.specs.declared.loading.TraceRefusal.{TraceRefusal}
+use Rattle.depot_trace_files.specs.declared.loading.TraceRefusal.TheVariants as refusal
 use Rattle.depot_cli.specs.declared.invocation.Command.{Command}
 use Rattle.depot_cli.specs.declared.invocation.Command.TheVariants as asked
 use Rattle.depot_cli.specs.declared.outcome.Outcome.{Outcome}
@@ -153,7 +152,7 @@ PairsSpareCorrectNodes W = (c : Correct) (kind : Kind) (a b : Signed) → IsIn c
 -- correct node while none is forged, whether texts collide or not.
 pub record IsReplayed (text bytes : List ℕ) : Type 0 where
   pub schedule : Schedule
-  pub read : IsTextOf bytes schedule
+  pub read : IsTextOfSchedule bytes schedule
   pub is : text ≡ transcript_of schedule
   pub causal : IsAuthentic (world_of schedule) → IsCollisionFree (world_of schedule) → IsForkJoinCausal (world_of schedule)
   pub convicts : IsAuthentic (world_of schedule) → IsCollisionFree (world_of schedule) → ConvictsNoCorrectNode (world_of schedule)
@@ -224,13 +223,13 @@ pub record IsAudited (listed : List RosterEntry) (ts : List Trace) (status : Sta
   pub text_is : text ≡ text_of_finding found ++ codes "\n"
 
 -- why the file of a name is refused, as it is told
-abbrev pub text_of_refusal : List ℕ → Refusal → List ℕ
+abbrev pub text_of_refusal : List ℕ → TraceRefusal → List ℕ
 text_of_refusal name refusal.Missing = shelf_line name
 text_of_refusal name (refusal.IllFormed at) = codes "input " ++ name ++ codes " at " ++ decimal at ++ codes "\n"
 text_of_refusal name (refusal.Twice node) = codes "input " ++ name ++ codes " twice " ++ decimal node ++ codes "\n"
 text_of_refusal name refusal.Stranger = codes "input " ++ name ++ codes " at " ++ decimal 2 ++ codes "\n"
 
-abbrev pub status_of_refusal : Refusal → Status
+abbrev pub status_of_refusal : TraceRefusal → Status
 status_of_refusal refusal.Missing = Shelf
 status_of_refusal why = Input
 
@@ -239,18 +238,18 @@ abbrev pub HasFailed : Shelves → Type 0
 HasFailed shelf = shelf.faults_before < shelf.faults_after
 
 -- What the trace files of these names answer, where this was gathered of them.
-abbrev pub AnswersGathered : List RosterEntry → List (List ℕ) → Gathered → Status → List ℕ → Type 0
+abbrev pub AnswersGathered : List RosterEntry → List (List ℕ) → GatheredTraces → Status → List ℕ → Type 0
 AnswersGathered listed names (gathered.Traces ts) status text = IsAudited listed ts status text
 AnswersGathered listed names (gathered.Refused place why) status text = (status ≡ status_of_refusal why) × ((name : List ℕ) → slice_get names place ≡ Some name → text ≡ text_of_refusal name why)
 
 -- What they answer behind a roster: what was gathered of them, by which files were loaded, and its answer.
 abbrev pub AnswersFiles : Shelves → Loads → List RosterEntry → List (List ℕ) → Status → List ℕ → Type 0
-AnswersFiles shelf loads listed names status text = (g : Gathered) × (IsGathered shelf.tells shelf.file (HasFailed shelf) (shelf.faults_after ≡ shelf.faults_before) loads listed names g × AnswersGathered listed names g status text)
+AnswersFiles shelf loads listed names status text = (g : GatheredTraces) × (IsGathered shelf.tells shelf.file (HasFailed shelf) (shelf.faults_after ≡ shelf.faults_before) loads listed names g × AnswersGathered listed names g status text)
 
 -- The trace file of a place is refused: those before it were loaded and are traces of distinct nodes of the roster, and none behind it was loaded.
 pub record RefusesTrace (shelf : Shelves) (loads : Loads) (listed : List RosterEntry) (roster : List ℕ) (names : List (List ℕ)) (status : Status) (text : List ℕ) : Type 0 where
   pub place : ℕ
-  pub why : Refusal
+  pub why : TraceRefusal
   pub loaded : HasLoaded loads (roster ∷ take (place + 1) names)
   pub refused : IsRefusedAt shelf.tells shelf.file (HasFailed shelf) listed names place why
   pub status_is : status ≡ status_of_refusal why
@@ -366,7 +365,7 @@ pub record IsWholeLog (bytes : List ℕ) : Type 0 where
 
 -- the bytes are the text of a schedule
 abbrev pub IsScheduleText : List ℕ → Type 0
-IsScheduleText bytes = (s : Schedule) × IsTextOf bytes s
+IsScheduleText bytes = (s : Schedule) × IsTextOfSchedule bytes s
 
 -- the files of these names are traces
 abbrev pub AreTraceFiles : Shelves → List (List ℕ) → List Trace → Type 0

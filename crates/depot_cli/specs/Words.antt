@@ -4,8 +4,8 @@ use Rattle.std.specs.List.{list_all}
 use Rattle.std.specs.Str.{bytes_eq}
 use Rattle.depot_base.specs.declared.limits.TheConstants.{MOST_KEY, LEAST_HEIGHT, GREATEST_HEIGHT}
 use Rattle.depot_model.specs.Lists.{when}
-use Rattle.depot_schedule.specs.Spelling.{is_within, hex_word, sized, number_word, is_name}
-use Rattle.depot_script.specs.Names.{is_file_name}
+use Rattle.depot_lines.specs.Spelling.{is_within, hex_word, sized, number_word, is_name}
+use Rattle.depot_lines.specs.FileNames.{is_file_name}
 use Rattle.depot_traces.specs.declared.trace.TheConstants.{MOST_TRACES}
 use Rattle.depot_cli.specs.declared.invocation.Command.{Command}
 use Rattle.depot_cli.specs.declared.invocation.Command.TheVariants.{Scan, Key, Judge, Load, Replay, Node, Audit}

@@ -1,7 +1,7 @@
 //! `audit ROSTER TRACE..`: whether what nodes did keeps the headline.
 ghost use Rattle.std.specs.Prelude.{◌≡◌, ◌≤◌, ◌++◌, ℕ, length, take, IfOk, IsOk, codes};
 ghost use Rattle.std.specs.Fmt.{decimal};
-ghost use Rattle.depot_answers.specs.Answers.{text_of_finding};
+ghost use Rattle.depot_answers.specs.AnswerTexts.{text_of_finding};
 ghost use Rattle.depot_outside.specs.Told.{HasLoaded, shelves, loads};
 ghost use Rattle.depot_traces.specs.SeenTraces.{finding_of};
 ghost use Rattle.depot_traces.specs.declared.trace.TheConstants.{MOST_TRACES};
@@ -16,10 +16,10 @@ use crate::trace_names::TraceNames;
 use depot_answers::finding;
 use depot_audit::audit as audit_traces;
 use depot_base::{Bytes, Memory, NodeId};
+use depot_lines::FileName;
 use depot_outside::Shelf;
-use depot_script::FileName;
 use depot_sign::Roster;
-use depot_trace_files::{Gathered, Refusal, gather};
+use depot_trace_files::{GatheredTraces, TraceRefusal, gather};
 use depot_traces::{Finding, Traces};
 use depot_winter::WinterScheme;
 use std::alloc::Global;
@@ -82,14 +82,14 @@ fn twice(alloc: Global, name: &str, node: NodeId) -> Result<Outcome, Memory>
 }
 
 /// Why the file of that name is no trace for the audit, printed.
-fn refused(alloc: Global, name: &str, why: Refusal) -> Result<Outcome, Memory>
+fn refused(alloc: Global, name: &str, why: TraceRefusal) -> Result<Outcome, Memory>
     ensures { IfOk result (λ o. o ≡ record { status = status_of_refusal why; text = text_of_refusal name.now why }) }
 {
     match why {
-        Refusal::Missing => Outcome::no_file(alloc, name),
-        Refusal::IllFormed(at) => ill_formed(alloc, name, at),
-        Refusal::Twice(node) => twice(alloc, name, node),
-        Refusal::Stranger => ill_formed(alloc, name, 2),
+        TraceRefusal::Missing => Outcome::no_file(alloc, name),
+        TraceRefusal::IllFormed(at) => ill_formed(alloc, name, at),
+        TraceRefusal::Twice(node) => twice(alloc, name, node),
+        TraceRefusal::Stranger => ill_formed(alloc, name, 2),
     }
 }
 
@@ -109,8 +109,8 @@ fn audit_files<F: Shelf>(
     ensures stores { F.stores shelf.new ≡ F.stores shelf.old }
 {
     match gather(alloc, shelf, roster, names)? {
-        Gathered::Traces(traces) => audited(alloc, roster, &traces),
-        Gathered::Refused { place, why } => refused(alloc, names[place as usize].text(), why),
+        GatheredTraces::Traces(traces) => audited(alloc, roster, &traces),
+        GatheredTraces::Refused { place, why } => refused(alloc, names[place as usize].text(), why),
     }
 }
 

@@ -1,14 +1,14 @@
 //! Reads the words of a command.
 ghost use Rattle.std.specs.Prelude.{◌≡◌, IfOk};
 ghost use Rattle.depot_base.specs.declared.limits.TheConstants.{MOST_KEY, LEAST_HEIGHT, GREATEST_HEIGHT};
-ghost use Rattle.depot_schedule.specs.Spelling.{is_within, hex_word, sized, number_word};
+ghost use Rattle.depot_lines.specs.Spelling.{is_within, hex_word, sized, number_word};
 ghost use Rattle.depot_cli.specs.Words.{name_word};
 
 use crate::height::Height;
 use crate::word::Word;
 use depot_base::limits::{GREATEST_HEIGHT, LEAST_HEIGHT, MOST_KEY};
 use depot_base::{Hash32, Key, Memory, NodeId};
-use depot_schedule::spelling::{has_length, hex_word, number_word};
+use depot_lines::spelling::{has_length, hex_word, number_word};
 use std::alloc::Global;
 
 /// The key of 1 to 255 bytes that a word gives in lower-case hex.

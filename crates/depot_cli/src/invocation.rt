@@ -2,7 +2,7 @@
 ghost use Rattle.std.specs.Prelude.{◌≡◌, ◌≤◌, IfOk, None, Some, option_map};
 ghost use Rattle.std.specs.List.{list_all};
 ghost use Rattle.depot_model.specs.Lists.{when};
-ghost use Rattle.depot_script.specs.Names.{is_file_name};
+ghost use Rattle.depot_lines.specs.FileNames.{is_file_name};
 ghost use Rattle.depot_cli.specs.Words.{audit_command, trace_names, command_of, command_by_number, command_by, command_for, command_with, scan_command, key_command, judge_command, load_command, node_command, replay_command};
 
 use crate::given_words::{hash_word, height_word, id_word, key_word, load_word, name_word};
@@ -10,7 +10,7 @@ use crate::height::Height;
 use crate::trace_names::{FileNames, TraceNames};
 use crate::word::Word;
 use depot_base::{Hash32, Key, Memory, NodeId};
-use depot_script::FileName;
+use depot_lines::FileName;
 use depot_traces::MOST_TRACES;
 use std::alloc::Global;
 

@@ -11,8 +11,9 @@ use crate::judge_command::refused_roster;
 use crate::outcome::{Outcome, finish};
 use crate::status::Status;
 use depot_base::Memory;
+use depot_lines::TextError;
 use depot_outside::{Disk, Shelf, Sink};
-use depot_script::{ScriptError, parse_script};
+use depot_script::parse_script;
 use depot_session::run;
 use depot_sign::Roster;
 use depot_winter::{WinterScheme, WinterSigner};
@@ -35,8 +36,8 @@ fn run_bytes<F: Shelf, D: Disk, S: Sink>(
 {
     let script = match parse_script(alloc, bytes) {
         Ok(script) => script,
-        Err(ScriptError::Memory) => return Status::Memory,
-        Err(ScriptError::Line(number, fault)) => {
+        Err(TextError::Memory) => return Status::Memory,
+        Err(TextError::Line(number, fault)) => {
             let told = Outcome::faulty_line(alloc, words.script.text(), number, fault);
             return finish(told, out);
         }

@@ -1,13 +1,13 @@
 //! What a command came to, and how it is written.
 ghost use Rattle.std.specs.Prelude.{◌≡◌, ◌<◌, ◌++◌, IfOk, codes, string_bytes};
 ghost use Rattle.depot_outside.specs.Told.{sinks};
-ghost use Rattle.depot_answers.specs.Answers.{text_of_faulty_line};
+ghost use Rattle.depot_answers.specs.AnswerTexts.{text_of_faulty_line};
 ghost use Rattle.depot_cli.specs.Runs.{Finishes};
 
 use crate::status::Status;
 use depot_base::{Bytes, Memory};
+use depot_lines::LineFault;
 use depot_outside::{OutError, Sink};
-use depot_schedule::LineFault;
 use std::alloc::Global;
 
 /// What a command came to: the status, and the whole text that it prints.

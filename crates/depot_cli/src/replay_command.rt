@@ -9,9 +9,11 @@ use crate::invocation::Command;
 use crate::outcome::{Outcome, finish};
 use crate::status::Status;
 use depot_base::Memory;
+use depot_lines::TextError;
 use depot_outside::{Shelf, Sink};
 use depot_replay::ReplayError;
-use depot_schedule::{Schedule, ScheduleError, parse_schedule};
+use depot_schedule::Schedule;
+use depot_schedule_parser::parse_schedule;
 use depot_world::worlds_of_schedules_are_causal;
 use std::alloc::Global;
 
@@ -37,8 +39,8 @@ fn replay_bytes<S: Sink>(alloc: Global, bytes: &[u8], name: &str, out: &mut S) -
     worlds_of_schedules_are_causal();
     match parse_schedule(alloc, bytes) {
         Ok(schedule) => play(alloc, &schedule, out),
-        Err(ScheduleError::Memory) => Status::Memory,
-        Err(ScheduleError::Line(number, fault)) => finish(
+        Err(TextError::Memory) => Status::Memory,
+        Err(TextError::Line(number, fault)) => finish(
             Outcome::faulty_line(alloc, name, number, fault),
             out,
         ),

@@ -3,7 +3,7 @@ ghost use Rattle.std.specs.Prelude.{◌≡◌, ◌≤◌, length};
 ghost use Rattle.depot_traces.specs.declared.trace.TheConstants.{MOST_TRACES};
 
 use depot_base::Sequence;
-use depot_script::FileName;
+use depot_lines::FileName;
 use std::marker::Model;
 
 /// Names of files.

@@ -1,10 +1,10 @@
 //! A word of the command line.
 ghost use Rattle.std.specs.Prelude.{◌≡◌, IfOk, string_bytes};
 ghost use Rattle.std.specs.Str.{bytes_eq};
-ghost use Rattle.depot_schedule.specs.Spelling.{is_name};
+ghost use Rattle.depot_lines.specs.Spelling.{is_name};
 
 use depot_base::Memory;
-use depot_schedule::spelling::is_name;
+use depot_lines::spelling::is_name;
 use std::marker::Model;
 
 /// A word of the command line, seen as its bytes.

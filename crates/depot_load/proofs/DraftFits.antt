@@ -6,8 +6,8 @@ use Rattle.depot_schedule.specs.declared.event.Event.TheVariants.{Put, Get, Hell
 use Rattle.depot_schedule.specs.declared.event.HistoryWord.TheVariants.{Right}
 use Rattle.depot_schedule.specs.declared.verb.Made.{Made}
 use Rattle.depot_schedule.specs.declared.verb.Made.TheVariants as made
-use Rattle.depot_schedule.specs.Spelling.{is_letter}
-use Rattle.depot_schedule.specs.Vocabulary.{label_made}
+use Rattle.depot_lines.specs.Spelling.{is_letter}
+use Rattle.depot_schedule.specs.EventWords.{label_made}
 use Rattle.depot_schedule.specs.Schedules.{FitsEvent, FitEvents}
 use Rattle.depot_load.specs.declared.load_draft.LoadDraft.{LoadDraft}
 use Rattle.depot_load.specs.Loads.{number_at, drawn, draw, value_of, label_of, round_hello, round_bundle, round_update, faulty_node, some_node, some_key, other_than, with_event, put_round, get_round, given, bundled, exchange_round, update_round, faulty_round, round_by, round, giver, taker, schedule_with}

@@ -9,9 +9,10 @@ use Rattle.depot_model.specs.Receipts.{receipt_of}
 use Rattle.depot_schedule.specs.declared.event.Event.{Event}
 use Rattle.depot_schedule.specs.declared.event.Event.TheVariants.{Put, Get, Hello, Bundle, Give, Restart, Update}
 use Rattle.depot_schedule.specs.declared.event.HistoryWord.TheVariants.{Right}
-use Rattle.depot_schedule.specs.EventLines.{put, get, hello, bundle, give, restart, update}
-use Rattle.depot_schedule.specs.Spelling.{is_letter}
-use Rattle.depot_schedule.specs.Vocabulary.{correct, key, put_key, value, new_label, made_label, is_correct, named_by}
+use Rattle.depot_schedule.specs.EventLines.{put_line, get_line, hello_line, bundle_line, give_line, restart_line, update_line}
+use Rattle.depot_lines.specs.Spelling.{is_letter}
+use Rattle.depot_schedule.specs.EventWords.{correct, new_label, made_label, is_correct, named_by}
+use Rattle.depot_lines.specs.Vocabulary.{key, put_key, value}
 use Rattle.depot_schedule.specs.Schedules.{FitsEvent, FitEvents}
 use Rattle.depot_world.proofs.OnlyBytes.{by_places, only_numeral}
 use Rattle.depot_load.specs.Loads.{key_of, value_of, label_of, members, faulty_node, schedule_with, round_update}
@@ -66,24 +67,24 @@ made-fits es c n letter small names = (is_label_of c n letter small, names)
 -- ---- events
 
 pub put-fits : (es : List Event) (v n t : ℕ) → IsCorrect v → FitsEvent (schedule_with es) (Put v (key_of n) (value_of t))
-unfolding put
+unfolding put_line
 put-fits es v n t node = (node-fits es v node, (put-key-fits es n, (value-fits es t, refl)))
 
 pub get-fits : (es : List Event) (v n : ℕ) → IsCorrect v → FitsEvent (schedule_with es) (Get v (key_of n))
-unfolding get
+unfolding get_line
 get-fits es v n node = (node-fits es v node, (key-fits es n, refl))
 
 pub restart-fits : (es : List Event) (v : ℕ) → IsCorrect v → FitsEvent (schedule_with es) (Restart v)
-unfolding restart
+unfolding restart_line
 restart-fits es v node = (node-fits es v node, refl)
 
 pub hello-fits : (es : List Event) (v c n : ℕ) → is_letter c ≡ true → n < 2 ^ 32 → IsCorrect v → named_by es (label_of c n) ≡ None → FitsEvent (schedule_with es) (Hello v (label_of c n))
-unfolding hello
+unfolding hello_line
 hello-fits es v c n letter small node none = (node-fits es v node, (new-fits es c n letter small none, refl))
 
 pub bundle-fits : (es : List Event) (v c d n : ℕ) → is_letter c ≡ true → is_letter d ≡ true → n < 2 ^ 32 → IsCorrect v
     → NamesBytes es (label_of c n) → named_by es (label_of d n) ≡ None → FitsEvent (schedule_with es) (Bundle v (label_of c n) (label_of d n))
-unfolding bundle
+unfolding bundle_line
 bundle-fits es v c d n one two small node names none = (node-fits es v node, (made-fits es c n one small names, (new-fits es d n two small none, refl)))
 
 -- whole, or in pieces of some bytes
@@ -92,12 +93,12 @@ IsSize None = Unit {0}
 IsSize (Some size) = (1 ≤ size) × (size ≤ 1000000)
 
 pub give-fits : (es : List Event) (v c n : ℕ) (size : Option ℕ) → is_letter c ≡ true → n < 2 ^ 32 → IsCorrect v → IsSize size → NamesBytes es (label_of c n) → FitsEvent (schedule_with es) (Give v (label_of c n) size)
-unfolding give
+unfolding give_line
 give-fits es v c n None letter small node fits names = (node-fits es v node, (made-fits es c n letter small names, (tt, refl)))
 give-fits es v c n (Some size) letter small node fits names = (node-fits es v node, (made-fits es c n letter small names, (fits, refl)))
 
 pub update-fits : (es : List Event) (t q n : ℕ) → t < 2 ^ 32 → q < 4096 → named_by es (round_update t) ≡ None
     → FitsEvent (schedule_with es) (Update (round_update t) faulty_node q 1 None (key_of n) (value_of t) [] Right)
-unfolding update
+unfolding update_line
 update-fits es t q n small few none =
     (new-fits es 102 t refl small none, (((omega arith, omega arith), refl), (((omega arith, omega arith), lt-ltb q 4096 few), ((omega arith, omega arith), (tt, (key-fits es n, (value-fits es t, (tt, (tt, refl)))))))))

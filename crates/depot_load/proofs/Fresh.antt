@@ -8,7 +8,7 @@ use Rattle.std.proofs.lemmas.Slice.Eq.{bytes_eq-Decides}
 use Rattle.depot_schedule.specs.declared.event.Event.{Event}
 use Rattle.depot_schedule.specs.declared.verb.Made.{Made}
 use Rattle.depot_schedule.specs.declared.verb.Wanted.TheVariants as wanted
-use Rattle.depot_schedule.specs.Vocabulary.{label_made, if_named, first_or, is_wanted, meets, named_by}
+use Rattle.depot_schedule.specs.EventWords.{label_made, if_named, first_or, is_asked_for, meets, named_by}
 use Rattle.depot_schedule.proofs.LabelSteps.{named_by-push}
 use Rattle.depot_load.specs.Loads.{label_of}
 
@@ -72,7 +72,7 @@ abbrev pub NamesBytes : List Event → List ℕ → Type 0
 NamesBytes es label = meets wanted.Any (named_by es label) ≡ true
 
 -- it does once an event made it name some
-pub made-now : (es : List Event) (e : Event) (label : List ℕ) (made : Made) → label_made e ≡ Some (label, made) → is_wanted wanted.Any made ≡ true → NamesBytes (es ++ e ∷ []) label
+pub made-now : (es : List Event) (e : Event) (label : List ℕ) (made : Made) → label_made e ≡ Some (label, made) → is_asked_for wanted.Any made ≡ true → NamesBytes (es ++ e ∷ []) label
 made-now es e label made is bytes =
     let same : bytes_eq label label ≡ true = (bytes_eq-Decides label label).1 refl in
     let named : if_named label (label_made e) ≡ Some made = rw (is, same) refl in

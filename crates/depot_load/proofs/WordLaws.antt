@@ -4,9 +4,9 @@ use Rattle.std.specs.Fmt.{decimal}
 use Rattle.std.proofs.lemmas.Bool.{le-leb, and_from, or_right}
 use Rattle.std.proofs.lemmas.Fmt.{length-decimal-le}
 use Rattle.depot_base.specs.Cursor.{numeral}
-use Rattle.depot_schedule.specs.Spelling.{is_digit, is_label, is_label_byte, is_letter}
-use Rattle.depot_schedule.proofs.Splitting.{all_weaker}
-use Rattle.depot_schedule.proofs.NumberLaws.{digits_of_decimal}
+use Rattle.depot_lines.specs.Spelling.{is_digit, is_label, is_label_byte, is_letter}
+use Rattle.depot_lines.proofs.Splitting.{all_weaker}
+use Rattle.depot_lines.proofs.NumberLaws.{digits_of_decimal}
 use Rattle.depot_load.specs.Loads.{key_of, value_of, label_of}
 
 pub length_key_of : (n : ℕ) → length (key_of n) ≡ 2

@@ -3,7 +3,7 @@ use Rattle.std.specs.Prelude.{ℕ, ◌-◌, Bool, true, false, List, [], ◌∷�
 use Rattle.std.specs.List.{list_all, filter_map}
 use Rattle.std.specs.Str.{bytes_eq}
 use Rattle.depot_model.specs.Lists.{when}
-use Rattle.depot_answers.specs.Answers.{numbered, spaced}
+use Rattle.depot_answers.specs.AnswerTexts.{text_of_number, spaced}
 use Rattle.depot_world.specs.Transcript.{ended}
 use Rattle.depot_load.specs.declared.transcript_lines.TranscriptLine.{TranscriptLine}
 use Rattle.depot_load.specs.declared.transcript_lines.TranscriptLine.TheVariants.{Put, Read, Report, Hello, Other}
@@ -91,7 +91,7 @@ name_of_agreement true = codes "yes"
 name_of_agreement false = codes "no"
 
 abbrev pub reports_text : List TranscriptLine → List ℕ
-reports_text told_lines = spaced (numbered (codes "accepted") (total count.Accepted told_lines)) ++ (spaced (numbered (codes "known") (total count.Known told_lines)) ++ spaced (numbered (codes "refused") (total count.Refused told_lines)))
+reports_text told_lines = spaced (text_of_number (codes "accepted") (total count.Accepted told_lines)) ++ (spaced (text_of_number (codes "known") (total count.Known told_lines)) ++ spaced (text_of_number (codes "refused") (total count.Refused told_lines)))
 
 abbrev pub agreement_text : Bool → List ℕ
 agreement_text agree = spaced (codes "agree") ++ spaced (name_of_agreement agree)
@@ -99,7 +99,7 @@ agreement_text agree = spaced (codes "agree") ++ spaced (name_of_agreement agree
 -- of the load of this number
 abbrev pub summary_line : ℕ → List TranscriptLine → List ℕ
 summary_line number told_lines =
-    ended (numbered (codes "load") number ++ (spaced (numbered (codes "puts") (count_by is_put told_lines)) ++ (reports_text told_lines ++ (spaced (numbered (codes "convicted") (convicted_last told_lines)) ++ agreement_text (agree told_lines)))))
+    ended (text_of_number (codes "load") number ++ (spaced (text_of_number (codes "puts") (count_by is_put told_lines)) ++ (reports_text told_lines ++ (spaced (text_of_number (codes "convicted") (convicted_last told_lines)) ++ agreement_text (agree told_lines)))))
 
 -- the line that sums up a transcript
 unfoldable pub summary_of : ℕ → List ℕ → List ℕ

@@ -1,9 +1,9 @@
 -- What the lines of a transcript tell of a load. Each text is read so: a line that is in none of these forms tells nothing.
 use Rattle.std.specs.Prelude.{ℕ, Bool, false, ◌&&◌, List, [], ◌∷◌, map, Option, None, is_some, option_map, option_and_then, unwrap_or, codes, if◌then◌else◌}
 use Rattle.std.specs.Str.{bytes_eq}
-use Rattle.depot_schedule.specs.Language.{split}
-use Rattle.depot_schedule.specs.Readers.{behind_spaces}
-use Rattle.depot_schedule.specs.Spelling.{number_word}
+use Rattle.depot_lines.specs.Language.{split}
+use Rattle.depot_lines.specs.LineReading.{behind_spaces}
+use Rattle.depot_lines.specs.Spelling.{number_word}
 use Rattle.depot_load.specs.declared.transcript_lines.TranscriptLine.{TranscriptLine}
 use Rattle.depot_load.specs.declared.transcript_lines.TranscriptLine.TheVariants.{Put, Read, Report, Hello, Other}
 

@@ -1,7 +1,7 @@
 //! The rounds of a load.
 ghost use Rattle.std.specs.Prelude.{◌≡◌, ◌^◌, ◌<◌, ◌≤◌, IsTrue, OnOk, IfOk};
 ghost use Rattle.depot_load.specs.Loads.{bundled, drawn, exchange_round, faulty_round, get_round, given, label_of, other_than, put_round, round, round_by, some_key, some_node, update_round, with_event};
-ghost use Rattle.depot_schedule.specs.Spelling.{is_letter};
+ghost use Rattle.depot_lines.specs.Spelling.{is_letter};
 ghost use Rattle.depot_schedule.specs.declared.event.Event.TheVariants.{Give};
 
 use crate::load_draft::LoadDraft;

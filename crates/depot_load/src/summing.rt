@@ -1,6 +1,6 @@
 //! What is summed up of a transcript.
 ghost use Rattle.std.specs.Prelude.{◌≡◌, ◌++◌, IfOk, OnOk};
-ghost use Rattle.depot_answers.specs.Answers.{numbered, spaced};
+ghost use Rattle.depot_answers.specs.AnswerTexts.{text_of_number, spaced};
 ghost use Rattle.depot_load.specs.Summaries.{agreement_text, name_of_agreement, reports_text, summary_line, summary_of};
 
 use crate::agreement::agree;
@@ -8,7 +8,7 @@ use crate::load_totals::{Count, convicted_last, puts, total};
 use crate::transcript_lines::{TranscriptLine, told_lines_of};
 use depot_answers::numbered;
 use depot_base::{Bytes, Memory};
-use depot_schedule::lines::word;
+use depot_lines::word_writers::word;
 use std::alloc::Global;
 
 /// Whether reads agree, in a word.
@@ -20,7 +20,7 @@ fn name_of_agreement(agree: bool) -> &'static str
 
 /// A space, a name, a space, and a number in decimal.
 fn spaced_number(alloc: Global, line: &mut Bytes, name: &str, n: u128) -> Result<(), Memory>
-    ensures { OnOk result (line.new ≡ line.old ++ spaced (numbered name.now n)) }
+    ensures { OnOk result (line.new ≡ line.old ++ spaced (text_of_number name.now n)) }
 {
     let words = format!(in alloc; " {name} {n}")?;
     line.push_all(words.as_bytes())

@@ -1,12 +1,13 @@
 //! What the lines of a transcript tell.
 ghost use Rattle.std.specs.Prelude.{◌≡◌, None, Some, IfOk, MatchOption};
-ghost use Rattle.depot_schedule.specs.Language.{split};
-ghost use Rattle.depot_schedule.specs.Readers.{behind_spaces};
+ghost use Rattle.depot_lines.specs.Language.{split};
+ghost use Rattle.depot_lines.specs.LineReading.{behind_spaces};
 ghost use Rattle.depot_load.specs.TranscriptLines.{hello_in, is_pair, named_number, report_in, told_by, told_by_put, told_of, told_lines_of};
 
 use depot_base::{Bytes, Memory};
-use depot_schedule::lines::{Parts, word};
-use depot_schedule::spelling::{is, number_word};
+use depot_lines::Parts;
+use depot_lines::spelling::{is, number_word};
+use depot_lines::word_writers::word;
 use std::alloc::Global;
 
 /// The greatest number of a transcript.

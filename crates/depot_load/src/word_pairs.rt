@@ -1,10 +1,10 @@
 //! The words of a load's events.
 ghost use Rattle.std.specs.Prelude.{◌≡◌, ◌<◌, IsTrue, IfOk};
 ghost use Rattle.depot_load.specs.Loads.{key_of, label_of, value_of};
-ghost use Rattle.depot_schedule.specs.Spelling.{is_letter};
+ghost use Rattle.depot_lines.specs.Spelling.{is_letter};
 
 use depot_base::{Bytes, Key, Memory, NodeId, Value};
-use depot_schedule::Label;
+use depot_lines::Label;
 use std::alloc::Global;
 
 /// The node of this number.

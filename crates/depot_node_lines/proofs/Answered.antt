@@ -3,7 +3,7 @@ use Rattle.std.proofs.Common.{◌≡◌, ℕ, List, [], ◌∷◌, ◌++◌, map
 use Rattle.std.specs.List.{flat_map}
 use Rattle.std.proofs.lemmas.List.{append-nil}
 use Rattle.depot_base.specs.declared.record.Record.{Record}
-use Rattle.depot_answers.specs.Answers.{name_of_more, spaced, text_of_counts, text_of_refusal, text_of_report}
+use Rattle.depot_answers.specs.AnswerTexts.{name_of_more, spaced, text_of_counts, text_of_refused, text_of_report}
 use Rattle.depot_gossip.specs.Bundling.{Bundles}
 use Rattle.depot_gossip.specs.declared.bundle_error.BundleError.{BundleError}
 use Rattle.depot_gossip.specs.declared.bundle_error.BundleError.TheVariants as error
@@ -23,7 +23,7 @@ use Rattle.depot_node_lines.specs.declared.feeds.FeedResult.{FeedResult}
 
 -- ---- a stream
 
-pub fed_lines_are : (s : Feeding) (told : FeedResult) (first : List ℕ) (one two all : List ℕ) → IsToldOf s told → first ≡ 32 ∷ [] → one ≡ first ++ text_of_report s → two ≡ one ++ 10 ∷ [] → all ≡ two ++ flat_map ended (map text_of_refusal told.report.refused)
+pub fed_lines_are : (s : Feeding) (told : FeedResult) (first : List ℕ) (one two all : List ℕ) → IsToldOf s told → first ≡ 32 ∷ [] → one ≡ first ++ text_of_report s → two ≡ one ++ 10 ∷ [] → all ≡ two ++ flat_map ended (map text_of_refused told.report.refused)
     → all ≡ fed_lines s
 fed_lines_are s told first one two all t is_first is_one is_two is_all =
     let refused : told.report.refused ≡ s.refused = sym (ap (λ (r : Report). r.refused) t.report) ∙ report_refused s in

@@ -6,7 +6,7 @@ use Rattle.std.specs.Int.{w32, from_be_bytes}
 use Rattle.std.proofs.lemmas.Bool.Decides.{nat_tests}
 use Rattle.std.proofs.lemmas.Grind.{flat_map-append}
 use Rattle.std.proofs.lemmas.List.{append-nil, drop-drop, length-drop, length-take, map-append}
-use Rattle.depot_answers.specs.Answers.{spaced, text_of_write}
+use Rattle.depot_answers.specs.AnswerTexts.{spaced, text_of_write}
 use Rattle.depot_base.specs.declared.check.Check.{Check}
 use Rattle.depot_base.specs.declared.check.Full.{Full}
 use Rattle.depot_base.specs.declared.limits.TheConstants.{MOST_FRAMES}

@@ -5,7 +5,7 @@ use Rattle.depot_laws.proofs.OwnTexts.{own_put_is_lawful}
 use Rattle.depot_model.specs.Lawful.{IsLawful, is_empty}
 use Rattle.depot_model.proofs.LimitLaws.{unlimited_from}
 use Rattle.depot_base.specs.declared.write.Change.{Change}
-use Rattle.depot_answers.specs.Answers.{spaced, text_of_limit, text_of_put}
+use Rattle.depot_answers.specs.AnswerTexts.{spaced, text_of_limit, text_of_put}
 use Rattle.depot_base.specs.declared.record.Record.{Record}
 use Rattle.depot_base.specs.declared.record.Record.TheVariants.{OwnPut}
 use Rattle.depot_base.specs.declared.update.Update.{Update}

@@ -2,7 +2,7 @@
 use Rattle.std.proofs.Common.{◌≡◌, ◌↔◌, ℕ, List, [], Option, Some, Result, Ok, Err, refl, sym, ap, subst, ◌∙◌}
 use Rattle.std.specs.Prelude.{IsErrOf}
 use Rattle.std.proofs.lemmas.List.{append-nil}
-use Rattle.depot_answers.specs.Answers.{spaced, text_of_no_receipt}
+use Rattle.depot_answers.specs.AnswerTexts.{spaced, text_of_no_receipt}
 use Rattle.depot_base.specs.declared.record.Record.{Record}
 use Rattle.depot_decide.specs.declared.put_answers.PutDone.{PutDone}
 use Rattle.depot_decide.specs.declared.put_answers.PutError.{PutError}

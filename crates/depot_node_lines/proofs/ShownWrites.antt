@@ -4,7 +4,7 @@ use Rattle.std.specs.Option.{option_map_or, option_to_list}
 use Rattle.std.specs.Prelude.{slice_get}
 use Rattle.std.proofs.lemmas.Grind.{flat_map-append}
 use Rattle.std.proofs.lemmas.List.{append-nil, map-append, take-append-drop}
-use Rattle.depot_answers.specs.Answers.{spaced, text_of_write}
+use Rattle.depot_answers.specs.AnswerTexts.{spaced, text_of_write}
 use Rattle.depot_base.specs.Writes.{wrote_under}
 use Rattle.depot_base.specs.declared.record.Record.{Record}
 use Rattle.depot_base.specs.declared.write.Wrote.{Wrote}

@@ -1,6 +1,6 @@
 -- What is printed of checkpoints.
 use Rattle.std.specs.Prelude.{◌≡◌, ℕ, List, [], ◌++◌, Result, Ok, Err, codes}
-use Rattle.depot_answers.specs.Answers.{numbered, spaced, text_of_empty, text_of_many, text_of_unsigned}
+use Rattle.depot_answers.specs.AnswerTexts.{text_of_number, spaced, text_of_empty, text_of_many, text_of_unsigned}
 use Rattle.depot_decide.specs.declared.put_answers.PutDone.{PutDone}
 use Rattle.depot_decide.specs.declared.put_answers.PutError.{PutError}
 use Rattle.depot_decide.specs.declared.put_answers.PutError.TheVariants as put
@@ -58,7 +58,7 @@ sign_outcome (Err (sign.Full what)) = Put (Err (put.Full what))
 
 -- why a text isn't opened
 abbrev pub text_of_why : Unopened → List ℕ
-text_of_why (IllFormed at) = numbered (codes "IllFormed") at
+text_of_why (IllFormed at) = text_of_number (codes "IllFormed") at
 text_of_why OtherRoster = codes "OtherRoster"
 text_of_why Unknown = codes "Unknown"
 

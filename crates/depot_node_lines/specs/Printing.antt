@@ -10,7 +10,7 @@ use Rattle.depot_model.specs.Contents.{Sighting, held_value, not_held}
 use Rattle.depot_model.specs.Feeding.{Feeding, report_of}
 use Rattle.depot_model.specs.Limits.{full, spent}
 use Rattle.depot_model.specs.World.{Shown}
-use Rattle.depot_answers.specs.Answers.{numbered, spaced, text_of_limit, text_of_refusal, text_of_report, text_of_write}
+use Rattle.depot_answers.specs.AnswerTexts.{text_of_number, spaced, text_of_limit, text_of_refused, text_of_report, text_of_write}
 use Rattle.depot_answers.specs.Closings.{closing_of}
 use Rattle.depot_world.specs.ScheduleStops.{Effect}
 use Rattle.depot_world.specs.Transcript.{lines_after_arrow}
@@ -25,7 +25,7 @@ lines_of_effect d = lines_after_arrow d.answer d.behind
 
 -- the lines of a stream that was fed
 abbrev pub fed_lines : Feeding → List ℕ
-fed_lines s = lines_after_arrow (spaced (text_of_report s)) (map text_of_refusal s.refused)
+fed_lines s = lines_after_arrow (spaced (text_of_report s)) (map text_of_refused s.refused)
 
 -- what a read shows of a write that is no deletion: its value, if that is held
 abbrev pub shown_value : Option (List ℕ) → Sighting
@@ -45,7 +45,7 @@ IsPrintOf (Some p) d = (p.lines ≡ lines_of_effect d) × (p.bytes ≡ d.bytes)
 
 -- a line has grown by why no bundle is made
 abbrev pub IsRefusalOf : BundleError → List ℕ → List ℕ → Type 0
-IsRefusalOf (bundle_error.IllFormed at) old new = new ≡ old ++ numbered (codes "IllFormed") at
+IsRefusalOf (bundle_error.IllFormed at) old new = new ≡ old ++ text_of_number (codes "IllFormed") at
 IsRefusalOf (bundle_error.OtherRoster given mine) old new = new ≡ old ++ codes "OtherRoster"
 IsRefusalOf (bundle_error.Spent n) old new = new ≡ old ++ text_of_limit (spent n)
 IsRefusalOf (bundle_error.Full what) old new = new ≡ old ++ text_of_limit (full what)

@@ -1,6 +1,6 @@
 -- What is printed of a put.
 use Rattle.std.specs.Prelude.{◌≡◌, ℕ, List, ◌++◌, Result, Err}
-use Rattle.depot_answers.specs.Answers.{text_of_limit}
+use Rattle.depot_answers.specs.AnswerTexts.{text_of_limit}
 use Rattle.depot_model.specs.Limits.{collides, full, spent, tips}
 use Rattle.depot_decide.specs.declared.put_answers.PutDone.{PutDone}
 use Rattle.depot_decide.specs.declared.put_answers.PutError.{PutError}

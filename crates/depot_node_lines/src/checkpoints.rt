@@ -5,7 +5,7 @@ ghost use Rattle.depot_model.specs.Checks.{Setting};
 ghost use Rattle.depot_model.specs.Opening.{make_of, made_text};
 ghost use Rattle.depot_model.specs.Readers.{trim_of};
 ghost use Rattle.depot_model.specs.World.{Correct};
-ghost use Rattle.depot_answers.specs.Answers.{spaced, text_of_kept, text_of_trim, text_of_unsigned};
+ghost use Rattle.depot_answers.specs.AnswerTexts.{spaced, text_of_kept, text_of_trim, text_of_unsigned};
 ghost use Rattle.depot_decide.specs.Putting.{Puts};
 ghost use Rattle.depot_trim.specs.Making.{Makes};
 ghost use Rattle.depot_trim.specs.Signing.{Signs};

@@ -4,7 +4,7 @@ ghost use Rattle.depot_base.specs.declared.record.Record.{Record};
 ghost use Rattle.depot_model.specs.Bundle.{Signs};
 ghost use Rattle.depot_model.specs.Checks.{Setting};
 ghost use Rattle.depot_model.specs.World.{Correct};
-ghost use Rattle.depot_answers.specs.Answers.{name_of_more, spaced, text_of_counts, text_of_named};
+ghost use Rattle.depot_answers.specs.AnswerTexts.{name_of_more, spaced, text_of_counts, text_of_named};
 ghost use Rattle.depot_gossip.specs.Bundling.{Bundles};
 ghost use Rattle.depot_world.specs.Effects.{bundle_by};
 ghost use Rattle.depot_world.specs.Transcript.{ended};
@@ -40,7 +40,7 @@ fn bundle_line(alloc: Global, bundle: &Bundled) -> Result<Bytes, Memory>
 }
 
 /// Adds why no bundle is made, where it isn't for want of memory or for the disk.
-#[tactic(auto, unfolding(depot_answers::specs::Answers::text_of_limit))]
+#[tactic(auto, unfolding(depot_answers::specs::AnswerTexts::text_of_limit))]
 fn refusal(alloc: Global, line: &mut Bytes, error: BundleError) -> Result<(), Memory>
     ensures { OnOk result (IsRefusalOf error line.old line.new) }
 {

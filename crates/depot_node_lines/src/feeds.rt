@@ -6,7 +6,7 @@ ghost use Rattle.depot_model.specs.Checks.{Setting};
 ghost use Rattle.depot_model.specs.Feeding.{Feeding, fed, feed_of, feeding_from};
 ghost use Rattle.depot_model.specs.Replicas.{IsSameNode, KeepsDisk};
 ghost use Rattle.depot_model.specs.Stops.{LeavesAll};
-ghost use Rattle.depot_answers.specs.Answers.{text_of_refusal};
+ghost use Rattle.depot_answers.specs.AnswerTexts.{text_of_refused};
 ghost use Rattle.depot_feeds.specs.Lasting.{CallsFed, LastsFed, LastsIn};
 ghost use Rattle.depot_feeds.specs.Pieces.{Feeds};
 ghost use Rattle.depot_model.specs.World.{Correct};
@@ -105,7 +105,7 @@ pub fn feed_whole<R: Replica>(
 /// Adds the line of a refused frame.
 #[tactic(auto, using(depot_base::proofs::Writing::texts))]
 fn refused_line(alloc: Global, lines: &mut Bytes, refused: &Refusal) -> Result<(), Memory>
-    ensures { OnOk result (lines.new ≡ lines.old ++ ended (text_of_refusal refused.now)) }
+    ensures { OnOk result (lines.new ≡ lines.old ++ ended (text_of_refused refused.now)) }
 {
     refusal(alloc, lines, refused)?;
     lines.push_all(b"\n")
@@ -113,7 +113,7 @@ fn refused_line(alloc: Global, lines: &mut Bytes, refused: &Refusal) -> Result<(
 
 /// Adds a line for each refused frame.
 fn refused_lines(alloc: Global, lines: &mut Bytes, refused: &[Refusal]) -> Result<(), Memory>
-    ensures { OnOk result (lines.new ≡ lines.old ++ flat_map ended (map text_of_refusal refused.now)) }
+    ensures { OnOk result (lines.new ≡ lines.old ++ flat_map ended (map text_of_refused refused.now)) }
 {
     for one in refused {
         refused_line(alloc, lines, one)?;

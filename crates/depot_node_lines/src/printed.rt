@@ -1,6 +1,6 @@
 //! What is printed of what a node does.
 ghost use Rattle.std.specs.Prelude.{◌≡◌, IfOk};
-ghost use Rattle.depot_answers.specs.Answers.{numbered, spaced};
+ghost use Rattle.depot_answers.specs.AnswerTexts.{text_of_number, spaced};
 ghost use Rattle.depot_world.specs.Transcript.{ended};
 
 use depot_answers::numbered;
@@ -17,7 +17,7 @@ pub struct Printed {
 /// The line of a number of records behind a name.
 #[tactic(auto, using(depot_base::proofs::Writing::texts))]
 pub fn counted_line(alloc: Global, name: &str, count: u32) -> Result<Bytes, Memory>
-    ensures { IfOk result (λ line. line ≡ ended (spaced (numbered name.now count))) }
+    ensures { IfOk result (λ line. line ≡ ended (spaced (text_of_number name.now count))) }
 {
     let mut line = Bytes::from_slice(alloc, b" ")?;
     numbered(alloc, &mut line, name, count as u64)?;

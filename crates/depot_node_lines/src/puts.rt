@@ -5,7 +5,7 @@ ghost use Rattle.depot_base.specs.declared.record.Record.{Record};
 ghost use Rattle.depot_base.specs.declared.update.Update.{Update};
 ghost use Rattle.depot_model.specs.Checks.{Setting};
 ghost use Rattle.depot_model.specs.World.{Correct};
-ghost use Rattle.depot_answers.specs.Answers.{spaced, text_of_put};
+ghost use Rattle.depot_answers.specs.AnswerTexts.{spaced, text_of_put};
 ghost use Rattle.depot_decide.specs.Putting.{Puts};
 ghost use Rattle.depot_world.specs.Effects.{put_by};
 ghost use Rattle.depot_world.specs.Transcript.{ended};
@@ -30,7 +30,7 @@ fn done_line(alloc: Global, done: &PutDone) -> Result<Bytes, Memory>
 }
 
 /// Adds the limit that a put met, where it isn't for want of memory or for the disk.
-#[tactic(auto, unfolding(depot_answers::specs::Answers::text_of_limit))]
+#[tactic(auto, unfolding(depot_answers::specs::AnswerTexts::text_of_limit))]
 fn limit(alloc: Global, line: &mut Bytes, error: PutError) -> Result<(), Memory>
     ensures { OnOk result (IsLimitOf error line.old line.new) }
 {

@@ -4,8 +4,8 @@ ghost use Rattle.depot_base.specs.declared.limits.TheConstants.{MOST_FRAMES};
 ghost use Rattle.depot_model.specs.Feeding.{form_of};
 ghost use Rattle.depot_model.specs.ReaderFeeds.{ReaderFeed, reader_feed_of};
 ghost use Rattle.depot_model.specs.Readers.{Reader, seen_by_reader};
-ghost use Rattle.depot_answers.specs.Answers.{spaced, text_of_reader_feed};
-ghost use Rattle.depot_answers.specs.Sightings.{sighting_of};
+ghost use Rattle.depot_answers.specs.AnswerTexts.{spaced, text_of_reader_feed};
+ghost use Rattle.depot_answers.specs.Sightings.{sighting_of_seen};
 ghost use Rattle.depot_node.specs.ShownValues.{value_seen};
 ghost use Rattle.depot_trim.specs.ReaderView.{IsReaderOf};
 ghost use Rattle.depot_trim.specs.ReaderAnswers.{ReaderTakes};
@@ -157,7 +157,7 @@ pub fn reader_feed_line(alloc: Global, told: &ReaderFeedResult) -> Result<Bytes,
 
 /// What a reader shows of an update's write of a key, of which this value is held, if one is.
 fn seen_by_reader<'a>(update: &Update, key: &Key, value: Option<&'a [u8]>) -> Seen<'a>
-    ensures { (R : Reader) → option_copied value.entry ≡ value_seen (seen_by_reader R key.now update.now) → sighting_of result ≡ seen_by_reader R key.now update.now }
+    ensures { (R : Reader) → option_copied value.entry ≡ value_seen (seen_by_reader R key.now update.now) → sighting_of_seen result ≡ seen_by_reader R key.now update.now }
 {
     match update.wrote(key.bytes()) {
         Some(Wrote::Put { .. }) => held(value),

@@ -2,8 +2,8 @@
 ghost use Rattle.std.specs.Prelude.{◌≡◌, ◌++◌, List, false, OnOk, IfOk, option_copied};
 ghost use Rattle.depot_base.specs.declared.record.Record.{Record};
 ghost use Rattle.depot_model.specs.Journal.{seen_under};
-ghost use Rattle.depot_answers.specs.Answers.{spaced, text_of_write};
-ghost use Rattle.depot_answers.specs.Sightings.{sighting_of};
+ghost use Rattle.depot_answers.specs.AnswerTexts.{spaced, text_of_write};
+ghost use Rattle.depot_answers.specs.Sightings.{sighting_of_seen};
 ghost use Rattle.depot_node.specs.ShownValues.{value_seen};
 ghost use Rattle.depot_model.specs.ShownWrites.{shown_of};
 ghost use Rattle.depot_world.specs.Transcript.{ended};
@@ -18,7 +18,7 @@ use std::alloc::Global;
 
 /// What a read shows of an update's write of a key, of which this value is held, if one is.
 pub fn seen<'a>(update: &Update, key: &Key, value: Option<&'a [u8]>) -> Seen<'a>
-    ensures { (J : List Record) → option_copied value.entry ≡ value_seen (seen_under J key.now update.now) → sighting_of result ≡ seen_under J key.now update.now }
+    ensures { (J : List Record) → option_copied value.entry ≡ value_seen (seen_under J key.now update.now) → sighting_of_seen result ≡ seen_under J key.now update.now }
 {
     match update.wrote(key.bytes()) {
         Some(Wrote::Put { .. }) => held(value),
@@ -29,7 +29,7 @@ pub fn seen<'a>(update: &Update, key: &Key, value: Option<&'a [u8]>) -> Seen<'a>
 
 /// A value that is held, or that none is.
 pub(crate) fn held(value: Option<&[u8]>) -> Seen<'_>
-    ensures { sighting_of result ≡ shown_value (option_copied value.entry) }
+    ensures { sighting_of_seen result ≡ shown_value (option_copied value.entry) }
 {
     match value {
         Some(value) => Seen::Held(value),
@@ -45,7 +45,7 @@ pub(crate) fn add_write(
     update: &Update,
     seen: Seen<'_>,
 ) -> Result<(), Memory>
-    ensures { OnOk result (line.new ≡ line.old ++ spaced (text_of_write (record { update = update.now; seen = sighting_of seen.entry }))) }
+    ensures { OnOk result (line.new ≡ line.old ++ spaced (text_of_write (record { update = update.now; seen = sighting_of_seen seen.entry }))) }
 {
     line.push_all(b" ")?;
     write(alloc, line, update, seen)

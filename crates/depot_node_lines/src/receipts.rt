@@ -4,7 +4,7 @@ ghost use Rattle.depot_base.specs.declared.record.Record.{Record};
 ghost use Rattle.depot_model.specs.Checks.{Setting};
 ghost use Rattle.depot_model.specs.Receipts.{receipts, unknown, lacks_value};
 ghost use Rattle.depot_model.specs.World.{Correct};
-ghost use Rattle.depot_answers.specs.Answers.{name_of_settled, spaced, text_of_no_receipt};
+ghost use Rattle.depot_answers.specs.AnswerTexts.{name_of_settled, spaced, text_of_no_receipt};
 ghost use Rattle.depot_receipts.specs.Giving.{Gives};
 ghost use Rattle.depot_world.specs.Effects.{receipt_by};
 ghost use Rattle.depot_world.specs.Transcript.{ended};

@@ -1,7 +1,7 @@
 //! What a node hands in for an audit: its record texts, and its reads as a trace tells them.
 ghost use Rattle.std.specs.Prelude.{◌≡◌, ◌<◌, ◌≤◌, length, map, false, Some, IfOk, slice_get};
 ghost use Rattle.std.specs.List.{AllByRecursion};
-ghost use Rattle.depot_answers.specs.Answers.{spaced, text_of_traced};
+ghost use Rattle.depot_answers.specs.AnswerTexts.{spaced, text_of_traced};
 ghost use Rattle.depot_answers.specs.Sightings as sightings;
 ghost use Rattle.depot_base.specs.Sized.{IsValue};
 ghost use Rattle.depot_base.specs.declared.update.Update.{Update};

@@ -3,7 +3,7 @@ use Rattle.std.proofs.Common.{◌≡◌, ℕ, zero, suc, take, ◌-◌, ◌*◌,
 use Rattle.std.specs.Prelude.{codes, nat_le}
 use Rattle.std.proofs.Math.Seq.{drop-length}
 use Rattle.std.proofs.lemmas.List.{append-nil}
-use Rattle.depot_answers.specs.Answers.{name_of_settled, numbered, spaced, text_of_named}
+use Rattle.depot_answers.specs.AnswerTexts.{name_of_settled, text_of_number, spaced, text_of_named}
 use Rattle.depot_base.specs.Calls.{Call, Made, made, FailsAmong}
 use Rattle.depot_base.specs.declared.record.Record.{Record}
 use Rattle.depot_model.specs.Checks.{Setting}
@@ -73,11 +73,11 @@ hello_came setup x v w s there lines bytes mem_host pending to_come then same is
 -- ---- starts
 
 pub restart_came : (setup : Setup) (x : Host) (v w : View) (s t : State) (calls : List Call) (lines : List ℕ) → IsHosted setup x v → v.pending ≡ pending_of s.next → IsToCome s → Leads s (made calls) t → length calls ≡ 3 → IsThen v w v.journal (pending_of t.next)
-    → lines ≡ ended (spaced (numbered (codes "records") (length v.journal))) → CameTo setup (event_result x (restart_by x.correct)) w lines []
+    → lines ≡ ended (spaced (text_of_number (codes "records") (length v.journal))) → CameTo setup (event_result x (restart_by x.correct)) w lines []
 unfolding restart_by
 restart_came setup x v w s t calls lines mem_host pending to_come led three then is =
     came_well setup x (restart_by x.correct) v w s t calls lines [] mem_host pending to_come led (sym three) (record { here = then.here; sign = then.sign; journal = then.journal ∙ mem_host.journal; pending_is = then.pending_is })
-    (is ∙ ap (λ (J : List Record). ended (spaced (numbered (codes "records") (length J)))) mem_host.journal ∙ sym (append-nil (ended (spaced (numbered (codes "records") (length x.correct.journal)))))) refl
+    (is ∙ ap (λ (J : List Record). ended (spaced (text_of_number (codes "records") (length J)))) mem_host.journal ∙ sym (append-nil (ended (spaced (text_of_number (codes "records") (length x.correct.journal)))))) refl
 
 left_whole : (J : List Record) (a : PendingStop) → left_of J J a ≡ J
 left_whole J a = ap (λ (x : List Record). J ++ take (standing_after a) x) (drop-length J) ∙ ap (λ (x : List Record). J ++ x) (take_none (standing_after a)) ∙ append-nil J where

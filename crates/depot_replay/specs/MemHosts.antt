@@ -9,7 +9,7 @@ use Rattle.depot_model.specs.Lawful.{IsLawful, is_empty}
 use Rattle.depot_model.specs.Records.{text_of_record}
 use Rattle.depot_model.specs.Stops.{calls_to_record}
 use Rattle.depot_outside.specs.Stopping.{State, Leads}
-use Rattle.depot_answers.specs.Answers.{numbered}
+use Rattle.depot_answers.specs.AnswerTexts.{text_of_number}
 use Rattle.depot_world.specs.Run.{PendingStop}
 use Rattle.depot_world.specs.ScheduleStops.{Effect, calls_to_append}
 use Rattle.depot_world.specs.Transcript.{ended}
@@ -64,7 +64,7 @@ pub record Appends (d : Effect) (J longer : List Record) : Type 0 where
 
 -- the line of a node that was stopped and has these records
 abbrev pub stopped_line : List Record → List ℕ
-stopped_line J = ended (32 ∷ numbered (codes "stopped records") (length J))
+stopped_line J = ended (32 ∷ text_of_number (codes "stopped records") (length J))
 
 -- A node was started again from a disk that had a journal that has begun, and is hosted: it is seen so, and these are the lines of the event
 -- into which the stop fell, and the bytes that it gives a label.

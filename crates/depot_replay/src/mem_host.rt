@@ -3,7 +3,7 @@ ghost use Rattle.std.specs.Prelude.{◌≡◌, ◌≢◌, ◌≤◌, [], ◌∷�
 ghost use Rattle.depot_base.specs.Calls.{FailsAmong, made};
 ghost use Rattle.depot_base.specs.declared.record.Record.{Record};
 ghost use Rattle.depot_base.specs.declared.record.Record.TheVariants.{Birth};
-ghost use Rattle.depot_answers.specs.Answers.{name_of_settled, numbered, spaced, text_of_named};
+ghost use Rattle.depot_answers.specs.AnswerTexts.{name_of_settled, text_of_number, spaced, text_of_named};
 ghost use Rattle.depot_node_lines.specs.Printing.{shown_text};
 ghost use Rattle.depot_model.specs.Hello.{hello_of, text_of_hello};
 ghost use Rattle.depot_model.specs.Opening.{made_text, make_of};
@@ -150,7 +150,7 @@ fn told<A: Drop>(actor: A, printed: Result<Printed, Memory>) -> Result<EventOutc
 
 /// What is printed of a start: a number of records behind a name. It gives a label nothing.
 fn counted_printed(alloc: Global, name: &str, count: u32) -> Result<Printed, Memory>
-    ensures lines { IfOk result (λ p. p.lines ≡ ended (spaced (numbered name.now count))) }
+    ensures lines { IfOk result (λ p. p.lines ≡ ended (spaced (text_of_number name.now count))) }
     ensures bytes { IfOk result (λ p. p.bytes ≡ []) }
 {
     Ok(Printed {

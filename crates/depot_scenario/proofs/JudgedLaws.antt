@@ -13,7 +13,7 @@ use Rattle.depot_model.specs.Lines.{text_of_point, text_of_verdict}
 use Rattle.depot_model.specs.Roster.{Verifies}
 use Rattle.depot_model.specs.Texts.{proof}
 use Rattle.depot_model.proofs.TextLaws.{proof_lawful}
-use Rattle.depot_answers.specs.Answers.{spaced}
+use Rattle.depot_answers.specs.AnswerTexts.{spaced}
 use Rattle.depot_world.specs.Run.{Run}
 use Rattle.depot_world.specs.FaultySigning.{proof_in}
 use Rattle.depot_world.specs.Setups.{Setup}

@@ -2,19 +2,21 @@
 ghost use Rattle.std.specs.Prelude.{◌≡◌, ◌++◌, ◌∷◌, [], OnOk, codes, drop};
 ghost use Rattle.std.specs.Fmt.{decimal};
 ghost use Rattle.hex.specs.Hex.{encode_lower};
-ghost use Rattle.depot_schedule.specs.Language.{join};
-ghost use Rattle.depot_schedule.specs.Readers.{behind_spaces};
-ghost use Rattle.depot_schedule.specs.Vocabulary.{text_of_ref};
+ghost use Rattle.depot_lines.specs.Language.{join};
+ghost use Rattle.depot_lines.specs.LineReading.{behind_spaces};
+ghost use Rattle.depot_schedule.specs.EventWords.{text_of_ref};
 ghost use Rattle.depot_world.specs.Transcript.{head_words};
 
 use depot_base::{Bytes, Key, Memory, NodeId};
-use depot_schedule::lines::{hex, label, node, number, reference};
-use depot_schedule::{Event, Label, Ref};
+use depot_lines::Label;
+use depot_lines::word_writers::{hex, label, node, number};
+use depot_schedule::reference_writers::reference;
+use depot_schedule::{Event, Ref};
 use std::alloc::Global;
 
 /// Writes an event's name and the words that stand before the arrow, with spaces between them, and the arrow. After Memory a front of
 /// it may have been written.
-#[tactic(auto, using(depot_base::proofs::Writing::texts, depot_schedule::proofs::WrittenSteps::lines))]
+#[tactic(auto, using(depot_base::proofs::Writing::texts, depot_lines::proofs::WrittenSteps::lines))]
 pub fn event_head(alloc: Global, out: &mut Bytes, event: &Event) -> Result<(), Memory>
     ensures { OnOk result (out.new ≡ out.old ++ (join 32 (head_words event.now) ++ codes " ->")) }
 {
@@ -24,7 +26,7 @@ pub fn event_head(alloc: Global, out: &mut Bytes, event: &Event) -> Result<(), M
 }
 
 /// Writes the words between the name and the arrow, each behind a space.
-#[tactic(auto, unfolding(depot_schedule::specs::EventLines::put, depot_schedule::specs::EventLines::puts, depot_schedule::specs::EventLines::get, depot_schedule::specs::EventLines::hello, depot_schedule::specs::EventLines::bundle, depot_schedule::specs::EventLines::give, depot_schedule::specs::EventLines::restart, depot_schedule::specs::EventLines::update, depot_schedule::specs::EventLines::updates, depot_schedule::specs::EventLines::voucher, depot_schedule::specs::EventLines::proof, depot_schedule::specs::EventLines::hollow, depot_schedule::specs::EventLines::judge, depot_schedule::specs::EventLines::raw, depot_schedule::specs::EventLines::cut, depot_schedule::specs::EventLines::flip, depot_schedule::specs::EventLines::join, depot_schedule::specs::EventLines::stop, depot_schedule::specs::EventLines::receipt, depot_schedule::specs::EventLines::settled, depot_schedule::specs::EventLines::audit, depot_schedule::specs::EventLines::checkpoint, depot_schedule::specs::EventLines::sign, depot_schedule::specs::EventLines::trim, depot_schedule::specs::EventLines::tgive, depot_schedule::specs::EventLines::tget))]
+#[tactic(auto, unfolding(depot_schedule::specs::EventLines::put_line, depot_schedule::specs::EventLines::puts_line, depot_schedule::specs::EventLines::get_line, depot_schedule::specs::EventLines::hello_line, depot_schedule::specs::EventLines::bundle_line, depot_schedule::specs::EventLines::give_line, depot_schedule::specs::EventLines::restart_line, depot_schedule::specs::EventLines::update_line, depot_schedule::specs::EventLines::updates_line, depot_schedule::specs::EventLines::voucher_line, depot_schedule::specs::EventLines::proof_line, depot_schedule::specs::EventLines::hollow_line, depot_schedule::specs::EventLines::judge_line, depot_schedule::specs::EventLines::raw_line, depot_schedule::specs::EventLines::cut_line, depot_schedule::specs::EventLines::flip_line, depot_schedule::specs::EventLines::join_line, depot_schedule::specs::EventLines::stop_line, depot_schedule::specs::EventLines::receipt_line, depot_schedule::specs::EventLines::settled_line, depot_schedule::specs::EventLines::audit_line, depot_schedule::specs::EventLines::checkpoint_line, depot_schedule::specs::EventLines::sign_line, depot_schedule::specs::EventLines::trim_line, depot_schedule::specs::EventLines::tgive_line, depot_schedule::specs::EventLines::tget_line))]
 fn words(alloc: Global, out: &mut Bytes, event: &Event) -> Result<(), Memory>
     ensures { OnOk result (out.new ≡ out.old ++ behind_spaces (drop 1 (head_words event.now))) }
 {

@@ -2,7 +2,7 @@
 ghost use Rattle.std.specs.Prelude.{◌≡◌, ◌≢◌, [], IfOk, drop};
 ghost use Rattle.depot_model.specs.Lines.{text_of_point, text_of_verdict};
 ghost use Rattle.depot_model.specs.declared.judgement.JudgeError.TheVariants as JudgeError;
-ghost use Rattle.depot_answers.specs.Answers.{spaced};
+ghost use Rattle.depot_answers.specs.AnswerTexts.{spaced};
 ghost use Rattle.depot_world.specs.Run.{Run};
 ghost use Rattle.depot_world.specs.FaultySigning.{proof_in};
 ghost use Rattle.depot_world.specs.Setups.{Setup};

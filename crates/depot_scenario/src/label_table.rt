@@ -1,6 +1,6 @@
 //! What labels name.
 ghost use Rattle.std.specs.Prelude.{◌≡◌, ◌++◌, ◌∷◌, List, [], IfOk, OnOk, option_and_then, option_copied};
-ghost use Rattle.depot_answers.specs.Answers.{spaced};
+ghost use Rattle.depot_answers.specs.AnswerTexts.{spaced};
 ghost use Rattle.depot_model.specs.Journal.{update_in};
 ghost use Rattle.depot_world.specs.Run.{Made, first_update};
 ghost use Rattle.depot_scenario.specs.Labels.{AreLabels, bytes_in, label_by, labels_with, named_in, plain_in, signed_in};
@@ -9,7 +9,8 @@ use crate::drafts::update_of;
 use crate::signed_apart::{Apart, put_apart};
 use crate::texts::Text;
 use depot_base::{Bytes, Memory, Signed, Update};
-use depot_schedule::{Event, Label};
+use depot_lines::Label;
+use depot_schedule::Event;
 use std::alloc::Global;
 use std::collections::BTreeMap;
 

@@ -1,6 +1,6 @@
 //! Where a schedule is played.
 ghost use Rattle.std.specs.Prelude.{◌≡◌, true};
-ghost use Rattle.depot_schedule.specs.Vocabulary.{is_declared};
+ghost use Rattle.depot_schedule.specs.EventWords.{is_declared};
 ghost use Rattle.depot_world.specs.Setups.{Setup};
 ghost use Rattle.depot_scenario.specs.MemberSigners.{member_signer_of};
 ghost use Rattle.depot_scenario.specs.Scenarios.{IsScenarioOf, IsSomeScenario};

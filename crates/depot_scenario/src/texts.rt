@@ -8,7 +8,7 @@ ghost use Rattle.depot_base.specs.declared.proof.Proof.TheVariants.{Hollow};
 ghost use Rattle.depot_base.specs.declared.statement.Statement.TheVariants as statement;
 ghost use Rattle.depot_model.specs.Own.{values_of};
 ghost use Rattle.depot_model.specs.Texts.{IsProof, IsSigned, IsStatement, IsUpdate};
-ghost use Rattle.depot_answers.specs.Answers.{numbered, spaced};
+ghost use Rattle.depot_answers.specs.AnswerTexts.{text_of_number, spaced};
 ghost use Rattle.depot_world.specs.FaultySigning.{counted_bytes, flip_at, no_reference, proof_by, proof_with, update_text, voucher_text};
 ghost use Rattle.depot_scenario.specs.ScenarioTexts.{IsText};
 
@@ -17,8 +17,8 @@ use crate::value_frames::put_values;
 use depot_base::{
     Bytes, Change, Ids, Kind, Memory, NodeId, Proof, Signed, Statement, Update, Voucher,
 };
+use depot_lines::spelling::name_of_kind;
 use depot_model::Signer;
-use depot_schedule::spelling::name_of_kind;
 use std::alloc::Global;
 
 /// What an event that no node takes part in gives its label, whether that is plain bytes, and what is printed behind the arrow without
@@ -98,7 +98,7 @@ pub fn voucher<G: Signer>(
 
 /// Node and seq of a voucher, and how many ids it has: `NODE/SEQ ids COUNT`.
 fn numbers_and_count(alloc: Global, node: NodeId, seq: u32, count: usize) -> Result<Bytes, Memory>
-    ensures { IfOk result (λ text. text ≡ decimal node ++ codes "/" ++ decimal seq ++ spaced (numbered (codes "ids") count)) }
+    ensures { IfOk result (λ text. text ≡ decimal node ++ codes "/" ++ decimal seq ++ spaced (text_of_number (codes "ids") count)) }
 {
     let node = node.number();
     let text = format!(in alloc; "{node}/{seq} ids {count}")?;

@@ -1,15 +1,5 @@
-pub mod Splitting
-pub mod LanguageLaws
-pub mod NumberLaws
-pub mod HexWords
-pub mod KeyForms
-pub mod VocabularyLaws
-pub mod ChangeWords
+pub mod EventWordLaws
 pub mod EventLineLaws
 pub mod ScheduleLaws
-pub mod ParseLaws
-pub mod PartSteps
-pub mod DigitSteps
-pub mod GatherSteps
+pub mod ScheduleSteps
 pub mod LabelSteps
-pub mod WrittenSteps

@@ -12,281 +12,282 @@ use Rattle.depot_schedule.specs.declared.event.Ref.{Ref}
 use Rattle.depot_schedule.specs.declared.event.Ref.TheVariants.{Own}
 use Rattle.depot_schedule.specs.declared.event.HistoryWord.{HistoryWord}
 use Rattle.depot_schedule.specs.declared.event.HistoryWord.TheVariants.{Right}
-use Rattle.depot_schedule.specs.declared.changes.Keys.TheVariants as keys
+use Rattle.depot_lines.specs.declared.changes.Keys.TheVariants as keys
 use Rattle.depot_schedule.specs.declared.schedule.Schedule.{Schedule}
 use Rattle.depot_schedule.specs.declared.verb.Verb.{Verb}
 use Rattle.depot_schedule.specs.declared.verb.Verb.TheVariants as verb
 use Rattle.depot_schedule.specs.declared.verb.TheConstants.{VERBS}
-use Rattle.depot_schedule.specs.Language.{Words, word, made, optional, counted, or_none, or_empty}
-use Rattle.depot_schedule.specs.Vocabulary.{correct, faulty, seq, clock, any_u32, piece_size, stop_call, node_count, image, key, put_key, value, raw_bytes, new_label, made_label, signed_label, voucher_label, plain_label, reader_label, kind, history, reference, references, vouched, changes}
+use Rattle.depot_lines.specs.Language.{Words, word, made, optional, counted, or_none, or_empty}
+use Rattle.depot_schedule.specs.EventWords.{correct, faulty, seq, piece_size, stop_call, image, new_label, made_label, signed_label, voucher_label, plain_label, reader_label, history, reference, references, vouched_references}
+use Rattle.depot_lines.specs.Vocabulary.{clock, any_u32, node_count, key, put_key, value, raw_bytes, kind, changes}
 
 -- ---- the parts of events; where an event has no such part, any value serves
 
-abbrev pub node_of : Event → ℕ
-node_of (Put node _ _) = node
-node_of (Puts node _) = node
-node_of (Get node _) = node
-node_of (Hello node _) = node
-node_of (Bundle node _ _) = node
-node_of (Give node _ _) = node
-node_of (Restart node) = node
-node_of (Update _ writer _ _ _ _ _ _ _) = writer
-node_of (Updates _ writer _ _ _ _ _ _) = writer
-node_of (Voucher _ writer _ _) = writer
-node_of (Stop node _ _) = node
-node_of (Receipt node _) = node
-node_of (Settled node _ _) = node
-node_of (Checkpoint node _) = node
-node_of (Sign node _) = node
-node_of (Trim node _ _) = node
-node_of _ = 0
+abbrev pub event_node : Event → ℕ
+event_node (Put node _ _) = node
+event_node (Puts node _) = node
+event_node (Get node _) = node
+event_node (Hello node _) = node
+event_node (Bundle node _ _) = node
+event_node (Give node _ _) = node
+event_node (Restart node) = node
+event_node (Update _ writer _ _ _ _ _ _ _) = writer
+event_node (Updates _ writer _ _ _ _ _ _) = writer
+event_node (Voucher _ writer _ _) = writer
+event_node (Stop node _ _) = node
+event_node (Receipt node _) = node
+event_node (Settled node _ _) = node
+event_node (Checkpoint node _) = node
+event_node (Sign node _) = node
+event_node (Trim node _ _) = node
+event_node _ = 0
 
-abbrev pub key_of : Event → List ℕ
-key_of (Put _ k _) = k
-key_of (Get _ k) = k
-key_of (Update _ _ _ _ _ k _ _ _) = k
-key_of (Tget _ k) = k
-key_of _ = []
+abbrev pub event_key : Event → List ℕ
+event_key (Put _ k _) = k
+event_key (Get _ k) = k
+event_key (Update _ _ _ _ _ k _ _ _) = k
+event_key (Tget _ k) = k
+event_key _ = []
 
-abbrev pub value_of : Event → List ℕ
-value_of (Put _ _ v) = v
-value_of (Update _ _ _ _ _ _ v _ _) = v
-value_of _ = []
+abbrev pub event_value : Event → List ℕ
+event_value (Put _ _ v) = v
+event_value (Update _ _ _ _ _ _ v _ _) = v
+event_value _ = []
 
 -- what an event writes: one change for one key and value
-abbrev pub changes_in : Event → List Change
-changes_in (Put _ k v) = one_change k v
-changes_in (Puts _ cs) = cs
-changes_in (Update _ _ _ _ _ k v _ _) = one_change k v
-changes_in (Updates _ _ _ _ _ cs _ _) = cs
-changes_in _ = []
+abbrev pub event_changes : Event → List Change
+event_changes (Put _ k v) = one_change k v
+event_changes (Puts _ cs) = cs
+event_changes (Update _ _ _ _ _ k v _ _) = one_change k v
+event_changes (Updates _ _ _ _ _ cs _ _) = cs
+event_changes _ = []
 
-abbrev pub label_of : Event → List ℕ
-label_of (Hello _ label) = label
-label_of (Bundle _ _ label) = label
-label_of (Give _ label _) = label
-label_of (Update label _ _ _ _ _ _ _ _) = label
-label_of (Updates label _ _ _ _ _ _ _) = label
-label_of (Voucher label _ _ _) = label
-label_of (Proof label _ _ _) = label
-label_of (Hollow label _ _) = label
-label_of (Judge label) = label
-label_of (Raw label _) = label
-label_of (Cut label _ _ _) = label
-label_of (Flip label _ _) = label
-label_of (Join label _ _) = label
-label_of (Checkpoint _ label) = label
-label_of (Sign _ label) = label
-label_of (Trim _ label _) = label
-label_of (Tgive _ label) = label
-label_of _ = []
+abbrev pub event_label : Event → List ℕ
+event_label (Hello _ label) = label
+event_label (Bundle _ _ label) = label
+event_label (Give _ label _) = label
+event_label (Update label _ _ _ _ _ _ _ _) = label
+event_label (Updates label _ _ _ _ _ _ _) = label
+event_label (Voucher label _ _ _) = label
+event_label (Proof label _ _ _) = label
+event_label (Hollow label _ _) = label
+event_label (Judge label) = label
+event_label (Raw label _) = label
+event_label (Cut label _ _ _) = label
+event_label (Flip label _ _) = label
+event_label (Join label _ _) = label
+event_label (Checkpoint _ label) = label
+event_label (Sign _ label) = label
+event_label (Trim _ label _) = label
+event_label (Tgive _ label) = label
+event_label _ = []
 
 -- the label whose bytes an event starts from
-abbrev pub source_of : Event → List ℕ
-source_of (Bundle _ hello _) = hello
-source_of (Proof _ _ first _) = first
-source_of (Hollow _ voucher _) = voucher
-source_of (Cut _ source _ _) = source
-source_of (Flip _ source _) = source
-source_of (Join _ first _) = first
-source_of _ = []
+abbrev pub event_source : Event → List ℕ
+event_source (Bundle _ hello _) = hello
+event_source (Proof _ _ first _) = first
+event_source (Hollow _ voucher _) = voucher
+event_source (Cut _ source _ _) = source
+event_source (Flip _ source _) = source
+event_source (Join _ first _) = first
+event_source _ = []
 
 -- the second of two such labels
-abbrev pub second_of : Event → List ℕ
-second_of (Proof _ _ _ second) = second
-second_of (Hollow _ _ text) = text
-second_of (Join _ _ second) = second
-second_of _ = []
+abbrev pub event_second : Event → List ℕ
+event_second (Proof _ _ _ second) = second
+event_second (Hollow _ _ text) = text
+event_second (Join _ _ second) = second
+event_second _ = []
 
 -- the name of a reader
-abbrev pub reader_named : Event → List ℕ
-reader_named (Trim _ _ name) = name
-reader_named (Tgive name _) = name
-reader_named (Tget name _) = name
-reader_named _ = []
+abbrev pub event_reader : Event → List ℕ
+event_reader (Trim _ _ name) = name
+event_reader (Tgive name _) = name
+event_reader (Tget name _) = name
+event_reader _ = []
 
-abbrev pub size_of : Event → Option ℕ
-size_of (Give _ _ size) = size
-size_of _ = None
+abbrev pub event_size : Event → Option ℕ
+event_size (Give _ _ size) = size
+event_size _ = None
 
-abbrev pub seq_of : Event → ℕ
-seq_of (Update _ _ n _ _ _ _ _ _) = n
-seq_of (Updates _ _ n _ _ _ _ _) = n
-seq_of (Voucher _ _ n _) = n
-seq_of _ = 0
+abbrev pub event_seq : Event → ℕ
+event_seq (Update _ _ n _ _ _ _ _ _) = n
+event_seq (Updates _ _ n _ _ _ _ _) = n
+event_seq (Voucher _ _ n _) = n
+event_seq _ = 0
 
-abbrev pub clock_of : Event → ℕ
-clock_of (Update _ _ _ time _ _ _ _ _) = time
-clock_of (Updates _ _ _ time _ _ _ _) = time
-clock_of _ = 0
+abbrev pub event_clock : Event → ℕ
+event_clock (Update _ _ _ time _ _ _ _ _) = time
+event_clock (Updates _ _ _ time _ _ _ _) = time
+event_clock _ = 0
 
-abbrev pub prev_of : Event → Option Ref
-prev_of (Update _ _ _ _ prev _ _ _ _) = prev
-prev_of (Updates _ _ _ _ prev _ _ _) = prev
-prev_of _ = None
+abbrev pub event_prev : Event → Option Ref
+event_prev (Update _ _ _ _ prev _ _ _ _) = prev
+event_prev (Updates _ _ _ _ prev _ _ _) = prev
+event_prev _ = None
 
-abbrev pub refs_of : Event → List Ref
-refs_of (Update _ _ _ _ _ _ _ deps _) = deps
-refs_of (Updates _ _ _ _ _ _ deps _) = deps
-refs_of (Voucher _ _ _ refs) = refs
-refs_of (Receipt _ refs) = refs
-refs_of _ = []
+abbrev pub event_refs : Event → List Ref
+event_refs (Update _ _ _ _ _ _ _ deps _) = deps
+event_refs (Updates _ _ _ _ _ _ deps _) = deps
+event_refs (Voucher _ _ _ refs) = refs
+event_refs (Receipt _ refs) = refs
+event_refs _ = []
 
-abbrev pub history_of : Event → HistoryWord
-history_of (Update _ _ _ _ _ _ _ _ h) = h
-history_of (Updates _ _ _ _ _ _ _ h) = h
-history_of _ = Right
+abbrev pub event_history : Event → HistoryWord
+event_history (Update _ _ _ _ _ _ _ _ h) = h
+event_history (Updates _ _ _ _ _ _ _ h) = h
+event_history _ = Right
 
-abbrev pub kind_of : Event → Kind
-kind_of (Proof _ k _ _) = k
-kind_of _ = SameNumber
+abbrev pub event_kind : Event → Kind
+event_kind (Proof _ k _ _) = k
+event_kind _ = SameNumber
 
-abbrev pub bytes_of : Event → List ℕ
-bytes_of (Raw _ bytes) = bytes
-bytes_of _ = []
+abbrev pub event_bytes : Event → List ℕ
+event_bytes (Raw _ bytes) = bytes
+event_bytes _ = []
 
 -- a place among the bytes of a label
-abbrev pub place_of : Event → ℕ
-place_of (Cut _ _ start _) = start
-place_of (Flip _ _ place) = place
-place_of _ = 0
+abbrev pub event_place : Event → ℕ
+event_place (Cut _ _ start _) = start
+event_place (Flip _ _ place) = place
+event_place _ = 0
 
-abbrev pub count_of : Event → ℕ
-count_of (Cut _ _ _ count) = count
-count_of _ = 0
+abbrev pub event_count : Event → ℕ
+event_count (Cut _ _ _ count) = count
+event_count _ = 0
 
-abbrev pub call_of : Event → ℕ
-call_of (Stop _ call _) = call
-call_of _ = 0
+abbrev pub event_call : Event → ℕ
+event_call (Stop _ call _) = call
+event_call _ = 0
 
-abbrev pub image_of : Event → ℕ
-image_of (Stop _ _ left) = left
-image_of _ = 0
+abbrev pub event_image : Event → ℕ
+event_image (Stop _ _ left) = left
+event_image _ = 0
 
 -- the update that an event asks about
-abbrev pub reference_of : Event → Ref
-reference_of (Settled _ update _) = update
-reference_of _ = Own 0 0
+abbrev pub event_reference : Event → Ref
+event_reference (Settled _ update _) = update
+event_reference _ = Own 0 0
 
 -- the number of nodes that an event asks for
-abbrev pub nodes_asked : Event → ℕ
-nodes_asked (Settled _ _ k) = k
-nodes_asked _ = 0
+abbrev pub event_nodes : Event → ℕ
+event_nodes (Settled _ _ k) = k
+event_nodes _ = 0
 
 -- ---- the table, by the words behind the event's name
 
-abbrev Line : Type 1
-Line = Words Schedule Event
+abbrev EventForm : Type 1
+EventForm = Words Schedule Event
 
 -- `put N KEY VALUE`
-unfoldable pub put : Line
-put = counted 3 3 (word correct node_of λ node. word put_key key_of λ k. word value value_of λ v. made (Put node k v))
+unfoldable pub put_line : EventForm
+put_line = counted 3 3 (word correct event_node λ node. word put_key event_key λ k. word value event_value λ v. made (Put node k v))
 
 -- `puts N WRITES`
-unfoldable pub puts : Line
-puts = counted 2 2 (word correct node_of λ node. word (changes keys.Put) changes_in λ cs. made (Puts node cs))
+unfoldable pub puts_line : EventForm
+puts_line = counted 2 2 (word correct event_node λ node. word (changes keys.Put) event_changes λ cs. made (Puts node cs))
 
 -- `get N KEY`
-unfoldable pub get : Line
-get = counted 2 2 (word correct node_of λ node. word key key_of λ k. made (Get node k))
+unfoldable pub get_line : EventForm
+get_line = counted 2 2 (word correct event_node λ node. word key event_key λ k. made (Get node k))
 
 -- `hello N LABEL`
-unfoldable pub hello : Line
-hello = counted 2 2 (word correct node_of λ node. word new_label label_of λ label. made (Hello node label))
+unfoldable pub hello_line : EventForm
+hello_line = counted 2 2 (word correct event_node λ node. word new_label event_label λ label. made (Hello node label))
 
 -- `bundle N HELLO LABEL`
-unfoldable pub bundle : Line
-bundle = counted 3 3 (word correct node_of λ node. word made_label source_of λ hello. word new_label label_of λ label. made (Bundle node hello label))
+unfoldable pub bundle_line : EventForm
+bundle_line = counted 3 3 (word correct event_node λ node. word made_label event_source λ hello. word new_label event_label λ label. made (Bundle node hello label))
 
 -- `give N LABEL` or `give N LABEL SIZE`
-unfoldable pub give : Line
-give = counted 2 3 (word correct node_of λ node. word made_label label_of λ label. optional piece_size size_of λ size. Give node label size)
+unfoldable pub give_line : EventForm
+give_line = counted 2 3 (word correct event_node λ node. word made_label event_label λ label. optional piece_size event_size λ size. Give node label size)
 
 -- `restart N`
-unfoldable pub restart : Line
-restart = counted 1 1 (word correct node_of λ node. made (Restart node))
+unfoldable pub restart_line : EventForm
+restart_line = counted 1 1 (word correct event_node λ node. made (Restart node))
 
 -- `update LABEL W SEQ CLOCK PREV KEY VALUE DEPS HISTORY`
-unfoldable pub update : Line
-update = counted 9 9 (
-    word new_label label_of λ label. word faulty node_of λ writer. word seq seq_of λ n. word clock clock_of λ time. word (or_none reference) prev_of λ prev.
-    word key key_of λ k. word value value_of λ v. word (or_empty (references MOST_ENTRIES)) refs_of λ deps. word history history_of λ hash.
+unfoldable pub update_line : EventForm
+update_line = counted 9 9 (
+    word new_label event_label λ label. word faulty event_node λ writer. word seq event_seq λ n. word clock event_clock λ time. word (or_none reference) event_prev λ prev.
+    word key event_key λ k. word value event_value λ v. word (or_empty (references MOST_ENTRIES)) event_refs λ deps. word history event_history λ hash.
     made (Update label writer n time prev k v deps hash))
 
 -- `updates LABEL W SEQ CLOCK PREV WRITES DEPS HISTORY`
-unfoldable pub updates : Line
-updates = counted 8 8 (
-    word new_label label_of λ label. word faulty node_of λ writer. word seq seq_of λ n. word clock clock_of λ time. word (or_none reference) prev_of λ prev.
-    word (changes keys.Any) changes_in λ cs. word (or_empty (references MOST_ENTRIES)) refs_of λ deps. word history history_of λ hash.
+unfoldable pub updates_line : EventForm
+updates_line = counted 8 8 (
+    word new_label event_label λ label. word faulty event_node λ writer. word seq event_seq λ n. word clock event_clock λ time. word (or_none reference) event_prev λ prev.
+    word (changes keys.Any) event_changes λ cs. word (or_empty (references MOST_ENTRIES)) event_refs λ deps. word history event_history λ hash.
     made (Updates label writer n time prev cs deps hash))
 
 -- `voucher LABEL W SEQ REFS`
-unfoldable pub voucher : Line
-voucher = counted 4 4 (word new_label label_of λ label. word faulty node_of λ writer. word seq seq_of λ n. word (vouched MOST_IDS) refs_of λ refs. made (Voucher label writer n refs))
+unfoldable pub voucher_line : EventForm
+voucher_line = counted 4 4 (word new_label event_label λ label. word faulty event_node λ writer. word seq event_seq λ n. word (vouched_references MOST_IDS) event_refs λ refs. made (Voucher label writer n refs))
 
 -- `proof LABEL KIND A B`
-unfoldable pub proof : Line
-proof = counted 4 4 (word new_label label_of λ label. word kind kind_of λ k. word signed_label source_of λ first. word signed_label second_of λ second. made (Proof label k first second))
+unfoldable pub proof_line : EventForm
+proof_line = counted 4 4 (word new_label event_label λ label. word kind event_kind λ k. word signed_label event_source λ first. word signed_label event_second λ second. made (Proof label k first second))
 
 -- `hollow LABEL V T`
-unfoldable pub hollow : Line
-hollow = counted 3 3 (word new_label label_of λ label. word voucher_label source_of λ voucher. word plain_label second_of λ text. made (Hollow label voucher text))
+unfoldable pub hollow_line : EventForm
+hollow_line = counted 3 3 (word new_label event_label λ label. word voucher_label event_source λ voucher. word plain_label event_second λ text. made (Hollow label voucher text))
 
 -- `judge LABEL`
-unfoldable pub judge : Line
-judge = counted 1 1 (word made_label label_of λ label. made (Judge label))
+unfoldable pub judge_line : EventForm
+judge_line = counted 1 1 (word made_label event_label λ label. made (Judge label))
 
 -- `raw LABEL HEX`
-unfoldable pub raw : Line
-raw = counted 2 2 (word new_label label_of λ label. word raw_bytes bytes_of λ bytes. made (Raw label bytes))
+unfoldable pub raw_line : EventForm
+raw_line = counted 2 2 (word new_label event_label λ label. word raw_bytes event_bytes λ bytes. made (Raw label bytes))
 
 -- `cut LABEL FROM START COUNT`
-unfoldable pub cut : Line
-cut = counted 4 4 (word new_label label_of λ label. word made_label source_of λ source. word any_u32 place_of λ start. word any_u32 count_of λ count. made (Cut label source start count))
+unfoldable pub cut_line : EventForm
+cut_line = counted 4 4 (word new_label event_label λ label. word made_label event_source λ source. word any_u32 event_place λ start. word any_u32 event_count λ count. made (Cut label source start count))
 
 -- `flip LABEL FROM PLACE`
-unfoldable pub flip : Line
-flip = counted 3 3 (word new_label label_of λ label. word made_label source_of λ source. word any_u32 place_of λ place. made (Flip label source place))
+unfoldable pub flip_line : EventForm
+flip_line = counted 3 3 (word new_label event_label λ label. word made_label event_source λ source. word any_u32 event_place λ place. made (Flip label source place))
 
 -- `join LABEL A B`
-unfoldable pub join : Line
-join = counted 3 3 (word new_label label_of λ label. word made_label source_of λ first. word made_label second_of λ second. made (Join label first second))
+unfoldable pub join_line : EventForm
+join_line = counted 3 3 (word new_label event_label λ label. word made_label event_source λ first. word made_label event_second λ second. made (Join label first second))
 
 -- `stop N K IMAGE`
-unfoldable pub stop : Line
-stop = counted 3 3 (word correct node_of λ node. word stop_call call_of λ call. word image image_of λ left. made (Stop node call left))
+unfoldable pub stop_line : EventForm
+stop_line = counted 3 3 (word correct event_node λ node. word stop_call event_call λ call. word image event_image λ left. made (Stop node call left))
 
 -- `receipt N REFS`
-unfoldable pub receipt : Line
-receipt = counted 2 2 (word correct node_of λ node. word (references MOST_WRITES) refs_of λ refs. made (Receipt node refs))
+unfoldable pub receipt_line : EventForm
+receipt_line = counted 2 2 (word correct event_node λ node. word (references MOST_WRITES) event_refs λ refs. made (Receipt node refs))
 
 -- `settled N REF K`
-unfoldable pub settled : Line
-settled = counted 3 3 (word correct node_of λ node. word reference reference_of λ update. word node_count nodes_asked λ k. made (Settled node update k))
+unfoldable pub settled_line : EventForm
+settled_line = counted 3 3 (word correct event_node λ node. word reference event_reference λ update. word node_count event_nodes λ k. made (Settled node update k))
 
 -- `audit`
-unfoldable pub audit : Line
-audit = counted 0 0 (made Audit)
+unfoldable pub audit_line : EventForm
+audit_line = counted 0 0 (made Audit)
 
 -- `checkpoint N LABEL`
-unfoldable pub checkpoint : Line
-checkpoint = counted 2 2 (word correct node_of λ node. word new_label label_of λ label. made (Checkpoint node label))
+unfoldable pub checkpoint_line : EventForm
+checkpoint_line = counted 2 2 (word correct event_node λ node. word new_label event_label λ label. made (Checkpoint node label))
 
 -- `sign N LABEL`
-unfoldable pub sign : Line
-sign = counted 2 2 (word correct node_of λ node. word made_label label_of λ label. made (Sign node label))
+unfoldable pub sign_line : EventForm
+sign_line = counted 2 2 (word correct event_node λ node. word made_label event_label λ label. made (Sign node label))
 
 -- `trim N LABEL NAME`
-unfoldable pub trim : Line
-trim = counted 3 3 (word correct node_of λ node. word made_label label_of λ label. word new_label reader_named λ name. made (Trim node label name))
+unfoldable pub trim_line : EventForm
+trim_line = counted 3 3 (word correct event_node λ node. word made_label event_label λ label. word new_label event_reader λ name. made (Trim node label name))
 
 -- `tgive NAME LABEL`
-unfoldable pub tgive : Line
-tgive = counted 2 2 (word reader_label reader_named λ name. word made_label label_of λ label. made (Tgive name label))
+unfoldable pub tgive_line : EventForm
+tgive_line = counted 2 2 (word reader_label event_reader λ name. word made_label event_label λ label. made (Tgive name label))
 
 -- `tget NAME KEY`
-unfoldable pub tget : Line
-tget = counted 2 2 (word reader_label reader_named λ name. word key key_of λ k. made (Tget name k))
+unfoldable pub tget_line : EventForm
+tget_line = counted 2 2 (word reader_label event_reader λ name. word key event_key λ k. made (Tget name k))
 
 -- ---- all kinds of events
 
@@ -321,45 +322,45 @@ verb_of (Tget _ _) = verb.Tget
 -- the first word of the line of an event, and the words behind it
 pub record Row : Type 1 where
   pub name : List ℕ
-  pub line : Line
+  pub line : EventForm
 
-abbrev row : List ℕ → Line → Row
+abbrev row : List ℕ → EventForm → Row
 row name line = record { name = name; line = line }
 
-abbrev pub row_of : Verb → Row
-row_of verb.Put = row (codes "put") put
-row_of verb.Puts = row (codes "puts") puts
-row_of verb.Get = row (codes "get") get
-row_of verb.Hello = row (codes "hello") hello
-row_of verb.Bundle = row (codes "bundle") bundle
-row_of verb.Give = row (codes "give") give
-row_of verb.Restart = row (codes "restart") restart
-row_of verb.Update = row (codes "update") update
-row_of verb.Updates = row (codes "updates") updates
-row_of verb.Voucher = row (codes "voucher") voucher
-row_of verb.Proof = row (codes "proof") proof
-row_of verb.Hollow = row (codes "hollow") hollow
-row_of verb.Judge = row (codes "judge") judge
-row_of verb.Raw = row (codes "raw") raw
-row_of verb.Cut = row (codes "cut") cut
-row_of verb.Flip = row (codes "flip") flip
-row_of verb.Join = row (codes "join") join
-row_of verb.Stop = row (codes "stop") stop
-row_of verb.Receipt = row (codes "receipt") receipt
-row_of verb.Settled = row (codes "settled") settled
-row_of verb.Audit = row (codes "audit") audit
-row_of verb.Checkpoint = row (codes "checkpoint") checkpoint
-row_of verb.Sign = row (codes "sign") sign
-row_of verb.Trim = row (codes "trim") trim
-row_of verb.Tgive = row (codes "tgive") tgive
-row_of verb.Tget = row (codes "tget") tget
+abbrev pub table_row : Verb → Row
+table_row verb.Put = row (codes "put") put_line
+table_row verb.Puts = row (codes "puts") puts_line
+table_row verb.Get = row (codes "get") get_line
+table_row verb.Hello = row (codes "hello") hello_line
+table_row verb.Bundle = row (codes "bundle") bundle_line
+table_row verb.Give = row (codes "give") give_line
+table_row verb.Restart = row (codes "restart") restart_line
+table_row verb.Update = row (codes "update") update_line
+table_row verb.Updates = row (codes "updates") updates_line
+table_row verb.Voucher = row (codes "voucher") voucher_line
+table_row verb.Proof = row (codes "proof") proof_line
+table_row verb.Hollow = row (codes "hollow") hollow_line
+table_row verb.Judge = row (codes "judge") judge_line
+table_row verb.Raw = row (codes "raw") raw_line
+table_row verb.Cut = row (codes "cut") cut_line
+table_row verb.Flip = row (codes "flip") flip_line
+table_row verb.Join = row (codes "join") join_line
+table_row verb.Stop = row (codes "stop") stop_line
+table_row verb.Receipt = row (codes "receipt") receipt_line
+table_row verb.Settled = row (codes "settled") settled_line
+table_row verb.Audit = row (codes "audit") audit_line
+table_row verb.Checkpoint = row (codes "checkpoint") checkpoint_line
+table_row verb.Sign = row (codes "sign") sign_line
+table_row verb.Trim = row (codes "trim") trim_line
+table_row verb.Tgive = row (codes "tgive") tgive_line
+table_row verb.Tget = row (codes "tget") tget_line
 
-abbrev pub name_of : Verb → List ℕ
-name_of v = (row_of v).name
+abbrev pub verb_name : Verb → List ℕ
+verb_name v = (table_row v).name
 
-abbrev pub line_of : Verb → Line
-line_of v = (row_of v).line
+abbrev pub line_of : Verb → EventForm
+line_of v = (table_row v).line
 
 -- the kind of event of this name
 unfoldable pub verb_named : List ℕ → Option Verb
-verb_named word = find (λ v. bytes_eq word (name_of v)) VERBS
+verb_named word = find (λ v. bytes_eq word (verb_name v)) VERBS

@@ -1,8 +1,3 @@
-pub mod Spelling
-pub mod Language
-pub mod Vocabulary
-pub mod PutKeys
+pub mod EventWords
 pub mod EventLines
 pub mod Schedules
-pub mod LabelTable
-pub mod Readers

@@ -1,28 +1,29 @@
 -- Schedules: which have a text, that text, and which line of a text goes wrong first, and how.
 use Rattle.std.specs.Prelude.{◌≡◌, ℕ, ◌+◌, ◌≤◌, Bool, true, false, not, ◌&&◌, ◌||◌, List, [], ◌∷◌, ◌++◌, length, map, Option, Some, None, is_some, Result, Ok, Err, codes, nat_lt, if◌then◌else◌}
-use Rattle.std.specs.List.{list_all, list_any, filter, flat_map}
+use Rattle.std.specs.List.{list_any, filter, flat_map}
 use Rattle.std.specs.Fmt.{decimal}
 use Rattle.std.specs.Str.{bytes_eq}
 use Rattle.depot_base.specs.declared.limits.TheConstants.{MOST_NODES, MOST_CORRECT, MOST_LINES, LEAST_HEIGHT, GREATEST_HEIGHT}
-use Rattle.depot_schedule.specs.declared.line_fault.LineFault.{LineFault}
-use Rattle.depot_schedule.specs.declared.line_fault.LineFault.TheVariants as is
+use Rattle.depot_lines.specs.declared.line_fault.LineFault.{LineFault}
+use Rattle.depot_lines.specs.declared.line_fault.LineFault.TheVariants as is
 use Rattle.depot_schedule.specs.declared.member.Member.{Member}
 use Rattle.depot_schedule.specs.declared.event.Event.{Event}
 use Rattle.depot_schedule.specs.declared.schedule.Schedule.{Schedule}
-use Rattle.depot_schedule.specs.Spelling.{number_word}
+use Rattle.depot_lines.specs.Spelling.{number_word}
 use Rattle.depot_base.specs.Format.{◌>>=◌}
-use Rattle.depot_schedule.specs.Language.{or_fault, split, join}
-use Rattle.depot_schedule.specs.Vocabulary.{is_declared}
-use Rattle.depot_schedule.specs.EventLines.{verb_of, line_of, name_of, verb_named}
+use Rattle.depot_lines.specs.Language.{or_fault}
+use Rattle.depot_schedule.specs.EventWords.{is_declared}
+use Rattle.depot_schedule.specs.EventLines.{verb_of, line_of, verb_name, verb_named}
+use Rattle.depot_lines.specs.LineTexts.{text_of_line, Line, lines_of_text, first_word, is_empty_word, are_words, checked}
 
 -- ---- schedules as they grow
 
 -- the schedule before its first member
-abbrev pub blank : Bool → ℕ → Schedule
-blank winter height = record { winter = winter; height = height; members = []; events = [] }
+abbrev pub blank_schedule : Bool → ℕ → Schedule
+blank_schedule winter height = record { winter = winter; height = height; members = []; events = [] }
 
 abbrev pub before_members : Schedule → Schedule
-before_members s = blank s.winter s.height
+before_members s = blank_schedule s.winter s.height
 
 abbrev pub before_events : Schedule → Schedule
 before_events s = record { winter = s.winter; height = s.height; members = s.members; events = [] }
@@ -55,15 +56,11 @@ abbrev pub member_words : Member → List (List ℕ)
 member_words m = member_name m.correct ∷ decimal m.node ∷ []
 
 abbrev pub event_words : Event → List (List ℕ)
-event_words e = name_of (verb_of e) ∷ (line_of (verb_of e)).text e
+event_words e = verb_name (verb_of e) ∷ (line_of (verb_of e)).text e
 
 -- the words of each line: two lines of the header, the members, the events
 abbrev pub words_of_schedule : Schedule → List (List (List ℕ))
 words_of_schedule s = first_words ∷ scheme_words s ∷ (map member_words s.members ++ map event_words s.events)
-
--- words with spaces (32) between them, and an LF (10)
-abbrev pub text_of_line : List (List ℕ) → List ℕ
-text_of_line words = join 32 words ++ 10 ∷ []
 
 -- the text of a schedule
 unfoldable pub text_of_schedule : Schedule → List ℕ
@@ -110,47 +107,12 @@ pub record IsSchedule (s : Schedule) : Type 0 where
   pub events : FitEvents (before_events s) s.events
   pub lines : 2 + (length s.members + length s.events) ≤ MOST_LINES
 
--- ---- lines of a text
-
--- a line, and whether an LF ends it
-pub record Line : Type 0 where
-  pub text : List ℕ
-  pub ended : Bool
-
--- what stands behind the last LF, as a line without one; nothing is no line
-abbrev pub last_line : List ℕ → List Line
-last_line [] = []
-last_line (b ∷ bs) = record { text = b ∷ bs; ended = false } ∷ []
-
--- the parts between LFs as lines
-abbrev pub lines_of_parts : List (List ℕ) → List Line
-lines_of_parts [] = []
-lines_of_parts (part ∷ []) = last_line part
-lines_of_parts (part ∷ next ∷ parts) = record { text = part; ended = true } ∷ lines_of_parts (next ∷ parts)
-
--- the lines of a text
-abbrev pub lines_of : List ℕ → List Line
-lines_of text = lines_of_parts (split 10 text)
-
--- the first word of a line: what stands before its first space
-abbrev pub first_of : List (List ℕ) → List ℕ
-first_of [] = []
-first_of (word ∷ words) = word
-
-abbrev pub is_empty : List ℕ → Bool
-is_empty [] = true
-is_empty (b ∷ bs) = false
-
--- whether one space stands between each two words, and none first or last
-abbrev pub are_words : List (List ℕ) → Bool
-are_words words = list_all (λ word. not (is_empty word)) words
-
 -- ---- the header
 
 -- the first line, `depot schedule 1`: any other version is a wrong number
 abbrev pub read_first : List (List ℕ) → Result (Unit {0}) LineFault
 read_first (depot ∷ schedule ∷ version ∷ []) =
-    if bytes_eq depot (codes "depot") && bytes_eq schedule (codes "schedule") && not (is_empty version)
+    if bytes_eq depot (codes "depot") && bytes_eq schedule (codes "schedule") && not (is_empty_word version)
     then (if bytes_eq version (codes "1") then Ok tt else Err is.Number)
     else Err is.Header
 read_first words = Err is.Header
@@ -162,8 +124,8 @@ scheme_named word = if bytes_eq word (codes "plain") then Some false else (if by
 -- the second line, `scheme plain H` or `scheme winter H`, as the schedule before its first member
 abbrev pub read_scheme : List (List ℕ) → Result Schedule LineFault
 read_scheme (scheme ∷ name ∷ height ∷ []) =
-    if bytes_eq scheme (codes "scheme") && not (is_empty height)
-    then (or_fault (scheme_named name) is.Header >>= λ winter. or_fault (number_word LEAST_HEIGHT GREATEST_HEIGHT height) is.Number >>= λ h. Ok (blank winter h))
+    if bytes_eq scheme (codes "scheme") && not (is_empty_word height)
+    then (or_fault (scheme_named name) is.Header >>= λ winter. or_fault (number_word LEAST_HEIGHT GREATEST_HEIGHT height) is.Number >>= λ h. Ok (blank_schedule winter h))
     else Err is.Header
 read_scheme words = Err is.Header
 
@@ -173,7 +135,7 @@ has_events s = nat_lt 0 (length s.events)
 -- `node ID` or `faulty ID`, which stand before the first event: the number is looked at before the ids and counts are
 abbrev pub read_member : Schedule → Bool → List (List ℕ) → Result Schedule LineFault
 read_member s is_correct (name ∷ id ∷ []) =
-    if has_events s || is_empty id then Err is.Header else
+    if has_events s || is_empty_word id then Err is.Header else
     (or_fault (number_word 1 65535 id) is.Number >>= λ n. if may_join s (record { node = n; correct = is_correct }) then Ok (with_member s (record { node = n; correct = is_correct })) else Err is.Header)
 read_member s is_correct words = Err is.Header
 
@@ -190,7 +152,7 @@ read_event s (name ∷ words) =
 abbrev pub read_other : Schedule → List (List ℕ) → Result Schedule LineFault
 read_other s words =
     if has_correct s.members then read_event s words else
-    (if is_some (verb_named (first_of words)) then Err is.Header else Err is.Word)
+    (if is_some (verb_named (first_word words)) then Err is.Header else Err is.Word)
 
 -- the first word of a line, as one of the header's or another
 pub data Head : Type 0 where
@@ -214,20 +176,9 @@ read_by s other words = read_other s words
 
 -- the schedule with what a line adds, or what is first wrong with that line
 unfoldable pub read_line : Schedule → List (List ℕ) → Result Schedule LineFault
-read_line s words = read_by s (head_named (first_of words)) words
+read_line s words = read_by s (head_named (first_word words)) words
 
 -- ---- whole texts
-
--- a fault in the line of this number
-abbrev pub in_line : {A : Type 0} → ℕ → Result A LineFault → Result A (ℕ × LineFault)
-in_line n (Ok a) = Ok a
-in_line n (Err f) = Err (n, f)
-
--- the line of this number: that it ends, and isn't one too many, is looked at before its words are
-abbrev pub checked : {A : Type 0} → ℕ → Line → (List (List ℕ) → Result A LineFault) → Result A (ℕ × LineFault)
-checked n line read =
-    if not line.ended then Err (n, is.End) else
-    if nat_lt MOST_LINES n then Err (n, is.Long) else in_line n (read (split 32 line.text))
 
 -- the lines behind the second, the first of them of this number
 abbrev pub read_rest : ℕ → Schedule → List Line → Result Schedule (ℕ × LineFault)
@@ -244,4 +195,9 @@ read_all (line ∷ lines) = checked 1 line read_first >>= λ ok. read_second lin
 
 -- the schedule of a text, or the number of its first faulty line, from 1, and that line's first fault
 unfoldable pub schedule_of : List ℕ → Result Schedule (ℕ × LineFault)
-schedule_of text = read_all (lines_of text)
+schedule_of text = read_all (lines_of_text text)
+
+-- the text is that of this schedule, which has one
+pub record IsTextOfSchedule (text : List ℕ) (s : Schedule) : Type 0 where
+  pub has : IsSchedule s
+  pub is : text ≡ text_of_schedule s

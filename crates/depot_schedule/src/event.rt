@@ -1,8 +1,8 @@
 //! What a schedule lets happen.
 
-use crate::Label;
 use crate::verb::Verb;
 use depot_base::{Bytes, Changes, Hash32, Key, Kind, NodeId, Sequence, Value};
+use depot_lines::Label;
 
 /// What names an update, or in a voucher bytes.
 #[derive(Debug, Drop)]

@@ -1,18 +1,14 @@
 //! Writes the words behind the name of an event, each behind a space: one function a line of the table.
 ghost use Rattle.std.specs.Prelude.{◌≡◌, [], ◌∷◌, ◌++◌, OnOk};
 ghost use Rattle.std.specs.Fmt.{decimal};
-ghost use Rattle.hex.specs.Hex.{encode_lower};
-ghost use Rattle.depot_schedule.specs.Language.{text_if_any};
-ghost use Rattle.depot_schedule.specs.EventLines.{put, puts, get, hello, bundle, give, restart, update, updates, voucher, proof, hollow, judge, raw, cut, flip, join, stop, receipt, settled, audit, checkpoint, sign, trim, tgive, tget, line_of, verb_of};
-ghost use Rattle.depot_schedule.specs.Readers.{behind_spaces};
+ghost use Rattle.depot_schedule.specs.EventLines.{put_line, puts_line, get_line, hello_line, bundle_line, give_line, restart_line, update_line, updates_line, voucher_line, proof_line, hollow_line, judge_line, raw_line, cut_line, flip_line, join_line, stop_line, receipt_line, settled_line, checkpoint_line, sign_line, trim_line, tgive_line, tget_line, line_of, verb_of};
+ghost use Rattle.depot_lines.specs.LineReading.{behind_spaces};
 
-use crate::change_writers::writes;
 use crate::event::{Event, HistoryWord, Ref, Refs};
-use crate::label::Label;
-use crate::word_writers::{
-    deps, hex, hex_or_dash, history, kind, label, node, number, prev, reference, references,
-};
+use crate::reference_writers::{deps, history, prev, reference, references};
 use depot_base::{Bytes, Change, Key, Kind, Memory, NodeId, Value};
+use depot_lines::Label;
+use depot_lines::word_writers::{hex, hex_or_dash, kind, label, node, number, write, writes};
 use std::alloc::Global;
 
 /// The label that a statement makes, its writer and its number.
@@ -31,53 +27,44 @@ fn statement(
     number(alloc, out, seq as u64)
 }
 
-/// A key and a value.
-#[tactic(auto, using(depot_base::proofs::Writing::texts))]
-pub fn write(alloc: Global, out: &mut Bytes, key: &Key, value: &Value) -> Result<(), Memory>
-    ensures { OnOk result (out.new ≡ out.old ++ behind_spaces (encode_lower key.now ∷ text_if_any encode_lower value.now ∷ [])) }
-{
-    hex(alloc, out, key.bytes())?;
-    hex_or_dash(alloc, out, value.bytes())
-}
-
 /// `put N KEY VALUE`
-#[tactic(auto, using(depot_base::proofs::Writing::texts), unfolding(crate::specs::EventLines::put))]
+#[tactic(auto, using(depot_base::proofs::Writing::texts), unfolding(crate::specs::EventLines::put_line))]
 fn put(alloc: Global, out: &mut Bytes, id: NodeId, key: &Key, value: &Value) -> Result<(), Memory>
-    ensures { OnOk result (out.new ≡ out.old ++ behind_spaces (put.text (Event.Put id key.now value.now))) }
+    ensures { OnOk result (out.new ≡ out.old ++ behind_spaces (put_line.text (Event.Put id key.now value.now))) }
 {
     node(alloc, out, id)?;
     write(alloc, out, key, value)
 }
 
 /// `puts N WRITES`
-#[tactic(auto, using(depot_base::proofs::Writing::texts), unfolding(crate::specs::EventLines::puts))]
+#[tactic(auto, using(depot_base::proofs::Writing::texts), unfolding(crate::specs::EventLines::puts_line))]
 fn puts(alloc: Global, out: &mut Bytes, id: NodeId, changes: &[Change]) -> Result<(), Memory>
-    ensures { OnOk result (out.new ≡ out.old ++ behind_spaces (puts.text (Event.Puts id changes.now))) }
+    ensures { OnOk result (out.new ≡ out.old ++ behind_spaces (puts_line.text (Event.Puts id changes.now))) }
 {
     node(alloc, out, id)?;
     writes(alloc, out, changes)
 }
 
 /// `get N KEY`
-#[tactic(auto, using(depot_base::proofs::Writing::texts), unfolding(crate::specs::EventLines::get))]
+#[tactic(auto, using(depot_base::proofs::Writing::texts), unfolding(crate::specs::EventLines::get_line))]
 fn get(alloc: Global, out: &mut Bytes, id: NodeId, key: &Key) -> Result<(), Memory>
-    ensures { OnOk result (out.new ≡ out.old ++ behind_spaces (get.text (Event.Get id key.now))) }
+    ensures { OnOk result (out.new ≡ out.old ++ behind_spaces (get_line.text (Event.Get id key.now))) }
 {
     node(alloc, out, id)?;
     hex(alloc, out, key.bytes())
 }
 
 /// `hello N LABEL`
-#[tactic(auto, using(depot_base::proofs::Writing::texts), unfolding(crate::specs::EventLines::hello))]
+#[tactic(auto, using(depot_base::proofs::Writing::texts), unfolding(crate::specs::EventLines::hello_line))]
 fn hello(alloc: Global, out: &mut Bytes, id: NodeId, name: &Label) -> Result<(), Memory>
-    ensures { OnOk result (out.new ≡ out.old ++ behind_spaces (hello.text (Event.Hello id name.now))) }
+    ensures { OnOk result (out.new ≡ out.old ++ behind_spaces (hello_line.text (Event.Hello id name.now))) }
 {
     node(alloc, out, id)?;
     label(out, name)
 }
 
 /// `bundle N HELLO LABEL`
-#[tactic(auto, using(depot_base::proofs::Writing::texts), unfolding(crate::specs::EventLines::bundle))]
+#[tactic(auto, using(depot_base::proofs::Writing::texts), unfolding(crate::specs::EventLines::bundle_line))]
 fn bundle(
     alloc: Global,
     out: &mut Bytes,
@@ -85,7 +72,7 @@ fn bundle(
     source: &Label,
     name: &Label,
 ) -> Result<(), Memory>
-    ensures { OnOk result (out.new ≡ out.old ++ behind_spaces (bundle.text (Event.Bundle id source.now name.now))) }
+    ensures { OnOk result (out.new ≡ out.old ++ behind_spaces (bundle_line.text (Event.Bundle id source.now name.now))) }
 {
     node(alloc, out, id)?;
     label(out, source)?;
@@ -93,7 +80,7 @@ fn bundle(
 }
 
 /// `give N LABEL` or `give N LABEL SIZE`
-#[tactic(auto, using(depot_base::proofs::Writing::texts), unfolding(crate::specs::EventLines::give))]
+#[tactic(auto, using(depot_base::proofs::Writing::texts), unfolding(crate::specs::EventLines::give_line))]
 fn give(
     alloc: Global,
     out: &mut Bytes,
@@ -101,7 +88,7 @@ fn give(
     name: &Label,
     size: Option<u32>,
 ) -> Result<(), Memory>
-    ensures { OnOk result (out.new ≡ out.old ++ behind_spaces (give.text (Event.Give id name.now size))) }
+    ensures { OnOk result (out.new ≡ out.old ++ behind_spaces (give_line.text (Event.Give id name.now size))) }
 {
     node(alloc, out, id)?;
     label(out, name)?;
@@ -112,15 +99,15 @@ fn give(
 }
 
 /// `restart N`
-#[tactic(auto, using(depot_base::proofs::Writing::texts), unfolding(crate::specs::EventLines::restart))]
+#[tactic(auto, using(depot_base::proofs::Writing::texts), unfolding(crate::specs::EventLines::restart_line))]
 fn restart(alloc: Global, out: &mut Bytes, id: NodeId) -> Result<(), Memory>
-    ensures { OnOk result (out.new ≡ out.old ++ behind_spaces (restart.text (Event.Restart id))) }
+    ensures { OnOk result (out.new ≡ out.old ++ behind_spaces (restart_line.text (Event.Restart id))) }
 {
     node(alloc, out, id)
 }
 
 /// `update LABEL W SEQ CLOCK PREV KEY VALUE DEPS HISTORY`
-#[tactic(auto, using(depot_base::proofs::Writing::texts), unfolding(crate::specs::EventLines::update))]
+#[tactic(auto, using(depot_base::proofs::Writing::texts), unfolding(crate::specs::EventLines::update_line))]
 fn update(
     alloc: Global,
     out: &mut Bytes,
@@ -134,7 +121,7 @@ fn update(
     refs: &Refs,
     past: &HistoryWord,
 ) -> Result<(), Memory>
-    ensures { OnOk result (out.new ≡ out.old ++ behind_spaces (update.text (Event.Update name.now writer seq clock before.now key.now value.now refs.now past.now))) }
+    ensures { OnOk result (out.new ≡ out.old ++ behind_spaces (update_line.text (Event.Update name.now writer seq clock before.now key.now value.now refs.now past.now))) }
 {
     statement(alloc, out, name, writer, seq)?;
     number(alloc, out, clock)?;
@@ -145,7 +132,7 @@ fn update(
 }
 
 /// `updates LABEL W SEQ CLOCK PREV WRITES DEPS HISTORY`
-#[tactic(auto, using(depot_base::proofs::Writing::texts), unfolding(crate::specs::EventLines::updates))]
+#[tactic(auto, using(depot_base::proofs::Writing::texts), unfolding(crate::specs::EventLines::updates_line))]
 fn updates(
     alloc: Global,
     out: &mut Bytes,
@@ -158,7 +145,7 @@ fn updates(
     refs: &Refs,
     past: &HistoryWord,
 ) -> Result<(), Memory>
-    ensures { OnOk result (out.new ≡ out.old ++ behind_spaces (updates.text (Event.Updates name.now writer seq clock before.now changes.now refs.now past.now))) }
+    ensures { OnOk result (out.new ≡ out.old ++ behind_spaces (updates_line.text (Event.Updates name.now writer seq clock before.now changes.now refs.now past.now))) }
 {
     statement(alloc, out, name, writer, seq)?;
     number(alloc, out, clock)?;
@@ -169,7 +156,7 @@ fn updates(
 }
 
 /// `voucher LABEL W SEQ REFS`
-#[tactic(auto, using(depot_base::proofs::Writing::texts), unfolding(crate::specs::EventLines::voucher))]
+#[tactic(auto, using(depot_base::proofs::Writing::texts), unfolding(crate::specs::EventLines::voucher_line))]
 fn voucher(
     alloc: Global,
     out: &mut Bytes,
@@ -178,14 +165,14 @@ fn voucher(
     seq: u32,
     refs: &Refs,
 ) -> Result<(), Memory>
-    ensures { OnOk result (out.new ≡ out.old ++ behind_spaces (voucher.text (Event.Voucher name.now writer seq refs.now))) }
+    ensures { OnOk result (out.new ≡ out.old ++ behind_spaces (voucher_line.text (Event.Voucher name.now writer seq refs.now))) }
 {
     statement(alloc, out, name, writer, seq)?;
     references(alloc, out, refs.as_slice())
 }
 
 /// `proof LABEL KIND A B`
-#[tactic(auto, using(depot_base::proofs::Writing::texts), unfolding(crate::specs::EventLines::proof))]
+#[tactic(auto, using(depot_base::proofs::Writing::texts), unfolding(crate::specs::EventLines::proof_line))]
 fn proof(
     out: &mut Bytes,
     name: &Label,
@@ -193,7 +180,7 @@ fn proof(
     first: &Label,
     second: &Label,
 ) -> Result<(), Memory>
-    ensures { OnOk result (out.new ≡ out.old ++ behind_spaces (proof.text (Event.Proof name.now found first.now second.now))) }
+    ensures { OnOk result (out.new ≡ out.old ++ behind_spaces (proof_line.text (Event.Proof name.now found first.now second.now))) }
 {
     label(out, name)?;
     kind(out, found)?;
@@ -202,9 +189,9 @@ fn proof(
 }
 
 /// `hollow LABEL V T`
-#[tactic(auto, using(depot_base::proofs::Writing::texts), unfolding(crate::specs::EventLines::hollow))]
+#[tactic(auto, using(depot_base::proofs::Writing::texts), unfolding(crate::specs::EventLines::hollow_line))]
 fn hollow(out: &mut Bytes, name: &Label, voucher: &Label, text: &Label) -> Result<(), Memory>
-    ensures { OnOk result (out.new ≡ out.old ++ behind_spaces (hollow.text (Event.Hollow name.now voucher.now text.now))) }
+    ensures { OnOk result (out.new ≡ out.old ++ behind_spaces (hollow_line.text (Event.Hollow name.now voucher.now text.now))) }
 {
     label(out, name)?;
     label(out, voucher)?;
@@ -212,24 +199,24 @@ fn hollow(out: &mut Bytes, name: &Label, voucher: &Label, text: &Label) -> Resul
 }
 
 /// `judge LABEL`
-#[tactic(auto, using(depot_base::proofs::Writing::texts), unfolding(crate::specs::EventLines::judge))]
+#[tactic(auto, using(depot_base::proofs::Writing::texts), unfolding(crate::specs::EventLines::judge_line))]
 fn judge(out: &mut Bytes, name: &Label) -> Result<(), Memory>
-    ensures { OnOk result (out.new ≡ out.old ++ behind_spaces (judge.text (Event.Judge name.now))) }
+    ensures { OnOk result (out.new ≡ out.old ++ behind_spaces (judge_line.text (Event.Judge name.now))) }
 {
     label(out, name)
 }
 
 /// `raw LABEL HEX`
-#[tactic(auto, using(depot_base::proofs::Writing::texts), unfolding(crate::specs::EventLines::raw))]
+#[tactic(auto, using(depot_base::proofs::Writing::texts), unfolding(crate::specs::EventLines::raw_line))]
 fn raw(alloc: Global, out: &mut Bytes, name: &Label, bytes: &[u8]) -> Result<(), Memory>
-    ensures { OnOk result (out.new ≡ out.old ++ behind_spaces (raw.text (Event.Raw name.now bytes.now))) }
+    ensures { OnOk result (out.new ≡ out.old ++ behind_spaces (raw_line.text (Event.Raw name.now bytes.now))) }
 {
     label(out, name)?;
     hex_or_dash(alloc, out, bytes)
 }
 
 /// `cut LABEL FROM START COUNT`
-#[tactic(auto, using(depot_base::proofs::Writing::texts), unfolding(crate::specs::EventLines::cut))]
+#[tactic(auto, using(depot_base::proofs::Writing::texts), unfolding(crate::specs::EventLines::cut_line))]
 fn cut(
     alloc: Global,
     out: &mut Bytes,
@@ -238,7 +225,7 @@ fn cut(
     start: u32,
     count: u32,
 ) -> Result<(), Memory>
-    ensures { OnOk result (out.new ≡ out.old ++ behind_spaces (cut.text (Event.Cut name.now source.now start count))) }
+    ensures { OnOk result (out.new ≡ out.old ++ behind_spaces (cut_line.text (Event.Cut name.now source.now start count))) }
 {
     label(out, name)?;
     label(out, source)?;
@@ -247,7 +234,7 @@ fn cut(
 }
 
 /// `flip LABEL FROM PLACE`
-#[tactic(auto, using(depot_base::proofs::Writing::texts), unfolding(crate::specs::EventLines::flip))]
+#[tactic(auto, using(depot_base::proofs::Writing::texts), unfolding(crate::specs::EventLines::flip_line))]
 fn flip(
     alloc: Global,
     out: &mut Bytes,
@@ -255,7 +242,7 @@ fn flip(
     source: &Label,
     place: u32,
 ) -> Result<(), Memory>
-    ensures { OnOk result (out.new ≡ out.old ++ behind_spaces (flip.text (Event.Flip name.now source.now place))) }
+    ensures { OnOk result (out.new ≡ out.old ++ behind_spaces (flip_line.text (Event.Flip name.now source.now place))) }
 {
     label(out, name)?;
     label(out, source)?;
@@ -263,9 +250,9 @@ fn flip(
 }
 
 /// `join LABEL A B`
-#[tactic(auto, using(depot_base::proofs::Writing::texts), unfolding(crate::specs::EventLines::join))]
+#[tactic(auto, using(depot_base::proofs::Writing::texts), unfolding(crate::specs::EventLines::join_line))]
 fn join(out: &mut Bytes, name: &Label, first: &Label, second: &Label) -> Result<(), Memory>
-    ensures { OnOk result (out.new ≡ out.old ++ behind_spaces (join.text (Event.Join name.now first.now second.now))) }
+    ensures { OnOk result (out.new ≡ out.old ++ behind_spaces (join_line.text (Event.Join name.now first.now second.now))) }
 {
     label(out, name)?;
     label(out, first)?;
@@ -273,9 +260,9 @@ fn join(out: &mut Bytes, name: &Label, first: &Label, second: &Label) -> Result<
 }
 
 /// `stop N K IMAGE`
-#[tactic(auto, using(depot_base::proofs::Writing::texts), unfolding(crate::specs::EventLines::stop))]
+#[tactic(auto, using(depot_base::proofs::Writing::texts), unfolding(crate::specs::EventLines::stop_line))]
 fn stop(alloc: Global, out: &mut Bytes, id: NodeId, call: u32, image: u8) -> Result<(), Memory>
-    ensures { OnOk result (out.new ≡ out.old ++ behind_spaces (stop.text (Event.Stop id call image))) }
+    ensures { OnOk result (out.new ≡ out.old ++ behind_spaces (stop_line.text (Event.Stop id call image))) }
 {
     node(alloc, out, id)?;
     number(alloc, out, call as u64)?;
@@ -283,18 +270,18 @@ fn stop(alloc: Global, out: &mut Bytes, id: NodeId, call: u32, image: u8) -> Res
 }
 
 /// `receipt N REFS`
-#[tactic(auto, using(depot_base::proofs::Writing::texts), unfolding(crate::specs::EventLines::receipt))]
+#[tactic(auto, using(depot_base::proofs::Writing::texts), unfolding(crate::specs::EventLines::receipt_line))]
 fn receipt(alloc: Global, out: &mut Bytes, id: NodeId, refs: &Refs) -> Result<(), Memory>
-    ensures { OnOk result (out.new ≡ out.old ++ behind_spaces (receipt.text (Event.Receipt id refs.now))) }
+    ensures { OnOk result (out.new ≡ out.old ++ behind_spaces (receipt_line.text (Event.Receipt id refs.now))) }
 {
     node(alloc, out, id)?;
     references(alloc, out, refs.as_slice())
 }
 
 /// `settled N REF K`
-#[tactic(auto, using(depot_base::proofs::Writing::texts), unfolding(crate::specs::EventLines::settled))]
+#[tactic(auto, using(depot_base::proofs::Writing::texts), unfolding(crate::specs::EventLines::settled_line))]
 fn settled(alloc: Global, out: &mut Bytes, id: NodeId, update: &Ref, k: u32) -> Result<(), Memory>
-    ensures { OnOk result (out.new ≡ out.old ++ behind_spaces (settled.text (Event.Settled id update.now k))) }
+    ensures { OnOk result (out.new ≡ out.old ++ behind_spaces (settled_line.text (Event.Settled id update.now k))) }
 {
     node(alloc, out, id)?;
     reference(alloc, out, update)?;
@@ -302,25 +289,25 @@ fn settled(alloc: Global, out: &mut Bytes, id: NodeId, update: &Ref, k: u32) -> 
 }
 
 /// `checkpoint N LABEL`
-#[tactic(auto, using(depot_base::proofs::Writing::texts), unfolding(crate::specs::EventLines::checkpoint))]
+#[tactic(auto, using(depot_base::proofs::Writing::texts), unfolding(crate::specs::EventLines::checkpoint_line))]
 fn checkpoint(alloc: Global, out: &mut Bytes, id: NodeId, name: &Label) -> Result<(), Memory>
-    ensures { OnOk result (out.new ≡ out.old ++ behind_spaces (checkpoint.text (Event.Checkpoint id name.now))) }
+    ensures { OnOk result (out.new ≡ out.old ++ behind_spaces (checkpoint_line.text (Event.Checkpoint id name.now))) }
 {
     node(alloc, out, id)?;
     label(out, name)
 }
 
 /// `sign N LABEL`
-#[tactic(auto, using(depot_base::proofs::Writing::texts), unfolding(crate::specs::EventLines::sign))]
+#[tactic(auto, using(depot_base::proofs::Writing::texts), unfolding(crate::specs::EventLines::sign_line))]
 fn sign(alloc: Global, out: &mut Bytes, id: NodeId, name: &Label) -> Result<(), Memory>
-    ensures { OnOk result (out.new ≡ out.old ++ behind_spaces (sign.text (Event.Sign id name.now))) }
+    ensures { OnOk result (out.new ≡ out.old ++ behind_spaces (sign_line.text (Event.Sign id name.now))) }
 {
     node(alloc, out, id)?;
     label(out, name)
 }
 
 /// `trim N LABEL NAME`
-#[tactic(auto, using(depot_base::proofs::Writing::texts), unfolding(crate::specs::EventLines::trim))]
+#[tactic(auto, using(depot_base::proofs::Writing::texts), unfolding(crate::specs::EventLines::trim_line))]
 fn trim(
     alloc: Global,
     out: &mut Bytes,
@@ -328,7 +315,7 @@ fn trim(
     text: &Label,
     name: &Label,
 ) -> Result<(), Memory>
-    ensures { OnOk result (out.new ≡ out.old ++ behind_spaces (trim.text (Event.Trim id text.now name.now))) }
+    ensures { OnOk result (out.new ≡ out.old ++ behind_spaces (trim_line.text (Event.Trim id text.now name.now))) }
 {
     node(alloc, out, id)?;
     label(out, text)?;
@@ -336,25 +323,25 @@ fn trim(
 }
 
 /// `tgive NAME LABEL`
-#[tactic(auto, using(depot_base::proofs::Writing::texts), unfolding(crate::specs::EventLines::tgive))]
+#[tactic(auto, using(depot_base::proofs::Writing::texts), unfolding(crate::specs::EventLines::tgive_line))]
 fn tgive(out: &mut Bytes, name: &Label, stream: &Label) -> Result<(), Memory>
-    ensures { OnOk result (out.new ≡ out.old ++ behind_spaces (tgive.text (Event.Tgive name.now stream.now))) }
+    ensures { OnOk result (out.new ≡ out.old ++ behind_spaces (tgive_line.text (Event.Tgive name.now stream.now))) }
 {
     label(out, name)?;
     label(out, stream)
 }
 
 /// `tget NAME KEY`
-#[tactic(auto, using(depot_base::proofs::Writing::texts), unfolding(crate::specs::EventLines::tget))]
+#[tactic(auto, using(depot_base::proofs::Writing::texts), unfolding(crate::specs::EventLines::tget_line))]
 fn tget(alloc: Global, out: &mut Bytes, name: &Label, key: &Key) -> Result<(), Memory>
-    ensures { OnOk result (out.new ≡ out.old ++ behind_spaces (tget.text (Event.Tget name.now key.now))) }
+    ensures { OnOk result (out.new ≡ out.old ++ behind_spaces (tget_line.text (Event.Tget name.now key.now))) }
 {
     label(out, name)?;
     hex(alloc, out, key.bytes())
 }
 
 /// The words behind the name of an event.
-#[tactic(auto, unfolding(crate::specs::EventLines::audit))]
+#[tactic(auto, unfolding(crate::specs::EventLines::audit_line))]
 pub fn words_of_event(alloc: Global, out: &mut Bytes, event: &Event) -> Result<(), Memory>
     ensures { OnOk result (out.new ≡ out.old ++ behind_spaces ((line_of (verb_of event.now)).text event.now)) }
 {

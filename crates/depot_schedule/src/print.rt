@@ -1,12 +1,13 @@
 //! Prints schedules.
 ghost use Rattle.std.specs.Prelude.{◌≡◌, ◌++◌, OnOk, IfOk};
 ghost use Rattle.std.specs.List.{flat_map};
-ghost use Rattle.depot_schedule.specs.Schedules.{IsSchedule, text_of_schedule, text_of_line, scheme_name, scheme_words, member_name, member_words, event_words, first_words};
+ghost use Rattle.depot_schedule.specs.Schedules.{IsSchedule, text_of_schedule, scheme_name, scheme_words, member_name, member_words, event_words, first_words};
+ghost use Rattle.depot_lines.specs.LineTexts.{text_of_line};
 
 use crate::event_writers::words_of_event;
-use crate::word_writers::{node, number, word};
 use crate::{Event, Member, Schedule};
 use depot_base::{Bytes, Memory};
+use depot_lines::word_writers::{node, number, word};
 use std::alloc::Global;
 
 /// The name of a scheme.
@@ -52,7 +53,7 @@ fn member_line(alloc: Global, out: &mut Bytes, member: &Member) -> Result<(), Me
 }
 
 /// The line of an event.
-#[tactic(auto, using(depot_base::proofs::Writing::texts, crate::proofs::WrittenSteps::lines))]
+#[tactic(auto, using(depot_base::proofs::Writing::texts, depot_lines::proofs::WrittenSteps::lines))]
 fn event_line(alloc: Global, out: &mut Bytes, event: &Event) -> Result<(), Memory>
     ensures { OnOk result (out.new ≡ out.old ++ text_of_line (event_words event.now)) }
 {

@@ -1,8 +1,7 @@
 //! Laws over definitions alone.
 ghost use Rattle.std.specs.Prelude.{◌≡◌, ℕ, List, Ok};
 ghost use Rattle.depot_schedule.specs.declared.schedule.Schedule.{Schedule};
-ghost use Rattle.depot_schedule.specs.Schedules.{IsSchedule, text_of_schedule, schedule_of};
-ghost use Rattle.depot_schedule.specs.Readers.{IsTextOf};
+ghost use Rattle.depot_schedule.specs.Schedules.{IsSchedule, text_of_schedule, schedule_of, IsTextOfSchedule};
 
 /// A schedule that has a text is read back from it, so it is lost in no text, and no two schedules have one text.
 pub fn schedules_are_read_back()
@@ -11,5 +10,5 @@ pub fn schedules_are_read_back()
 
 /// A text that is read is the text of the schedule that was read, so each schedule has one spelling.
 pub fn schedules_have_one_spelling()
-    ensures { (text : List ℕ) (s : Schedule) → schedule_of text ≡ Ok s → IsTextOf text s }
+    ensures { (text : List ℕ) (s : Schedule) → schedule_of text ≡ Ok s → IsTextOfSchedule text s }
 {}

@@ -1,8 +1,8 @@
 //! The kinds of events, and what their labels name.
 ghost use Rattle.std.specs.Prelude.{◌≡◌};
-ghost use Rattle.depot_schedule.specs.EventLines.{name_of, verb_named};
+ghost use Rattle.depot_schedule.specs.EventLines.{verb_name, verb_named};
 
-use crate::spelling::is;
+use depot_lines::spelling::is;
 
 /// A kind of event, with the form of its line.
 #[derive(Clone, Copy, Debug, PartialEq, Eq)]
@@ -94,7 +94,7 @@ pub const VERBS: [Verb; 26] = [
 impl Verb {
     /// The first word of its line.
     pub fn name(self) -> &'static str
-        ensures { result.now ≡ name_of self }
+        ensures { result.now ≡ verb_name self }
     {
         match self {
             Verb::Put => "put",
@@ -171,11 +171,11 @@ pub enum Wanted {
 
 impl Wanted {
     ghost use Rattle.std.specs.Prelude.{◌≡◌};
-    ghost use Rattle.depot_schedule.specs.Vocabulary.{is_wanted, meets};
+    ghost use Rattle.depot_schedule.specs.EventWords.{is_asked_for, meets};
 
     /// Whether what a label names is of the kind that is asked for.
-    fn is_wanted(self, made: Made) -> bool
-        ensures { result ≡ is_wanted self made }
+    fn is_asked_for(self, made: Made) -> bool
+        ensures { result ≡ is_asked_for self made }
     {
         match made {
             Made::Update => match self {
@@ -232,7 +232,7 @@ impl Wanted {
     {
         match made {
             None => false,
-            Some(made) => self.is_wanted(made),
+            Some(made) => self.is_asked_for(made),
         }
     }
 }

@@ -1,4 +1,2 @@
-pub mod NameSteps
 pub mod CommandLaws
 pub mod ScriptLaws
-pub mod ReadingLaws

@@ -4,17 +4,17 @@ use Rattle.std.specs.List.{list_all, flat_map}
 use Rattle.std.proofs.lemmas.Bool.{and_from}
 use Rattle.std.proofs.lemmas.List.Folds.{flat_map-map}
 use Rattle.depot_base.proofs.FormatLaws.{guard_ok}
-use Rattle.depot_schedule.specs.declared.line_fault.LineFault.TheVariants as is
-use Rattle.depot_schedule.specs.Spelling.{is_word}
+use Rattle.depot_lines.specs.declared.line_fault.LineFault.TheVariants as is
+use Rattle.depot_lines.specs.Spelling.{is_word}
 use Rattle.depot_base.specs.Format.{◌>>=◌}
-use Rattle.depot_schedule.specs.Language.{or_fault, FitAll, nothing}
-use Rattle.depot_schedule.specs.Schedules.{text_of_line, Line, lines_of, are_words, in_line, checked}
-use Rattle.depot_schedule.proofs.LanguageLaws.{bind_ok, or_fault_ok}
-use Rattle.depot_schedule.proofs.ScheduleLaws.{checked_ok, line_of_text, are_words_of, checked_again, lines_again, AllEnded, words_of_line, lines_text}
+use Rattle.depot_lines.specs.Language.{or_fault, FitAll, nothing}
+use Rattle.depot_lines.specs.LineTexts.{text_of_line, Line, lines_of_text, are_words, in_line, checked}
+use Rattle.depot_lines.proofs.LanguageLaws.{bind_ok, or_fault_ok}
+use Rattle.depot_lines.proofs.LineTextLaws.{checked_ok, line_of_text, are_words_of, checked_again, lines_again, AllEnded, words_of_line, lines_text}
 use Rattle.depot_script.specs.declared.command.Command.{Command}
 use Rattle.depot_script.specs.declared.command_verb.CommandVerb.{CommandVerb}
-use Rattle.depot_script.specs.Commands.{verb_of, name_of, form_of, verb_named}
-use Rattle.depot_script.specs.Scripts.{command_words, text_of_script, FitsCommand, IsScript, read_command, read_lines, script_of}
+use Rattle.depot_script.specs.Commands.{verb_of_command, command_name, command_form, command_named}
+use Rattle.depot_script.specs.Scripts.{command_words, text_of_script, FitsCommand, IsScript, read_command, read_lines, script_of, IsTextOfScript}
 use Rattle.depot_script.proofs.CommandLaws.{form_lawful, name_is}
 
 -- ---- one line
@@ -27,23 +27,23 @@ record IsCommandOf (words : List (List ℕ)) (c : Command) : Type 0 where
 command_takes : (words : List (List ℕ)) (c : Command) → read_command words ≡ Ok c → IsCommandOf words c
 command_takes [] c e = absurd cc
 command_takes (name ∷ ws) c e =
-    let p = guard_ok (not (are_words (name ∷ ws))) is.Word (or_fault (verb_named name) is.Word >>= λ v. (form_of v).read nothing ws) c e in
-    let b = bind_ok (or_fault (verb_named name) is.Word) (λ v. (form_of v).read nothing ws) c p.1 in
+    let p = guard_ok (not (are_words (name ∷ ws))) is.Word (or_fault (command_named name) is.Word >>= λ v. (command_form v).read nothing ws) c e in
+    let b = bind_ok (or_fault (command_named name) is.Word) (λ v. (command_form v).read nothing ws) c p.1 in
     let l = (form_lawful b.0).line.takes nothing ws c b.2 in
-    let v : verb_of c ≡ b.0 = (form_lawful b.0).is c l.0 in
-    let named : name ≡ name_of b.0 = name_is name b.0 (or_fault_ok (verb_named name) is.Word b.0 b.1) in
-    let both : (form_of (verb_of c)).fits nothing c × (name ∷ ws ≡ name_of (verb_of c) ∷ (form_of (verb_of c)).text c) =
-    subst (λ (x : CommandVerb). (form_of x).fits nothing c × (name ∷ ws ≡ name_of x ∷ (form_of x).text c)) (sym v) (l.0, ap (λ (w : List ℕ). w ∷ ws) named ∙ ap (λ (w : List (List ℕ)). name_of b.0 ∷ w) l.1) in
+    let v : verb_of_command c ≡ b.0 = (form_lawful b.0).is c l.0 in
+    let named : name ≡ command_name b.0 = name_is name b.0 (or_fault_ok (command_named name) is.Word b.0 b.1) in
+    let both : (command_form (verb_of_command c)).fits nothing c × (name ∷ ws ≡ command_name (verb_of_command c) ∷ (command_form (verb_of_command c)).text c) =
+    subst (λ (x : CommandVerb). (command_form x).fits nothing c × (name ∷ ws ≡ command_name x ∷ (command_form x).text c)) (sym v) (l.0, ap (λ (w : List ℕ). w ∷ ws) named ∙ ap (λ (w : List (List ℕ)). command_name b.0 ∷ w) l.1) in
     record { fits = both.0; is = both.1 }
 
 command_plain : (c : Command) → FitsCommand c → list_all is_word (command_words c) ≡ true
-command_plain c fits = and_from _ _ (form_lawful (verb_of c)).plain ((form_lawful (verb_of c)).line.plain nothing c fits)
+command_plain c fits = and_from _ _ (form_lawful (verb_of_command c)).plain ((form_lawful (verb_of_command c)).line.plain nothing c fits)
 
 command_again : (c : Command) → FitsCommand c → read_command (command_words c) ≡ Ok c
 command_again c fits =
     let plain : are_words (command_words c) ≡ true = are_words_of (command_words c) (command_plain c fits) in
-    let again : (form_of (verb_of c)).read nothing ((form_of (verb_of c)).text c) ≡ Ok c = (form_lawful (verb_of c)).line.again nothing c fits in
-    rw (plain, (form_lawful (verb_of c)).again, again) refl
+    let again : (command_form (verb_of_command c)).read nothing ((command_form (verb_of_command c)).text c) ≡ Ok c = (form_lawful (verb_of_command c)).line.again nothing c fits in
+    rw (plain, (form_lawful (verb_of_command c)).again, again) refl
 
 -- ---- whole texts
 
@@ -74,7 +74,7 @@ lines_take n (line ∷ lines) s le e =
 pub script_takes : (text : List ℕ) (s : List Command) → script_of text ≡ Ok s → IsScript s × (text ≡ text_of_script s)
 unfolding script_of text_of_script
 script_takes text s e =
-    let t = lines_take 1 (lines_of text) s (omega arith) e in
+    let t = lines_take 1 (lines_of_text text) s (omega arith) e in
     (record { fit = t.fit; lines = omega (arith, t.count) }, lines_text text t.ended ∙ ap (λ (x : List (List (List ℕ))). flat_map text_of_line x) t.words ∙ flat_map-map text_of_line command_words s)
 
 commands_again : (n : ℕ) (s : List Command) → FitAll FitsCommand s → n + length s ≤ 100001 → read_lines n (map line_of_text (map command_words s)) ≡ Ok s
@@ -91,6 +91,16 @@ commands_plain (c ∷ rest) fit = and_from _ _ (command_plain c fit.0) (commands
 pub script_again : (s : List Command) → IsScript s → script_of (text_of_script s) ≡ Ok s
 unfolding script_of text_of_script
 script_again s h =
-    let lines : lines_of (flat_map text_of_line (map command_words s)) ≡ map line_of_text (map command_words s) = lines_again (map command_words s) (commands_plain s h.fit) in
+    let lines : lines_of_text (flat_map text_of_line (map command_words s)) ≡ map line_of_text (map command_words s) = lines_again (map command_words s) (commands_plain s h.fit) in
     let text : flat_map (λ c. text_of_line (command_words c)) s ≡ flat_map text_of_line (map command_words s) = sym (flat_map-map text_of_line command_words s) in
-    ap (λ (t : List ℕ). read_lines 1 (lines_of t)) text ∙ ap (λ (ls : List Line). read_lines 1 ls) lines ∙ commands_again 1 s h.fit (omega (arith, h.lines))
+    ap (λ (t : List ℕ). read_lines 1 (lines_of_text t)) text ∙ ap (λ (ls : List Line). read_lines 1 ls) lines ∙ commands_again 1 s h.fit (omega (arith, h.lines))
+
+-- ---- what is read of a text
+
+-- a script that is read is that of the text
+pub text_of_read : (text : List ℕ) (s : List Command) → script_of text ≡ Ok s → IsTextOfScript text s
+text_of_read text s e = let t = script_takes text s e in record { has = t.0; is = t.1 }
+
+-- and the other way round
+pub read_of_text : (text : List ℕ) (s : List Command) → IsTextOfScript text s → script_of text ≡ Ok s
+read_of_text text s h = ap script_of h.is ∙ script_again s h.has

@@ -1,4 +1,2 @@
-pub mod Names
 pub mod Commands
 pub mod Scripts
-pub mod ScriptReading

@@ -1,8 +1,8 @@
 //! What a script lets a node do.
 
-use crate::FileName;
 use crate::command_verb::CommandVerb;
 use depot_base::{Changes, Hash32, Key, Value};
+use depot_lines::FileName;
 
 /// One command.
 #[derive(Debug, Drop)]
@@ -39,11 +39,11 @@ pub enum Command {
 
 impl Command {
     ghost use Rattle.std.specs.Prelude.{◌≡◌};
-    ghost use Rattle.depot_script.specs.Commands.{verb_of};
+    ghost use Rattle.depot_script.specs.Commands.{verb_of_command};
 
     /// The kind of command that it is.
     pub fn verb(&self) -> CommandVerb
-        ensures { result ≡ verb_of self.now }
+        ensures { result ≡ verb_of_command self.now }
     {
         match self {
             Command::Put { .. } => CommandVerb::Put,

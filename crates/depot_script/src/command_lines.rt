@@ -1,32 +1,18 @@
 //! Reads the words behind the name of a command: one function a line of the table.
-ghost use Rattle.depot_schedule.specs.Language.{nothing, next};
-ghost use Rattle.depot_schedule.specs.Readers.{Gives, Reads};
-ghost use Rattle.depot_script.specs.Names.{file_name};
-ghost use Rattle.depot_script.specs.Commands.{put, puts, get, hello, bundle, take, receipt, settled, export, checkpoint, sign, trim, tgive, tget, form_of};
+ghost use Rattle.depot_lines.specs.Language.{nothing};
+ghost use Rattle.depot_lines.specs.LineReading.{AnswersReading};
+ghost use Rattle.depot_script.specs.Commands.{put_form, puts_form, get_form, hello_form, bundle_form, take_form, receipt_form, settled_form, export_form, checkpoint_form, sign_form, trim_form, tgive_form, tget_form, command_form};
 
+use crate::Command;
 use crate::command_verb::CommandVerb;
-use crate::{Command, FileName};
-use depot_schedule::LineFault;
-use depot_schedule::lines::{
-    Keys, LineError, Parts, changes, counted, digest, key, made, node_count, put_key, value,
-};
+use depot_lines::word_readers::{changes, digest, file_name, key, node_count, put_key, value};
+use depot_lines::{Keys, LineError, Parts, counted, made};
 use std::alloc::Global;
 
-/// A name of a file.
-fn file_name(alloc: Global, words: &mut Parts<'_>) -> Result<FileName, LineError>
-    ensures { Reads result words.new (next (file_name.read nothing) words.old) }
-{
-    let word = words.word()?;
-    match FileName::new(alloc, word)? {
-        Some(name) => Ok(name),
-        None => Err(LineError::In(LineFault::Label)),
-    }
-}
-
 /// `put KEY VALUE`
-#[tactic(auto, unfolding(crate::specs::Commands::put))]
+#[tactic(auto, unfolding(crate::specs::Commands::put_form))]
 fn put(alloc: Global, words: &mut Parts<'_>) -> Result<Command, LineError>
-    ensures { Gives result (put.read nothing words.old) }
+    ensures { AnswersReading result (put_form.read nothing words.old) }
 {
     counted(words, 2, 2)?;
     let key = put_key(alloc, words)?;
@@ -35,9 +21,9 @@ fn put(alloc: Global, words: &mut Parts<'_>) -> Result<Command, LineError>
 }
 
 /// `puts WRITES`
-#[tactic(auto, unfolding(crate::specs::Commands::puts))]
+#[tactic(auto, unfolding(crate::specs::Commands::puts_form))]
 fn puts(alloc: Global, words: &mut Parts<'_>) -> Result<Command, LineError>
-    ensures { Gives result (puts.read nothing words.old) }
+    ensures { AnswersReading result (puts_form.read nothing words.old) }
 {
     counted(words, 1, 1)?;
     let changes = changes(alloc, words, Keys::Put)?;
@@ -45,9 +31,9 @@ fn puts(alloc: Global, words: &mut Parts<'_>) -> Result<Command, LineError>
 }
 
 /// `get KEY`
-#[tactic(auto, unfolding(crate::specs::Commands::get))]
+#[tactic(auto, unfolding(crate::specs::Commands::get_form))]
 fn get(alloc: Global, words: &mut Parts<'_>) -> Result<Command, LineError>
-    ensures { Gives result (get.read nothing words.old) }
+    ensures { AnswersReading result (get_form.read nothing words.old) }
 {
     counted(words, 1, 1)?;
     let key = key(alloc, words)?;
@@ -55,9 +41,9 @@ fn get(alloc: Global, words: &mut Parts<'_>) -> Result<Command, LineError>
 }
 
 /// `hello FILE`
-#[tactic(auto, unfolding(crate::specs::Commands::hello))]
+#[tactic(auto, unfolding(crate::specs::Commands::hello_form))]
 fn hello(alloc: Global, words: &mut Parts<'_>) -> Result<Command, LineError>
-    ensures { Gives result (hello.read nothing words.old) }
+    ensures { AnswersReading result (hello_form.read nothing words.old) }
 {
     counted(words, 1, 1)?;
     let file = file_name(alloc, words)?;
@@ -65,9 +51,9 @@ fn hello(alloc: Global, words: &mut Parts<'_>) -> Result<Command, LineError>
 }
 
 /// `bundle HELLO FILE`
-#[tactic(auto, unfolding(crate::specs::Commands::bundle))]
+#[tactic(auto, unfolding(crate::specs::Commands::bundle_form))]
 fn bundle(alloc: Global, words: &mut Parts<'_>) -> Result<Command, LineError>
-    ensures { Gives result (bundle.read nothing words.old) }
+    ensures { AnswersReading result (bundle_form.read nothing words.old) }
 {
     counted(words, 2, 2)?;
     let hello = file_name(alloc, words)?;
@@ -76,9 +62,9 @@ fn bundle(alloc: Global, words: &mut Parts<'_>) -> Result<Command, LineError>
 }
 
 /// `take FILE`
-#[tactic(auto, unfolding(crate::specs::Commands::take))]
+#[tactic(auto, unfolding(crate::specs::Commands::take_form))]
 fn take(alloc: Global, words: &mut Parts<'_>) -> Result<Command, LineError>
-    ensures { Gives result (take.read nothing words.old) }
+    ensures { AnswersReading result (take_form.read nothing words.old) }
 {
     counted(words, 1, 1)?;
     let file = file_name(alloc, words)?;
@@ -86,9 +72,9 @@ fn take(alloc: Global, words: &mut Parts<'_>) -> Result<Command, LineError>
 }
 
 /// `receipt ID`
-#[tactic(auto, unfolding(crate::specs::Commands::receipt))]
+#[tactic(auto, unfolding(crate::specs::Commands::receipt_form))]
 fn receipt(alloc: Global, words: &mut Parts<'_>) -> Result<Command, LineError>
-    ensures { Gives result (receipt.read nothing words.old) }
+    ensures { AnswersReading result (receipt_form.read nothing words.old) }
 {
     counted(words, 1, 1)?;
     let id = digest(alloc, words)?;
@@ -96,9 +82,9 @@ fn receipt(alloc: Global, words: &mut Parts<'_>) -> Result<Command, LineError>
 }
 
 /// `settled ID K`
-#[tactic(auto, unfolding(crate::specs::Commands::settled))]
+#[tactic(auto, unfolding(crate::specs::Commands::settled_form))]
 fn settled(alloc: Global, words: &mut Parts<'_>) -> Result<Command, LineError>
-    ensures { Gives result (settled.read nothing words.old) }
+    ensures { AnswersReading result (settled_form.read nothing words.old) }
 {
     counted(words, 2, 2)?;
     let id = digest(alloc, words)?;
@@ -107,9 +93,9 @@ fn settled(alloc: Global, words: &mut Parts<'_>) -> Result<Command, LineError>
 }
 
 /// `export FILE`
-#[tactic(auto, unfolding(crate::specs::Commands::export))]
+#[tactic(auto, unfolding(crate::specs::Commands::export_form))]
 fn export(alloc: Global, words: &mut Parts<'_>) -> Result<Command, LineError>
-    ensures { Gives result (export.read nothing words.old) }
+    ensures { AnswersReading result (export_form.read nothing words.old) }
 {
     counted(words, 1, 1)?;
     let file = file_name(alloc, words)?;
@@ -117,9 +103,9 @@ fn export(alloc: Global, words: &mut Parts<'_>) -> Result<Command, LineError>
 }
 
 /// `checkpoint FILE`
-#[tactic(auto, unfolding(crate::specs::Commands::checkpoint))]
+#[tactic(auto, unfolding(crate::specs::Commands::checkpoint_form))]
 fn checkpoint(alloc: Global, words: &mut Parts<'_>) -> Result<Command, LineError>
-    ensures { Gives result (checkpoint.read nothing words.old) }
+    ensures { AnswersReading result (checkpoint_form.read nothing words.old) }
 {
     counted(words, 1, 1)?;
     let file = file_name(alloc, words)?;
@@ -127,9 +113,9 @@ fn checkpoint(alloc: Global, words: &mut Parts<'_>) -> Result<Command, LineError
 }
 
 /// `sign FILE`
-#[tactic(auto, unfolding(crate::specs::Commands::sign))]
+#[tactic(auto, unfolding(crate::specs::Commands::sign_form))]
 fn sign(alloc: Global, words: &mut Parts<'_>) -> Result<Command, LineError>
-    ensures { Gives result (sign.read nothing words.old) }
+    ensures { AnswersReading result (sign_form.read nothing words.old) }
 {
     counted(words, 1, 1)?;
     let file = file_name(alloc, words)?;
@@ -137,9 +123,9 @@ fn sign(alloc: Global, words: &mut Parts<'_>) -> Result<Command, LineError>
 }
 
 /// `trim FILE`
-#[tactic(auto, unfolding(crate::specs::Commands::trim))]
+#[tactic(auto, unfolding(crate::specs::Commands::trim_form))]
 fn trim(alloc: Global, words: &mut Parts<'_>) -> Result<Command, LineError>
-    ensures { Gives result (trim.read nothing words.old) }
+    ensures { AnswersReading result (trim_form.read nothing words.old) }
 {
     counted(words, 1, 1)?;
     let file = file_name(alloc, words)?;
@@ -147,9 +133,9 @@ fn trim(alloc: Global, words: &mut Parts<'_>) -> Result<Command, LineError>
 }
 
 /// `tgive FILE`
-#[tactic(auto, unfolding(crate::specs::Commands::tgive))]
+#[tactic(auto, unfolding(crate::specs::Commands::tgive_form))]
 fn tgive(alloc: Global, words: &mut Parts<'_>) -> Result<Command, LineError>
-    ensures { Gives result (tgive.read nothing words.old) }
+    ensures { AnswersReading result (tgive_form.read nothing words.old) }
 {
     counted(words, 1, 1)?;
     let file = file_name(alloc, words)?;
@@ -157,9 +143,9 @@ fn tgive(alloc: Global, words: &mut Parts<'_>) -> Result<Command, LineError>
 }
 
 /// `tget KEY`
-#[tactic(auto, unfolding(crate::specs::Commands::tget))]
+#[tactic(auto, unfolding(crate::specs::Commands::tget_form))]
 fn tget(alloc: Global, words: &mut Parts<'_>) -> Result<Command, LineError>
-    ensures { Gives result (tget.read nothing words.old) }
+    ensures { AnswersReading result (tget_form.read nothing words.old) }
 {
     counted(words, 1, 1)?;
     let key = key(alloc, words)?;
@@ -172,7 +158,7 @@ pub fn command_of(
     verb: CommandVerb,
     words: &mut Parts<'_>,
 ) -> Result<Command, LineError>
-    ensures { Gives result ((form_of verb).read nothing words.old) }
+    ensures { AnswersReading result ((command_form verb).read nothing words.old) }
 {
     match verb {
         CommandVerb::Put => put(alloc, words),

@@ -1,8 +1,8 @@
 //! The kinds of commands.
 ghost use Rattle.std.specs.Prelude.{◌≡◌};
-ghost use Rattle.depot_script.specs.Commands.{name_of, verb_named};
+ghost use Rattle.depot_script.specs.Commands.{command_name, command_named};
 
-use depot_schedule::spelling::is;
+use depot_lines::spelling::is;
 
 /// A kind of command, with the form of its line.
 #[derive(Clone, Copy, Debug, PartialEq, Eq)]
@@ -38,7 +38,7 @@ pub enum CommandVerb {
 }
 
 /// Each kind of command once.
-pub const VERBS: [CommandVerb; 14] = [
+pub const COMMAND_VERBS: [CommandVerb; 14] = [
     CommandVerb::Put,
     CommandVerb::Puts,
     CommandVerb::Get,
@@ -58,7 +58,7 @@ pub const VERBS: [CommandVerb; 14] = [
 impl CommandVerb {
     /// The first word of its line.
     pub fn name(self) -> &'static str
-        ensures { result.now ≡ name_of self }
+        ensures { result.now ≡ command_name self }
     {
         match self {
             CommandVerb::Put => "put",
@@ -79,10 +79,13 @@ impl CommandVerb {
     }
 
     /// The kind of command of this name. None exactly where there is none.
-    #[tactic(auto, unfolding(crate::specs::Commands::verb_named))]
+    #[tactic(auto, unfolding(crate::specs::Commands::command_named))]
     pub fn named(word: &[u8]) -> Option<CommandVerb>
-        ensures { result ≡ verb_named word.now }
+        ensures { result ≡ command_named word.now }
     {
-        VERBS.iter().copied().find(|verb| is(word, verb.name()))
+        COMMAND_VERBS
+            .iter()
+            .copied()
+            .find(|verb| is(word, verb.name()))
     }
 }

@@ -4,11 +4,11 @@
 //! and that line's first fault. A script is plain data: contracts see it as a list of commands, and keys, values and names of files
 //! as lists of bytes.
 //!
-//! `specs/Commands.antt` has the table of commands, in the language of lines of `depot_schedule`, and `Scripts` whole texts. A new
+//! `specs/Commands.antt` has the table of commands, in the language of lines of `depot_lines`, and `Scripts` whole texts. A new
 //! kind of command is a variant of `Command` and of `CommandVerb`, a line of the table with its law, and a reader and a writer with no
 //! proof file.
 //!
-//! `command_lines` reads the words of commands, `parse` whole texts; `command_writers` and `print` write what these read.
+//! `command_lines` reads the words of commands, `script_parse` whole texts; `command_writers` and `script_print` write what these read.
 //!
 //! Nothing here runs a command.
 #![tactic(auto)]
@@ -17,18 +17,14 @@ mod command;
 mod command_lines;
 mod command_verb;
 mod command_writers;
-mod file_name;
 mod script;
-mod script_error;
 mod script_laws;
 mod script_parse;
 mod script_print;
 
 pub use command::Command;
 pub use command_verb::CommandVerb;
-pub use file_name::FileName;
 pub use script::Script;
-pub use script_error::ScriptError;
 pub use script_laws::{scripts_are_read_back, scripts_have_one_spelling};
 pub use script_parse::parse_script;
 pub use script_print::print_script;

@@ -1,8 +1,7 @@
 //! Laws over definitions alone.
 ghost use Rattle.std.specs.Prelude.{◌≡◌, ℕ, List, Ok};
 ghost use Rattle.depot_script.specs.declared.command.Command.{Command};
-ghost use Rattle.depot_script.specs.Scripts.{IsScript, text_of_script, script_of};
-ghost use Rattle.depot_script.specs.ScriptReading.{IsTextOf};
+ghost use Rattle.depot_script.specs.Scripts.{IsScript, text_of_script, script_of, IsTextOfScript};
 
 /// A script that has a text is read back from it, so it is lost in no text, and no two scripts have one text.
 pub fn scripts_are_read_back()
@@ -11,5 +10,5 @@ pub fn scripts_are_read_back()
 
 /// A text that is read is the text of the script that was read, so each script has one spelling.
 pub fn scripts_have_one_spelling()
-    ensures { (text : List ℕ) (s : List Command) → script_of text ≡ Ok s → IsTextOf text s }
+    ensures { (text : List ℕ) (s : List Command) → script_of text ≡ Ok s → IsTextOfScript text s }
 {}

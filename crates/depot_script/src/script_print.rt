@@ -1,7 +1,7 @@
 //! Prints scripts.
 ghost use Rattle.std.specs.Prelude.{◌≡◌, ◌++◌, OnOk, IfOk};
 ghost use Rattle.std.specs.List.{flat_map};
-ghost use Rattle.depot_schedule.specs.Schedules.{text_of_line};
+ghost use Rattle.depot_lines.specs.LineTexts.{text_of_line};
 ghost use Rattle.depot_script.specs.Scripts.{text_of_script, command_words};
 
 use crate::command_writers::words_of_command;
@@ -10,7 +10,7 @@ use depot_base::{Bytes, Memory};
 use std::alloc::Global;
 
 /// The line of a command.
-#[tactic(auto, using(depot_base::proofs::Writing::texts, depot_schedule::proofs::WrittenSteps::lines))]
+#[tactic(auto, using(depot_base::proofs::Writing::texts, depot_lines::proofs::WrittenSteps::lines))]
 fn command_line(alloc: Global, out: &mut Bytes, command: &Command) -> Result<(), Memory>
     ensures { OnOk result (out.new ≡ out.old ++ text_of_line (command_words command.now)) }
 {

@@ -16,7 +16,7 @@ use Rattle.depot_model.specs.Roster.{has_node}
 use Rattle.depot_model.specs.World.{Correct, Read, IsCorrect, IsRead, NeverFall}
 use Rattle.depot_model.proofs.FeedGrowth.{IsGrown}
 use Rattle.depot_model.proofs.Members.{in_pushed}
-use Rattle.depot_answers.specs.Answers.{text_of_limit, text_of_put}
+use Rattle.depot_answers.specs.AnswerTexts.{text_of_limit, text_of_put}
 use Rattle.depot_script.specs.declared.command.Command.{Command}
 use Rattle.depot_script.specs.declared.command.Command.TheVariants as command
 use Rattle.depot_world.specs.Effects.{idle, grown, put_by, read_of, get_by, receipt_with, receipt_by, settled_by, hello_by, bundle_with, bundle_by, checkpoint_by, give_by}

@@ -7,7 +7,7 @@ use Rattle.depot_model.specs.Checks.{Setting}
 use Rattle.depot_model.specs.Records.{text_of_record}
 use Rattle.depot_model.specs.Traces as traces
 use Rattle.depot_model.specs.declared.replica.Replica.{Ghosts}
-use Rattle.depot_answers.specs.Answers.{spaced, text_of_traced}
+use Rattle.depot_answers.specs.AnswerTexts.{spaced, text_of_traced}
 use Rattle.depot_outside.specs.Told.{Shelves, Sinks}
 use Rattle.depot_script.specs.declared.command.Command.TheVariants as command
 use Rattle.depot_traces.specs.SeenTraces.{read_of}

@@ -6,7 +6,7 @@ use Rattle.depot_model.specs.Bundle.{Signs}
 use Rattle.depot_model.specs.Checks.{Setting}
 use Rattle.depot_model.specs.Hello.{hello_of, text_of_hello}
 use Rattle.depot_model.specs.declared.replica.Replica.{Ghosts}
-use Rattle.depot_answers.specs.Answers.{spaced, text_of_named}
+use Rattle.depot_answers.specs.AnswerTexts.{spaced, text_of_named}
 use Rattle.depot_outside.specs.Told.{Shelves, Sinks}
 use Rattle.depot_script.specs.declared.command.Command.TheVariants as command
 use Rattle.depot_world.specs.Effects.{hello_by}

@@ -2,7 +2,7 @@
 use Rattle.std.proofs.Common.{◌≡◌, ◌<◌, ◌≤◌, ◌⊎◌, ◌+◌, ℕ, false, IsTrue, List, [], ◌∷◌, codes, length, Option, Some, None, Result, Ok, Err, refl, sym, ap, subst, ◌∙◌, ◌↔◌, arith, inl, inr, length-append}
 use Rattle.std.specs.Prelude.{IfErr, IsErrOf, is_err}
 use Rattle.std.specs.Result.{IsErrAnd}
-use Rattle.depot_answers.specs.Answers.{text_of_no_receipt}
+use Rattle.depot_answers.specs.AnswerTexts.{text_of_no_receipt}
 use Rattle.depot_base.specs.declared.record.Record.{Record}
 use Rattle.depot_base.specs.declared.write.Change.{Change}
 use Rattle.depot_decide.specs.Putting.{Puts}

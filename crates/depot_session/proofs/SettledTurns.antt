@@ -2,7 +2,7 @@
 use Rattle.std.proofs.Common.{◌≡◌, ℕ, Bool, List, None, Result, refl, sym, ap, subst, ◌∙◌, length}
 use Rattle.std.specs.Prelude.{nat_le}
 use Rattle.std.proofs.lemmas.List.{append-nil}
-use Rattle.depot_answers.specs.Answers.{name_of_settled, spaced}
+use Rattle.depot_answers.specs.AnswerTexts.{name_of_settled, spaced}
 use Rattle.depot_base.specs.declared.record.Record.{Record}
 use Rattle.depot_model.specs.Bundle.{Signs}
 use Rattle.depot_model.specs.Checks.{Setting}

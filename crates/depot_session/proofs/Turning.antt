@@ -5,7 +5,7 @@ use Rattle.depot_base.specs.declared.record.Record.{Record}
 use Rattle.depot_model.specs.Stops.{HasAll, HasFront, HasRecords, LeavesAll}
 use Rattle.depot_model.specs.declared.replica.Replica.{Ghosts}
 use Rattle.depot_outside.specs.Told.{HasFailedOn, Shelves, Sinks, Wrote, WroteFront}
-use Rattle.depot_schedule.specs.Language.{join}
+use Rattle.depot_lines.specs.Language.{join}
 use Rattle.depot_script.specs.Scripts.{command_words}
 use Rattle.depot_script.specs.declared.command.Command.{Command}
 use Rattle.depot_session.specs.declared.ending.Ending.{Ending}

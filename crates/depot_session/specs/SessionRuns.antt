@@ -1,6 +1,6 @@
 -- How the run of a script over a disk, a shelf and a sink ends.
 use Rattle.std.specs.Prelude.{◌≡◌, ◌≢◌, ◌<◌, ◌⊎◌, ℕ, List, [], ◌∷◌, ◌++◌, take, Bool, IsTrue, Some, None, codes}
-use Rattle.depot_answers.specs.Answers.{numbered, spaced, text_of_record_fault}
+use Rattle.depot_answers.specs.AnswerTexts.{text_of_number, spaced, text_of_record_fault}
 use Rattle.depot_base.specs.declared.key.PublicKey.{PublicKey}
 use Rattle.depot_base.specs.declared.record.Record.{Record}
 use Rattle.depot_model.specs.Bundle.{Signs}
@@ -226,8 +226,8 @@ line_of_refusal refused.UnknownMe = codes "identity UnknownMe\n"
 line_of_refusal (refused.OtherKey roster signer) = codes "identity OtherKey\n"
 line_of_refusal (refused.OtherNode node) = codes "identity OtherNode\n"
 line_of_refusal (refused.OtherRoster kept given) = codes "identity OtherRoster\n"
-line_of_refusal (refused.Damaged at) = numbered (codes "damaged") at ++ codes "\n"
-line_of_refusal (refused.NotLawful place fault) = numbered (codes "not lawful") place ++ spaced (text_of_record_fault fault) ++ codes "\n"
+line_of_refusal (refused.Damaged at) = text_of_number (codes "damaged") at ++ codes "\n"
+line_of_refusal (refused.NotLawful place fault) = text_of_number (codes "not lawful") place ++ spaced (text_of_record_fault fault) ++ codes "\n"
 
 -- A start was refused: the run tells why and ends by it, and no file has changed. Where it is for what the key, the roster or the journal is, the
 -- disk's file reads as before, too.

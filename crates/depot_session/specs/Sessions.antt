@@ -1,7 +1,7 @@
 -- What a script makes a node do, command by command: the lines, the journal, the files, and how the run ends.
 use Rattle.std.specs.Prelude.{◌≡◌, ◌⊎◌, ℕ, List, [], ◌∷◌, ◌++◌, length, take, drop, Bool, true, is_some, Option, Some, None, codes, if◌then◌else◌}
 use Rattle.std.specs.Str.{bytes_eq}
-use Rattle.depot_answers.specs.Answers.{spaced, text_of_reader_feed, text_of_traced, text_of_trim}
+use Rattle.depot_answers.specs.AnswerTexts.{spaced, text_of_reader_feed, text_of_traced, text_of_trim}
 use Rattle.depot_base.specs.Writes.{one_change}
 use Rattle.depot_base.specs.declared.record.Record.{Record}
 use Rattle.depot_base.specs.declared.write.Change.{Change}
@@ -16,7 +16,7 @@ use Rattle.depot_model.specs.Receipts.{NoReceipt, no_receipt, receipt_changes}
 use Rattle.depot_base.specs.declared.check.Full.{Full}
 use Rattle.depot_model.specs.Traces.{Trace}
 use Rattle.depot_model.specs.World.{Correct, Read}
-use Rattle.depot_schedule.specs.Language.{join}
+use Rattle.depot_lines.specs.Language.{join}
 use Rattle.depot_script.specs.Scripts.{command_words}
 use Rattle.depot_script.specs.declared.command.Command.{Command}
 use Rattle.depot_script.specs.declared.command.Command.TheVariants as command

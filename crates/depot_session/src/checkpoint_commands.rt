@@ -19,6 +19,7 @@ use crate::last_reader::LastReader;
 use crate::session_node::SessionNode;
 use crate::telling::{disk_failed, load, no_file, store_and_tell, tell};
 use depot_base::{Bytes, Changes, Key, Memory, Value};
+use depot_lines::FileName;
 use depot_model::Scheme;
 use depot_node::{PutDone, PutError};
 use depot_node_lines::{
@@ -26,7 +27,7 @@ use depot_node_lines::{
     sign_printed, trim_line, unmade_printed,
 };
 use depot_outside::{Shelf, Sink};
-use depot_script::{Command, FileName};
+use depot_script::Command;
 use depot_trim::{CheckpointError, TrimError, Trimmed, checkpoint_key, make_checkpoint};
 use std::alloc::Global;
 

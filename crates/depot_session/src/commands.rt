@@ -12,7 +12,7 @@ ghost use Rattle.depot_model.specs.Records.{text_of_record};
 ghost use Rattle.depot_outside.specs.Told.{Shelves, shelves, sinks};
 ghost use Rattle.depot_gossip.specs.Bundling.{Bundles};
 ghost use Rattle.depot_node_lines.specs.Printing.{IsToldOf, SettlesBundle};
-ghost use Rattle.depot_schedule.specs.PutKeys.{WriteNoReceipts};
+ghost use Rattle.depot_lines.specs.PutKeys.{WriteNoReceipts};
 ghost use Rattle.depot_script.specs.Scripts.{FitsCommand};
 ghost use Rattle.depot_traces.specs.SeenTraces as seen;
 ghost use Rattle.depot_traces.specs.ToldTraces.{file_of_trace};
@@ -34,6 +34,7 @@ use crate::telling::{disk_failed, load, no_file, store_and_tell, tell};
 use depot_answers::Closing;
 use depot_base::{Bytes, Changes, Hash32, Ids, Key, Memory, Value};
 use depot_gossip::{BundleError, Bundled, FeedError, bundle, encode_hello, node_hello};
+use depot_lines::FileName;
 use depot_node::PutDone;
 use depot_node_lines::{
     FeedResult, bundle_printed, fed_printed, feed_whole, hello_line, node_trace, put_printed,
@@ -41,7 +42,7 @@ use depot_node_lines::{
 };
 use depot_outside::{Shelf, Sink};
 use depot_receipts::GiveError;
-use depot_script::{Command, FileName};
+use depot_script::Command;
 use depot_traces::{ReadTrace, Reads, encode_trace};
 use std::alloc::Global;
 

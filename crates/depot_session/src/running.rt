@@ -1,6 +1,6 @@
 //! The run of a script.
 ghost use Rattle.std.specs.Prelude.{◌≡◌, ◌≤◌, ◌<◌, ◌⊎◌, ◌++◌, [], IsTrue, Some, Err, IfOk, codes};
-ghost use Rattle.depot_answers.specs.Answers.{numbered, spaced, text_of_record_fault};
+ghost use Rattle.depot_answers.specs.AnswerTexts.{text_of_number, spaced, text_of_record_fault};
 ghost use Rattle.depot_model.specs.Roster.{key_of};
 ghost use Rattle.depot_model.specs.Texts.{IsRoster};
 ghost use Rattle.depot_outside.specs.Told.{disks, loads, shelves, sinks};
@@ -24,7 +24,7 @@ use std::alloc::Global;
 /// The line of an offset or a place.
 #[tactic(auto, using(depot_base::proofs::Writing::texts))]
 fn numbered_line(alloc: Global, name: &str, number: u64) -> Result<Bytes, Memory>
-    ensures { IfOk result (λ line. line ≡ numbered name.now number ++ codes "\n") }
+    ensures { IfOk result (λ line. line ≡ text_of_number name.now number ++ codes "\n") }
 {
     let mut line = Bytes::new(alloc);
     numbered(alloc, &mut line, name, number)?;
@@ -35,7 +35,7 @@ fn numbered_line(alloc: Global, name: &str, number: u64) -> Result<Bytes, Memory
 /// The line of a record that isn't lawful.
 #[tactic(auto, using(depot_base::proofs::Writing::texts))]
 fn unlawful_line(alloc: Global, place: u32, fault: &RecordFault) -> Result<Bytes, Memory>
-    ensures { IfOk result (λ line. line ≡ numbered (codes "not lawful") place ++ spaced (text_of_record_fault fault.now) ++ codes "\n") }
+    ensures { IfOk result (λ line. line ≡ text_of_number (codes "not lawful") place ++ spaced (text_of_record_fault fault.now) ++ codes "\n") }
 {
     let mut line = Bytes::new(alloc);
     numbered(alloc, &mut line, "not lawful", place as u64)?;

@@ -1,7 +1,7 @@
 //! What a session writes and stores.
 ghost use Rattle.std.specs.Prelude.{◌≡◌, ◌<◌, ◌≤◌, ◌⊎◌, ◌++◌, ◌∷◌, [], ℕ, List, Some, None, IfOk, IfSome, IfErr, IsErrOf, IsTrue, codes, take};
 ghost use Rattle.depot_outside.specs.Told.{HasFailedOn, WhereTold, Wrote, shelves, sinks};
-ghost use Rattle.depot_schedule.specs.Language.{join};
+ghost use Rattle.depot_lines.specs.Language.{join};
 ghost use Rattle.depot_script.specs.Scripts.{command_words};
 ghost use Rattle.depot_session.specs.Sessions.{printed_count, shelf_line, stored};
 ghost use Rattle.depot_session.specs.SessionRuns.{disk_line};
@@ -10,8 +10,9 @@ ghost use Rattle.depot_session.specs.ScriptTelling.{IsFaultTold, IsLoaded, Store
 use crate::command_heads::head;
 use crate::ending::Ending;
 use depot_base::{Bytes, Memory};
+use depot_lines::FileName;
 use depot_outside::{OutError, Shelf, Sink};
-use depot_script::{Command, FileName};
+use depot_script::Command;
 use std::alloc::Global;
 
 /// Writes a text.

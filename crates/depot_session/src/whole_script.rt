@@ -2,7 +2,7 @@
 ghost use Rattle.std.specs.Prelude.{◌≡◌, ◌≤◌, None, length, IfOk, IsTrue};
 ghost use Rattle.depot_base.specs.declared.limits.TheConstants.{MOST_LINES};
 ghost use Rattle.depot_outside.specs.Told.{loads, shelves, sinks};
-ghost use Rattle.depot_schedule.specs.Language.{FitAll};
+ghost use Rattle.depot_lines.specs.Language.{FitAll};
 ghost use Rattle.depot_script.specs.Scripts.{FitsCommand};
 ghost use Rattle.depot_session.specs.SessionRuns.{LoadsFiles};
 ghost use Rattle.depot_session.specs.Sessions.{Session};

@@ -34,7 +34,7 @@ use Rattle.depot_laws.proofs.Sorted.{entries_follow}
 use Rattle.depot_model.proofs.RisingUpdates.{HaveOwnIds, rises_by_id, from_by_id, by_id_length as long_by_id}
 use Rattle.depot_model.proofs.ChangeLaws.{changes_written}
 use Rattle.depot_model.proofs.FieldFacts.{writes_fit}
-use Rattle.depot_schedule.specs.Vocabulary.{FitsHistory, first_or}
+use Rattle.depot_schedule.specs.EventWords.{FitsHistory, first_or}
 use Rattle.depot_schedule.specs.declared.event.HistoryWord.{HistoryWord}
 use Rattle.depot_schedule.specs.declared.event.HistoryWord.TheVariants as history_word
 use Rattle.depot_schedule.specs.declared.event.Ref.{Ref}

@@ -5,11 +5,11 @@ use Rattle.depot_base.specs.Shown.{IsPairKind}
 use Rattle.depot_base.specs.Writes.{one_change}
 use Rattle.depot_base.specs.declared.proof.Kind.{Kind}
 use Rattle.depot_base.specs.declared.write.Change.{Change}
-use Rattle.depot_schedule.specs.EventLines.{proof, stop, update, updates, voucher}
-use Rattle.depot_schedule.specs.Language.{or_empty}
+use Rattle.depot_schedule.specs.EventLines.{proof_line, stop_line, update_line, updates_line, voucher_line}
+use Rattle.depot_lines.specs.Language.{or_empty}
 use Rattle.depot_schedule.specs.Schedules.{FitsEvent}
-use Rattle.depot_schedule.specs.Vocabulary as word
-use Rattle.depot_schedule.specs.Vocabulary.{FitsHistory, is_faulty}
+use Rattle.depot_schedule.specs.EventWords as word
+use Rattle.depot_schedule.specs.EventWords.{FitsHistory, is_faulty}
 use Rattle.depot_schedule.specs.declared.event.Event.{Event}
 use Rattle.depot_schedule.specs.declared.event.Event.TheVariants as event
 use Rattle.depot_schedule.specs.declared.event.HistoryWord.{HistoryWord}
@@ -30,15 +30,15 @@ signer_is : (s : Schedule) (node seq : ℕ) → word.faulty.fits s node → word
 signer_is s node seq (in_range, faulty) (any, below) = record { faulty = faulty; leaf = grind (arith, nat_tests, below) }
 
 update_signer : (s : Schedule) (label : List ℕ) (writer seq clock : ℕ) (prev : Option Ref) (key value : List ℕ) (refs : List Ref) (history : HistoryWord) → FitsEvent s (event.Update label writer seq clock prev key value refs history) → IsFaultySigner s writer seq
-unfolding update
+unfolding update_line
 update_signer s label writer seq clock prev key value refs history (of_label, (of_writer, (of_seq, more))) = signer_is s writer seq of_writer of_seq
 
 updates_signer : (s : Schedule) (label : List ℕ) (writer seq clock : ℕ) (prev : Option Ref) (changes : List Change) (refs : List Ref) (history : HistoryWord) → FitsEvent s (event.Updates label writer seq clock prev changes refs history) → IsFaultySigner s writer seq
-unfolding updates
+unfolding updates_line
 updates_signer s label writer seq clock prev changes refs history (of_label, (of_writer, (of_seq, more))) = signer_is s writer seq of_writer of_seq
 
 pub voucher_signer : (s : Schedule) (label : List ℕ) (node seq : ℕ) (refs : List Ref) → FitsEvent s (event.Voucher label node seq refs) → IsFaultySigner s node seq
-unfolding voucher
+unfolding voucher_line
 voucher_signer s label node seq refs (of_label, (of_node, (of_seq, more))) = signer_is s node seq of_node of_seq
 
 -- ---- sizes
@@ -54,7 +54,7 @@ pub record IsSigned (s : Schedule) (writer seq clock : ℕ) (changes : List Chan
 
 pub update_signed : (s : Schedule) (label : List ℕ) (writer seq clock : ℕ) (prev : Option Ref) (key value : List ℕ) (refs : List Ref) (history : HistoryWord) → FitsEvent s (event.Update label writer seq clock prev key value refs history)
     → IsSigned s writer seq clock (one_change key value) refs history
-unfolding update
+unfolding update_line
 update_signed s label writer seq clock prev key value refs history fits = by_fields (events_bring_bytes s (event.Update label writer seq clock prev key value refs history) fits) fits where
   by_fields : BringsBytes (event.Update label writer seq clock prev key value refs history) → FitsEvent s (event.Update label writer seq clock prev key value refs history) → IsSigned s writer seq clock (one_change key value) refs history
   by_fields (changes_bytes, history_bytes) (of_label, ((writer_is, faulty), (((seq_least, seq_most), leaf), ((clock_least, clock_most), (of_prev, (of_key, (of_value, (of_refs, (of_history, same))))))))) = record {
@@ -64,7 +64,7 @@ update_signed s label writer seq clock prev key value refs history fits = by_fie
 
 pub updates_signed : (s : Schedule) (label : List ℕ) (writer seq clock : ℕ) (prev : Option Ref) (changes : List Change) (refs : List Ref) (history : HistoryWord) → FitsEvent s (event.Updates label writer seq clock prev changes refs history)
     → IsSigned s writer seq clock changes refs history
-unfolding updates
+unfolding updates_line
 updates_signed s label writer seq clock prev changes refs history fits = by_fields (events_bring_bytes s (event.Updates label writer seq clock prev changes refs history) fits) fits where
   by_fields : BringsBytes (event.Updates label writer seq clock prev changes refs history) → FitsEvent s (event.Updates label writer seq clock prev changes refs history) → IsSigned s writer seq clock changes refs history
   by_fields (changes_bytes, history_bytes) (of_label, ((writer_is, faulty), (((seq_least, seq_most), leaf), ((clock_least, clock_most), (of_prev, (of_changes, (of_refs, (of_history, same)))))))) = record {
@@ -80,7 +80,7 @@ put_changes s e fits = tt
 
 -- the kind of a proof is one of two statements
 pub proof_kind : (s : Schedule) (label : List ℕ) (kind : Kind) (first second : List ℕ) → FitsEvent s (event.Proof label kind first second) → IsPairKind kind
-unfolding proof
+unfolding proof_line
 proof_kind s label kind first second (of_label, (of_kind, more)) = of_kind
 
 -- those of a voucher
@@ -91,7 +91,7 @@ pub record IsSizedVoucher (node seq : ℕ) (refs : List Ref) : Type 0 where
   pub few : length refs ≤ 256
 
 pub voucher_sizes : (s : Schedule) (label : List ℕ) (node seq : ℕ) (refs : List Ref) → FitsEvent s (event.Voucher label node seq refs) → IsSizedVoucher node seq refs
-unfolding voucher
+unfolding voucher_line
 voucher_sizes s label node seq refs (of_label, ((node_is, faulty), (((seq_least, seq_most), leaf), (((some, each), few), same)))) = record { node_is = node_is; seq_most = seq_most; some = some; few = grind (arith, nat_tests, few) }
 
 -- those of a stop: it falls into a call, and leaves one of three images
@@ -101,7 +101,7 @@ pub record IsSizedStop (call image : ℕ) : Type 0 where
   pub image_most : image ≤ 2
 
 pub stop_sizes : (s : Schedule) (node call image : ℕ) → FitsEvent s (event.Stop node call image) → IsSizedStop call image
-unfolding stop
+unfolding stop_line
 stop_sizes s node call image (of_node, ((call_least, call_most), ((image_least, image_most), same))) = record { call_least = call_least; call_most = call_most; image_most = image_most }
 
 -- receipts are for 1 to 16 references

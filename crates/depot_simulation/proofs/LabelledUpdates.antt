@@ -21,7 +21,7 @@ use Rattle.depot_model.specs.Texts.{IsSigned, IsStatement, IsUpdate, id_of_updat
 use Rattle.depot_model.proofs.BodyLaws.{IsStatement-from_signed, IsUpdate-from_statement}
 use Rattle.depot_model.proofs.Members.{all_at, from_filter, from_map, in_right}
 use Rattle.depot_laws.proofs.OwnTexts.{accepted_fit}
-use Rattle.depot_schedule.specs.Vocabulary.{first_or}
+use Rattle.depot_schedule.specs.EventWords.{first_or}
 use Rattle.depot_schedule.specs.declared.event.Ref.{Ref}
 use Rattle.depot_schedule.specs.declared.event.Ref.TheVariants as ref
 use Rattle.depot_model.specs.Readers.{Reader}

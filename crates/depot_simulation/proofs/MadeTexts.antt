@@ -10,7 +10,7 @@ use Rattle.depot_base.specs.declared.proof.Kind.{Kind}
 use Rattle.depot_base.specs.declared.proof.Kind.TheVariants.{NotUpdate}
 use Rattle.depot_base.specs.declared.proof.Proof.TheVariants.{Hollow}
 use Rattle.depot_base.specs.declared.write.Change.{Change}
-use Rattle.depot_answers.specs.Answers.{spaced}
+use Rattle.depot_answers.specs.AnswerTexts.{spaced}
 use Rattle.depot_base.specs.declared.statement.Signed.{Signed}
 use Rattle.depot_base.specs.declared.statement.Statement.{Statement}
 use Rattle.depot_base.specs.declared.statement.Statement.TheVariants as statement
@@ -21,8 +21,8 @@ use Rattle.depot_model.specs.Bundle.{Signs}
 use Rattle.depot_model.specs.Texts.{IsSigned}
 use Rattle.depot_model.specs.Vouching.{rising}
 use Rattle.depot_base.specs.declared.update.Update.{Update}
-use Rattle.depot_schedule.specs.EventLines.{label_of}
-use Rattle.depot_schedule.specs.Vocabulary.{is_declared, is_faulty}
+use Rattle.depot_schedule.specs.EventLines.{event_label}
+use Rattle.depot_schedule.specs.EventWords.{is_declared, is_faulty}
 use Rattle.depot_schedule.specs.declared.event.Event.{Event}
 use Rattle.depot_schedule.specs.declared.event.Event.TheVariants as event
 use Rattle.depot_schedule.specs.declared.event.HistoryWord.{HistoryWord}
@@ -229,7 +229,7 @@ text_given A {R = R} view reads setup run label t old new made lines at is kept 
 }
 
 -- an event that only makes a label
-pub made_is : (setup : Setup) (run : Run) (e : Event) → is_text e ≡ true → done_by_text run (label_of e) (text_by setup run e) ≡ done setup run e
+pub made_is : (setup : Setup) (run : Run) (e : Event) → is_text e ≡ true → done_by_text run (event_label e) (text_by setup run e) ≡ done setup run e
 unfolding done
 made_is setup run (event.Voucher label writer seq refs) is = refl
 made_is setup run (event.Proof label kind first second) is = refl

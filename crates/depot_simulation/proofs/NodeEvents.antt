@@ -13,7 +13,7 @@ use Rattle.depot_model.specs.Lawful.{IsLawful}
 use Rattle.depot_model.specs.Order.{IsCausal}
 use Rattle.depot_schedule.specs.declared.event.Event.{Event}
 use Rattle.depot_schedule.specs.declared.event.Event.TheVariants as event
-use Rattle.depot_schedule.specs.EventLines.{node_of}
+use Rattle.depot_schedule.specs.EventLines.{event_node}
 use Rattle.depot_model.specs.Readers.{Reader}
 use Rattle.depot_world.specs.Effects.{put_by, get_by, hello_by, bundle_by, give_by, restart_by, checkpoint_by, sign_by}
 use Rattle.depot_world.specs.Run.{Made, Run, Host, bytes_of, host_in, put_host, seen_with, with_host}
@@ -85,7 +85,7 @@ pub none_is : (run : Run) (node : ℕ) (label : Option (List ℕ)) (effect : Hos
 unfolding by_node at_node
 none_is run node label effect found = ap (at_node run label effect) found
 
-effect_is : (setup : Setup) (run : Run) (e : Event) (s : Host) → is_effect e ≡ true → host_in run.hosts (node_of e) ≡ Some s → s.correct.node ≡ node_of e → done setup run e ≡ done_by_node run (label_by e) (event_result s (effect_of setup run e s))
+effect_is : (setup : Setup) (run : Run) (e : Event) (s : Host) → is_effect e ≡ true → host_in run.hosts (event_node e) ≡ Some s → s.correct.node ≡ event_node e → done setup run e ≡ done_by_node run (label_by e) (event_result s (effect_of setup run e s))
 unfolding done
 effect_is setup run (event.Put node key value) s effect found is =
     there_is run node None (λ x. put_by (stands_on setup node) x.correct (one_change key value)) s found ∙ ap (λ (n : ℕ). done_by_node run None (event_result s (put_by (stands_on setup n) s.correct (one_change key value)))) (sym is)
@@ -120,7 +120,7 @@ effect_is setup run (event.Trim node label name) s effect found is = absurd cc
 effect_is setup run (event.Tgive name label) s effect found is = absurd cc
 effect_is setup run (event.Tget name key) s effect found is = absurd cc
 
-nowhere_is : (setup : Setup) (run : Run) (e : Event) → is_effect e ≡ true → host_in run.hosts (node_of e) ≡ None → done setup run e ≡ record { answer = []; behind = []; run = run }
+nowhere_is : (setup : Setup) (run : Run) (e : Event) → is_effect e ≡ true → host_in run.hosts (event_node e) ≡ None → done setup run e ≡ record { answer = []; behind = []; run = run }
 unfolding done
 nowhere_is setup run (event.Put node key value) effect none = none_is run node None (λ x. put_by (stands_on setup node) x.correct (one_change key value)) none
 nowhere_is setup run (event.Puts node changes) effect none = none_is run node None (λ x. put_by (stands_on setup node) x.correct changes) none
@@ -150,9 +150,9 @@ nowhere_is setup run (event.Tgive name label) effect none = absurd cc
 nowhere_is setup run (event.Tget name key) effect none = absurd cc
 
 -- an event of a node that isn't there says nothing
-pub nothing_done : (A : Type 0) {R : Type 0} (view : A → View) (reads : Reader → R → Type 0) (setup : Setup) (run : Run) (e : Event) (simulation : Simulation A R) → is_effect e ≡ true → position (λ p. eqb (view p.actor).here.me (node_of e)) simulation.participants.items ≡ None → IsSimulationAt view reads setup run simulation → HasDone A view reads setup (done setup run e) (10 ∷ []) simulation
+pub nothing_done : (A : Type 0) {R : Type 0} (view : A → View) (reads : Reader → R → Type 0) (setup : Setup) (run : Run) (e : Event) (simulation : Simulation A R) → is_effect e ≡ true → position (λ p. eqb (view p.actor).here.me (event_node e)) simulation.participants.items ≡ None → IsSimulationAt view reads setup run simulation → HasDone A view reads setup (done setup run e) (10 ∷ []) simulation
 nothing_done A view reads setup run e simulation effect none at =
-    let nowhere = nowhere_is setup run e effect (no_host_place (participant_by view) setup run.hosts simulation.participants.items (node_of e) at.hosted none) in
+    let nowhere = nowhere_is setup run e effect (no_host_place (participant_by view) setup run.hosts simulation.participants.items (event_node e) at.hosted none) in
     subst (λ (d : Done). HasDone A view reads setup d (10 ∷ []) simulation) (sym nowhere) (record { lines_are = refl; at = at })
 
 -- ---- a node that leaves its place
@@ -248,15 +248,15 @@ comes_back A {R = R} view reads setup run node o before left new acting after li
 -- ---- what an event does
 
 -- what the node had accepted before it was seen
-pub effect_had_seen : (A : Type 0) {R : Type 0} (view : A → View) (reads : Reader → R → Type 0) (setup : Setup) (run : Run) (e : Event) (left : Simulation A R) (acting : ActingNode A) (after : A) (lines bytes : List ℕ) → (i : IsLeft A view reads setup run (node_of e) left acting) → CameTo setup (event_result i.host (effect_of setup run e i.host)) (view after) lines bytes
+pub effect_had_seen : (A : Type 0) {R : Type 0} (view : A → View) (reads : Reader → R → Type 0) (setup : Setup) (run : Run) (e : Event) (left : Simulation A R) (acting : ActingNode A) (after : A) (lines bytes : List ℕ) → (i : IsLeft A view reads setup run (event_node e) left acting) → CameTo setup (event_result i.host (effect_of setup run e i.host)) (view after) lines bytes
     → WereSeen (updates_in left.seen.graph.items.entries) (take acting.count (accepted (view after).journal))
 effect_had_seen A view reads setup run e left acting after lines bytes i came =
     let K = (event_result i.host (effect_of setup run e i.host)).host.correct.journal in
-    subst (λ (x : List Record). WereSeen (updates_in left.seen.graph.items.entries) (take acting.count (accepted x))) (sym came.hosted.journal) (had_seen A view reads setup run (node_of e) left acting K i (effect_grows setup run e i.host))
+    subst (λ (x : List Record). WereSeen (updates_in left.seen.graph.items.entries) (take acting.count (accepted x))) (sym came.hosted.journal) (had_seen A view reads setup run (event_node e) left acting K i (effect_grows setup run e i.host))
 
 -- the event was done
 pub effect_done : (A : Type 0) {R : Type 0} (view : A → View) (reads : Reader → R → Type 0) (setup : Setup) (run : Run) (e : Event) (before left new : Simulation A R) (acting : ActingNode A) (after : Participant A) (lines bytes : List ℕ) → is_effect e ≡ true → IsLawful (view after.actor).here (view after.actor).journal → IsSimulationAt view reads setup run before
-    → (i : IsLeft A view reads setup run (node_of e) left acting) → CameTo setup (event_result i.host (effect_of setup run e i.host)) (view after.actor) lines bytes
+    → (i : IsLeft A view reads setup run (event_node e) left acting) → CameTo setup (event_result i.host (effect_of setup run e i.host)) (view after.actor) lines bytes
     → TellReads (event_result i.host (effect_of setup run e i.host)).host.correct.reads after.reads
     → new.participants.items ≡ insert left.participants.items acting.place after
     → updates_in new.seen.graph.items.entries ≡ seen_with (updates_in left.seen.graph.items.entries) (accepted (view after.actor).journal)
@@ -266,7 +266,7 @@ effect_done A view reads setup run e before left new acting after lines bytes ef
     let s = i.host in
     let w = event_result s (effect_of setup run e s) in
     subst (λ (d : Done). HasDone A view reads setup d lines new) (sym (effect_is setup run e s effect i.found i.is))
-    (comes_back A view reads setup run (node_of e) (label_by e) before left new acting after lines bytes w lawful at i came (same_node s (effect_of setup run e s)) told participants seen labels readers)
+    (comes_back A view reads setup run (event_node e) (label_by e) before left new acting after lines bytes w lawful at i came (same_node s (effect_of setup run e s)) told participants seen labels readers)
 
 -- ---- stops
 

@@ -2,7 +2,7 @@
 use Rattle.std.proofs.Common.{◌≡◌, ◌≤◌, ℕ, true, List, [], ◌∷◌, length, map, refl, sym, ap, subst, ◌∙◌, inl, inr, arith}
 use Rattle.std.specs.List.{AllByRecursion}
 use Rattle.std.proofs.lemmas.List.{append-nil, length-map}
-use Rattle.depot_answers.specs.Answers.{spaced, text_of_finding}
+use Rattle.depot_answers.specs.AnswerTexts.{spaced, text_of_finding}
 use Rattle.depot_base.specs.declared.key.RosterEntry.{RosterEntry}
 use Rattle.depot_model.specs.Audit as audit
 use Rattle.depot_model.specs.Audit.{finding_in}

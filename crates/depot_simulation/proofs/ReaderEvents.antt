@@ -4,7 +4,7 @@ use Rattle.std.specs.Prelude.{position, IfOk, OnOk}
 use Rattle.std.specs.Option.{option_map_or}
 use Rattle.std.proofs.lemmas.List.{append-nil}
 use Rattle.std.proofs.lemmas.Option.{get_or_from_slice_get}
-use Rattle.depot_answers.specs.Answers.{spaced, text_of_reader_feed, text_of_trim}
+use Rattle.depot_answers.specs.AnswerTexts.{spaced, text_of_reader_feed, text_of_trim}
 use Rattle.depot_base.specs.declared.record.Record.{Record}
 use Rattle.depot_model.specs.Checks.{Setting}
 use Rattle.depot_model.specs.ReaderFeeds.{reader_feed_of}

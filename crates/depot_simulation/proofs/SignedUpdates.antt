@@ -4,7 +4,7 @@ use Rattle.std.specs.declared.alloc.Global.{Global}
 use Rattle.std.specs.List.{flat_map}
 use Rattle.std.specs.Prelude.{OnOk}
 use Rattle.std.proofs.lemmas.List.{append-nil}
-use Rattle.depot_answers.specs.Answers.{spaced}
+use Rattle.depot_answers.specs.AnswerTexts.{spaced}
 use Rattle.depot_base.specs.declared.proof.Proof.{Proof}
 use Rattle.depot_base.specs.Writes.{one_change}
 use Rattle.depot_base.specs.declared.update.Update.{Update}
@@ -15,8 +15,8 @@ use Rattle.depot_model.specs.Judgement.{first_failed_point, verdict_of}
 use Rattle.depot_model.specs.Own.{values_of, write_of}
 use Rattle.depot_model.specs.Lines.{text_of_point, text_of_verdict}
 use Rattle.depot_model.specs.declared.judgement.JudgeError.{JudgeError}
-use Rattle.depot_schedule.specs.Language.{join}
-use Rattle.depot_schedule.specs.EventLines.{changes_in, label_of, node_of}
+use Rattle.depot_lines.specs.Language.{join}
+use Rattle.depot_schedule.specs.EventLines.{event_changes, event_label, event_node}
 use Rattle.depot_schedule.specs.declared.event.Event.{Event}
 use Rattle.depot_schedule.specs.declared.event.Event.TheVariants as event
 use Rattle.depot_schedule.specs.declared.event.HistoryWord.{HistoryWord}
@@ -76,7 +76,7 @@ sees_update A {R = R} view reads setup run u old new at parents participants lab
 }
 
 -- what an update does
-pub update_is : (setup : Setup) (run : Run) (e : Event) → is_signing e ≡ true → done_by_text (with_update run (update_by setup run e)) (label_of e) (signed_text (signs_on setup (node_of e)) (changes_in e) (update_by setup run e)) ≡ done setup run e
+pub update_is : (setup : Setup) (run : Run) (e : Event) → is_signing e ≡ true → done_by_text (with_update run (update_by setup run e)) (event_label e) (signed_text (signs_on setup (event_node e)) (event_changes e) (update_by setup run e)) ≡ done setup run e
 unfolding done
 update_is setup run (event.Update label writer seq clock prev key value deps history) is = by_cases (updated (signs_on setup writer) run writer seq clock prev (one_change key value) deps history) where
   by_cases : (o : Option Update) → done_by_text (with_update run o) label (signed_text (signs_on setup writer) (one_change key value) o) ≡ done_by_update (signs_on setup writer) run label (values_of (one_change key value)) o

@@ -5,7 +5,7 @@ use Rattle.depot_base.specs.declared.update.Update.{Update}
 use Rattle.depot_base.specs.declared.write.Change.{Change}
 use Rattle.depot_model.specs.Changes.{AreChanges}
 use Rattle.depot_schedule.specs.Schedules.{FitsEvent}
-use Rattle.depot_schedule.specs.Vocabulary.{FitsHistory, is_declared}
+use Rattle.depot_schedule.specs.EventWords.{FitsHistory, is_declared}
 use Rattle.depot_schedule.specs.declared.event.Event.TheVariants as event
 use Rattle.depot_schedule.specs.declared.event.HistoryWord.{HistoryWord}
 use Rattle.depot_schedule.specs.declared.event.Ref.{Ref}

@@ -2,7 +2,7 @@
 use Rattle.std.specs.Prelude.{◌≡◌, ℕ, List, [], ◌∷◌, Option, Some, None, Vec, if◌then◌else◌}
 use Rattle.std.specs.Str.{bytes_eq}
 use Rattle.std.specs.declared.alloc.Global.{Global}
-use Rattle.depot_answers.specs.Answers.{spaced, text_of_reader_feed, text_of_trim}
+use Rattle.depot_answers.specs.AnswerTexts.{spaced, text_of_reader_feed, text_of_trim}
 use Rattle.depot_model.specs.ReaderFeeds.{reader_feed_of}
 use Rattle.depot_model.specs.Readers.{Reader, TrimAnswer}
 use Rattle.depot_world.specs.Run.{NamedReader, put_reader}

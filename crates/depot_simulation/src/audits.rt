@@ -1,7 +1,7 @@
 //! The audit of all nodes of a run.
 ghost use Rattle.std.specs.Prelude.{◌≡◌, map, IfOk};
 ghost use Rattle.std.specs.List.{AllByRecursion};
-ghost use Rattle.depot_answers.specs.Answers.{spaced, text_of_finding};
+ghost use Rattle.depot_answers.specs.AnswerTexts.{spaced, text_of_finding};
 ghost use Rattle.depot_traces.specs.SeenTraces.{finding_of, trace_of};
 ghost use Rattle.depot_traces.specs.TraceTexts.{IsTrace};
 ghost use Rattle.depot_world.specs.Audits.{IsSound};

@@ -1,6 +1,6 @@
 //! Events that a node acts in.
 ghost use Rattle.std.specs.Prelude.{◌≡◌, ◌++◌, map, true, IfOk, OnOk};
-ghost use Rattle.depot_schedule.specs.EventLines.{node_of};
+ghost use Rattle.depot_schedule.specs.EventLines.{event_node};
 ghost use Rattle.depot_traces.specs.SeenTraces.{read_of};
 ghost use Rattle.depot_world.specs.Run.{Run, Host};
 ghost use Rattle.depot_world.specs.ScheduleStops.{event_result};
@@ -25,7 +25,7 @@ impl<A: Actor> Simulation<A> {
     pub fn effect(&mut self, node: NodeId, event: &Event) -> Result<Bytes, Memory>
         requires effect { is_effect event.now ≡ true }
         requires changes { PutsChanges event.now }
-        requires node { node_of event.now ≡ node }
+        requires node { event_node event.now ≡ node }
         requires played { IsPlayed A.view A.Reader.reads self.old }
         ensures { IfOk result (λ lines. (setup : Setup) (run : Run) → IsSimulationAt A.view A.Reader.reads setup run self.old → HasDone A A.view A.Reader.reads setup (done setup run event.now) lines self.new) }
     {
@@ -39,8 +39,8 @@ impl<A: Actor> Simulation<A> {
     fn act(&mut self, acting: ActingNode<A>, event: &Event) -> Result<Bytes, Memory>
         requires effect { is_effect event.now ≡ true }
         requires changes { PutsChanges event.now }
-        requires left { HasLeftSimulation A A.view A.Reader.reads (node_of event.now) self.old acting }
-        ensures { IfOk result (λ lines. (before : Simulation A A.Reader) → HasLeft A A.view (node_of event.now) before self.old acting → (setup : Setup) (run : Run) → IsSimulationAt A.view A.Reader.reads setup run before → HasDone A A.view A.Reader.reads setup (done setup run event.now) lines self.new) }
+        requires left { HasLeftSimulation A A.view A.Reader.reads (event_node event.now) self.old acting }
+        ensures { IfOk result (λ lines. (before : Simulation A A.Reader) → HasLeft A A.view (event_node event.now) before self.old acting → (setup : Setup) (run : Run) → IsSimulationAt A.view A.Reader.reads setup run before → HasDone A A.view A.Reader.reads setup (done setup run event.now) lines self.new) }
     {
         let ActingNode {
             place,

@@ -10,7 +10,7 @@ use crate::actor::Actor;
 use crate::reading::Trimming;
 use crate::simulation::Simulation;
 use depot_base::{Bytes, Key, Memory, NodeId};
-use depot_schedule::Label;
+use depot_lines::Label;
 
 impl<A: Actor> Simulation<A> {
     /// A reader is made of a node, below the checkpoint whose text a label has. The node stays at its place, since it stays as it is. The

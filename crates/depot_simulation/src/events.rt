@@ -12,9 +12,10 @@ ghost use Rattle.depot_simulation.specs.Playing.{IsSimulationAt, IsPlayedOn};
 use crate::actor::Actor;
 use crate::simulation::Simulation;
 use depot_base::{Bytes, Memory};
+use depot_lines::Label;
 use depot_model::{Scheme, Signer};
 use depot_scenario::{Scenario, event_head, judged};
-use depot_schedule::{Event, Label};
+use depot_schedule::Event;
 
 impl<A: Actor> Simulation<A> {
     /// Does an event, and gives its lines. After Memory the simulation isn't one any more.

@@ -3,7 +3,7 @@ ghost use Rattle.std.specs.Prelude.{◌≡◌, [], ℕ, List, None, true, IfOk, 
 ghost use Rattle.depot_base.specs.Shown.{IsPairKind};
 ghost use Rattle.depot_model.specs.Journal.{update_in};
 ghost use Rattle.depot_model.specs.Texts.{IsSigned};
-ghost use Rattle.depot_schedule.specs.EventLines.{label_of};
+ghost use Rattle.depot_schedule.specs.EventLines.{event_label};
 ghost use Rattle.depot_schedule.specs.declared.event.Event.TheVariants as event;
 ghost use Rattle.depot_world.specs.Run.{Run};
 ghost use Rattle.depot_world.specs.FaultySigning.{hollow_text, proof_text, vouched_text};
@@ -18,10 +18,11 @@ use crate::actor::Actor;
 use crate::simulation::Simulation;
 use depot_base::limits::MOST_VALUE;
 use depot_base::{Bytes, Kind, Memory, NodeId};
+use depot_lines::Label;
 use depot_model::{Scheme, Signer};
 use depot_scenario::texts::Text;
 use depot_scenario::{Scenario, texts};
-use depot_schedule::{Event, Label, Ref};
+use depot_schedule::{Event, Ref};
 
 impl<A: Actor> Simulation<A> {
     /// An event that only makes a label. The lines are those from the arrow on.
@@ -32,7 +33,7 @@ impl<A: Actor> Simulation<A> {
         event: &Event,
     ) -> Result<Bytes, Memory>
         requires text { is_text event.now ≡ true }
-        requires label { label_of event.now ≡ label.now }
+        requires label { event_label event.now ≡ label.now }
         requires scenario { IsSomeScenario S.verifies G.key_of G.signature_of scenario.now }
         requires may { MayHappen scenario.now.height scenario.now.members.now event.now }
         requires played { IsPlayed A.view A.Reader.reads self.old }

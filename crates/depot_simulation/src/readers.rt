@@ -6,7 +6,7 @@ ghost use Rattle.depot_simulation.specs.Readers.{AreReaders, IsMade, gone_on, re
 
 use crate::reading::Reading;
 use depot_base::{Bytes, Key, Memory};
-use depot_schedule::Label;
+use depot_lines::Label;
 use std::alloc::Global;
 use std::collections::BTreeMap;
 

@@ -8,8 +8,9 @@ use crate::actor::Actor;
 use crate::participant::Participant;
 use crate::readers::Readers;
 use depot_base::{NodeId, Signed, Update};
+use depot_lines::Label;
 use depot_scenario::{KnownUpdates, Labels, place_of};
-use depot_schedule::{Label, Ref};
+use depot_schedule::Ref;
 use std::alloc::Global;
 
 /// A run between two events: the correct nodes with their reads in the order of their lines, what labels name, the updates that were

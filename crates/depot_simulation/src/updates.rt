@@ -3,8 +3,8 @@ ghost use Rattle.std.specs.Prelude.{◌≡◌, ◌<◌, ◌^◌, ◌∷◌, [], 
 ghost use Rattle.depot_model.specs.Journal.{update_in};
 ghost use Rattle.depot_model.specs.Own.{values_of};
 ghost use Rattle.depot_model.specs.Texts.{IsSigned, IsUpdate};
-ghost use Rattle.depot_schedule.specs.EventLines.{changes_in, label_of, node_of};
-ghost use Rattle.depot_schedule.specs.Vocabulary.{is_declared};
+ghost use Rattle.depot_schedule.specs.EventLines.{event_changes, event_label, event_node};
+ghost use Rattle.depot_schedule.specs.EventWords.{is_declared};
 ghost use Rattle.depot_world.specs.Run.{Run, seen_with};
 ghost use Rattle.depot_world.specs.FaultySigning.{update_text};
 ghost use Rattle.depot_world.specs.Setups.{Setup, signs_on};
@@ -20,10 +20,11 @@ use crate::actor::Actor;
 use crate::simulation::Simulation;
 use depot_base::{Bytes, Change, Changes, Memory, NodeId, Update};
 use depot_graph::Graph;
+use depot_lines::Label;
 use depot_model::{Past, Scheme, Signer};
 use depot_scenario::texts::Text;
 use depot_scenario::{Scenario, texts};
-use depot_schedule::{Event, Label};
+use depot_schedule::Event;
 use depot_update::id_of;
 
 impl<A: Actor> Simulation<A> {
@@ -35,7 +36,7 @@ impl<A: Actor> Simulation<A> {
         event: &Event,
     ) -> Result<Bytes, Memory>
         requires signing { is_signing event.now ≡ true }
-        requires label { label_of event.now ≡ label.now }
+        requires label { event_label event.now ≡ label.now }
         requires scenario { IsSomeScenario S.verifies G.key_of G.signature_of scenario.now }
         requires may { MayHappen scenario.now.height scenario.now.members.now event.now }
         requires played { IsPlayed A.view A.Reader.reads self.old }
@@ -56,7 +57,7 @@ impl<A: Actor> Simulation<A> {
         requires scenario { IsSomeScenario S.verifies G.key_of G.signature_of scenario.now }
         requires may { MayHappen scenario.now.height scenario.now.members.now event.now }
         requires played { IsPlayed A.view A.Reader.reads self.old }
-        ensures is { IfOk result (λ text. (setup : Setup) (run : Run) → IsScenarioOf S.verifies G.key_of G.signature_of setup scenario.now → IsSimulationAt A.view A.Reader.reads setup run self.old → IsText text (signed_text (signs_on setup (node_of event.now)) (changes_in event.now) (update_by setup run event.now))) }
+        ensures is { IfOk result (λ text. (setup : Setup) (run : Run) → IsScenarioOf S.verifies G.key_of G.signature_of setup scenario.now → IsSimulationAt A.view A.Reader.reads setup run self.old → IsText text (signed_text (signs_on setup (event_node event.now)) (event_changes event.now) (update_by setup run event.now))) }
         ensures at { OnOk result ((setup : Setup) (run : Run) → IsSimulationAt A.view A.Reader.reads setup run self.old → IsSimulationAt A.view A.Reader.reads setup (with_update run (update_by setup run event.now)) self.new) }
         ensures fits { IfOk result (λ text. IfSome text.signed IsSigned) }
         ensures were { IfOk result (λ text. IfSome text.signed (λ s. WereSeen (⟦<Graph as Past>⟧.updates self.new.seen.graph) (update_in s.statement))) }

@@ -8,11 +8,11 @@ use depot_answers::{
 use depot_base::{
     Bytes, Check, Deps, Full, FullOf, Hash32, Ids, Kind, Memory, NodeId, Nodes, Update, Writes,
 };
+use depot_lines::LineFault;
 use depot_model::{
     Counts, Ending, Half, Hello, HelloLeaf, HelloLeaves, JudgeError, RecordFault, Refusal,
     Refusals, Report, RosterError, Verdict,
 };
-use depot_schedule::LineFault;
 use std::alloc::Global;
 use std::test::Fail;
 

@@ -1,8 +1,8 @@
 //! Scripts from outside, as tables: good ones, and each fault of a line. A text is its front, a piece so many times, and its back.
 
 use depot_base::{Bytes, Memory};
-use depot_schedule::LineFault;
-use depot_script::{Script, ScriptError, parse_script, print_script};
+use depot_lines::{LineFault, TextError};
+use depot_script::{Script, parse_script, print_script};
 use std::alloc::Global;
 use std::test::Fail;
 
@@ -182,7 +182,7 @@ fn scripts_are_read_and_printed_as_their_own_bytes(rt: HostRuntime) -> Result<()
 /// The number of the first faulty line, and its fault.
 fn fault(alloc: Global, text: &[u8]) -> Option<(u32, LineFault)> {
     match parse_script(alloc, text) {
-        Err(ScriptError::Line(number, fault)) => Some((number, fault)),
+        Err(TextError::Line(number, fault)) => Some((number, fault)),
         _ => None,
     }
 }

@@ -1,6 +1,6 @@
-//! Examples of what is kept: journals on a disk, schedules, values, chains, vouched ids and kept statements.
+//! Examples of what is kept: journals on a disk, values, chains, vouched ids and kept statements.
 //!
-//! Files, lines and hashes from outside are tried on each of these crates, and each of their public functions is called once with
+//! Files and hashes from outside are tried on each of these crates, and each of their public functions is called once with
 //! ample memory. What is promised of them is proved there; nothing is promised here. The tests stand in a crate of their own so
 //! that those crates are proved once: a crate with tests is proved a second time for them.
 #![tactic(auto)]
@@ -15,8 +15,6 @@ mod fakes;
 mod journal_tests;
 #[cfg(test)]
 mod real_adapters;
-#[cfg(test)]
-mod schedules;
 #[cfg(test)]
 mod transfers;
 #[cfg(test)]

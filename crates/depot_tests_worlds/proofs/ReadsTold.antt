@@ -11,7 +11,7 @@ use Rattle.depot_model.specs.Checks.{Setting}
 use Rattle.depot_model.specs.Items.{AreDistinct}
 use Rattle.depot_model.specs.Judgement.{first_failed_point, verdict_of}
 use Rattle.depot_model.specs.Lines.{text_of_point, text_of_verdict}
-use Rattle.depot_answers.specs.Answers.{spaced}
+use Rattle.depot_answers.specs.AnswerTexts.{spaced}
 use Rattle.depot_model.specs.Lists.{IsIn}
 use Rattle.depot_model.specs.ReaderFeeds.{reader_feed_of}
 use Rattle.depot_model.specs.Readers.{Reader, trim_of}
@@ -20,7 +20,7 @@ use Rattle.depot_model.specs.Vouching.{rising}
 use Rattle.depot_model.specs.World.{Correct, Read}
 use Rattle.depot_model.specs.declared.judgement.JudgeError.{JudgeError}
 use Rattle.depot_model.proofs.Members.{from_map, in_map, all_at}
-use Rattle.depot_schedule.specs.EventLines.{stop}
+use Rattle.depot_schedule.specs.EventLines.{stop_line}
 use Rattle.depot_schedule.specs.Schedules.{FitsEvent, FitEvents, IsSchedule, with_event, before_events}
 use Rattle.depot_schedule.specs.declared.event.Event.{Event}
 use Rattle.depot_schedule.specs.declared.event.Event.TheVariants as event
@@ -91,8 +91,8 @@ abbrev StopsLater : Event → Type 0
 StopsLater (event.Stop node call image) = 1 ≤ call
 StopsLater other = Unit {0}
 
-stop_is : (s : Schedule) (node call image : ℕ) → stop.fits s (event.Stop node call image) → 1 ≤ call
-unfolding stop
+stop_is : (s : Schedule) (node call image : ℕ) → stop_line.fits s (event.Stop node call image) → 1 ≤ call
+unfolding stop_line
 stop_is s node call image (of_node, (of_call, (of_image, same))) = of_call.0
 
 stops_later : (s : Schedule) (e : Event) → FitsEvent s e → StopsLater e

@@ -26,8 +26,8 @@ use Rattle.depot_model.specs.Roster.{key_of, is_signed}
 use Rattle.depot_model.specs.Taking.{given_as, answer_to_text, growth_of_text}
 use Rattle.depot_model.specs.Texts.{text_of_update, update_fields, voucher_fields, update_body, voucher_body, statement, signed, proof, roster, id_of_update, id_of_statement, hash_of_roster}
 use Rattle.depot_model.specs.Vouching.{put_rising, rising, groups_behind, groups_of, new_vouchers, limit_of_new, limit_of_vouchers}
-use Rattle.depot_schedule.specs.Vocabulary.{named_by}
-use Rattle.depot_answers.specs.Answers.{text_of_check, text_of_limit, text_of_report}
+use Rattle.depot_schedule.specs.EventWords.{named_by}
+use Rattle.depot_answers.specs.AnswerTexts.{text_of_check, text_of_limit, text_of_report}
 use Rattle.depot_world.specs.Effects.{put_by, get_by, receipt_by, settled_by, hello_by, bundle_by, give_by, restart_by}
 use Rattle.depot_model.specs.LatestList.{latest_in}
 use Rattle.depot_model.specs.Insertion.{insert_by, order_by}
@@ -50,7 +50,7 @@ use Rattle.depot_base.specs.Writes.{one_change}
 use Rattle.depot_base.specs.File.{IsFileOf}
 use Rattle.depot_laws.proofs.TwoNodes.{all_verify, node, newborn, second_born}
 use Rattle.depot_outside.specs.Told.{Disks, Shelves, Sinks, Wrote}
-use Rattle.depot_script.specs.Commands.{put as put_command, puts as puts_command, get as get_command, hello as hello_command, bundle as bundle_command, take as take_command, receipt as receipt_command, settled as settled_command, export as export_command}
+use Rattle.depot_script.specs.Commands.{put_form as put_command, puts_form as puts_command, get_form as get_command, hello_form as hello_command, bundle_form as bundle_command, take_form as take_command, receipt_form as receipt_command, settled_form as settled_command, export_form as export_command}
 use Rattle.depot_script.specs.declared.command.Command.{Command}
 use Rattle.depot_script.specs.declared.command.Command.TheVariants as command
 use Rattle.depot_session.specs.declared.ending.Ending.{Ending}

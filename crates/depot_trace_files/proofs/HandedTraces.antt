@@ -12,8 +12,8 @@ use Rattle.depot_outside.specs.Told.{loads, HasLoaded}
 use Rattle.depot_outside.specs.declared.shelf.Shelf.{Ghosts}
 use Rattle.depot_traces.specs.TraceTexts.{IsTrace, text_of_trace}
 use Rattle.depot_traces.specs.declared.trace.Trace.{Trace}
-use Rattle.depot_trace_files.specs.declared.loading.Refusal.{Refusal}
-use Rattle.depot_trace_files.specs.Handing.{IsNext, IsRefused, IsRefusedAt, IsCalmAt, AreForAudit, AreHanded, has_trace_of, nodes_of}
+use Rattle.depot_trace_files.specs.declared.loading.TraceRefusal.{TraceRefusal}
+use Rattle.depot_trace_files.specs.Handing.{IsNextTrace, IsRefusedFile, IsRefusedAt, IsCalmAt, AreForAudit, AreHanded, has_trace_of, nodes_of}
 
 -- ---- distinct nodes
 
@@ -35,7 +35,7 @@ nodes_push (x ∷ ts) t = ap (λ (ns : List ℕ). x.node ∷ ns) (nodes_push ts 
 
 -- ---- one more
 
-audit_push : (listed : List RosterEntry) (ts : List Trace) (t : Trace) → AreForAudit listed ts → IsNext listed ts t → AreForAudit listed (ts ++ t ∷ [])
+audit_push : (listed : List RosterEntry) (ts : List Trace) (t : Trace) → AreForAudit listed ts → IsNextTrace listed ts t → AreForAudit listed (ts ++ t ∷ [])
 audit_push listed ts t a n = record {
   fit = all_push IsTrace ts t a.fit n.fits;
   members = all_push (λ (x : Trace). has_node listed x.node ≡ true) ts t a.members n.member;
@@ -82,7 +82,7 @@ none_so_far g listed old = record {
 
 -- and with one more
 pub one_more : {F : Type 0} (g : Ghosts F) (listed : List RosterEntry) (old mid now : F) (names : List (List ℕ)) (ts : List Trace) (name : List ℕ) (t : Trace)
-    → AreSoFar g listed old mid names ts → IsNext listed ts t → (IsTrue (g.tells mid) → g.file mid name ≡ Some (text_of_trace t))
+    → AreSoFar g listed old mid names ts → IsNextTrace listed ts t → (IsTrue (g.tells mid) → g.file mid name ≡ Some (text_of_trace t))
     → g.loads now ≡ g.loads mid ++ name ∷ [] → g.stores now ≡ g.stores mid → g.file now ≡ g.file mid → g.tells now ≡ g.tells mid → g.faults now ≡ g.faults mid
     → AreSoFar g listed old now (names ++ name ∷ []) (ts ++ t ∷ [])
 one_more g listed old mid now names ts name t s next is loads stores files tells calm = record {
@@ -96,9 +96,9 @@ one_more g listed old mid now names ts name t s next is loads stores files tells
 }
 
 -- the next file is refused
-pub refused_at : {F : Type 0} (g : Ghosts F) (listed : List RosterEntry) (old mid now : F) (names : List (List ℕ)) (place : ℕ) (ts : List Trace) (name : List ℕ) (why : Refusal)
+pub refused_at : {F : Type 0} (g : Ghosts F) (listed : List RosterEntry) (old mid now : F) (names : List (List ℕ)) (place : ℕ) (ts : List Trace) (name : List ℕ) (why : TraceRefusal)
     → place < length names → name ≡ get_or names place name → AreSoFar g listed old mid (take place names) ts
-    → IsRefused (g.tells mid) (g.file mid) (g.faults mid < g.faults now) listed ts name why → IsCalmAt (g.faults now ≡ g.faults mid) why → g.loads now ≡ g.loads mid ++ name ∷ []
+    → IsRefusedFile (g.tells mid) (g.file mid) (g.faults mid < g.faults now) listed ts name why → IsCalmAt (g.faults now ≡ g.faults mid) why → g.loads now ≡ g.loads mid ++ name ∷ []
     → HasLoaded (loads g old now) (take (place + 1) names) × (IsRefusedAt (g.tells old) (g.file old) (g.faults old < g.faults now) listed names place why × IsCalmAt (g.faults now ≡ g.faults old) why)
 refused_at g listed old mid now names place ts name why within is s refused calm loaded = (
   loaded ∙ ap (λ (xs : List (List ℕ)). xs ++ name ∷ []) s.loads ∙ append_assoc (g.loads old) (take place names) (name ∷ []) ∙ ap (λ (xs : List (List ℕ)). g.loads old ++ xs) (sym (take_next names place name within is)),

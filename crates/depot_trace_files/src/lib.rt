@@ -6,4 +6,4 @@
 
 mod loading;
 
-pub use loading::{Gathered, Refusal, gather};
+pub use loading::{GatheredTraces, TraceRefusal, gather};

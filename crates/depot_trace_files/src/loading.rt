@@ -1,18 +1,18 @@
 //! Loads trace files one by one.
-ghost use Rattle.std.specs.Prelude.{◌≡◌, ◌<◌, ◌≤◌, ◌++◌, ◌∷◌, ℕ, [], length, take, IfOk};
+ghost use Rattle.std.specs.Prelude.{◌≡◌, ◌<◌, ◌≤◌, ◌∷◌, ℕ, [], length, take, IfOk};
 ghost use Rattle.depot_outside.specs.Told.{loads, HasLoaded};
-ghost use Rattle.depot_trace_files.specs.Handing.{IsCalm, IsGathered, IsTaken, IsTold, has_trace_of};
+ghost use Rattle.depot_trace_files.specs.Handing.{HasGathered, IsCalm, IsTakenTrace, IsToldTrace, has_trace_of};
 
 use depot_base::{Memory, NodeId};
+use depot_lines::FileName;
 use depot_outside::{OutError, Shelf};
-use depot_script::FileName;
 use depot_sign::Roster;
 use depot_traces::{Trace, TraceError, Traces, decode_trace};
 use std::alloc::Global;
 
 /// Why a file is no trace for an audit.
 #[derive(Clone, Copy, Debug, PartialEq, Eq)]
-pub enum Refusal {
+pub enum TraceRefusal {
     /// It isn't on the shelf, or the shelf failed.
     Missing,
     /// It is no trace's text: the offset in bytes, from 0, of its first fault.
@@ -25,20 +25,20 @@ pub enum Refusal {
 
 /// What came of some trace files.
 #[derive(Debug, Drop)]
-pub enum Gathered {
+pub enum GatheredTraces {
     /// Their traces, in the order of the files, of distinct nodes of the roster.
     Traces(Traces),
     /// The first file that is refused: its place among the names, from 0, and why.
-    Refused { place: u32, why: Refusal },
+    Refused { place: u32, why: TraceRefusal },
 }
 
 /// What came of one trace file.
 #[derive(Debug, Drop)]
-pub enum Taken {
+pub enum TakenTrace {
     /// Its trace.
     Trace(Trace),
     /// It is refused.
-    Refused(Refusal),
+    Refused(TraceRefusal),
 }
 
 /// Whether one of these traces is a node's.
@@ -54,21 +54,23 @@ pub fn take_bytes(
     roster: &Roster,
     earlier: &[Trace],
     bytes: &[u8],
-) -> Result<Taken, Memory>
-    ensures { IfOk result (IsTaken roster.now earlier.now bytes.now) }
+) -> Result<TakenTrace, Memory>
+    ensures { IfOk result (IsTakenTrace roster.now earlier.now bytes.now) }
 {
     let trace = match decode_trace(alloc, bytes) {
         Ok(trace) => trace,
         Err(TraceError::Memory) => return Err(Memory),
-        Err(TraceError::IllFormed(at)) => return Ok(Taken::Refused(Refusal::IllFormed(at))),
+        Err(TraceError::IllFormed(at)) => return Ok(TakenTrace::Refused(TraceRefusal::IllFormed(
+            at,
+        ))),
     };
     if is_handed(earlier, trace.node) {
-        return Ok(Taken::Refused(Refusal::Twice(trace.node)));
+        return Ok(TakenTrace::Refused(TraceRefusal::Twice(trace.node)));
     }
     if !roster.has_node(trace.node) {
-        return Ok(Taken::Refused(Refusal::Stranger));
+        return Ok(TakenTrace::Refused(TraceRefusal::Stranger));
     }
-    Ok(Taken::Trace(trace))
+    Ok(TakenTrace::Trace(trace))
 }
 
 /// The same of the file of a name, which is loaded.
@@ -78,8 +80,8 @@ pub fn take_file<F: Shelf>(
     roster: &Roster,
     earlier: &[Trace],
     name: &FileName,
-) -> Result<Taken, Memory>
-    ensures taken { IfOk result (IsTold (F.tells shelf.old) (F.file shelf.old) (F.faults shelf.old < F.faults shelf.new) roster.now earlier.now name.now) }
+) -> Result<TakenTrace, Memory>
+    ensures taken { IfOk result (IsToldTrace (F.tells shelf.old) (F.file shelf.old) (F.faults shelf.old < F.faults shelf.new) roster.now earlier.now name.now) }
     ensures calm { IfOk result (IsCalm (F.faults shelf.new ≡ F.faults shelf.old)) }
     ensures loads { HasLoaded (loads F.Shelf shelf.old shelf.new) (name.now ∷ []) }
     ensures files { F.file shelf.new ≡ F.file shelf.old }
@@ -88,8 +90,8 @@ pub fn take_file<F: Shelf>(
 {
     match shelf.load(name.text()) {
         Ok(Some(bytes)) => take_bytes(alloc, roster, earlier, bytes.as_slice()),
-        Ok(None) => Ok(Taken::Refused(Refusal::Missing)),
-        Err(OutError::Failed) => Ok(Taken::Refused(Refusal::Missing)),
+        Ok(None) => Ok(TakenTrace::Refused(TraceRefusal::Missing)),
+        Err(OutError::Failed) => Ok(TakenTrace::Refused(TraceRefusal::Missing)),
         Err(OutError::Memory) => Err(Memory),
     }
 }
@@ -100,9 +102,9 @@ pub fn gather<F: Shelf>(
     shelf: &mut F,
     roster: &Roster,
     names: &[FileName],
-) -> Result<Gathered, Memory>
+) -> Result<GatheredTraces, Memory>
     requires { length names.now ≤ 4294967295 }
-    ensures gathered { IfOk result (IsGathered (F.tells shelf.old) (F.file shelf.old) (F.faults shelf.old < F.faults shelf.new) (F.faults shelf.new ≡ F.faults shelf.old) (loads F.Shelf shelf.old shelf.new) roster.now names.now) }
+    ensures gathered { IfOk result (HasGathered F.Shelf shelf.old shelf.new roster.now names.now) }
     ensures loads { (n : ℕ) × HasLoaded (loads F.Shelf shelf.old shelf.new) (take n names.now) }
     ensures files { F.file shelf.new ≡ F.file shelf.old }
     ensures stores { F.stores shelf.new ≡ F.stores shelf.old }
@@ -110,14 +112,14 @@ pub fn gather<F: Shelf>(
     let mut traces = Traces::new(alloc);
     for place in 0..names.len() {
         match take_file(alloc, shelf, roster, traces.as_slice(), &names[place])? {
-            Taken::Trace(trace) => traces.push(trace)?,
-            Taken::Refused(why) => {
-                return Ok(Gathered::Refused {
+            TakenTrace::Trace(trace) => traces.push(trace)?,
+            TakenTrace::Refused(why) => {
+                return Ok(GatheredTraces::Refused {
                     place: place as u32,
                     why,
                 });
             }
         }
     }
-    Ok(Gathered::Traces(traces))
+    Ok(GatheredTraces::Traces(traces))
 }

@@ -28,7 +28,7 @@ use Rattle.depot_laws.proofs.Groups.{from_rising}
 use Rattle.depot_schedule.specs.declared.event.HistoryWord.{HistoryWord}
 use Rattle.depot_schedule.specs.declared.event.HistoryWord.TheVariants as history_word
 use Rattle.depot_schedule.specs.declared.event.Ref.{Ref}
-use Rattle.depot_schedule.specs.Vocabulary.{first_or}
+use Rattle.depot_schedule.specs.EventWords.{first_or}
 use Rattle.depot_world.specs.Run.{Made, Run, made_in, bytes_of, signed_of, referred, plain_referred, id_referred}
 use Rattle.depot_world.specs.FaultySigning.{Text, no_reference, counted_bytes, all_of, prev_of, entries_of, history_by, with_history, drafted, each_once, text_of_values, update_text, updated, voucher_text, vouched_text, proof_by, proof_with, proof_text, hollow_text, flipped, flip_at}
 use Rattle.depot_world.proofs.OnlyBytes.{OnlyBytes, only_both, only_flat, only_sha256, only_zeros}

@@ -26,8 +26,8 @@ use Rattle.depot_model.specs.Texts.{hash_of_roster, id_of_update, text_of_roster
 use Rattle.depot_model.proofs.CheckpointLaws.{checkpoint_lawful}
 use Rattle.depot_model.proofs.Members.{from_map}
 use Rattle.depot_model.proofs.RisingUpdates.{by_id_length}
-use Rattle.depot_schedule.specs.PutKeys.{WriteNoReceipts}
-use Rattle.depot_schedule.proofs.KeyForms.{other_front}
+use Rattle.depot_lines.specs.PutKeys.{WriteNoReceipts}
+use Rattle.depot_lines.proofs.KeyForms.{other_front}
 use Rattle.depot_world.specs.Effects.{checkpoint_changes}
 use Rattle.depot_world.proofs.ByteOwn.{IsByteChange}
 use Rattle.depot_world.proofs.ByteTexts.{only_checkpoint, only_id}

@@ -12,7 +12,7 @@ use Rattle.depot_model.specs.Own.{next_own, values_of}
 use Rattle.depot_model.specs.Vouching.{records_of}
 use Rattle.depot_model.specs.World.{Correct}
 use Rattle.depot_model.proofs.FeedGrowth.{IsGrown, grown_none, feed_grows}
-use Rattle.depot_answers.specs.Answers.{text_of_limit, text_of_put}
+use Rattle.depot_answers.specs.AnswerTexts.{text_of_limit, text_of_put}
 use Rattle.depot_model.specs.Receipts.{NoReceipt, no_receipt, receipt_changes}
 use Rattle.depot_world.specs.Effects.{idle, grown, put_by, get_by, receipt_with, receipt_by, settled_by, checkpoint_changes, giving_unless, checkpoint_with, checkpoint_by, sign_with, sign_by, hello_by, bundle_with, bundle_by, give_by, restart_by}
 use Rattle.depot_world.specs.ScheduleStops.{Effect}

@@ -8,18 +8,19 @@ use Rattle.depot_base.specs.declared.write.Change.{Change}
 use Rattle.depot_model.specs.Changes.{AreChanges}
 use Rattle.depot_schedule.specs.declared.event.Event.{Event}
 use Rattle.depot_schedule.specs.declared.event.Event.TheVariants as event
-use Rattle.depot_schedule.specs.declared.changes.Keys.{Keys}
-use Rattle.depot_schedule.specs.declared.changes.Keys.TheVariants as keys
+use Rattle.depot_lines.specs.declared.changes.Keys.{Keys}
+use Rattle.depot_lines.specs.declared.changes.Keys.TheVariants as keys
 use Rattle.depot_schedule.specs.declared.event.HistoryWord.{HistoryWord}
 use Rattle.depot_schedule.specs.declared.event.HistoryWord.TheVariants as history_word
 use Rattle.depot_schedule.specs.declared.event.Ref.{Ref}
 use Rattle.depot_schedule.specs.declared.schedule.Schedule.{Schedule}
-use Rattle.depot_schedule.specs.EventLines.{put, puts, update, updates, raw, receipt}
-use Rattle.depot_schedule.specs.Language.{FitAll, FitsOption, nothing}
+use Rattle.depot_schedule.specs.EventLines.{put_line, puts_line, update_line, updates_line, raw_line, receipt_line}
+use Rattle.depot_lines.specs.Language.{FitAll, FitsOption, nothing}
 use Rattle.depot_schedule.specs.Schedules.{FitsEvent}
-use Rattle.depot_schedule.specs.Vocabulary.{key_by, value, raw_bytes, changes, FitsChange, FitsHistory}
-use Rattle.depot_schedule.specs.PutKeys.{WriteNoReceipts}
-use Rattle.depot_schedule.proofs.ChangeWords.{changes_are, one_is, put_no_receipt, puts_no_receipts}
+use Rattle.depot_lines.specs.Vocabulary.{key_by, value, raw_bytes, changes, FitsChange}
+use Rattle.depot_schedule.specs.EventWords.{FitsHistory}
+use Rattle.depot_lines.specs.PutKeys.{WriteNoReceipts}
+use Rattle.depot_lines.proofs.ChangeWords.{changes_are, one_is, put_no_receipt, puts_no_receipts}
 use Rattle.depot_world.proofs.ByteOwn.{IsByteChange}
 use Rattle.depot_world.proofs.OnlyBytes.{OnlyBytes, from_places}
 
@@ -74,28 +75,28 @@ history_is : (h : HistoryWord) → FitsHistory h → IsByteHistory h
 history_is history_word.Right fits = tt
 history_is (history_word.Given h) fits = from_places h fits.1
 
-put_is : (s : Schedule) (node : ℕ) (k v : List ℕ) → put.fits s (event.Put node k v) → AreByteChanges (one_change k v) × WriteNoReceipts (one_change k v)
-unfolding put
+put_is : (s : Schedule) (node : ℕ) (k v : List ℕ) → put_line.fits s (event.Put node k v) → AreByteChanges (one_change k v) × WriteNoReceipts (one_change k v)
+unfolding put_line
 put_is s node k v fits = (one_brings s keys.Put k v fits.1.0 fits.1.1.0, put_no_receipt s k v fits.1.0)
 
-update_is : (s : Schedule) (label : List ℕ) (writer seq clock : ℕ) (prev : _) (k v : List ℕ) (deps : _) (hash : HistoryWord) → update.fits s (event.Update label writer seq clock prev k v deps hash) → AreByteChanges (one_change k v) × IsByteHistory hash
-unfolding update
+update_is : (s : Schedule) (label : List ℕ) (writer seq clock : ℕ) (prev : _) (k v : List ℕ) (deps : _) (hash : HistoryWord) → update_line.fits s (event.Update label writer seq clock prev k v deps hash) → AreByteChanges (one_change k v) × IsByteHistory hash
+unfolding update_line
 update_is s label writer seq clock prev k v deps hash (of_label, (of_writer, (of_seq, (of_clock, (of_prev, (of_key, (of_value, (of_deps, (of_history, same))))))))) = (one_brings s keys.Any k v of_key of_value, history_is hash of_history)
 
-puts_is : (s : Schedule) (node : ℕ) (cs : List Change) → puts.fits s (event.Puts node cs) → AreByteChanges cs × WriteNoReceipts cs
-unfolding puts
+puts_is : (s : Schedule) (node : ℕ) (cs : List Change) → puts_line.fits s (event.Puts node cs) → AreByteChanges cs × WriteNoReceipts cs
+unfolding puts_line
 puts_is s node cs fits = (changes_bring keys.Put s cs fits.1.0, puts_no_receipts s cs fits.1.0)
 
-updates_is : (s : Schedule) (label : List ℕ) (writer seq clock : ℕ) (prev : _) (cs : List Change) (deps : _) (hash : HistoryWord) → updates.fits s (event.Updates label writer seq clock prev cs deps hash) → AreByteChanges cs × IsByteHistory hash
-unfolding updates
+updates_is : (s : Schedule) (label : List ℕ) (writer seq clock : ℕ) (prev : _) (cs : List Change) (deps : _) (hash : HistoryWord) → updates_line.fits s (event.Updates label writer seq clock prev cs deps hash) → AreByteChanges cs × IsByteHistory hash
+unfolding updates_line
 updates_is s label writer seq clock prev cs deps hash (of_label, (of_writer, (of_seq, (of_clock, (of_prev, (of_changes, (of_deps, (of_history, same)))))))) = (changes_bring keys.Any s cs of_changes, history_is hash of_history)
 
-raw_brings : (s : Schedule) (label bytes : List ℕ) → raw.fits s (event.Raw label bytes) → OnlyBytes bytes
-unfolding raw
+raw_brings : (s : Schedule) (label bytes : List ℕ) → raw_line.fits s (event.Raw label bytes) → OnlyBytes bytes
+unfolding raw_line
 raw_brings s label bytes fits = raw_is s bytes fits.1.0
 
-receipt_brings : (s : Schedule) (node : ℕ) (refs : List Ref) → receipt.fits s (event.Receipt node refs) → (1 ≤ length refs) × (length refs ≤ 16)
-unfolding receipt
+receipt_brings : (s : Schedule) (node : ℕ) (refs : List Ref) → receipt_line.fits s (event.Receipt node refs) → (1 ≤ length refs) × (length refs ≤ 16)
+unfolding receipt_line
 receipt_brings s node refs fits = let some : 0 < length refs = fits.1.0.0.0 in (omega (arith, some), leb-true _ _ fits.1.0.1)
 
 -- each event of a schedule

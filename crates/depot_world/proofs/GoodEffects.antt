@@ -33,7 +33,7 @@ use Rattle.depot_laws.proofs.LawfulFeeds.{feed_keeps}
 use Rattle.depot_laws.proofs.NewVouchers.{new_are_lawful}
 use Rattle.depot_laws.proofs.OwnTexts.{own_put_is_lawful}
 use Rattle.depot_laws.proofs.TrueReceipts.{silent_is_true, vouchers_put_none}
-use Rattle.depot_answers.specs.Answers.{text_of_limit, text_of_put}
+use Rattle.depot_answers.specs.AnswerTexts.{text_of_limit, text_of_put}
 use Rattle.depot_base.proofs.GeneralLaws.{all_both}
 use Rattle.depot_model.specs.ShownWrites.{shown_of}
 use Rattle.depot_world.specs.Effects.{idle, grown, put_by, read_of, get_by, hello_by, bundle_with, bundle_by, fed_by, give_by, restart_by, receipt_with, receipt_by, settled_by, checkpoint_changes, giving_unless, checkpoint_with, checkpoint_by, sign_with, sign_by}

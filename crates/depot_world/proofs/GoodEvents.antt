@@ -20,7 +20,7 @@ use Rattle.depot_schedule.specs.declared.event.Event.{Event}
 use Rattle.depot_schedule.specs.declared.event.Event.TheVariants as event
 use Rattle.depot_schedule.specs.declared.event.HistoryWord.{HistoryWord}
 use Rattle.depot_schedule.specs.declared.event.Ref.{Ref}
-use Rattle.depot_answers.specs.Answers.{spaced}
+use Rattle.depot_answers.specs.AnswerTexts.{spaced}
 use Rattle.depot_world.specs.Effects.{put_by, get_by, hello_by, bundle_by, give_by, restart_by, receipt_by, settled_by, checkpoint_by, sign_by}
 use Rattle.depot_world.specs.Run.{Host, Run, host_in, bytes_of, reader_in, put_reader, referred, seen_with, with_host}
 use Rattle.depot_world.specs.FaultySigning.{counted_bytes, no_reference, update_text, updated, vouched_text, proof_text, hollow_text, proof_in, flip_at, all_referred}

@@ -25,7 +25,7 @@ use Rattle.depot_model.proofs.Members.{in_map}
 use Rattle.depot_laws.proofs.Worlds.{body_hashed}
 use Rattle.depot_schedule.specs.declared.event.Event.TheVariants as event
 use Rattle.depot_schedule.specs.declared.schedule.Schedule.{Schedule}
-use Rattle.depot_schedule.specs.EventLines.{put, get}
+use Rattle.depot_schedule.specs.EventLines.{put_line, get_line}
 use Rattle.depot_schedule.specs.Schedules.{IsSchedule}
 use Rattle.depot_world.specs.Effects.{put_by, get_by}
 use Rattle.depot_model.specs.Insertion.{insert_by, order_by}
@@ -42,7 +42,7 @@ abbrev pub put_and_get : Schedule
 put_and_get = record { winter = false; height = 4; members = record { node = 1; correct = true } ∷ []; events = event.Put 1 (107 ∷ []) (97 ∷ []) ∷ event.Get 1 (107 ∷ []) ∷ [] }
 
 is_schedule : IsSchedule put_and_get
-unfolding put get receipt_of is_checkpoint_key
+unfolding put_line get_line receipt_of is_checkpoint_key
 is_schedule = record {
   low = omega arith;
   high = omega arith;

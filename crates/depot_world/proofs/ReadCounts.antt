@@ -19,7 +19,7 @@ use Rattle.depot_model.specs.Receipts.{NoReceipt, no_receipt, receipt_changes}
 use Rattle.depot_model.specs.Texts.{id_of_update}
 use Rattle.depot_model.specs.World.{Correct, Read}
 use Rattle.depot_model.specs.declared.judgement.JudgeError.{JudgeError}
-use Rattle.depot_answers.specs.Answers.{spaced, text_of_limit, text_of_put}
+use Rattle.depot_answers.specs.AnswerTexts.{spaced, text_of_limit, text_of_put}
 use Rattle.depot_schedule.specs.declared.event.Event.{Event}
 use Rattle.depot_schedule.specs.declared.event.Event.TheVariants as event
 use Rattle.depot_world.specs.Effects.{idle, grown, read_of, put_by, get_by, receipt_with, receipt_by, settled_by, checkpoint_changes, giving_unless, checkpoint_with, checkpoint_by, sign_with, sign_by, hello_by, bundle_with, bundle_by, give_by, restart_by}

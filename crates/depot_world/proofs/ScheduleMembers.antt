@@ -9,7 +9,7 @@ use Rattle.depot_model.proofs.Members.{all_at, all_from, any_from, in_left, in_l
 use Rattle.depot_schedule.specs.declared.member.Member.{Member}
 use Rattle.depot_schedule.specs.declared.schedule.Schedule.{Schedule}
 use Rattle.depot_schedule.specs.Schedules.{FitMembers, IsSchedule, has_correct, may_join, with_member, before_members, count_correct}
-use Rattle.depot_schedule.specs.Vocabulary.{is_declared}
+use Rattle.depot_schedule.specs.EventWords.{is_declared}
 
 abbrev pub nodes_of : List Member → List ℕ
 nodes_of ms = map (λ (m : Member). m.node) ms

@@ -11,7 +11,7 @@ use Rattle.depot_schedule.specs.declared.event.Event.{Event}
 use Rattle.depot_schedule.specs.declared.member.Member.{Member}
 use Rattle.depot_schedule.specs.declared.schedule.Schedule.{Schedule}
 use Rattle.depot_schedule.specs.Schedules.{IsSchedule, FitEvents, FitMembers, with_event, with_member, before_events, before_members, count_correct, has_correct, may_join}
-use Rattle.depot_schedule.specs.Vocabulary.{is_declared}
+use Rattle.depot_schedule.specs.EventWords.{is_declared}
 use Rattle.depot_world.specs.Audits.{IsSound}
 use Rattle.depot_world.specs.Run.{Host, fresh_host, run_of}
 use Rattle.depot_world.specs.Setups.{setup_of}

@@ -16,7 +16,7 @@ use Rattle.depot_model.specs.Own.{next_own, values_of}
 use Rattle.depot_model.specs.Receipts.{NoReceipt, receipt_changes, receipts, no_receipt}
 use Rattle.depot_model.specs.Vouching.{records_of}
 use Rattle.depot_model.specs.World.{Correct, Read}
-use Rattle.depot_answers.specs.Answers.{spaced, numbered, text_of_limit, text_of_no_receipt, name_of_settled, text_of_empty, text_of_many, text_of_unopened, text_of_put, text_of_write, text_of_records, text_of_named, text_of_counts, name_of_more, text_of_report, text_of_refusal}
+use Rattle.depot_answers.specs.AnswerTexts.{spaced, text_of_number, text_of_limit, text_of_no_receipt, name_of_settled, text_of_empty, text_of_many, text_of_unopened, text_of_put, text_of_write, text_of_records, text_of_named, text_of_counts, name_of_more, text_of_report, text_of_refused}
 use Rattle.depot_model.specs.ShownWrites.{shown_of}
 use Rattle.depot_world.specs.ScheduleStops.{Effect, calls_to_append}
 
@@ -107,7 +107,7 @@ hello_by here c = grown c c.journal (text_of_named (hello_of here c.journal)) (t
 -- what a node answers to the bytes of a hello
 abbrev pub bundle_with : Correct → BundleAnswer → Effect
 bundle_with c (bundled b) = grown c (c.journal ++ records_of b.vouchers) (text_of_counts b.counts ++ spaced (name_of_more b.more)) (bytes_of_bundle b)
-bundle_with c (bad_hello at) = idle c (numbered (codes "IllFormed") at)
+bundle_with c (bad_hello at) = idle c (text_of_number (codes "IllFormed") at)
 bundle_with c (other_roster given) = idle c (codes "OtherRoster")
 bundle_with c (limited limit) = idle c (text_of_limit limit)
 
@@ -121,7 +121,7 @@ fed_by c s = record {
   reads = c.reads;
   calls = calls_to_append (length s.journal - length c.journal);
   answer = spaced (text_of_report s);
-  behind = map text_of_refusal s.refused;
+  behind = map text_of_refused s.refused;
   bytes = [];
 }
 

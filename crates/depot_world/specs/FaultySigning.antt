@@ -31,7 +31,7 @@ use Rattle.depot_model.specs.Vouching.{rising}
 use Rattle.depot_schedule.specs.declared.event.HistoryWord.{HistoryWord}
 use Rattle.depot_schedule.specs.declared.event.HistoryWord.TheVariants as history
 use Rattle.depot_schedule.specs.declared.event.Ref.{Ref}
-use Rattle.depot_answers.specs.Answers.{spaced, numbered}
+use Rattle.depot_answers.specs.AnswerTexts.{spaced, text_of_number}
 use Rattle.depot_world.specs.Run.{Run, bytes_of, referred, id_referred, signed_of}
 use Rattle.depot_world.specs.Setups.{Setup}
 
@@ -122,7 +122,7 @@ updated sign run writer seq clock prev changes deps history =
 abbrev pub voucher_text : Signs → ℕ → ℕ → List (List ℕ) → Text
 voucher_text sign node seq ids =
     let s = signed_with sign (statement.Voucher (record { node = node; seq = seq; ids = ids })) in
-    record { bytes = text_of_frame (statement_frame s); signed = Some s; plain = false; answer = decimal node ++ codes "/" ++ decimal seq ++ spaced (numbered (codes "ids") (length ids)) }
+    record { bytes = text_of_frame (statement_frame s); signed = Some s; plain = false; answer = decimal node ++ codes "/" ++ decimal seq ++ spaced (text_of_number (codes "ids") (length ids)) }
 
 -- a voucher for what references name, if each names an update or plain bytes
 unfoldable pub vouched_text : Signs → Run → ℕ → ℕ → List Ref → Text

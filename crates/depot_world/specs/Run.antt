@@ -17,7 +17,7 @@ use Rattle.depot_model.specs.World.{World, Correct}
 use Rattle.depot_schedule.specs.declared.event.Ref.{Ref}
 use Rattle.depot_schedule.specs.declared.event.Ref.TheVariants as ref
 use Rattle.depot_schedule.specs.declared.member.Member.{Member}
-use Rattle.depot_schedule.specs.Vocabulary.{first_or}
+use Rattle.depot_schedule.specs.EventWords.{first_or}
 use Rattle.depot_world.specs.Setups.{Setup}
 
 -- ---- what a run keeps

@@ -2,7 +2,7 @@
 use Rattle.std.specs.Prelude.{ℕ, ◌+◌, ◌-◌, ◌*◌, ◌/◌, ◌%◌, List, [], ◌∷◌, ◌++◌, length, take, drop, ◌&&◌, ◌==◌, nat_le, Option, Some, None, codes, if◌then◌else◌}
 use Rattle.depot_base.specs.declared.record.Record.{Record}
 use Rattle.depot_model.specs.World.{Read}
-use Rattle.depot_answers.specs.Answers.{numbered}
+use Rattle.depot_answers.specs.AnswerTexts.{text_of_number}
 use Rattle.depot_world.specs.Run.{PendingStop, Host}
 
 -- An event of a node as it goes where no stop falls into it: the journal and the reads after it, how many calls it makes of the disk, what
@@ -49,7 +49,7 @@ result_by s pending d = record {
 abbrev pub stopped_with : Host → List Record → EventResult
 stopped_with s J = record {
   host = record { correct = record { node = s.correct.node; journal = J; reads = s.correct.reads }; pending = None };
-  answer = 32 ∷ numbered (codes "stopped records") (length J);
+  answer = 32 ∷ text_of_number (codes "stopped records") (length J);
   behind = [];
   bytes = [];
 }

@@ -16,14 +16,14 @@ use Rattle.depot_model.specs.Readers.{Reader, TrimAnswer, unopened, unsigned, re
 use Rattle.depot_model.specs.Texts.{id_of_update}
 use Rattle.depot_model.specs.Vouching.{rising}
 use Rattle.depot_model.specs.World.{World}
-use Rattle.depot_schedule.specs.Language.{join}
+use Rattle.depot_lines.specs.Language.{join}
 use Rattle.depot_schedule.specs.Schedules.{event_words}
 use Rattle.depot_schedule.specs.declared.event.Event.{Event}
 use Rattle.depot_schedule.specs.declared.event.Event.TheVariants as event
 use Rattle.depot_schedule.specs.declared.event.HistoryWord.{HistoryWord}
 use Rattle.depot_schedule.specs.declared.event.Ref.{Ref}
 use Rattle.depot_schedule.specs.declared.schedule.Schedule.{Schedule}
-use Rattle.depot_answers.specs.Answers.{spaced, text_of_finding, text_of_trim, text_of_reader_feed, text_of_write}
+use Rattle.depot_answers.specs.AnswerTexts.{spaced, text_of_finding, text_of_trim, text_of_reader_feed, text_of_write}
 use Rattle.depot_world.specs.Audits.{audited}
 use Rattle.depot_world.specs.Effects.{put_by, get_by, hello_by, bundle_by, give_by, restart_by, receipt_by, settled_by, checkpoint_by, sign_by}
 use Rattle.depot_world.specs.Run.{Run, Host, run_of, world_by, host_in, bytes_of, referred, reader_in, seen_with, with_label, with_reader, put_reader, with_host}

@@ -1,4 +1,4 @@
-use Rattle.depot_answers.specs.Answers.{text_of_check}
+use Rattle.depot_answers.specs.AnswerTexts.{text_of_check}
 use Rattle.depot_answers.proofs.checks.check.Goals as goal
 
 pub returns-in-UnknownWriter : goal.returns-in-UnknownWriter

@@ -1,5 +1,5 @@
 use Rattle.std.proofs.Common.{sym, ap, ◌∙◌}
-use Rattle.depot_schedule.specs.Language.{next}
+use Rattle.depot_lines.specs.Language.{next}
 use Rattle.depot_c.proofs.AskedChanges.{given, none_behind, none_read, read_word}
 use Rattle.depot_c.proofs.node_calls.changes_of.Goals as goal
 

@@ -1,5 +1,5 @@
 use Rattle.std.proofs.Common.{◌≡◌, ℕ, List, [], ◌++◌, codes, inl, inr, refl, sym, append-nil}
-use Rattle.depot_answers.specs.Answers.{text_of_faulty_line}
+use Rattle.depot_answers.specs.AnswerTexts.{text_of_faulty_line}
 use Rattle.depot_outside.specs.Told.{sinks}
 use Rattle.depot_cli.specs.Runs.{IsNoScript}
 use Rattle.depot_cli.specs.declared.status.Status.{Status}

@@ -1,5 +1,5 @@
 use Rattle.std.proofs.Common.{◌++◌, codes, inl, refl}
-use Rattle.depot_answers.specs.Answers.{text_of_faulty_line}
+use Rattle.depot_answers.specs.AnswerTexts.{text_of_faulty_line}
 use Rattle.depot_outside.specs.Told.{sinks}
 use Rattle.depot_cli.specs.Runs.{IsFrontOf, IsReplayed, ReplayOf}
 use Rattle.depot_cli.specs.declared.status.Status.TheVariants.{Input}

@@ -1,5 +1,5 @@
 use Rattle.std.proofs.Common.{◌≡◌, ◌++◌, length}
-use Rattle.depot_schedule.specs.Readers.{behind_spaces}
+use Rattle.depot_lines.specs.LineReading.{behind_spaces}
 use Rattle.depot_load.proofs.transcript_lines.behind_spaces.Given as goal
 
 abbrev pub decreases-loop-next : goal.decreases-loop-next

@@ -1,5 +1,5 @@
 use Rattle.std.proofs.Common.{◌≡◌, ◌++◌, length, map}
-use Rattle.depot_schedule.specs.Language.{split}
+use Rattle.depot_lines.specs.Language.{split}
 use Rattle.depot_load.specs.TranscriptLines.{told_of, told_lines_of}
 use Rattle.depot_load.proofs.transcript_lines.told_lines_of.Given as goal
 

@@ -1,5 +1,5 @@
 use Rattle.std.proofs.Common.{ℕ, List, [], ◌∷◌, ◌++◌, ap, ◌∙◌}
-use Rattle.depot_answers.specs.Answers.{text_of_no_receipt}
+use Rattle.depot_answers.specs.AnswerTexts.{text_of_no_receipt}
 use Rattle.depot_model.specs.Receipts.{unknown}
 use Rattle.depot_node_lines.proofs.receipts.unknown_line.Goals as goal
 

@@ -1,5 +1,5 @@
 use Rattle.std.proofs.Common.{◌≡◌, List, subst}
-use Rattle.depot_answers.specs.Sightings.{sighting_of}
+use Rattle.depot_answers.specs.Sightings.{sighting_of_seen}
 use Rattle.depot_base.specs.declared.update.Update.{Update}
 use Rattle.depot_model.specs.Items.{at}
 use Rattle.depot_model.specs.Texts.{id_of_update}
@@ -19,5 +19,5 @@ returns g c =
     let u = c.update.result.now in
     let has = subst (λ (us : List Update). at us c.args.item (λ t. id_of_update t ≡ c.id.result.now)) c.graph.ensures c.id.ensures in (
       u,
-      (c.update.ensures, is_answered _ J c.args.key.now c.id.result.now c.args.item u c.in_ok-shown.field-0 (sighting_of c.seen-seen.result) c.args.node.now.lawful has c.update.ensures (c.seen-seen.ensures J (c.value_of.ensures u c.update.ensures)) c.in_ok-shown.ensures),
+      (c.update.ensures, is_answered _ J c.args.key.now c.id.result.now c.args.item u c.in_ok-shown.field-0 (sighting_of_seen c.seen-seen.result) c.args.node.now.lawful has c.update.ensures (c.seen-seen.ensures J (c.value_of.ensures u c.update.ensures)) c.in_ok-shown.ensures),
     )

@@ -1,6 +1,7 @@
 use Rattle.std.proofs.Common.{◌≡◌, ◌++◌, take}
 use Rattle.std.specs.List.{flat_map}
-use Rattle.depot_schedule.specs.Schedules.{text_of_line, member_words}
+use Rattle.depot_lines.specs.LineTexts.{text_of_line}
+use Rattle.depot_schedule.specs.Schedules.{member_words}
 use Rattle.depot_schedule.proofs.print.member_lines.Given as goal
 
 abbrev pub invariant-loop-member : goal.invariant-loop-member

@@ -2,8 +2,9 @@ use Rattle.std.proofs.Common.{List, ◌++◌, ap, ◌∙◌}
 use Rattle.std.specs.List.{flat_map}
 use Rattle.depot_schedule.specs.declared.member.Member.{Member}
 use Rattle.depot_schedule.specs.declared.event.Event.{Event}
-use Rattle.depot_schedule.specs.Schedules.{text_of_line, member_words, event_words}
-use Rattle.depot_schedule.proofs.WrittenSteps.{schedule-written}
+use Rattle.depot_lines.specs.LineTexts.{text_of_line}
+use Rattle.depot_schedule.specs.Schedules.{member_words, event_words}
+use Rattle.depot_schedule.proofs.ScheduleSteps.{schedule-written}
 use Rattle.depot_schedule.proofs.print.print_schedule.Goals as goal
 
 pub returns : goal.returns

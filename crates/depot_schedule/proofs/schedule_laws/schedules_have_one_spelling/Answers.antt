@@ -1,4 +1,4 @@
-use Rattle.depot_schedule.proofs.ParseLaws.{text_of_read}
+use Rattle.depot_schedule.proofs.ScheduleLaws.{text_of_read}
 use Rattle.depot_schedule.proofs.schedule_laws.schedules_have_one_spelling.Goals as goal
 
 pub returns : goal.returns

@@ -1,6 +1,6 @@
 use Rattle.std.proofs.Common.{◌≡◌, ◌++◌, take}
 use Rattle.std.specs.List.{flat_map}
-use Rattle.depot_schedule.specs.Schedules.{text_of_line}
+use Rattle.depot_lines.specs.LineTexts.{text_of_line}
 use Rattle.depot_script.specs.Scripts.{command_words}
 use Rattle.depot_script.proofs.script_print.command_lines.Given as goal
 

@@ -1,5 +1,5 @@
 use Rattle.std.proofs.Common.{[], ◌∷◌, refl, ap, ◌∙◌, arith}
-use Rattle.depot_answers.specs.Answers.{spaced, text_of_named}
+use Rattle.depot_answers.specs.AnswerTexts.{spaced, text_of_named}
 use Rattle.depot_model.specs.declared.hello.Hello.{Hello}
 use Rattle.depot_model.specs.Hello.{text_of_hello}
 use Rattle.depot_outside.specs.Told.{shelves, sinks}

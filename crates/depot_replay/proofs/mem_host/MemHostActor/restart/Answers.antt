@@ -1,7 +1,7 @@
 use Rattle.std.proofs.Common.{◌≡◌, ℕ, List, [], length, refl, sym, ap, subst, ◌∙◌}
 use Rattle.std.specs.Prelude.{codes}
 use Rattle.std.proofs.lemmas.Result.{IfOk-at_ok}
-use Rattle.depot_answers.specs.Answers.{numbered, spaced}
+use Rattle.depot_answers.specs.AnswerTexts.{text_of_number, spaced}
 use Rattle.depot_base.specs.Calls.{calls_to_start}
 use Rattle.depot_base.specs.declared.record.Record.{Record}
 use Rattle.depot_model.specs.Bundle.{Signs}
@@ -67,7 +67,7 @@ returns-in-Ok g c =
     let x = started_on here s (state_of m.store.disk) n.store.records m.store.records begun c.in-Ok.ensures.records c.in-Ok.ensures.calls in
     let waits = sym (ap (λ (d : MemDisk). pending_of (state_of d).next) c.into_disk.ensures) in
     if_both _ _ _ c.told.result (λ t same is setup y mem_host.
-    let counted = IfOk-at_ok _ is c.counted_printed-printed.ensures.lines ∙ ap (λ (k : ℕ). ended (spaced (numbered (codes "records") k))) (c.record_count.ensures ∙ ap (λ (J : List Record). length J) x.same) in
+    let counted = IfOk-at_ok _ is c.counted_printed-printed.ensures.lines ∙ ap (λ (k : ℕ). ended (spaced (text_of_number (codes "records") k))) (c.record_count.ensures ∙ ap (λ (J : List Record). length J) x.same) in
     let none : t.bytes ≡ [] = IfOk-at_ok _ is c.counted_printed-printed.ensures.bytes in
     rw same (rw none (restart_came setup y _ _ s (state_of m.store.disk) (calls_to_start c.into_disk.result.file.bytes.items) t.lines mem_host waits begun.kept.to_come x.led (three_calls c.into_disk.result.file.bytes.items x.long)
     (record { here = refl; sign = refl; journal = x.same; pending_is = refl }) counted))) c.told.ensures.actor c.told.ensures.printed

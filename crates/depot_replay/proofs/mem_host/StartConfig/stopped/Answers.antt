@@ -1,7 +1,7 @@
 use Rattle.std.proofs.Common.{ℕ, refl, sym, ap, subst, ◌∙◌}
 use Rattle.std.specs.Prelude.{codes}
 use Rattle.std.proofs.lemmas.Result.{IfOk-at_ok}
-use Rattle.depot_answers.specs.Answers.{numbered, spaced}
+use Rattle.depot_answers.specs.AnswerTexts.{text_of_number, spaced}
 use Rattle.depot_world.specs.Transcript.{ended}
 use Rattle.depot_base.specs.Calls.{calls_to_start}
 use Rattle.depot_model.specs.Bundle.{Signs}
@@ -33,6 +33,6 @@ returns g c =
       sign_is = refl;
       journal = λ J begun. (started_on _ s u J c.in-Ok.node.store.records begun c.in-Ok.ensures.records c.in-Ok.ensures.calls).same;
       none_waits = λ none. none_waits_after s u (calls_to_start c.args.disk.file.bytes.items) x.led none;
-      line = IfOk-at_ok _ is c.counted_printed-printed.ensures.lines ∙ ap (λ (n : ℕ). ended (spaced (numbered (codes "stopped records") n))) c.record_count.ensures;
+      line = IfOk-at_ok _ is c.counted_printed-printed.ensures.lines ∙ ap (λ (n : ℕ). ended (spaced (text_of_number (codes "stopped records") n))) c.record_count.ensures;
       none = IfOk-at_ok _ is c.counted_printed-printed.ensures.bytes;
     })) c.told.ensures.actor c.told.ensures.printed

@@ -1,5 +1,5 @@
 use Rattle.std.proofs.Common.{sym, subst, arith}
-use Rattle.depot_schedule.specs.EventLines.{node_of}
+use Rattle.depot_schedule.specs.EventLines.{event_node}
 use Rattle.depot_scenario.specs.Labels.{AreLabels}
 use Rattle.depot_scenario.specs.declared.label_table.Labels.{Labels}
 use Rattle.depot_simulation.proofs.KeptReads.{tells_on}
@@ -9,19 +9,19 @@ use Rattle.depot_simulation.proofs.simulation.Simulation.act.Goals as goal
 pub come_back-requires-clause-place : goal.come_back-requires-clause-place
 come_back-requires-clause-place g c =
     let l = c.requires.left in
-    omega (arith, place_within _ g.A.Actor.view (node_of c.args.event.now) l.before c.args.self.now c.args.acting l.left, c.args.self.now.participants.ok.0)
+    omega (arith, place_within _ g.A.Actor.view (event_node c.args.event.now) l.before c.args.self.now c.args.acting l.left, c.args.self.now.participants.ok.0)
 
 pub come_back-requires-clause-seen : goal.come_back-requires-clause-seen
 come_back-requires-clause-seen g c =
     let l = c.requires.left in
     let p = l.played in
-    let i = left_is _ g.A.Actor.view g.A.Reader.Reading.reads p.setup p.run (node_of c.args.event.now) l.before c.args.self.now c.args.acting l.left p.at in
+    let i = left_is _ g.A.Actor.view g.A.Reader.Reading.reads p.setup p.run (event_node c.args.event.now) l.before c.args.self.now c.args.acting l.left p.at in
     let came = c.in_ok-actor.ensures p.setup p.run i.host i.labels_are i.hosted in
     effect_had_seen _ g.A.Actor.view g.A.Reader.Reading.reads p.setup p.run c.args.event.now c.args.self.now c.args.acting c.in_ok-actor.field-0.actor c.in_ok-actor.field-0.lines c.in_ok-actor.field-0.bytes i came
 
 pub returns : goal.returns
 returns g c = λ before left setup run at.
-    let i = left_is _ g.A.Actor.view g.A.Reader.Reading.reads setup run (node_of c.args.event.now) before c.args.self.now c.args.acting left at in
+    let i = left_is _ g.A.Actor.view g.A.Reader.Reading.reads setup run (event_node c.args.event.now) before c.args.self.now c.args.acting left at in
     let came = c.in_ok-actor.ensures setup run i.host i.labels_are i.hosted in
     let reads = c.note_read.new.reads in
     let noted = c.in_ok-note_read.ensures in

@@ -2,7 +2,7 @@ use Rattle.std.proofs.Common.{ℕ, ◌<◌, ◌≡◌, ◌^◌, true, Option, sy
 use Rattle.std.specs.Prelude.{IfSome}
 use Rattle.depot_base.specs.declared.update.Update.{Update}
 use Rattle.depot_graph.specs.Kept.{updates_in}
-use Rattle.depot_schedule.specs.Vocabulary.{is_declared}
+use Rattle.depot_schedule.specs.EventWords.{is_declared}
 use Rattle.depot_simulation.specs.Doing.{with_update}
 use Rattle.depot_simulation.specs.Drafts.{IsNumbered}
 use Rattle.depot_simulation.specs.Playing.{IsSimulationAt}

@@ -2,7 +2,7 @@ use Rattle.std.proofs.Common.{List, ℕ, refl, ap, sym, subst, ◌∙◌}
 use Rattle.std.specs.Prelude.{IfSome}
 use Rattle.depot_base.specs.declared.update.Update.{Update}
 use Rattle.depot_model.specs.Journal.{update_in}
-use Rattle.depot_schedule.specs.EventLines.{changes_in, node_of}
+use Rattle.depot_schedule.specs.EventLines.{event_changes, event_node}
 use Rattle.depot_world.specs.Setups.{signs_on}
 use Rattle.depot_world.specs.Transcript.{Done, done_by_text}
 use Rattle.depot_simulation.specs.Doing.{HasDone, signed_text, update_by, with_update}
@@ -19,7 +19,7 @@ returns g c = λ setup run on at.
     let text = c.in_ok-text.text in
     let after = record c.signed.new.self { labels = c.give.new.self } in
     let run_then = with_update run (update_by setup run e) in
-    let t = signed_text (signs_on setup (node_of e)) (changes_in e) (update_by setup run e) in
+    let t = signed_text (signs_on setup (event_node e)) (event_changes e) (update_by setup run e) in
     let at_then = c.in_ok-text.ensures.at setup run at in
     let were = subst (λ (us : List Update). IfSome text.signed (λ s. WereSeen us (update_in s.statement))) at_then.seen_are c.in_ok-text.ensures.were in
     let kept = kept_by run_then.seen text.signed c.in_ok-text.ensures.fits were in

@@ -1,0 +1,13 @@
+pub mod Splitting
+pub mod LanguageLaws
+pub mod NumberLaws
+pub mod HexWords
+pub mod KeyForms
+pub mod VocabularyLaws
+pub mod ChangeWords
+pub mod FileNameLaws
+pub mod LineTextLaws
+pub mod PartSteps
+pub mod DigitSteps
+pub mod GatherSteps
+pub mod WrittenSteps

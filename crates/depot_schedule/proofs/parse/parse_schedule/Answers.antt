@@ -1,8 +1,0 @@
-use Rattle.depot_schedule.proofs.ParseLaws.{found_is, only_is}
-use Rattle.depot_schedule.proofs.parse.parse_schedule.Goals as goal
-
-pub returns-clause-found : goal.returns-clause-found
-returns-clause-found c = found_is c.args.text.now c.all.result c.all.ensures
-
-pub returns-clause-only : goal.returns-clause-only
-returns-clause-only c = only_is c.args.text.now c.all.result c.all.ensures

@@ -1,9 +1,0 @@
--- The front is looked for, and behind it 32 bytes.
-use Rattle.depot_schedule.proofs.KeyForms.{other_checkpoint_front, behind_checkpoint_front}
-use Rattle.depot_schedule.proofs.spelling.is_checkpoint_key.Goals as goal
-
-pub returns-in-Some : goal.returns-in-Some
-returns-in-Some c = let e = c.in-Some.ensures.cases in behind_checkpoint_front c.args.key.now c.in-Some.hash.now e.0 e.1 e.2
-
-pub returns-in-None : goal.returns-in-None
-returns-in-None c = other_checkpoint_front c.args.key.now c.in-None.ensures.cases

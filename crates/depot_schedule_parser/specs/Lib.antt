@@ -1,0 +1,2 @@
+pub mod LabelTable
+pub mod ScheduleReading
