@@ -283,10 +283,6 @@ kept_took : {V : Type 0} (f : Format V) (m n : ℕ) → Lawful f m → (c : Curs
 unfolding inner
 kept_took f m n l c v d t = rw (t.parts, take_at (f.text v) d.rest n t.fits.1) refl
 
-inner_text : {V : Type 0} (f : Format V) (n : ℕ) (v : V) → (inner n f).text v ≡ f.text v
-unfolding inner
-inner_text f n v = refl
-
 kept_takes : {V : Type 0} (f : Format V) (m n : ℕ) → Lawful f m → (c : Cursor) (v : List ℕ × V) (d : Cursor) → IsBytes c.rest → (kept n f).read c ≡ Ok (v, d) → Took (kept n f) c v d
 unfolding inner
 kept_takes {V = V} f m n l c v d fits e =

@@ -7,7 +7,7 @@ use Rattle.depot_base.proofs.entry.entries_in.Goals as goal
 
 pub returns-in_err-item-clause-reads : goal.returns-in_err-item-clause-reads
 returns-in_err-item-clause-reads g c =
-    let p = err_from_is_err_and c.from_residual.result c.from_residual.ensures.1 in
+    let p = err_from_is_err_and c.from_residual-in_err-item.result c.from_residual-in_err-item.ensures.1 in
     rw (p.1, p.2) (failed (λ (v : Vec g.row.E.Denot Global). v.items) g.E.Entry.read (g.E.Entry.may_follow c.args.own) c.args.count c.loop.counter c.loop.list.items c.loop.fields c.in_err-item.field-0.0 _ c.read.new.fields c.loop-test.true c.in_err-item.ensures.reads c.loop.invariant.1)
 
 pub returns-then-not-may_follow-clause-reads : goal.returns-then-not-may_follow-clause-reads
