@@ -27,8 +27,8 @@ use std::alloc::Global;
 
 /// What a read shows of a write, as a trace tells it: a value is copied.
 fn shown(alloc: Global, seen: Seen<'_>) -> Result<Shown, Memory>
-    requires { IfHeld (sightings.sighting_of seen) IsValue }
-    ensures { IfOk result (λ shown. seen_traces.sighting_of shown ≡ sightings.sighting_of seen.entry) }
+    requires { IfHeld (sightings.sighting_of_seen seen) IsValue }
+    ensures { IfOk result (λ shown. seen_traces.sighting_of shown ≡ sightings.sighting_of_seen seen.entry) }
 {
     match seen {
         Seen::NotHeld => Ok(Shown::NotHeld),
