@@ -67,7 +67,7 @@ new_by_passing here J s found answer is =
 pub by_later_checks : (here : Setting) (J : List Record) (s : Signed) (r : Result Pass CheckError) → answer_to here J (given_statement s) ≡ answer_by false (failed_after_signature J s.statement) → IsCheckedAfterSignature J s r → IsChecked here J s r
 unfolding growth
 by_later_checks here J s (Ok pass.Known) answer is = absurd is
-by_later_checks here J s (Ok (pass.Update found items)) answer is = (is.0, new_by_passing here J s found answer is.1)
+by_later_checks here J s (Ok (pass.Update found behind)) answer is = (is.0, new_by_passing here J s found answer is.1)
 by_later_checks here J s (Ok pass.Voucher) answer is = (is.0, (is.1.0, new_by_passing here J s None answer is.1.1))
 by_later_checks here J s (Err failed.Memory) answer is = is
 by_later_checks here J s (Err (failed.Refused c found)) answer is =

@@ -29,6 +29,8 @@ use Rattle.depot_accept.specs.StateView.{View, IsStateOf}
 use Rattle.depot_accept.specs.CheckResults.{AreDue, IsUpdateBehind}
 use Rattle.depot_accept.specs.AfterSignature.{IsOpponent, failed_after_signature, Passes, IsCheckedAfterSignature}
 use Rattle.depot_accept.specs.declared.answer.CheckError.{CheckError}
+use Rattle.depot_accept.specs.declared.answer.Parents.{Parents}
+use Rattle.depot_graph.specs.UpdateRows.{IsJoinedRow}
 use Rattle.depot_accept.specs.declared.answer.CheckError.TheVariants as failed
 use Rattle.depot_accept.proofs.LaterChecks.{no_fork_convicted, fork_is_told, not_refused, not_refused_vouched, refused_update, refused_voucher, fails_as_fork, fails_as_convicted, fails_nowhere}
 
@@ -43,8 +45,13 @@ writer_convicted {S = S} J v w s n b seen st is e =
     ∙ sym e
 
 -- where the parents of an update stand
-pub behind_parents : {S : Type 0} (J : List Record) (w : View S) (s : Signed) (u : Update) (items : List ℕ) → s.statement ≡ statements.Update u → IsStateOf J w → AreItemsOf w.accepted (parents u) items → IsUpdateBehind J s items
-behind_parents J w s u items is st are = record { update = u; is = is; behind = subst (λ (us : List Update). AreItemsOf us (parents u) items) (sym st.accepted) are }
+pub behind_parents : {S : Type 0} (J : List Record) (w : View S) (s : Signed) (u : Update) (found : Parents) → s.statement ≡ statements.Update u → IsStateOf J w → AreItemsOf w.accepted (parents u) found.items.items → IsJoinedRow w.accepted found.items.items found.row.items → IsUpdateBehind J s found
+behind_parents J w s u found is st are joined = record {
+  update = u;
+  is = is;
+  behind = subst (λ (us : List Update). AreItemsOf us (parents u) found.items.items) (sym st.accepted) are;
+  joined = subst (λ (us : List Update). IsJoinedRow us found.items.items found.row.items) (sym st.accepted) joined;
+}
 
 -- whether someone vouched for an update
 pub update_vouched : {S : Type 0} (J : List Record) (v w : View S) (s : Statement) (u : Update) (id : List ℕ) (b : Bool) → v ≡ w → IsStateOf J w → s ≡ statements.Update u → id ≡ id_of_statement s → b ≡ is_among id v.vouched → is_vouched J s ≡ b

@@ -37,7 +37,7 @@ pub record Passes (J : List Record) (s : Signed) (found : Option Found) : Type 0
 -- what they make of a statement that is new, and was signed by another node of the roster
 abbrev pub IsCheckedAfterSignature : List Record → Signed → Result Pass CheckError → Type 0
 IsCheckedAfterSignature J s (Ok pass.Known) = ⊥
-IsCheckedAfterSignature J s (Ok (pass.Update found items)) = IsUpdateBehind J s items.items × Passes J s found
+IsCheckedAfterSignature J s (Ok (pass.Update found behind)) = IsUpdateBehind J s behind × Passes J s found
 IsCheckedAfterSignature J s (Ok pass.Voucher) = (v : Voucher) × ((s.statement ≡ statements.Voucher v) × Passes J s None)
 IsCheckedAfterSignature J s (Err failed.Memory) = (u : Update) × (s.statement ≡ statements.Update u)
 IsCheckedAfterSignature J s (Err (failed.Refused check found)) = (failed_after_signature J s.statement ≡ Some check) × AreDue J s found (exposed J (given_statement s) check)

@@ -1,5 +1,5 @@
 -- What a check answers.
-use Rattle.std.specs.Prelude.{◌≡◌, ℕ, List, [], ◌∷◌, ◌++◌, Option, Some, None, Result, Ok, Err, slice_get}
+use Rattle.std.specs.Prelude.{◌≡◌, List, [], ◌∷◌, ◌++◌, Option, Some, None, Result, Ok, Err, slice_get}
 use Rattle.depot_base.specs.declared.statement.Signed.{Signed}
 use Rattle.depot_base.specs.declared.statement.Statement.TheVariants as statements
 use Rattle.depot_base.specs.declared.update.Update.{Update}
@@ -13,6 +13,8 @@ use Rattle.depot_model.specs.Items.{AreItemsOf}
 use Rattle.depot_model.specs.Journal.{accepted, foreign}
 use Rattle.depot_model.specs.Order.{parents}
 use Rattle.depot_fork.specs.declared.Found.{Found}
+use Rattle.depot_graph.specs.UpdateRows.{IsJoinedRow}
+use Rattle.depot_accept.specs.declared.answer.Parents.{Parents}
 use Rattle.depot_accept.specs.declared.answer.Pass.{Pass}
 use Rattle.depot_accept.specs.declared.answer.Pass.TheVariants as pass
 use Rattle.depot_accept.specs.declared.answer.CheckError.{CheckError}
@@ -30,16 +32,17 @@ pub record IsNew (here : Setting) (J : List Record) (s : Signed) (found : Option
   pub grows : growth here J (given_statement s) ≡ due ++ Foreign s ∷ []
   pub by : AreDue J s found due
 
--- The statement is an update, and these are the items of its parents among the accepted updates.
-pub record IsUpdateBehind (J : List Record) (s : Signed) (items : List ℕ) : Type 0 where
+-- The statement is an update, and these are the items of its parents among the accepted updates, with their joined row.
+pub record IsUpdateBehind (J : List Record) (s : Signed) (found : Parents) : Type 0 where
   pub update : Update
   pub is : s.statement ≡ statements.Update update
-  pub behind : AreItemsOf (accepted J) (parents update) items
+  pub behind : AreItemsOf (accepted J) (parents update) found.items.items
+  pub joined : IsJoinedRow (accepted J) found.items.items found.row.items
 
 -- what a journal answers to a statement, and which conviction is due; Memory may stand in place of each answer to an update
 abbrev pub IsChecked : Setting → List Record → Signed → Result Pass CheckError → Type 0
 IsChecked here J s (Ok pass.Known) = answer_to here J (given_statement s) ≡ Ok Known
-IsChecked here J s (Ok (pass.Update found items)) = IsUpdateBehind J s items.items × IsNew here J s found
+IsChecked here J s (Ok (pass.Update found behind)) = IsUpdateBehind J s behind × IsNew here J s found
 IsChecked here J s (Ok pass.Voucher) = (v : Voucher) × ((s.statement ≡ statements.Voucher v) × IsNew here J s None)
 IsChecked here J s (Err failed.Memory) = (u : Update) × (s.statement ≡ statements.Update u)
 IsChecked here J s (Err (failed.Refused check found)) = (answer_to here J (given_statement s) ≡ Err check) × AreDue J s found (growth here J (given_statement s))

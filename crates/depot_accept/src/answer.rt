@@ -3,6 +3,16 @@
 use depot_base::Check;
 use depot_fork::Found;
 
+/// Where the parents of an update stand among the accepted updates.
+#[derive(Debug, Drop)]
+pub struct Parents {
+    /// Their items, that of the prev first.
+    pub items: Vec<u32>,
+    /// The joined row of these items: of each chain of the forest by prev, how many of its items are one of these or precede
+    /// one (`Graph::joined_row`).
+    pub row: Vec<u32>,
+}
+
 /// A statement that is taken.
 #[derive(Drop)]
 pub enum Pass {
@@ -11,8 +21,8 @@ pub enum Pass {
         /// The kept statement that it contradicts, where its writer isn't convicted yet: the conviction by that one is due
         /// before it.
         against: Option<Found>,
-        /// The items of its parents, that of its prev first.
-        parents: Vec<u32>,
+        /// The items of its parents, and their joined row, for `State::keep_row`.
+        parents: Parents,
     },
     /// A voucher that is new.
     Voucher,

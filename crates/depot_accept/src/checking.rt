@@ -7,10 +7,11 @@ ghost use Rattle.depot_base.specs.declared.statement.Statement.TheVariants as st
 ghost use Rattle.depot_base.specs.Statement.{writer_of};
 ghost use Rattle.depot_model.specs.Items.{AreItemsOf};
 ghost use Rattle.depot_model.specs.Lists.{first};
-ghost use Rattle.depot_model.specs.Order.{parents};
+ghost use Rattle.depot_model.specs.Order.{parents as parents_of};
 ghost use Rattle.depot_model.specs.Roster.{key_of, is_signed};
 ghost use Rattle.depot_model.specs.Texts.{IsSigned, IsStatement, id_of_statement};
 ghost use Rattle.depot_model.specs.Checks.{given_statement, is_kept, content_of, named_opponent, exposed};
+ghost use Rattle.depot_graph.specs.UpdateRows.{IsJoinedRow};
 ghost use Rattle.depot_accept.specs.StateView.{IsStateOf, setting};
 ghost use Rattle.depot_accept.specs.OwnVouchers.{has_body_of_voucher};
 ghost use Rattle.depot_accept.specs.Content.{TellsNoFork};
@@ -18,8 +19,8 @@ ghost use Rattle.depot_accept.specs.CheckResults.{IsChecked, AreDue};
 ghost use Rattle.depot_accept.specs.AfterSignature.{IsCheckedAfterSignature, IsOpponent};
 ghost use Rattle.depot_accept.specs.ToSignature.{IsCheckedToSignature};
 
-use crate::answer::{CheckError, Front, Pass};
-use crate::content::failed_content;
+use crate::answer::{CheckError, Front, Parents, Pass};
+use crate::content::{Content, check_content};
 use crate::state::State;
 use depot_base::{Check, Hash32, PublicKey, Signed, Statement, Update, Voucher};
 use depot_fork::Found;
@@ -28,10 +29,11 @@ use depot_model::{Past, Scheme};
 impl<S: Scheme> State<S> {
     /// What the journal whose state this is answers to a statement with this id: that it is new or known, or the first
     /// check that fails, and the kept statement by which the conviction of its writer is due, if one is. Of a new update it
-    /// also tells the items of the parents. Memory comes at updates alone. The state stays.
+    /// also tells the items of the parents, and their joined row. Memory comes at updates alone. The state stays.
     ///
     /// Its cost, of which no clause speaks: it verifies one signature at most, and none where a check before that one
-    /// answers; it searches each parent once; it hashes the past only where no check before that of the history fails.
+    /// answers; it searches each parent once; it joins their rows, once, and hashes the past only where no check before that of
+    /// the history fails.
     pub fn check(&self, signed: &Signed, id: &Hash32) -> Result<Pass, CheckError>
         requires text { IsSigned signed.now }
         requires id { id.now ≡ id_of_statement signed.now.statement }
@@ -105,29 +107,29 @@ impl<S: Scheme> State<S> {
         requires id { id.now ≡ id_of_statement signed.now.statement }
         ensures { (J : List Record) → IsStateOf J self.now → IsCheckedAfterSignature J signed.now result }
     {
-        let mut items = Vec::new(self.alloc);
-        match failed_content(self.alloc, &self.graph, update, &mut items) {
+        match check_content(self.alloc, &self.graph, update) {
             Err(_) => Err(CheckError::Memory),
-            Ok(Some(check)) => Err(CheckError::Refused {
+            Ok(Content::Failed(check)) => Err(CheckError::Refused {
                 check,
                 against: self.exposing_prev(signed, update, id, &check),
             }),
-            Ok(None) => self.check_fork(signed, update, id, items),
+            Ok(Content::Passed(parents)) => self.check_fork(signed, update, id, parents),
         }
     }
 
-    /// The same of an update of which no check of its content fails, and whose parents have these items.
+    /// The same of an update of which no check of its content fails, and whose parents stand here.
     fn check_fork(
         &self,
         signed: &Signed,
         update: &Update,
         id: &Hash32,
-        items: Vec<u32>,
+        parents: Parents,
     ) -> Result<Pass, CheckError>
         requires text { IsSigned signed.now }
         requires update { signed.now.statement ≡ statements.Update update.now }
         requires id { id.now ≡ id_of_statement signed.now.statement }
-        requires parents { AreItemsOf self.now.accepted (parents update.now) items.items }
+        requires parents { AreItemsOf self.now.accepted (parents_of update.now) parents.items.items }
+        requires row { IsJoinedRow self.now.accepted parents.items.items parents.row.items }
         ensures { (J : List Record) → IsStateOf J self.now → first (content_of J signed.now.statement) ≡ None → IsCheckedAfterSignature J signed.now result }
     {
         let is_vouched = self.vouched.is_vouched(id);
@@ -135,7 +137,7 @@ impl<S: Scheme> State<S> {
             if is_vouched {
                 return Ok(Pass::Update {
                     against: None,
-                    parents: items,
+                    parents,
                 });
             }
             return Err(refused(Check::Convicted(update.writer)));
@@ -144,14 +146,14 @@ impl<S: Scheme> State<S> {
         if is_vouched {
             return Ok(Pass::Update {
                 against: found,
-                parents: items,
+                parents,
             });
         }
         match found {
             Some(found) => Err(self.forked(id, found)),
             None => Ok(Pass::Update {
                 against: None,
-                parents: items,
+                parents,
             }),
         }
     }

@@ -7,17 +7,28 @@ ghost use Rattle.std.specs.List.{flat_map, AllByRecursion};
 ghost use Rattle.std.specs.Option.{option_copied, option_to_list};
 ghost use Rattle.depot_base.specs.declared.limits.TheConstants.{MOST_ENTRIES};
 ghost use Rattle.depot_model.specs.Lists.{first};
-ghost use Rattle.depot_model.specs.Order.{prevs, parents};
+ghost use Rattle.depot_model.specs.Order.{prevs, parents as parents_of};
 ghost use Rattle.depot_model.specs.Journal.{named, prev_of};
 ghost use Rattle.depot_model.specs.Items.{place_of_id, updates_at, places_of, AreItemsOf};
-ghost use Rattle.depot_model.specs.Checks.{sight, content_checks, lost, missing, wrong_prev, wrong_entry, wrong_entries, wrong_dep, behind, backward, not_above, clock_low, greatest_of, clock_far, bad_history};
-ghost use Rattle.depot_accept.specs.Content.{checks_of_parents};
+ghost use Rattle.depot_model.specs.Checks.{sight, lost, missing, wrong_prev, wrong_entry, wrong_entries, wrong_dep, behind, backward, not_above, clock_low, greatest_of, clock_far, bad_history};
+ghost use Rattle.depot_graph.specs.UpdateRows.{IsJoinedRow};
+ghost use Rattle.depot_accept.specs.Content.{checks_of_parents, IsContentOf};
 
+use crate::answer::Parents;
 use depot_base::limits::MOST_AHEAD;
 use depot_base::{Check, Dep, Hash32, Memory, Update};
-use depot_graph::{Graph, history_hash};
+use depot_graph::{Graph, history_of_row};
 use depot_model::Past;
 use std::alloc::Global;
+
+/// What the checks of an update's content come to.
+#[derive(Drop)]
+pub(crate) enum Content {
+    /// The first of them that fails.
+    Failed(Check),
+    /// None of them fails, and the parents stand here.
+    Passed(Parents),
+}
 
 /// Looks a parent up, and puts its item behind these. The check that the parent is accepted.
 fn find_parent<P: Past>(
@@ -76,7 +87,7 @@ fn find_parents<P: Past>(
 ) -> Result<Option<Check>, Memory>
     requires { items.old.items ≡ [] }
     ensures first { IfOk result (λ failed. failed ≡ missing update.now (sight (P.updates past.now) update.now)) }
-    ensures places { result ≡ Ok None → AreItemsOf (P.updates past.now) (parents update.now) items.new.items }
+    ensures places { result ≡ Ok None → AreItemsOf (P.updates past.now) (parents_of update.now) items.new.items }
 {
     if let Some(check) = find_prev(past, update, items)? {
         return Ok(Some(check));
@@ -86,7 +97,7 @@ fn find_parents<P: Past>(
 
 /// The prev of an update whose parents have these items, if one is named.
 fn prev_of<'p, P: Past>(past: &'p P, update: &Update, items: &[u32]) -> Option<&'p Update>
-    requires { AreItemsOf (P.updates past.now) (parents update.now) items.now }
+    requires { AreItemsOf (P.updates past.now) (parents_of update.now) items.now }
     ensures { option_copied result ≡ prev_of (P.updates past.now) update.now.prev }
 {
     if update.prev.is_zeros() {
@@ -134,7 +145,7 @@ fn wrong_entries<P: Past>(past: &P, deps: &[Dep], items: &[u32]) -> Option<Check
 /// names.
 fn wrong_dep<P: Past>(past: &P, update: &Update, items: &[u32]) -> Option<Check>
     requires few { length update.now.deps < u32.MAX }
-    requires places { AreItemsOf (P.updates past.now) (parents update.now) items.now }
+    requires places { AreItemsOf (P.updates past.now) (parents_of update.now) items.now }
     ensures { result ≡ wrong_dep update.now (sight (P.updates past.now) update.now) }
 {
     match wrong_prev(update, prev_of(past, update, items)) {
@@ -160,7 +171,7 @@ fn behind(update: &Update, prev: Option<&Update>) -> Option<Check>
 
 /// The check that the clock is above that of each parent: the prev, and then the entries.
 fn clock_low<P: Past>(past: &P, update: &Update, items: &[u32]) -> Option<Check>
-    requires { AreItemsOf (P.updates past.now) (parents update.now) items.now }
+    requires { AreItemsOf (P.updates past.now) (parents_of update.now) items.now }
     ensures { result ≡ clock_low update.now (sight (P.updates past.now) update.now) }
 {
     for item in items {
@@ -185,7 +196,7 @@ fn greatest_clock<P: Past>(past: &P, items: &[u32]) -> u64
 
 /// The check that the clock isn't too far above the greatest of the parents.
 fn clock_far<P: Past>(past: &P, update: &Update, items: &[u32]) -> Option<Check>
-    requires { AreItemsOf (P.updates past.now) (parents update.now) items.now }
+    requires { AreItemsOf (P.updates past.now) (parents_of update.now) items.now }
     ensures { result ≡ clock_far update.now (sight (P.updates past.now) update.now) }
 {
     let greatest = greatest_clock(past, items);
@@ -198,7 +209,7 @@ fn clock_far<P: Past>(past: &P, update: &Update, items: &[u32]) -> Option<Check>
 /// The first check that fails of those of the parents and of the clock.
 fn failed_by_parents<P: Past>(past: &P, update: &Update, items: &[u32]) -> Option<Check>
     requires few { length update.now.deps < u32.MAX }
-    requires places { AreItemsOf (P.updates past.now) (parents update.now) items.now }
+    requires places { AreItemsOf (P.updates past.now) (parents_of update.now) items.now }
     ensures { result ≡ first (checks_of_parents update.now (sight (P.updates past.now) update.now)) }
 {
     if let Some(check) = wrong_dep(past, update, items) {
@@ -218,12 +229,13 @@ fn bad_history(
     alloc: Global,
     graph: &Graph,
     update: &Update,
-    items: &[u32],
+    parents: &Parents,
 ) -> Result<Option<Check>, Memory>
-    requires { AreItemsOf (⟦<Graph as Past>⟧.updates graph.now) (parents update.now) items.now }
+    requires items { AreItemsOf (⟦<Graph as Past>⟧.updates graph.now) (parents_of update.now) parents.now.items.items }
+    requires row { IsJoinedRow (⟦<Graph as Past>⟧.updates graph.now) parents.now.items.items parents.now.row.items }
     ensures { IfOk result (λ failed. failed ≡ bad_history update.now (sight (⟦<Graph as Past>⟧.updates graph.now) update.now)) }
 {
-    let right = history_hash(alloc, graph, items)?;
+    let right = history_of_row(alloc, graph, parents.row.as_slice())?;
     if update.history != right {
         return Ok(Some(Check::BadHistory {
             given: update.history,
@@ -233,24 +245,27 @@ fn bad_history(
     Ok(None)
 }
 
-/// The first check of an update's content that fails among the accepted updates, and None where none does: then the items of
-/// its parents stand in the list, which is given empty. The past is hashed only where all checks before it hold.
-pub(crate) fn failed_content(
+/// The checks of an update's content among the accepted updates: the first that fails, or, where none does, where its parents
+/// stand. Their rows are joined and the past is hashed only where all checks before that of the history hold.
+pub(crate) fn check_content(
     alloc: Global,
     graph: &Graph,
     update: &Update,
-    items: &mut Vec<u32>,
-) -> Result<Option<Check>, Memory>
-    requires few { length update.now.deps ≤ MOST_ENTRIES }
-    requires empty { items.old.items ≡ [] }
-    ensures first { IfOk result (λ failed. failed ≡ first (content_checks update.now (sight (⟦<Graph as Past>⟧.updates graph.now) update.now))) }
-    ensures parents { result ≡ Ok None → AreItemsOf (⟦<Graph as Past>⟧.updates graph.now) (parents update.now) items.new.items }
+) -> Result<Content, Memory>
+    requires { length update.now.deps ≤ MOST_ENTRIES }
+    ensures { IfOk result (IsContentOf (⟦<Graph as Past>⟧.updates graph.now) update.now) }
 {
-    if let Some(check) = find_parents(graph, update, items)? {
-        return Ok(Some(check));
+    let mut items = Vec::new(alloc);
+    if let Some(check) = find_parents(graph, update, &mut items)? {
+        return Ok(Content::Failed(check));
     }
     if let Some(check) = failed_by_parents(graph, update, items.as_slice()) {
-        return Ok(Some(check));
+        return Ok(Content::Failed(check));
     }
-    bad_history(alloc, graph, update, items.as_slice())
+    let row = graph.joined_row(items.as_slice())?;
+    let parents = Parents { items, row };
+    match bad_history(alloc, graph, update, &parents)? {
+        Some(check) => Ok(Content::Failed(check)),
+        None => Ok(Content::Passed(parents)),
+    }
 }

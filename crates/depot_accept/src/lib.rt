@@ -10,7 +10,9 @@
 //! conviction of its writer is due, if one is. Its two halves, up to the signature and after it, are calls of their own, for one
 //! who asks something between them. `checking.rt` has the order, `content.rt` the checks of an update's content.
 //! A new update comes with the items of its parents, which `add_foreign`, `add_own` and `add_accepted` take, so that they aren't
-//! searched again. These and `convict` make it the state of the journal with one record more; what fails changes nothing.
+//! searched again; and with their joined row, which `keep_row` takes before these, so that it isn't joined again. These and
+//! `convict` make it the state of the journal with one record more; what fails changes nothing. `keep_row` changes nothing that
+//! is seen.
 //! `reserve_vouchers` finds memory, and changes nothing but the room (`IsAsBefore`). A conviction may also come behind the
 //! statement that it was due before (`convictions_may_come_late`).
 //!
@@ -25,6 +27,6 @@ mod content;
 mod state;
 
 pub use accept_laws::convictions_may_come_late;
-pub use answer::{CheckError, Front, Pass};
+pub use answer::{CheckError, Front, Parents, Pass};
 pub use depot_fork::Found;
 pub use state::State;

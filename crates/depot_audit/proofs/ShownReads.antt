@@ -31,12 +31,9 @@ use Rattle.depot_model.proofs.LatestWrites.{latest_are_listed}
 use Rattle.depot_laws.proofs.Causes.{lawful_is_causal}
 use Rattle.depot_traces.specs.SeenTraces.{answered_of, sighting_of}
 use Rattle.depot_traces.specs.declared.trace.Answered.{Answered}
+use Rattle.depot_audit.specs.Shows.{told_of}
 
 -- ---- one write
-
--- what an answer tells of an update
-abbrev pub told_of : List Record → List ℕ → Update → traces.Answered
-told_of J key u = answered (record { update = u; seen = seen_under J key u })
 
 -- of a write that says this
 seen_of : (J : List Record) (key : List ℕ) (u : Update) (what : Wrote) → Some what ≡ wrote_under key u.writes → seen_under J key u ≡ seen_as J what

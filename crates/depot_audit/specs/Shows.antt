@@ -1,10 +1,16 @@
 -- A read that lists what records show.
-use Rattle.std.specs.Prelude.{◌≡◌, List, length, map}
+use Rattle.std.specs.Prelude.{◌≡◌, ℕ, List, length, map}
 use Rattle.depot_base.specs.declared.record.Record.{Record}
+use Rattle.depot_base.specs.declared.update.Update.{Update}
+use Rattle.depot_model.specs.Journal.{seen_under}
 use Rattle.depot_model.specs.ShownWrites.{shown_of}
-use Rattle.depot_model.specs.Traces.{ReadTrace, answered}
+use Rattle.depot_model.specs.Traces.{Answered, ReadTrace, answered}
 
 -- it was made at all these records, and lists what they show
 pub record IsShown (J : List Record) (r : ReadTrace) : Type 0 where
   pub all : r.length ≡ length J
   pub answer : r.answer ≡ map answered (shown_of J r.key)
+
+-- what a read is to tell of an accepted update's write of a key
+abbrev pub told_of : List Record → List ℕ → Update → Answered
+told_of J key u = answered (record { update = u; seen = seen_under J key u })

@@ -18,7 +18,7 @@ mod shows;
 mod traces_audit;
 mod turn_laws;
 
-pub use depot_node::{PlaceFault, check_records};
+pub use depot_decide::{PlaceFault, check_records};
 pub use depot_traces::{
     Answered, Finding, Listing, MOST_READS, MOST_TRACES, Op, ReadTrace, Reads, Shown, Trace,
     TraceError, Traces, decode_trace, encode_trace,

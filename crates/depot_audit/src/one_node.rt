@@ -1,7 +1,5 @@
 //! One node: its records are taken one behind the other, and its reads held against them as they come.
-ghost use Rattle.std.specs.Prelude.{◌≡◌, ◌+◌, ◌<◌, ◌≤◌, ◌↔◌, [], false, length, map, IfOk, IsTrue};
-ghost use Rattle.depot_model.specs.Lawful.{IsLawful};
-ghost use Rattle.depot_store.specs.Holdings.{standing, IsWhole};
+ghost use Rattle.std.specs.Prelude.{◌≡◌, ◌+◌, ◌<◌, ◌≤◌, ◌↔◌, [], length, map, IfOk, IsTrue};
 ghost use Rattle.depot_traces.specs.SeenTraces.{read_of, trace_of};
 ghost use Rattle.depot_traces.specs.declared.trace.TheConstants.{MOST_READS};
 ghost use Rattle.depot_audit.specs.OneNode.{AreRightUpTo, IsNodeAnswer};
@@ -9,11 +7,10 @@ ghost use Rattle.depot_audit.specs.Shows.{IsShown};
 
 use crate::shows::shows;
 use depot_base::{Bytes, Memory};
+use depot_decide::{PlaceFault, ReadError, no_records, take_text};
 use depot_model::Scheme;
-use depot_node::{PlaceFault, ReadError, take_text, unwritten_store};
-use depot_outside::Nowhere;
+use depot_readings::Readings;
 use depot_sign::Roster;
-use depot_store::Store;
 use depot_traces::{ReadTrace, Trace};
 use std::alloc::Global;
 
@@ -38,42 +35,41 @@ pub fn look_at<S: Scheme>(
     requires { length trace.now.reads ≤ MOST_READS }
     ensures { IfOk result (IsNodeAnswer S.verifies roster.now (trace_of trace.now)) }
 {
-    let mut store = unwritten_store(alloc, trace.node, roster, scheme)?;
+    let mut readings = no_records(alloc, trace.node, roster, scheme)?;
     let found = take_trace(
         alloc,
-        &mut store,
+        &mut readings,
         trace.texts.as_slice(),
         trace.reads.as_slice(),
     );
-    drop(store);
+    drop(readings);
     found
 }
 
 /// Takes the records of texts, up to the first that has a fault, and holds reads against them as they come.
 fn take_trace<S: Scheme>(
     alloc: Global,
-    store: &mut Store<Nowhere, S>,
+    readings: &mut Readings<S>,
     texts: &[Bytes],
     reads: &[ReadTrace],
 ) -> Result<NodeAnswer, Memory>
-    requires whole { IsWhole store.old }
-    requires none { store.old.records ≡ [] }
+    requires none { readings.old.records ≡ [] }
     requires few { length reads.now ≤ MOST_READS }
-    ensures { IfOk result (IsNodeAnswer S.verifies store.old.listed (record { node = store.old.me; texts = texts.now; reads = map read_of reads.now })) }
+    ensures { IfOk result (IsNodeAnswer S.verifies readings.old.listed (record { node = readings.old.me; texts = texts.now; reads = map read_of reads.now })) }
 {
     let mut right = 0;
     for text in texts {
-        match take_text(alloc, store, text.as_slice()) {
+        match take_text(alloc, readings, text.as_slice()) {
             Ok(()) => {}
             Err(ReadError::Memory) => return Err(Memory),
             Err(ReadError::Fault(fault)) => {
                 return Ok(NodeAnswer::Unlawful(PlaceFault {
-                    place: store.count(),
+                    place: readings.count(),
                     fault,
                 }));
             }
         }
-        right = right_reads(store, reads, right);
+        right = right_reads(readings, reads, right);
     }
     if right < reads.len() {
         return Ok(NodeAnswer::WrongRead(right as u32));
@@ -81,27 +77,23 @@ fn take_trace<S: Scheme>(
     Ok(NodeAnswer::Right)
 }
 
-/// How many reads are what the records of a store showed, where so many are that were made at fewer.
-fn right_reads<S: Scheme>(store: &Store<Nowhere, S>, reads: &[ReadTrace], right: usize) -> usize
-    requires runs { store.now.stopped ≡ false }
-    requires lawful { IsLawful (standing S.verifies store.now) store.now.records }
-    requires some { 0 < length store.now.records }
-    requires right { AreRightUpTo (length store.now.records) store.now.records (map read_of reads.now) right }
-    ensures { AreRightUpTo (length store.now.records + 1) store.now.records (map read_of reads.now) result }
+/// How many reads are what the records showed that were read, where so many are that were made at fewer.
+fn right_reads<S: Scheme>(readings: &Readings<S>, reads: &[ReadTrace], right: usize) -> usize
+    requires some { 0 < length readings.now.records }
+    requires right { AreRightUpTo (length readings.now.records) readings.now.records (map read_of reads.now) right }
+    ensures { AreRightUpTo (length readings.now.records + 1) readings.now.records (map read_of reads.now) result }
 {
     for place in right..reads.len() {
-        if !is_shown(store, &reads[place]) {
+        if !is_shown(readings, &reads[place]) {
             return place;
         }
     }
     reads.len()
 }
 
-/// Whether a read was made at all records of a store, and lists what they show.
-fn is_shown<S: Scheme>(store: &Store<Nowhere, S>, read: &ReadTrace) -> bool
-    requires runs { store.now.stopped ≡ false }
-    requires lawful { IsLawful (standing S.verifies store.now) store.now.records }
-    ensures { IsTrue result ↔ IsShown store.now.records (read_of read.now) }
+/// Whether a read was made at all records that were read, and lists what they show.
+fn is_shown<S: Scheme>(readings: &Readings<S>, read: &ReadTrace) -> bool
+    ensures { IsTrue result ↔ IsShown readings.now.records (read_of read.now) }
 {
-    read.length == store.count() && shows(store, read)
+    read.length == readings.count() && shows(readings, read)
 }

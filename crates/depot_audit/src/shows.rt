@@ -1,36 +1,31 @@
-//! Whether a read is what the records of a store show.
-ghost use Rattle.std.specs.Prelude.{◌≡◌, ◌↔◌, ◌<◌, false, length, map, IsTrue, Some, slice_get};
+//! Whether a read is what the records show.
+ghost use Rattle.std.specs.Prelude.{◌≡◌, ◌↔◌, ◌<◌, length, map, IsTrue, Some, slice_get};
 ghost use Rattle.std.specs.Option.{option_map_or};
 ghost use Rattle.depot_base.specs.declared.update.Update.{Update};
 ghost use Rattle.depot_model.specs.Contents.{gone, held_value, not_held};
 ghost use Rattle.depot_model.specs.Journal.{accepted, held_as, seen_under};
-ghost use Rattle.depot_model.specs.Lawful.{IsLawful};
 ghost use Rattle.depot_model.specs.ShownWrites.{shown_of};
 ghost use Rattle.depot_model.specs.Traces.{answered};
-ghost use Rattle.depot_store.specs.Holdings.{standing};
+ghost use Rattle.depot_audit.specs.Shows.{told_of};
 ghost use Rattle.depot_traces.specs.SeenTraces.{answered_of, sighting_of};
 
 use depot_base::{Key, NamedValue, Update};
 use depot_model::{Past, Scheme};
-use depot_node::held_as;
-use depot_outside::Nowhere;
-use depot_store::Store;
+use depot_queries::held_as;
+use depot_readings::Readings;
 use depot_traces::{Answered, ReadTrace, Shown};
 
-/// Whether a read lists just the latest writes of its key among what the records of a store accepted, each as they show it. It takes
-/// no memory.
-pub fn shows<S: Scheme>(store: &Store<Nowhere, S>, read: &ReadTrace) -> bool
-    requires runs { store.now.stopped ≡ false }
-    requires lawful { IsLawful (standing S.verifies store.now) store.now.records }
-    ensures { IsTrue result ↔ (map answered_of read.now.answer ≡ map answered (shown_of store.now.records read.now.key)) }
+/// Whether a read lists just the latest writes of its key among what the records accepted, each as they show it. It takes no memory.
+pub fn shows<S: Scheme>(readings: &Readings<S>, read: &ReadTrace) -> bool
+    ensures { IsTrue result ↔ (map answered_of read.now.answer ≡ map answered (shown_of readings.now.records read.now.key)) }
 {
-    let items = store.state().graph().latest(&read.key);
+    let items = readings.state().graph().latest(&read.key);
     let answer = read.answer.as_slice();
     for place in 0..answer.len() {
         let Some(item) = items.get(place) else {
             return false;
         };
-        if !is_told(store, &read.key, *item, &answer[place]) {
+        if !is_told(readings, &read.key, *item, &answer[place]) {
             return false;
         }
     }
@@ -38,19 +33,17 @@ pub fn shows<S: Scheme>(store: &Store<Nowhere, S>, read: &ReadTrace) -> bool
 }
 
 /// Whether a write that a read listed is that of an item, and shown as the records show it.
-fn is_told<S: Scheme>(store: &Store<Nowhere, S>, key: &Key, item: u32, told: &Answered) -> bool
-    requires runs { store.now.stopped ≡ false }
-    requires item { item < length (accepted store.now.records) }
-    ensures { (u : Update) → slice_get (accepted store.now.records) item ≡ Some u → IsTrue result ↔ (answered_of told.now ≡ answered (record { update = u; seen = seen_under store.now.records key.now u })) }
+fn is_told<S: Scheme>(readings: &Readings<S>, key: &Key, item: u32, told: &Answered) -> bool
+    requires item { item < length (accepted readings.now.records) }
+    ensures { (u : Update) → slice_get (accepted readings.now.records) item ≡ Some u → IsTrue result ↔ (answered_of told.now ≡ told_of readings.now.records key.now u) }
 {
-    let graph = store.state().graph();
-    *graph.id(item) == told.id && is_seen(store, key, graph.update(item), &told.shown)
+    let graph = readings.state().graph();
+    *graph.id(item) == told.id && is_seen(readings, key, graph.update(item), &told.shown)
 }
 
 /// Whether a read shows of an update's write of a key what the records show.
-fn is_seen<S: Scheme>(store: &Store<Nowhere, S>, key: &Key, update: &Update, shown: &Shown) -> bool
-    requires { store.now.stopped ≡ false }
-    ensures { IsTrue result ↔ (sighting_of shown.now ≡ seen_under store.now.records key.now update.now) }
+fn is_seen<S: Scheme>(readings: &Readings<S>, key: &Key, update: &Update, shown: &Shown) -> bool
+    ensures { IsTrue result ↔ (sighting_of shown.now ≡ seen_under readings.now.records key.now update.now) }
 {
     let Some(wrote) = update.wrote(key.bytes()) else {
         return is_not_held(shown);
@@ -58,15 +51,14 @@ fn is_seen<S: Scheme>(store: &Store<Nowhere, S>, key: &Key, update: &Update, sho
     let Some(name) = wrote.named() else {
         return is_gone(shown);
     };
-    is_held(store, &name, shown)
+    is_held(readings, &name, shown)
 }
 
 /// Whether a read shows the held value of a name, or, where none is held, that it isn't.
-fn is_held<S: Scheme>(store: &Store<Nowhere, S>, name: &NamedValue, shown: &Shown) -> bool
-    requires { store.now.stopped ≡ false }
-    ensures { IsTrue result ↔ (sighting_of shown.now ≡ option_map_or held_value (held_as store.now.records name.now) not_held) }
+fn is_held<S: Scheme>(readings: &Readings<S>, name: &NamedValue, shown: &Shown) -> bool
+    ensures { IsTrue result ↔ (sighting_of shown.now ≡ option_map_or held_value (held_as readings.now.records name.now) not_held) }
 {
-    match held_as(store, name) {
+    match held_as(readings, name) {
         Some(value) => is_value(shown, value),
         None => is_not_held(shown),
     }

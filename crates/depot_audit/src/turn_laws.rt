@@ -10,6 +10,6 @@ ghost use Rattle.depot_audit.specs.InTurn.{IsTurnOf};
 
 /// What is found of nodes in turn, in rising order, is the finding of their traces. Where nothing is, the traces make a world.
 pub fn turns_are_findings()
-    ensures found { (verifies : Verifies) (listed : List RosterEntry) (traces : List Trace) (found : Finding) → IsTurnOf verifies listed (by_node traces) (Some found) → IsFindingOf verifies listed traces (finding_of found) }
+    ensures found { (v : Verifies) (listed : List RosterEntry) (ts : List Trace) (f : Finding) → IsTurnOf v listed (by_node ts) (Some f) → IsFindingOf v listed ts (finding_of f) }
     ensures world { (verifies : Verifies) (listed : List RosterEntry) (traces : List Trace) → IsTurnOf verifies listed (by_node traces) None → (W : World) × AreTraced verifies listed traces W }
 {}

@@ -1,6 +1,6 @@
 -- The definitions of this crate, by example.
 use Rattle.std.proofs.Common.{◌≡◌, true, false, Some, None, refl}
-use Rattle.depot_decide.specs.declared.put_answers.PutError.TheVariants as put_error
+use Rattle.depot_model.specs.declared.put_answers.PutError.TheVariants as put_error
 use Rattle.depot_feeds.specs.declared.feed_error.FeedError.TheVariants as feed_error
 use Rattle.depot_node.specs.declared.start_error.StartError.TheVariants as start_error
 use Rattle.depot_gossip.specs.declared.bundle_error.BundleError.TheVariants as bundle_error

@@ -15,7 +15,7 @@ use Rattle.depot_model.specs.Items.{updates_at}
 use Rattle.depot_model.specs.Journal.{accepted, held_as, seen_as, seen_under}
 use Rattle.depot_model.specs.Lists.{IsIn}
 use Rattle.depot_model.specs.Order.{AreLatestIn}
-use Rattle.depot_node.specs.ShownValues.{value_seen}
+use Rattle.depot_local.specs.ShownValues.{value_seen}
 use Rattle.depot_c.specs.NodeViews.{HasLatest, IsItemAt, IsText, Reading, NodeView, CallAnswer, seen_by, shown_value}
 use Rattle.depot_c.specs.declared.answer.Answer.TheVariants as answer
 use Rattle.depot_c.specs.declared.refused.Refused.TheVariants as refused

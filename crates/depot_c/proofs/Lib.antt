@@ -1,4 +1,4 @@
 mod AskedChanges
 mod Examples
 mod LatestPlaces
-mod FedNodeViews
+mod NodeViewCalls

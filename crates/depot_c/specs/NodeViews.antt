@@ -7,8 +7,10 @@ use Rattle.depot_base.specs.declared.write.Change.{Change}
 use Rattle.depot_base.specs.declared.write.Wrote.{Wrote}
 use Rattle.depot_base.specs.declared.write.Wrote.TheVariants.{Put, Gone}
 use Rattle.depot_answers.specs.AnswerTexts.{text_of_write}
-use Rattle.depot_decide.specs.Putting.{Puts}
-use Rattle.depot_decide.specs.declared.put_answers.PutError.TheVariants as put_error
+use Rattle.depot_model.specs.Putting.{Puts}
+use Rattle.depot_model.specs.declared.put_answers.PutDone.{PutDone}
+use Rattle.depot_model.specs.declared.put_answers.PutError.{PutError}
+use Rattle.depot_model.specs.declared.put_answers.PutError.TheVariants as put_error
 use Rattle.depot_feeds.specs.declared.feed_error.FeedError.TheVariants as feed_error
 use Rattle.depot_gossip.specs.Bundling.{Bundles}
 use Rattle.depot_model.specs.Bundle.{Signs}
@@ -18,9 +20,10 @@ use Rattle.depot_model.specs.Hello.{hello_of, text_of_hello}
 use Rattle.depot_model.specs.Journal.{accepted, seen_under}
 use Rattle.depot_model.specs.Order.{AreLatestIn}
 use Rattle.depot_model.specs.Records.{text_of_record}
-use Rattle.depot_model.specs.Replicas.{IsSameNode}
 use Rattle.depot_node.specs.declared.start_error.StartError.TheVariants as start_error
+use Rattle.depot_gossip.specs.declared.bundle_error.BundleError.{BundleError}
 use Rattle.depot_gossip.specs.declared.bundle_error.BundleError.TheVariants as bundle_error
+use Rattle.depot_gossip.specs.declared.bundle_stream.Bundled.{Bundled}
 use Rattle.depot_outside.specs.declared.stops.Stop.{Stop}
 use Rattle.depot_c.specs.declared.answer.Answer.{Answer}
 use Rattle.depot_c.specs.declared.answer.Answer.TheVariants as answer
@@ -63,9 +66,11 @@ seen_by None value = not_held
 seen_by (Some Gone) value = gone
 seen_by (Some (Put hash size)) value = shown_value value
 
--- the node is who it was
-abbrev pub Stays : NodeView → NodeView → Type 0
-Stays s t = IsSameNode s.here t.here s.key t.key s.sign t.sign
+-- The node is who it was.
+pub record Stays (s t : NodeView) : Type 0 where
+  pub here : t.here ≡ s.here
+  pub key : t.key ≡ s.key
+  pub sign : t.sign ≡ s.sign
 
 -- it runs: no call of its disk failed, and none is to fail
 pub record Runs (s : NodeView) : Type 0 where
@@ -91,6 +96,11 @@ RunsOn s (Ok a) t = Runs s → Runs t
 RunsOn s (Err r) t = Runs s → Runs t × (for_disk r ≡ false)
 
 -- ---- putting
+
+-- what a call answers for a put
+abbrev pub put_as : Result PutDone PutError → CallAnswer
+put_as (Ok done) = Ok (answer.Put done)
+put_as (Err e) = Err (refused.Put e)
 
 -- What a node answers to a put of changes, and its journal after it.
 abbrev pub Putting : NodeView → List Change → CallAnswer → NodeView → Type 0
@@ -141,6 +151,11 @@ abbrev pub Helloing : NodeView → CallAnswer → Type 0
 Helloing s (Ok (answer.Text text)) = text ≡ text_of_hello (hello_of s.here s.records)
 Helloing s (Err refused.Memory) = Unit {0}
 Helloing s other = ⊥
+
+-- what a call answers for a hello
+abbrev pub bundled_as : Result Bundled BundleError → CallAnswer
+bundled_as (Ok b) = Ok (answer.Bundle b)
+bundled_as (Err e) = Err (refused.Bundle e)
 
 -- what a node answers to a hello, and its journal after it
 abbrev pub Bundling : NodeView → List ℕ → CallAnswer → NodeView → Type 0

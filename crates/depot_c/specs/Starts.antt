@@ -4,6 +4,7 @@ use Rattle.depot_base.specs.declared.key.PublicKey.{PublicKey}
 use Rattle.depot_model.specs.Bundle.{Signs}
 use Rattle.depot_model.specs.Checks.{Setting}
 use Rattle.depot_model.specs.Roster.{key_of}
+use Rattle.depot_model.specs.declared.signature.Signer as signer
 use Rattle.depot_node.specs.Starting.{IsNotStarted, IsStartedFrom}
 use Rattle.depot_c.specs.NodeViews.{Runs, NodeView, for_disk}
 use Rattle.depot_c.specs.declared.refused.Refused.{Refused}
@@ -25,6 +26,10 @@ pub record IsStartedOn (here : Setting) (key : PublicKey) (sign : Signs) (file :
   pub signs : s.sign ≡ sign
   pub runs : Runs s
   pub records : IsStartedFrom here file s.records
+
+-- the same, where the key and the signatures are those of a signer
+abbrev pub IsStartedBy : {G O : Type 0} → signer.Ghosts G O → Setting → G → List ℕ → NodeView → Type 0
+IsStartedBy g here by file s = IsStartedOn here (g.key_of by) (g.signature_of by) file s
 
 -- no node is started, for this
 abbrev pub IsRefusedOn : Setting → PublicKey → List ℕ → Refused → Type 0

@@ -1,6 +1,5 @@
 //! All that a handle keeps, and what it does when it is asked.
-ghost use Rattle.std.specs.Prelude.{◌≡◌, ◌≤◌, ◌<◌, length, option_map, is_none, false, Some, None};
-ghost use Rattle.depot_base.specs.declared.limits.TheConstants.{GREATEST_HEIGHT, LEAST_HEIGHT};
+ghost use Rattle.std.specs.Prelude.{◌≡◌, option_map, is_none, false, Some, None};
 ghost use Rattle.depot_c.specs.Handles.{AsksHandle, Does, Ends, EndsFeed, FeedsHandle, FeedsNode, IsRefusedFrame, IsReport, KeepsKey, KeepsRoster, ShowsRefusal, SignerGiven, Starts, TakesFeed, View, closing_by};
 ghost use Rattle.depot_c.specs.Calls.{IsFresh, answered};
 
@@ -16,10 +15,8 @@ use depot_base::limits::{GREATEST_HEIGHT, LEAST_HEIGHT};
 use depot_base::{Bytes, Hash32};
 use depot_gossip::{Feed, FeedError, Report};
 use depot_model::Signer;
-use depot_node::Node;
-use depot_outside::MemDisk;
 use depot_sign::Roster;
-use depot_winter::{WinterScheme, WinterSigner};
+use depot_winter::WinterSigner;
 use std::alloc::Global;
 
 /// All that a handle keeps. It has at most one node.
@@ -45,7 +42,7 @@ impl Viewed for Handle {
     ghost view_of = { λ h. record {
       listed = h.roster;
       kept = option_map (λ s. record { key = ⟦<SharedSigner as Signer>⟧.key_of s; sign = ⟦<SharedSigner as Signer>⟧.signature_of s }) h.signer;
-      node_view = option_map ⟦<Node<MemDisk, WinterScheme, SharedSigner> as HasNodeView>⟧.node_view h.node;
+      node_view = option_map ⟦<Over as HasNodeView>⟧.node_view h.node;
       feed = h.feed;
       closing = h.closing;
       report = h.report;
@@ -171,7 +168,7 @@ impl Handle {
 
     /// Keeps a node.
     fn keep_node(&mut self, node: Over)
-        ensures { ⟦<Handle as Viewed>⟧.view_of self.new ≡ record (⟦<Handle as Viewed>⟧.view_of self.old) { node_view = Some (⟦<Node<MemDisk, WinterScheme, SharedSigner> as HasNodeView>⟧.node_view node) } }
+        ensures { ⟦<Handle as Viewed>⟧.view_of self.new ≡ record (⟦<Handle as Viewed>⟧.view_of self.old) { node_view = Some (⟦<Over as HasNodeView>⟧.node_view node) } }
     {
         self.node = Some(node);
     }

@@ -10,7 +10,6 @@ use crate::answer::Answer;
 use crate::ask::NodeAsk;
 use crate::node_view::{HasNodeView, Over};
 use crate::refused::Refused;
-use crate::shared_signer::SharedSigner;
 use depot_answers::{Seen, write};
 use depot_base::limits::MOST_VALUE;
 use depot_base::{Bytes, Changes, Key, LengthError, Update, Value, Wrote};
@@ -18,9 +17,6 @@ use depot_gossip::{bundle, hello};
 use depot_lines::word_readers::changes;
 use depot_lines::{Keys, LineError, Parts};
 use depot_model::Replica;
-use depot_node::Node;
-use depot_outside::MemDisk;
-use depot_winter::WinterScheme;
 use std::alloc::Global;
 
 /// The key that the input is.
@@ -54,9 +50,9 @@ fn changes_of(alloc: Global, input: &[u8]) -> Result<Changes, Refused>
 
 /// Gives a key a value.
 fn put_one(node: &mut Over, key: Key, value: Value) -> Result<Answer, Refused>
-    ensures stays { Stays (⟦<Node<MemDisk, WinterScheme, SharedSigner> as HasNodeView>⟧.node_view node.old) (⟦<Node<MemDisk, WinterScheme, SharedSigner> as HasNodeView>⟧.node_view node.new) }
-    ensures runs { RunsOn (⟦<Node<MemDisk, WinterScheme, SharedSigner> as HasNodeView>⟧.node_view node.old) result (⟦<Node<MemDisk, WinterScheme, SharedSigner> as HasNodeView>⟧.node_view node.new) }
-    ensures puts { Putting (⟦<Node<MemDisk, WinterScheme, SharedSigner> as HasNodeView>⟧.node_view node.old) (one_change key value) result (⟦<Node<MemDisk, WinterScheme, SharedSigner> as HasNodeView>⟧.node_view node.new) }
+    ensures stays { Stays (⟦<Over as HasNodeView>⟧.node_view node.old) (⟦<Over as HasNodeView>⟧.node_view node.new) }
+    ensures runs { RunsOn (⟦<Over as HasNodeView>⟧.node_view node.old) result (⟦<Over as HasNodeView>⟧.node_view node.new) }
+    ensures puts { Putting (⟦<Over as HasNodeView>⟧.node_view node.old) (one_change key value) result (⟦<Over as HasNodeView>⟧.node_view node.new) }
 {
     match node.put(key, value) {
         Ok(done) => Ok(Answer::Put(done)),
@@ -66,9 +62,9 @@ fn put_one(node: &mut Over, key: Key, value: Value) -> Result<Answer, Refused>
 
 /// Gives the key in front of the input the value behind it.
 fn put(alloc: Global, node: &mut Over, length: u64, input: &[u8]) -> Result<Answer, Refused>
-    ensures stays { Stays (⟦<Node<MemDisk, WinterScheme, SharedSigner> as HasNodeView>⟧.node_view node.old) (⟦<Node<MemDisk, WinterScheme, SharedSigner> as HasNodeView>⟧.node_view node.new) }
-    ensures runs { RunsOn (⟦<Node<MemDisk, WinterScheme, SharedSigner> as HasNodeView>⟧.node_view node.old) result (⟦<Node<MemDisk, WinterScheme, SharedSigner> as HasNodeView>⟧.node_view node.new) }
-    ensures puts { PuttingAt length input.now (⟦<Node<MemDisk, WinterScheme, SharedSigner> as HasNodeView>⟧.node_view node.old) result (⟦<Node<MemDisk, WinterScheme, SharedSigner> as HasNodeView>⟧.node_view node.new) }
+    ensures stays { Stays (⟦<Over as HasNodeView>⟧.node_view node.old) (⟦<Over as HasNodeView>⟧.node_view node.new) }
+    ensures runs { RunsOn (⟦<Over as HasNodeView>⟧.node_view node.old) result (⟦<Over as HasNodeView>⟧.node_view node.new) }
+    ensures puts { PuttingAt length input.now (⟦<Over as HasNodeView>⟧.node_view node.old) result (⟦<Over as HasNodeView>⟧.node_view node.new) }
 {
     if length > input.len() as u64 {
         return Err(Refused::Input);
@@ -80,15 +76,16 @@ fn put(alloc: Global, node: &mut Over, length: u64, input: &[u8]) -> Result<Answ
     let key = key_of(alloc, key)?;
     match Value::new(alloc, value) {
         Ok(value) => put_one(node, key, value),
-        Err(_) => Err(Refused::Memory),
+        Err(LengthError::Memory) => Err(Refused::Memory),
+        Err(LengthError::Length(_)) => unreachable!(),
     }
 }
 
 /// Does the changes that the input is the word of.
 fn puts(alloc: Global, node: &mut Over, input: &[u8]) -> Result<Answer, Refused>
-    ensures stays { Stays (⟦<Node<MemDisk, WinterScheme, SharedSigner> as HasNodeView>⟧.node_view node.old) (⟦<Node<MemDisk, WinterScheme, SharedSigner> as HasNodeView>⟧.node_view node.new) }
-    ensures runs { RunsOn (⟦<Node<MemDisk, WinterScheme, SharedSigner> as HasNodeView>⟧.node_view node.old) result (⟦<Node<MemDisk, WinterScheme, SharedSigner> as HasNodeView>⟧.node_view node.new) }
-    ensures puts { PuttingAll input.now (⟦<Node<MemDisk, WinterScheme, SharedSigner> as HasNodeView>⟧.node_view node.old) result (⟦<Node<MemDisk, WinterScheme, SharedSigner> as HasNodeView>⟧.node_view node.new) }
+    ensures stays { Stays (⟦<Over as HasNodeView>⟧.node_view node.old) (⟦<Over as HasNodeView>⟧.node_view node.new) }
+    ensures runs { RunsOn (⟦<Over as HasNodeView>⟧.node_view node.old) result (⟦<Over as HasNodeView>⟧.node_view node.new) }
+    ensures puts { PuttingAll input.now (⟦<Over as HasNodeView>⟧.node_view node.old) result (⟦<Over as HasNodeView>⟧.node_view node.new) }
 {
     let changes = changes_of(alloc, input)?;
     match node.put_all(changes) {
@@ -141,8 +138,8 @@ fn shown(alloc: Global, update: &Update, seen: Seen<'_>) -> Result<Answer, Refus
 
 /// The item at a place of a key's latest writes.
 fn item_at(node: &Over, key: &Key, place: u64) -> Option<u32>
-    requires { (⟦<Node<MemDisk, WinterScheme, SharedSigner> as HasNodeView>⟧.node_view node.now).stopped ≡ false }
-    ensures { IsItemAt (⟦<Node<MemDisk, WinterScheme, SharedSigner> as HasNodeView>⟧.node_view node.now) key.now place result }
+    requires { (⟦<Over as HasNodeView>⟧.node_view node.now).stopped ≡ false }
+    ensures { IsItemAt (⟦<Over as HasNodeView>⟧.node_view node.now) key.now place result }
 {
     let items = node.latest(key);
     if place < items.len() as u64 {
@@ -154,8 +151,8 @@ fn item_at(node: &Over, key: &Key, place: u64) -> Option<u32>
 
 /// A latest write of a key.
 fn latest_at(alloc: Global, node: &Over, key: &Key, place: u64) -> Result<Answer, Refused>
-    requires { (⟦<Node<MemDisk, WinterScheme, SharedSigner> as HasNodeView>⟧.node_view node.now).stopped ≡ false }
-    ensures { Reading (⟦<Node<MemDisk, WinterScheme, SharedSigner> as HasNodeView>⟧.node_view node.now) key.now place result }
+    requires { (⟦<Over as HasNodeView>⟧.node_view node.now).stopped ≡ false }
+    ensures { Reading (⟦<Over as HasNodeView>⟧.node_view node.now) key.now place result }
 {
     let Some(item) = item_at(node, key, place) else {
         return Err(Refused::Absent);
@@ -166,8 +163,8 @@ fn latest_at(alloc: Global, node: &Over, key: &Key, place: u64) -> Result<Answer
 
 /// The value of a latest write of a key.
 fn value_at(alloc: Global, node: &Over, key: &Key, place: u64) -> Result<Answer, Refused>
-    requires { (⟦<Node<MemDisk, WinterScheme, SharedSigner> as HasNodeView>⟧.node_view node.now).stopped ≡ false }
-    ensures { Valuing (⟦<Node<MemDisk, WinterScheme, SharedSigner> as HasNodeView>⟧.node_view node.now) key.now place result }
+    requires { (⟦<Over as HasNodeView>⟧.node_view node.now).stopped ≡ false }
+    ensures { Valuing (⟦<Over as HasNodeView>⟧.node_view node.now) key.now place result }
 {
     let Some(item) = item_at(node, key, place) else {
         return Err(Refused::Absent);
@@ -180,8 +177,8 @@ fn value_at(alloc: Global, node: &Over, key: &Key, place: u64) -> Result<Answer,
 
 /// A latest write of the key that the input is.
 fn latest(alloc: Global, node: &Over, place: u64, input: &[u8]) -> Result<Answer, Refused>
-    requires { (⟦<Node<MemDisk, WinterScheme, SharedSigner> as HasNodeView>⟧.node_view node.now).stopped ≡ false }
-    ensures { OfKey Reading (⟦<Node<MemDisk, WinterScheme, SharedSigner> as HasNodeView>⟧.node_view node.now) input.now place result }
+    requires { (⟦<Over as HasNodeView>⟧.node_view node.now).stopped ≡ false }
+    ensures { OfKey Reading (⟦<Over as HasNodeView>⟧.node_view node.now) input.now place result }
 {
     let key = key_of(alloc, input)?;
     latest_at(alloc, node, &key, place)
@@ -189,8 +186,8 @@ fn latest(alloc: Global, node: &Over, place: u64, input: &[u8]) -> Result<Answer
 
 /// The value of a latest write of the key that the input is.
 fn value(alloc: Global, node: &Over, place: u64, input: &[u8]) -> Result<Answer, Refused>
-    requires { (⟦<Node<MemDisk, WinterScheme, SharedSigner> as HasNodeView>⟧.node_view node.now).stopped ≡ false }
-    ensures { OfKey Valuing (⟦<Node<MemDisk, WinterScheme, SharedSigner> as HasNodeView>⟧.node_view node.now) input.now place result }
+    requires { (⟦<Over as HasNodeView>⟧.node_view node.now).stopped ≡ false }
+    ensures { OfKey Valuing (⟦<Over as HasNodeView>⟧.node_view node.now) input.now place result }
 {
     let key = key_of(alloc, input)?;
     value_at(alloc, node, &key, place)
@@ -198,8 +195,8 @@ fn value(alloc: Global, node: &Over, place: u64, input: &[u8]) -> Result<Answer,
 
 /// The node's hello.
 fn tell(alloc: Global, node: &Over) -> Result<Answer, Refused>
-    requires { (⟦<Node<MemDisk, WinterScheme, SharedSigner> as HasNodeView>⟧.node_view node.now).stopped ≡ false }
-    ensures { Helloing (⟦<Node<MemDisk, WinterScheme, SharedSigner> as HasNodeView>⟧.node_view node.now) result }
+    requires { (⟦<Over as HasNodeView>⟧.node_view node.now).stopped ≡ false }
+    ensures { Helloing (⟦<Over as HasNodeView>⟧.node_view node.now) result }
 {
     match hello(alloc, node) {
         Ok(text) => Ok(Answer::Text(text)),
@@ -209,9 +206,9 @@ fn tell(alloc: Global, node: &Over) -> Result<Answer, Refused>
 
 /// The node's bundle for a hello.
 fn answer_hello(alloc: Global, node: &mut Over, hello: &[u8]) -> Result<Answer, Refused>
-    ensures stays { Stays (⟦<Node<MemDisk, WinterScheme, SharedSigner> as HasNodeView>⟧.node_view node.old) (⟦<Node<MemDisk, WinterScheme, SharedSigner> as HasNodeView>⟧.node_view node.new) }
-    ensures runs { RunsOn (⟦<Node<MemDisk, WinterScheme, SharedSigner> as HasNodeView>⟧.node_view node.old) result (⟦<Node<MemDisk, WinterScheme, SharedSigner> as HasNodeView>⟧.node_view node.new) }
-    ensures bundles { Bundling (⟦<Node<MemDisk, WinterScheme, SharedSigner> as HasNodeView>⟧.node_view node.old) hello.now result (⟦<Node<MemDisk, WinterScheme, SharedSigner> as HasNodeView>⟧.node_view node.new) }
+    ensures stays { Stays (⟦<Over as HasNodeView>⟧.node_view node.old) (⟦<Over as HasNodeView>⟧.node_view node.new) }
+    ensures runs { RunsOn (⟦<Over as HasNodeView>⟧.node_view node.old) result (⟦<Over as HasNodeView>⟧.node_view node.new) }
+    ensures bundles { Bundling (⟦<Over as HasNodeView>⟧.node_view node.old) hello.now result (⟦<Over as HasNodeView>⟧.node_view node.new) }
 {
     match bundle(alloc, node, hello) {
         Ok(bundled) => Ok(Answer::Bundle(bundled)),
@@ -221,7 +218,7 @@ fn answer_hello(alloc: Global, node: &mut Over, hello: &[u8]) -> Result<Answer, 
 
 /// The text of the record of a place.
 fn record(alloc: Global, node: &Over, place: u64) -> Result<Answer, Refused>
-    ensures { Recording (⟦<Node<MemDisk, WinterScheme, SharedSigner> as HasNodeView>⟧.node_view node.now) place result }
+    ensures { Recording (⟦<Over as HasNodeView>⟧.node_view node.now) place result }
 {
     if place >= u64::from(node.record_count()) {
         return Err(Refused::Absent);
@@ -237,9 +234,9 @@ pub fn ask(
     number: u64,
     input: &[u8],
 ) -> Result<Answer, Refused>
-    ensures stays { Stays (⟦<Node<MemDisk, WinterScheme, SharedSigner> as HasNodeView>⟧.node_view node.old) (⟦<Node<MemDisk, WinterScheme, SharedSigner> as HasNodeView>⟧.node_view node.new) }
-    ensures runs { RunsOn (⟦<Node<MemDisk, WinterScheme, SharedSigner> as HasNodeView>⟧.node_view node.old) result (⟦<Node<MemDisk, WinterScheme, SharedSigner> as HasNodeView>⟧.node_view node.new) }
-    ensures does { AsksNode ask number input.now (⟦<Node<MemDisk, WinterScheme, SharedSigner> as HasNodeView>⟧.node_view node.old) result (⟦<Node<MemDisk, WinterScheme, SharedSigner> as HasNodeView>⟧.node_view node.new) }
+    ensures stays { Stays (⟦<Over as HasNodeView>⟧.node_view node.old) (⟦<Over as HasNodeView>⟧.node_view node.new) }
+    ensures runs { RunsOn (⟦<Over as HasNodeView>⟧.node_view node.old) result (⟦<Over as HasNodeView>⟧.node_view node.new) }
+    ensures does { AsksNode ask number input.now (⟦<Over as HasNodeView>⟧.node_view node.old) result (⟦<Over as HasNodeView>⟧.node_view node.new) }
 {
     match ask {
         NodeAsk::Put => put(alloc, node, number, input),

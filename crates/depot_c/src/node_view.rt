@@ -3,7 +3,7 @@ ghost use Rattle.depot_c.specs.NodeViews.{NodeView};
 ghost use Rattle.depot_outside.specs.Stopping.{state_of};
 
 use crate::shared_signer::SharedSigner;
-use depot_model::Replica;
+use depot_model::NodeState;
 use depot_node::Node;
 use depot_outside::MemDisk;
 use depot_winter::WinterScheme;
@@ -19,11 +19,11 @@ pub trait HasNodeView {
 
 impl HasNodeView for Node<MemDisk, WinterScheme, SharedSigner> {
     ghost node_view = { λ n. record {
-      here = ⟦<Node<MemDisk, WinterScheme, SharedSigner> as Replica>⟧.stands n;
-      key = ⟦<Node<MemDisk, WinterScheme, SharedSigner> as Replica>⟧.key n;
-      sign = ⟦<Node<MemDisk, WinterScheme, SharedSigner> as Replica>⟧.signature_of n;
-      records = ⟦<Node<MemDisk, WinterScheme, SharedSigner> as Replica>⟧.records n;
-      stopped = ⟦<Node<MemDisk, WinterScheme, SharedSigner> as Replica>⟧.stopped n;
+      here = ⟦<Over as NodeState>⟧.stands n;
+      key = ⟦<Over as NodeState>⟧.key n;
+      sign = ⟦<Over as NodeState>⟧.signature_of n;
+      records = ⟦<Over as NodeState>⟧.records n;
+      stopped = ⟦<Over as NodeState>⟧.stopped n;
       fails = (state_of n.store.disk).fails;
       stop = (state_of n.store.disk).next;
     } };

@@ -1,7 +1,8 @@
 //! A node is started for a caller.
-ghost use Rattle.std.specs.Prelude.{◌≡◌, IfOk, IfErr};
+ghost use Rattle.std.specs.Prelude.{IfOk, IfErr};
 ghost use Rattle.depot_model.specs.Winternitz.{winternitz_verifies};
-ghost use Rattle.depot_c.specs.Starts.{IsRefusedOn, IsStartedOn, NodeGiven};
+ghost use Rattle.depot_node.specs.Starting.{placed};
+ghost use Rattle.depot_c.specs.Starts.{IsRefusedOn, IsStartedBy, NodeGiven};
 
 use crate::node_view::{HasNodeView, Over};
 use crate::refused::Refused;
@@ -35,8 +36,8 @@ pub fn start(
     signer: &SharedSigner,
     me: NodeId,
 ) -> Result<Over, Refused>
-    ensures started { IfOk result (λ n. IsStartedOn (record { verifies = winternitz_verifies; me = me; listed = roster.now }) (⟦<SharedSigner as Signer>⟧.key_of signer.now) (⟦<SharedSigner as Signer>⟧.signature_of signer.now) file.now (⟦<Node<MemDisk, WinterScheme, SharedSigner> as HasNodeView>⟧.node_view n)) }
-    ensures refused { IfErr result (λ e. IsRefusedOn (record { verifies = winternitz_verifies; me = me; listed = roster.now }) (⟦<SharedSigner as Signer>⟧.key_of signer.now) file.now e) }
+    ensures started { IfOk result (λ n. IsStartedBy ⟦<SharedSigner as Signer>⟧ (placed winternitz_verifies me roster.now) signer.now file.now (⟦<Over as HasNodeView>⟧.node_view n)) }
+    ensures refused { IfErr result (λ e. IsRefusedOn (placed winternitz_verifies me roster.now) (⟦<SharedSigner as Signer>⟧.key_of signer.now) file.now e) }
 {
     let (Ok(file), Ok(roster)) = (Bytes::from_slice(alloc, file), roster.copy()) else {
         return Err(Refused::Memory);

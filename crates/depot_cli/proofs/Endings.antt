@@ -1,5 +1,5 @@
 -- How runs end, as their commands answer.
-use Rattle.std.proofs.Common.{◌≡◌, ℕ, List, [], ◌∷◌, Some, Result, Ok, Err, refl, sym, subst, inl, inr}
+use Rattle.std.proofs.Common.{◌≡◌, ℕ, List, [], ◌∷◌, ◌++◌, take, Bool, true, false, IsTrue, Some, Result, Ok, Err, refl, sym, subst, inl, inr}
 use Rattle.std.specs.Result.{IfOk}
 use Rattle.std.proofs.lemmas.Result.{IfOk-weaker}
 use Rattle.depot_base.specs.declared.memory.Memory as absent
@@ -69,3 +69,9 @@ replay_ends shelf loads name bytes sink status loaded there ends =
     front : (text : List ℕ) → IsFrontOf (λ t. IsReplayed t bytes) text → Begins shelf loads (Some (asked.Replay name)) text
     front text (inl none) = (inr loaded, inl none)
     front text (inr (whole, (n, (is, told)))) = (inr loaded, inr (whole, (n, (is, (loaded, replays shelf name bytes Done whole there told)))))
+
+-- where a front of a transcript was written before memory ran out, if the sink tells it
+pub written_front : (tells : Bool) (before after transcript : List ℕ) → (IsTrue tells → (n : ℕ) × (after ≡ before ++ take n transcript))
+    → (text : List ℕ) × (((n : ℕ) × (text ≡ take n transcript)) × (IsTrue tells → after ≡ before ++ text))
+written_front true before after transcript front = let f = front refl in (take f.0 transcript, ((f.0, refl), λ told. f.1))
+written_front false before after transcript front = (take 0 transcript, ((0, refl), λ told. absurd cc))

@@ -180,7 +180,7 @@ input_behind n listed behind shelf first loads answer text same before after has
 
 -- the node of a roster that was found is that of the words
 pub file_run : (listed : List RosterEntry) (n : NodeWords) (disk : Disks) (behind shelf : Shelves) (first loads : Loads) (calls whole : Asked) (sink : Sinks) (same_disk same_mid same_files : Type 0) (status : Status) → behind ≡ shelf → first.before ≡ loads.before ++ n.roster ∷ [] → loads.after ≡ first.after → IsBehind calls whole n.roster → (same_mid → same_files)
-    → WhereTold shelf (HasFile shelf n.roster (λ bytes. IsRosterText bytes listed)) → RunsFile listed n disk behind first calls sink same_disk same_mid status → Results disk shelf loads whole sink same_disk same_files (Some (asked.Node n)) status
+    → WhereTold shelf (HasFile shelf n.roster (λ bytes. IsRosterText bytes listed)) → RunsFile listed n disk behind first calls sink same_disk same_mid status → Results (Some (asked.Node n)) disk shelf loads whole sink same_disk same_files status
 file_run listed n disk behind shelf first loads calls whole sink same_disk same_mid same_files status same before after called so has (inl (u, (loaded, ends))) =
     let both = inr (more_loads first loads n.roster (n.script ∷ []) before after loaded, λ told. (let h = has told in record { bytes = h.bytes; there = h.there; holds = (listed, h.holds) })) in
     inl ((u.0, so u.1), ends_so _ (Answers shelf loads (Some (asked.Node n))) _ (Begins shelf loads (Some (asked.Node n))) sink status (λ answer text is. input_behind n listed behind shelf first loads answer text same before after has is) (λ text none. (both, none)) ends)
@@ -199,7 +199,7 @@ file_run listed n disk behind shelf first loads calls whole sink same_disk same_
 -- ---- what nothing stands in the way of
 
 -- what another command than `node` comes to completes it
-pub results_complete : (disk : Disks) (shelf : Shelves) (loads : Loads) (calls : Asked) (sink : Sinks) (same_disk same_files : Type 0) (command : Option Command) (status : Status) → Results disk shelf loads calls sink same_disk same_files command status → IsWell shelf sink → Completes shelf command status
+pub results_complete : (disk : Disks) (shelf : Shelves) (loads : Loads) (calls : Asked) (sink : Sinks) (same_disk same_files : Type 0) (command : Option Command) (status : Status) → Results command disk shelf loads calls sink same_disk same_files status → IsWell shelf sink → Completes shelf command status
 results_complete disk shelf loads calls sink same_disk same_files (Some (asked.Node n)) status r well = tt
 results_complete disk shelf loads calls sink same_disk same_files other status r well = ends_complete shelf loads sink other status r.1 well
 
@@ -238,7 +238,7 @@ cut_by_memory disk shelf sink ending.Sink status well disk_well is cut = absurd 
 cut_by_memory disk shelf sink other status well disk_well is cut = absurd cut
 
 -- the run of a node over a lawful journal completes it, where nothing fails
-node_completes : (disk : Disks) (shelf : Shelves) (loads : Loads) (calls : Asked) (sink : Sinks) (same_disk same_files : Type 0) (n : NodeWords) (status : Status) → Results disk shelf loads calls sink same_disk same_files (Some (asked.Node n)) status → IsWell shelf sink → IsWellDisk disk → CompletesNode disk shelf (Some (asked.Node n)) status
+node_completes : (disk : Disks) (shelf : Shelves) (loads : Loads) (calls : Asked) (sink : Sinks) (same_disk same_files : Type 0) (n : NodeWords) (status : Status) → Results (Some (asked.Node n)) disk shelf loads calls sink same_disk same_files status → IsWell shelf sink → IsWellDisk disk → CompletesNode disk shelf (Some (asked.Node n)) status
 node_completes disk shelf loads calls sink same_disk same_files n status (inl (u, ends)) well disk_well = λ listed commands J has has_script keyed lawful records. elim ends [
   | inl e ↦ absurd (no_fault_of_inputs shelf loads sink n listed commands status e.text well has has_script e.answered)
   | inr x ↦ elim x [
@@ -257,6 +257,6 @@ node_completes disk shelf loads calls sink same_disk same_files n status (inr r)
       | inr short ↦ inr (cut_by_memory disk shelf sink r.ends status well disk_well r.status_is short.0.cut)
     ]
 
-pub results_complete_node : (disk : Disks) (shelf : Shelves) (loads : Loads) (calls : Asked) (sink : Sinks) (same_disk same_files : Type 0) (command : Option Command) (status : Status) → Results disk shelf loads calls sink same_disk same_files command status → IsWell shelf sink → IsWellDisk disk → CompletesNode disk shelf command status
+pub results_complete_node : (disk : Disks) (shelf : Shelves) (loads : Loads) (calls : Asked) (sink : Sinks) (same_disk same_files : Type 0) (command : Option Command) (status : Status) → Results command disk shelf loads calls sink same_disk same_files status → IsWell shelf sink → IsWellDisk disk → CompletesNode disk shelf command status
 results_complete_node disk shelf loads calls sink same_disk same_files (Some (asked.Node n)) status r well disk_well = node_completes disk shelf loads calls sink same_disk same_files n status r well disk_well
 results_complete_node disk shelf loads calls sink same_disk same_files other status r well disk_well = tt

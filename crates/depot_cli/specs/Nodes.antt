@@ -7,16 +7,19 @@ use Rattle.depot_model.specs.Lawful.{IsLawful}
 use Rattle.depot_model.specs.Roster.{key_of}
 use Rattle.depot_model.specs.Stops.{HasRecords}
 use Rattle.depot_model.specs.Winternitz.{winternitz_signature, winternitz_verifies}
-use Rattle.depot_outside.specs.Told.{Disks, HasFile, HasLoaded, LacksFile, Loads, Shelves, Sinks, WhereTold}
+use Rattle.depot_outside.specs.declared.disk.Disk as disk_of
+use Rattle.depot_outside.specs.declared.shelf.Shelf as shelf_of
+use Rattle.depot_outside.specs.declared.sink.Sink as sink_of
+use Rattle.depot_outside.specs.Told.{Disks, HasFile, HasLoaded, LacksFile, Loads, Shelves, Sinks, WhereTold, disks, loads, shelves, sinks}
 use Rattle.depot_script.specs.Scripts.{IsTextOfScript}
 use Rattle.depot_script.specs.declared.command.Command as line
 use Rattle.depot_session.specs.declared.ending.Ending.{Ending}
 use Rattle.depot_session.specs.declared.ending.Ending.TheVariants as ending
-use Rattle.depot_session.specs.ScriptTelling.{Asked}
+use Rattle.depot_session.specs.ScriptTelling.{Asked, asked as calls_on}
 use Rattle.depot_session.specs.SessionRuns as runs
 use Rattle.depot_session.specs.Sessions.{answers_of, loads_given, session_from, shelf_line}
 use Rattle.depot_winter.specs.TreeSigning.{key_of_seed}
-use Rattle.depot_cli.specs.Runs.{Answers, Begins, Ends, IsNoScript, IsRosterText}
+use Rattle.depot_cli.specs.Runs.{Begins, CommandEnds, Ends, IsNoScript, IsRosterText, IsWell}
 use Rattle.depot_cli.specs.Statuses.{status_of}
 use Rattle.depot_cli.specs.declared.invocation.Command.{Command}
 use Rattle.depot_cli.specs.declared.invocation.Command.TheVariants as asked
@@ -81,10 +84,18 @@ RunsFile listed n disk shelf loads calls sink same_disk same_files status =
 
 -- What a command comes to. Every command but `node` leaves disk and files as they were and stores nothing, and so does `node` where its roster or its
 -- script can't be had.
-abbrev pub Results : Disks → Shelves → Loads → Asked → Sinks → (same_disk same_files : Type 0) → Option Command → Status → Type 0
-Results disk shelf loads calls sink same_disk same_files (Some (asked.Node n)) status =
-    ((same_disk × same_files) × Ends (Answers shelf loads (Some (asked.Node n))) (Begins shelf loads (Some (asked.Node n))) sink status) ⊎ RunsNode n disk shelf loads calls sink same_disk status
-Results disk shelf loads calls sink same_disk same_files command status = (same_disk × same_files) × Ends (Answers shelf loads command) (Begins shelf loads command) sink status
+abbrev pub Results : Option Command → Disks → Shelves → Loads → Asked → Sinks → (same_disk same_files : Type 0) → Status → Type 0
+Results (Some (asked.Node n)) disk shelf loads calls sink same_disk same_files status =
+    ((same_disk × same_files) × CommandEnds shelf loads (Some (asked.Node n)) sink status) ⊎ RunsNode n disk shelf loads calls sink same_disk status
+Results command disk shelf loads calls sink same_disk same_files status = (same_disk × same_files) × CommandEnds shelf loads command sink status
+
+-- A run that finds a disk, a shelf and a sink as these, and leaves them as those, ends with this status: of what they tell of it, and of whether
+-- disk and files are as they were, this holds.
+abbrev pub Between : {F D S : Type 0} → (Disks → Shelves → Loads → Asked → Sinks → (same_disk same_files : Type 0) → Status → Type 0)
+    → shelf_of.Ghosts F → F → F → disk_of.Ghosts D → D → D → sink_of.Ghosts S → S → S → Status → Type 0
+Between P f shelf shelf_then d disk disk_then s out out_then status =
+    P (disks d disk disk_then) (shelves f shelf shelf_then) (loads f shelf shelf_then) (calls_on f shelf shelf_then) (sinks s out out_then)
+    (disk_then ≡ disk) ((f.file shelf_then ≡ f.file shelf) × (f.stores shelf_then ≡ f.stores shelf)) status
 
 -- what a run of `node` comes to where nothing fails, over a lawful journal of this node, or none; Memory may stand in its place
 abbrev pub CompletesNode : Disks → Shelves → Option Command → Status → Type 0
@@ -97,3 +108,7 @@ CompletesNode disk shelf command status = Unit {0}
 pub record IsWellDisk (disk : Disks) : Type 0 where
   pub tells : IsTrue disk.tells
   pub is_well : disk.faults_after ≡ disk.faults_before
+
+-- Where no count of faults rises, each file is there and each is in its grammar, `node` does what it says.
+abbrev pub NodeCompletes : Disks → Shelves → Sinks → Option Command → Status → Type 0
+NodeCompletes disk shelf sink command status = IsWell shelf sink → IsWellDisk disk → CompletesNode disk shelf command status

@@ -340,6 +340,10 @@ pub record EndsCutShort (answers : Status → List ℕ → Type 0) (sink : Sinks
 abbrev pub Ends : (Status → List ℕ → Type 0) → (List ℕ → Type 0) → Sinks → Status → Type 0
 Ends answers begins sink status = EndsWhole answers sink status ⊎ (EndsWithoutMemory begins sink status ⊎ EndsCutShort answers sink status)
 
+-- how the run of a command ends
+abbrev pub CommandEnds : Shelves → Loads → Option Command → Sinks → Status → Type 0
+CommandEnds shelf loads command sink status = Ends (Answers shelf loads command) (Begins shelf loads command) sink status
+
 -- how a run ends that writes at once the text that it came to
 abbrev pub Finishes : Result Outcome absent.Memory → Sinks → Status → Type 0
 Finishes (Ok o) sink status = Ends (λ answer text. (answer ≡ o.status) × (text ≡ o.text)) (λ text. text ≡ []) sink status

@@ -5,8 +5,9 @@
 //! real ones. `specs/Words.antt` says which words are a command, `Runs.antt` and `Nodes.antt` what each command answers and prints,
 //! and `Statuses.antt` the exit statuses.
 //!
-//! `scan_command`, `key_command`, `judge_command`, `replay_command`, `load_command` (for `files`) and `node_command` do a command each. `word`,
-//! `given_words`, `height` and `invocation` read words; `files` loads a file, and `outcome` and `status` say what came of a run.
+//! `scan_command`, `key_command`, `judge_command`, `replay_command`, `load_command`, `node_command` and `audit_command` do a command
+//! each. `word`, `given_words`, `trace_names`, `height` and `invocation` read words; `files` loads a file, and `outcome` and `status`
+//! say what came of a run.
 //!
 //! Nothing here decides what a log, a proof, a schedule or a script means.
 #![tactic(auto)]
@@ -19,7 +20,6 @@ mod invocation;
 mod judge_command;
 mod key_command;
 mod load_command;
-mod load_run;
 mod node_command;
 mod outcome;
 mod replay_command;

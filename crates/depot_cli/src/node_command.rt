@@ -1,8 +1,7 @@
 //! `node ROSTER SEED HEIGHT ID SCRIPT`: a script is run on a node over the disk.
-ghost use Rattle.std.specs.Prelude.{◌≡◌, ◌<◌, ◌⊎◌, List, ℕ, Some};
-ghost use Rattle.depot_outside.specs.Told.{disks, loads, shelves, sinks};
-ghost use Rattle.depot_session.specs.ScriptTelling.{asked};
-ghost use Rattle.depot_cli.specs.Nodes.{Results, RunsBytes, RunsFile};
+ghost use Rattle.std.specs.Prelude.{◌≡◌, ◌<◌, ◌⊎◌, Some};
+ghost use Rattle.depot_outside.specs.Told.{shelves};
+ghost use Rattle.depot_cli.specs.Nodes.{Between, Results, RunsBytes, RunsFile};
 ghost use Rattle.depot_cli.specs.Runs.{EndsAtFault};
 
 use crate::files::load;
@@ -29,7 +28,7 @@ fn run_bytes<F: Shelf, D: Disk, S: Sink>(
     disk: &mut D,
     out: &mut S,
 ) -> Status
-    ensures runs { RunsBytes roster words.now bytes.now (disks D.Disk disk.old disk.new) (shelves F.Shelf shelf.old shelf.new) (loads F.Shelf shelf.old shelf.new) (asked F.Shelf shelf.old shelf.new) (sinks S.Sink out.old out.new) (disk.new ≡ disk.old) ((F.file shelf.new ≡ F.file shelf.old) × (F.stores shelf.new ≡ F.stores shelf.old)) result }
+    ensures runs { Between (RunsBytes roster words.now bytes.now) F.Shelf shelf.old shelf.new D.Disk disk.old disk.new S.Sink out.old out.new result }
     ensures first_fault { (result ≡ Status.Sink) ⊎ ((result ≡ Status.Memory) ⊎ EndsAtFault (shelves F.Shelf shelf.old shelf.new) result) }
     ensures sink_fault { S.faults out.old < S.faults out.new → result ≡ Status.Sink }
     ensures disk_fault { D.faults disk.old < D.faults disk.new → (result ≡ Status.Disk) ⊎ ((result ≡ Status.Sink) ⊎ (result ≡ Status.Memory)) }
@@ -67,7 +66,7 @@ fn run_file<F: Shelf, D: Disk, S: Sink>(
     disk: &mut D,
     out: &mut S,
 ) -> Status
-    ensures runs { RunsFile roster words.now (disks D.Disk disk.old disk.new) (shelves F.Shelf shelf.old shelf.new) (loads F.Shelf shelf.old shelf.new) (asked F.Shelf shelf.old shelf.new) (sinks S.Sink out.old out.new) (disk.new ≡ disk.old) ((F.file shelf.new ≡ F.file shelf.old) × (F.stores shelf.new ≡ F.stores shelf.old)) result }
+    ensures runs { Between (RunsFile roster words.now) F.Shelf shelf.old shelf.new D.Disk disk.old disk.new S.Sink out.old out.new result }
     ensures first_fault { (result ≡ Status.Sink) ⊎ ((result ≡ Status.Memory) ⊎ EndsAtFault (shelves F.Shelf shelf.old shelf.new) result) }
     ensures sink_fault { S.faults out.old < S.faults out.new → result ≡ Status.Sink }
     ensures disk_fault { D.faults disk.old < D.faults disk.new → (result ≡ Status.Disk) ⊎ ((result ≡ Status.Sink) ⊎ (result ≡ Status.Memory)) }
@@ -88,7 +87,7 @@ pub fn node<F: Shelf, D: Disk, S: Sink>(
     disk: &mut D,
     out: &mut S,
 ) -> Status
-    ensures results { Results (disks D.Disk disk.old disk.new) (shelves F.Shelf shelf.old shelf.new) (loads F.Shelf shelf.old shelf.new) (asked F.Shelf shelf.old shelf.new) (sinks S.Sink out.old out.new) (disk.new ≡ disk.old) ((F.file shelf.new ≡ F.file shelf.old) × (F.stores shelf.new ≡ F.stores shelf.old)) (Some (Command.Node words.now)) result }
+    ensures results { Between (Results (Some (Command.Node words.now))) F.Shelf shelf.old shelf.new D.Disk disk.old disk.new S.Sink out.old out.new result }
     ensures first_fault { (result ≡ Status.Sink) ⊎ ((result ≡ Status.Memory) ⊎ EndsAtFault (shelves F.Shelf shelf.old shelf.new) result) }
     ensures sink_fault { S.faults out.old < S.faults out.new → result ≡ Status.Sink }
     ensures disk_fault { D.faults disk.old < D.faults disk.new → (result ≡ Status.Disk) ⊎ ((result ≡ Status.Sink) ⊎ (result ≡ Status.Memory)) }

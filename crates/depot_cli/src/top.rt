@@ -1,9 +1,8 @@
 //! The top call.
 ghost use Rattle.std.specs.Prelude.{◌≡◌, ◌<◌, ◌⊎◌, Some};
 ghost use Rattle.depot_cli.specs.Words.{command_of};
-ghost use Rattle.depot_outside.specs.Told.{disks, shelves, loads, sinks};
-ghost use Rattle.depot_session.specs.ScriptTelling.{asked};
-ghost use Rattle.depot_cli.specs.Nodes.{CompletesNode, IsWellDisk, Results};
+ghost use Rattle.depot_outside.specs.Told.{disks, shelves, sinks};
+ghost use Rattle.depot_cli.specs.Nodes.{Between, NodeCompletes, Results};
 ghost use Rattle.depot_cli.specs.Runs.{EndsAtFault, IsWell, Completes};
 
 use crate::audit_command::audit;
@@ -29,7 +28,7 @@ fn run<F: Shelf, D: Disk, S: Sink>(
     disk: &mut D,
     out: &mut S,
 ) -> Status
-    ensures results { Results (disks D.Disk disk.old disk.new) (shelves F.Shelf shelf.old shelf.new) (loads F.Shelf shelf.old shelf.new) (asked F.Shelf shelf.old shelf.new) (sinks S.Sink out.old out.new) (disk.new ≡ disk.old) ((F.file shelf.new ≡ F.file shelf.old) × (F.stores shelf.new ≡ F.stores shelf.old)) (Some command.now) result }
+    ensures results { Between (Results (Some command.now)) F.Shelf shelf.old shelf.new D.Disk disk.old disk.new S.Sink out.old out.new result }
     ensures first_fault { (result ≡ Status.Sink) ⊎ ((result ≡ Status.Memory) ⊎ EndsAtFault (shelves F.Shelf shelf.old shelf.new) result) }
     ensures sink_fault { S.faults out.old < S.faults out.new → result ≡ Status.Sink }
     ensures disk_fault { D.faults disk.old < D.faults disk.new → (result ≡ Status.Disk) ⊎ ((result ≡ Status.Sink) ⊎ (result ≡ Status.Memory)) }
@@ -68,11 +67,11 @@ pub fn depot<F: Shelf, D: Disk, S: Sink>(
     // name, further ones only behind a roster; or because the sink failed in this run, with a prefix of the text written.
     // `node` runs its script over the disk, as its record says: images, lines and journal, what the shelf is asked for,
     // runs cut short. Every other command leaves the disk and the shelf's files as they were, and stores nothing.
-    ensures results { Results (disks D.Disk disk.old disk.new) (shelves F.Shelf shelf.old shelf.new) (loads F.Shelf shelf.old shelf.new) (asked F.Shelf shelf.old shelf.new) (sinks S.Sink out.old out.new) (disk.new ≡ disk.old) ((F.file shelf.new ≡ F.file shelf.old) × (F.stores shelf.new ≡ F.stores shelf.old)) (command_of words.now) result }
+    ensures results { Between (Results (command_of words.now)) F.Shelf shelf.old shelf.new D.Disk disk.old disk.new S.Sink out.old out.new result }
 
     // Where no count of faults rises, each file is there and each is in its grammar, the command does what it says.
     ensures complete { IsWell (shelves F.Shelf shelf.old shelf.new) (sinks S.Sink out.old out.new) → Completes (shelves F.Shelf shelf.old shelf.new) (command_of words.now) result }
-    ensures complete_node { IsWell (shelves F.Shelf shelf.old shelf.new) (sinks S.Sink out.old out.new) → IsWellDisk (disks D.Disk disk.old disk.new) → CompletesNode (disks D.Disk disk.old disk.new) (shelves F.Shelf shelf.old shelf.new) (command_of words.now) result }
+    ensures complete_node { NodeCompletes (disks D.Disk disk.old disk.new) (shelves F.Shelf shelf.old shelf.new) (sinks S.Sink out.old out.new) (command_of words.now) result }
 
     // Where the shelf failed, nothing else is answered.
     ensures first_fault { (result ≡ Status.Sink) ⊎ ((result ≡ Status.Memory) ⊎ EndsAtFault (shelves F.Shelf shelf.old shelf.new) result) }

@@ -8,7 +8,7 @@ use Rattle.depot_lanes.specs.Lanes.{first_above}
 use Rattle.depot_lanes.proofs.LaneLaws.{first_above-Some, first_above-None, first_above-within}
 use Rattle.depot_base.proofs.GeneralLaws.{from_pushed, to_pushed, get_last, same_at}
 use Rattle.depot_clocks.specs.declared.row.Entry.{Entry}
-use Rattle.depot_clocks.specs.KeptRows.{HasEntry, HasCount, ArePut, IsRaised, AreRaised, AreAbove, NoneAbove, IsFirstFrom}
+use Rattle.depot_clocks.specs.KeptRows.{HasEntry, HasCount, ArePut, AreRaised, AreAbove, NoneAbove, IsFirstFrom}
 
 -- ---- the first entries
 

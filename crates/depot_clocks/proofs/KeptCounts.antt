@@ -43,11 +43,6 @@ count_put items item behind entries old new chain c row put count = elim (put ch
   | inr none ↦ subst (IsCount items chain item) (sym none.1) (count_from_behind items item behind entries chain (get_or old chain 0) c row none.0 count)
 ]
 
--- ---- joined with another row
-
-pub joined_whole : (items : List ChainItem) (item : ℕ) (row old new : List ℕ) (chain : ℕ) → IsWholeRow items item row → get_or new chain 0 ≡ max (get_or old chain 0) (get_or row chain 0) → IsJoinedCount items item chain (get_or old chain 0) (get_or new chain 0)
-joined_whole items item row old new chain whole is = record { count = get_or row chain 0; counts = whole.counts chain; greater = is }
-
 -- ---- rows that count all
 
 pub within_whole : (items : List ChainItem) (item : ℕ) (row given : List ℕ) (result : Bool) → AreChained items → IsWholeRow items item row → length given ≡ number_of_chains items → result ≡ all_leq row (take (length row) given) → (IsTrue result → CountsAll items item given) × (CountsAll items item given → IsTrue result)

@@ -14,7 +14,7 @@ use Rattle.depot_clocks.specs.declared.row.Entry.{Entry}
 use Rattle.depot_clocks.specs.declared.row.Row.{Row}
 use Rattle.depot_clocks.specs.declared.row.Row.TheVariants.{Whole, Changed}
 use Rattle.depot_clocks.specs.declared.row.Kept.{Kept}
-use Rattle.depot_clocks.specs.KeptRows.{AreChained, IsNext, IsNextRow, own_entry, HasEntry, AreAbove, IsJoinedCount, IsWholeRow, IsChangedRow, KeepsRow, KeepsItem, KeepsItems}
+use Rattle.depot_clocks.specs.KeptRows.{AreChained, IsNext, IsNextRow, own_entry, HasEntry, AreAbove, IsJoinedCount, IsChangedRow, KeepsRow, KeepsItem, KeepsItems}
 use Rattle.depot_clocks.proofs.ItemPaths.{contained_at, up_to_self, up_to_parent, up_to_trans, up_to_more, last_has_parent}
 use Rattle.depot_clocks.proofs.ChainCounts.{number_of_chains-push, number_of_chains-first, number_of_chains-more, starts_next, goes_on, stands_more, chained_next}
 use Rattle.depot_clocks.proofs.RowCounts.{count_past, count_more, count_own, joins_one, count_of_parents}
@@ -102,9 +102,6 @@ next_row_made items x row c next joined = elim (cases_lt 0 x.place) [
   | inl later ↦ let test : eqb x.place 0 ≡ false = grind (arith, nat_tests) in rw test (later_row items x row c next joined later)
   | inr first ↦ let test : eqb x.place 0 ≡ true = grind (arith, nat_tests) in rw test (starting_row items x row c next joined (omega (arith, first)))
 ]
-
-pub next_row_whole : (items : List ChainItem) (x : ChainItem) (row : List ℕ) → IsNextRow items x row → IsWholeRow (items ++ x ∷ []) (length items) row
-next_row_whole items x row made = record { few = omega (arith, made.long); counts = made.counts }
 
 -- ---- the row as differences
 

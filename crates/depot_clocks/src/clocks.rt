@@ -22,19 +22,28 @@ const WHOLE: u32 = 32;
 pub struct Clocks {
     kept: Vec<Kept>,
     chains: u32,
+    /// The joined row that was kept last, if no item was added since.
+    joined: Option<Joined>,
     added: Added,
 }
 
+/// A joined row, and the items whose rows it joins.
+#[derive(Debug, Drop)]
+struct Joined {
+    items: Vec<u32>,
+    row: Vec<u32>,
+}
+
 impl Model for Clocks {
-    ghost use Rattle.std.specs.Prelude.{List};
-    ghost use Rattle.depot_clocks.specs.ChainItems.{ChainItem};
+    ghost use Rattle.std.specs.Prelude.{List, IfSome};
+    ghost use Rattle.depot_clocks.specs.ChainItems.{ChainItem, IsJoined};
     ghost use Rattle.depot_clocks.specs.KeptRows.{KeepsItems};
 
     ghost Value = { List ChainItem };
 
     ghost view = { λ c. c.added.items };
 
-    ghost invariant = { λ c. KeepsItems c.added.items c.kept.items c.chains };
+    ghost invariant = { λ c. KeepsItems c.added.items c.kept.items c.chains × IfSome c.joined (λ j. IsJoined c.added.items j.items.items j.row.items) };
 }
 
 impl Clocks {
@@ -45,6 +54,7 @@ impl Clocks {
         Clocks {
             kept: Vec::new(alloc),
             chains: 0,
+            joined: None,
             added: Added::new(),
         }
     }
@@ -142,20 +152,34 @@ impl Clocks {
         requires { All (λ p. p < length self.now) items.now }
         ensures joined { IfOk result (λ row. IsJoined self.now items.now row.items) }
     {
-        self.join(items)
-    }
-
-    /// The same. What always holds of the items is told beside it.
-    fn join(&self, items: &[u32]) -> Result<Vec<u32>, Memory>
-        requires { All (λ p. p < length self.now) items.now }
-        ensures joined { IfOk result (λ row. IsJoined self.now items.now row.items) }
-        ensures chained { AreChained self.now }
-    {
         let mut row = vec![in *self.kept.allocator(); 0u32; self.chains as usize]?;
         for item in items {
             self.join_with(*item, &mut row);
         }
         Ok(row)
+    }
+
+    /// Keeps the joined row of these items till an item is added: if that has them as its parents, their rows aren't joined
+    /// again. It takes no memory.
+    pub fn keep_joined(&mut self, items: Vec<u32>, row: Vec<u32>)
+        requires { IsJoined self.old items.items row.items }
+        ensures { self.new ≡ self.old }
+    {
+        self.joined = Some(Joined { items, row });
+    }
+
+    /// The rows of these items, joined: what was kept, if it is theirs. No joined row is kept then. What always holds of the
+    /// items is told beside it.
+    fn take_joined(&mut self, items: &[u32]) -> Result<Vec<u32>, Memory>
+        requires { All (λ p. p < length self.old) items.now }
+        ensures joined { IfOk result (λ row. IsJoined self.old items.now row.items) }
+        ensures chained { AreChained self.old }
+        ensures same { self.new ≡ self.old }
+    {
+        match self.joined.take() {
+            Some(joined) if joined.items.as_slice() == items => Ok(joined.row),
+            _ => self.joined(items),
+        }
     }
 
     /// Joins the row of an item into another. What is kept of it is read once, and no entry behind its end.
@@ -188,12 +212,13 @@ impl Clocks {
     }
 
     /// The whole row of the next item.
-    fn next_row(&self, chain: u32, place: u32, parents: &[u32]) -> Result<Vec<u32>, Memory>
-        requires few { length self.now < 4294967295 }
-        requires next { IsNext self.now (record { chain = chain; place = place; parents = parents.now }) }
-        ensures { IfOk result (λ row. IsNextRow self.now (record { chain = chain; place = place; parents = parents.now }) row.items) }
+    fn next_row(&mut self, chain: u32, place: u32, parents: &[u32]) -> Result<Vec<u32>, Memory>
+        requires few { length self.old < 4294967295 }
+        requires next { IsNext self.old (record { chain = chain; place = place; parents = parents.now }) }
+        ensures row { IfOk result (λ row. IsNextRow self.old (record { chain = chain; place = place; parents = parents.now }) row.items) }
+        ensures same { self.new ≡ self.old }
     {
-        let mut row = self.join(parents)?;
+        let mut row = self.take_joined(parents)?;
         put_own(&mut row, chain, place)?;
         Ok(row)
     }
@@ -258,6 +283,7 @@ impl Clocks {
         let chain = kept.chain;
         let place = kept.place;
         self.kept.push(kept)?;
+        self.joined = None;
         self.chains += u32::from(place == 0);
         self.added.note(parents, chain, place);
         Ok(())

@@ -9,8 +9,9 @@
 //! calls are said by paths of parents over that list (`specs/ChainItems.antt`), not by rows. What is kept of an item is its
 //! spot and its row, which is the join of its parents' rows with its own entry. At every 32nd place of a chain a row is kept
 //! whole; else only the entries in which it differs from that of the item before it in its chain are. So a question walks
-//! over at most 32 items of one chain, and takes no memory; beside `add`, `joined` alone takes some. `specs/KeptRows.antt` says what is kept, and `proofs/` why it
-//! stays so.
+//! over at most 32 items of one chain, and takes no memory; beside `add`, `joined` alone takes some. Who has joined the rows of
+//! the next item's parents gives that row back (`keep_joined`), and `add` takes it in place of joining them once more.
+//! `specs/KeptRows.antt` says what is kept, and `proofs/` why it stays so.
 //!
 //! What the items are, this crate doesn't know; who adds them has numbered their chains.
 #![tactic(auto)]

@@ -20,9 +20,8 @@ use Rattle.depot_model.specs.Room.{full_by}
 use Rattle.depot_model.specs.Taking.{OfGiven, IsAnswered, IsFull, IsBroken, Takes}
 use Rattle.depot_laws.specs.Given.{HasText}
 use Rattle.depot_laws.proofs.Growing.{grown_is_lawful}
-use Rattle.depot_store.specs.NewRecords.{MayGrow}
-use Rattle.depot_store.specs.RoomByCounts.{HasGrown, HadNoRoom}
-use Rattle.depot_decide.specs.Deciding.{IsDecided, Decides, IsCarriedOut}
+use Rattle.depot_readings.specs.NewRecords.{MayGrow}
+use Rattle.depot_decide.specs.Deciding.{HasGrown, HadNoRoom, IsDecided, Decides, IsCarriedOut}
 use Rattle.depot_decide.specs.declared.decision.Decision.{Decision}
 use Rattle.depot_decide.proofs.NewStatements.{growth_is_new}
 use Rattle.depot_decide.proofs.OfRead.{refused_of_read}
@@ -58,7 +57,7 @@ unfolding growth
 decided_by here J x answer new is grows = record { is = is; grows = ap (growth_by J x) is ∙ grows }
 
 -- a decision is what it is made of
-pub made_decision : (here : Setting) (J : List Record) (x : Given) (answer : Result Taken Check) (new : List Record) (d : Decision) → d ≡ record { answer = answer; growth = new } → IsDecided here J x answer new → IsDecided here J x d.answer d.growth
+pub made_decision : (here : Setting) (J : List Record) (x : Given) (answer : Result Taken Check) (new : List Record) (d : Decision) → d ≡ record { answer = answer; growth = new; parents = None } → IsDecided here J x answer new → IsDecided here J x d.answer d.growth
 made_decision here J x answer new d made is = subst (λ (e : Decision). IsDecided here J x e.answer e.growth) (sym made) is
 
 -- and so is a growth

@@ -10,3 +10,8 @@ mod ValueAnswers
 mod ForeignIds
 mod VoucherGroups
 pub mod VoucherPlans
+mod RecordParts
+mod RecordChecks
+mod PutValues
+mod RecordFaultExamples
+pub mod TakenTexts

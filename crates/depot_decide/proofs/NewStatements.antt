@@ -14,7 +14,7 @@ use Rattle.depot_model.specs.Conviction.{proof_of}
 use Rattle.depot_model.specs.Journal.{foreign, is_convicted, is_vouched}
 use Rattle.depot_model.specs.Lists.{IsIn}
 use Rattle.depot_model.proofs.Members.{in_parts}
-use Rattle.depot_store.specs.NewRecords.{AreNew}
+use Rattle.depot_readings.specs.NewRecords.{AreNew}
 
 -- a conviction that is due brings no statement
 none_due : (J : List Record) (t : Signed) (o : Option (Signed × Kind)) (s : Signed) → IsIn (Foreign s) (due J t o) → ⊥

@@ -17,10 +17,10 @@ use Rattle.depot_model.specs.Own.{entry_of, next_entries, next_with}
 use Rattle.depot_model.specs.Roster.{Verifies}
 use Rattle.depot_laws.proofs.OwnTexts.{lawful_is_short}
 use Rattle.depot_accept.specs.StateView.{View, IsStateOf, setting}
-use Rattle.depot_store.specs.Totals.{AreTotals}
-use Rattle.depot_store.specs.Holdings.{Holding, standing}
-use Rattle.depot_store.specs.declared.totals.Totals.{Totals}
-use Rattle.depot_store.proofs.LeafLaws.{few_accepted}
+use Rattle.depot_readings.specs.Totals.{AreTotals}
+use Rattle.depot_readings.specs.ReadingsView.{Known, standing}
+use Rattle.depot_readings.specs.declared.totals.Totals.{Totals}
+use Rattle.depot_readings.proofs.LeafLaws.{few_accepted}
 use Rattle.depot_base.proofs.GeneralLaws.{at_place}
 use Rattle.depot_model.proofs.RisingUpdates.{by_id_length}
 
@@ -32,8 +32,8 @@ pub record AreEntryItems (me : ℕ) (J : List Record) (us : List Update) (items 
   pub inside : AllByRecursion (λ item. item < length us) items
   pub entries : updates_at us items ≡ next_entries me us (last_own J)
 
--- the items that are found by what a store keeps are those
-pub entry_items : {S D : Type 0} (verifies : Verifies) (h : Holding D) (v : View S) (t : Totals) (us : List Update) (me : ℕ) (last : Option ℕ) (found items : List ℕ) → IsStateOf h.records v → setting verifies v ≡ standing verifies h → AreTotals h.me h.records t
+-- the items that are found by what is read are those
+pub entry_items : {S : Type 0} (verifies : Verifies) (h : Known) (v : View S) (t : Totals) (us : List Update) (me : ℕ) (last : Option ℕ) (found items : List ℕ) → IsStateOf h.records v → setting verifies v ≡ standing verifies h → AreTotals h.me h.records t
     → us ≡ v.accepted → me ≡ v.me → last ≡ place_of_prev t.last us → ((id : List ℕ) → place_of_prev id us ≡ last → updates_at us found ≡ next_entries me us id) → AllByRecursion (λ item. item < length us) found → items ≡ found
     → AreEntryItems h.me h.records us items
 entry_items verifies h v t us me last found items state stands totals all mine place entries inside same = record {

@@ -18,16 +18,21 @@ use Rattle.depot_model.specs.Records.{IsRecord, text_of_record}
 use Rattle.depot_model.specs.Room.{full_by}
 use Rattle.depot_model.specs.Texts.{id_of_update}
 use Rattle.depot_laws.proofs.OwnTexts.{own_record_fits, own_put_is_lawful}
-use Rattle.depot_store.specs.NewRecords.{MayGrow}
-use Rattle.depot_store.specs.RecordTexts.{IsTextOf}
-use Rattle.depot_store.specs.RoomByCounts.{HasGrown, HadNoRoom}
+use Rattle.depot_readings.specs.NewRecords.{MayGrow}
+use Rattle.depot_readings.specs.RecordTexts.{IsTextOf}
 use Rattle.depot_model.specs.Limits.{limit_of_own, limit_of_put, IsCutShort}
 use Rattle.depot_model.specs.Limits as limits
 use Rattle.depot_model.proofs.LimitLaws.{limit_spent, limit_tips, limit_collides, limit_full, limit_none}
-use Rattle.depot_decide.specs.Putting.{told_of, put_records, IsTooWide, Puts, IsPlanned, IsRefused}
-use Rattle.depot_decide.specs.declared.put_answers.PutDone.{PutDone}
-use Rattle.depot_decide.specs.declared.put_answers.PutError.{PutError}
-use Rattle.depot_decide.specs.declared.put_answers.PutError.TheVariants as refused
+use Rattle.depot_decide.specs.Deciding.{HasGrown, HadNoRoom}
+use Rattle.depot_decide.specs.PlannedPuts.{IsTooWide, IsPlanned, IsRefused}
+use Rattle.depot_model.specs.Putting.{put_done_of, put_records, Puts}
+use Rattle.depot_model.specs.declared.put_answers.PutDone.{PutDone}
+use Rattle.depot_model.specs.declared.put_answers.PutError.TheVariants as refused
+use Rattle.depot_decide.specs.PlanErrors.{of_next, put_error_of}
+use Rattle.depot_decide.specs.declared.plan_errors.PlanError.{PlanError}
+use Rattle.depot_decide.specs.declared.plan_errors.PlanError.TheVariants as plan
+use Rattle.depot_decide.specs.declared.plan_errors.NextError.{NextError}
+use Rattle.depot_decide.specs.declared.plan_errors.NextError.TheVariants as next
 
 -- ---- leaves
 
@@ -40,7 +45,7 @@ unfolding limit_of_put
 limit_is here J changes = refl
 
 -- no leaf is left to sign it
-pub spent : (here : Setting) (J : List Record) (changes : List Change) (n : ℕ) (left : Bool) → n ≡ length (own J) → left ≡ ltb n (leaf_count here.listed here.me) → left ≡ false → IsRefused here J changes (refused.Spent n)
+pub spent : (here : Setting) (J : List Record) (changes : List Change) (n : ℕ) (left : Bool) → n ≡ length (own J) → left ≡ ltb n (leaf_count here.listed here.me) → left ≡ false → IsRefused here J changes (plan.Spent n)
 spent here J changes n left counted is none =
     let all : leaf_count here.listed here.me ≤ n = ltb-false _ _ (sym is ∙ none) in
     limit_is here J changes ∙ limit_spent here J (next_own here.me J changes) (put_records here J changes) (omega (arith, all, counted)) ∙ ap (λ (m : ℕ). Some (limits.spent m)) (sym counted)
@@ -87,22 +92,17 @@ made_is_lawful {here = here} {J = J} {u = u} {changes = changes} m fresh room =
 -- ---- decided
 
 -- it has too many entries, or no memory was found
-wide_own : (here : Setting) (J : List Record) (changes : List Change) (e : PutError) → length (own J) < leaf_count here.listed here.me → IsTooWide (next_own here.me J changes) e → IsRefused here J changes e
-wide_own here J changes refused.Memory leaf wide = wide
-wide_own here J changes refused.Disk leaf wide = wide
-wide_own here J changes refused.Stopped leaf wide = wide
-wide_own here J changes (refused.Spent n) leaf wide = absurd wide
-wide_own here J changes (refused.Tips n) leaf wide =
+wide_own : (here : Setting) (J : List Record) (changes : List Change) (e : NextError) → length (own J) < leaf_count here.listed here.me → IsTooWide (next_own here.me J changes) e → IsRefused here J changes (of_next e)
+wide_own here J changes next.Memory leaf wide = wide
+wide_own here J changes (next.Tips n) leaf wide =
     let n_is : n ≡ length (next_own here.me J changes).deps = wide.0 in
     limit_is here J changes ∙ limit_tips here J (next_own here.me J changes) (put_records here J changes) leaf (omega (arith, n_is, wide.1)) ∙ ap (λ (m : ℕ). Some (limits.tips m)) (sym n_is)
-wide_own here J changes (refused.Collides h) leaf wide = absurd wide
-wide_own here J changes (refused.Full what) leaf wide = wide
 
-pub too_wide : (here : Setting) (J : List Record) (ws : List Write) (changes : List Change) (e : PutError) → length (own J) < leaf_count here.listed here.me → ws ≡ map write_of changes → IsTooWide (next_with here.me J ws) e → IsRefused here J changes e
+pub too_wide : (here : Setting) (J : List Record) (ws : List Write) (changes : List Change) (e : NextError) → length (own J) < leaf_count here.listed here.me → ws ≡ map write_of changes → IsTooWide (next_with here.me J ws) e → IsRefused here J changes (of_next e)
 too_wide here J ws changes e leaf is wide = wide_own here J changes e leaf (subst (λ (u : Update). IsTooWide u e) (next_is here.me J (next_with here.me J ws) ws changes refl is) wide)
 
 -- its id isn't fresh
-pub collides : {here : Setting} {J : List Record} {u : Update} {changes : List Change} {values : List (List ℕ)} → IsMade here J u changes values → (id : List ℕ) → id ≡ id_of_update u → (IsFresh J id → ⊥) → IsRefused here J changes (refused.Collides id)
+pub collides : {here : Setting} {J : List Record} {u : Update} {changes : List Change} {values : List (List ℕ)} → IsMade here J u changes values → (id : List ℕ) → id ≡ id_of_update u → (IsFresh J id → ⊥) → IsRefused here J changes (plan.Collides id)
 collides {here = here} {J = J} {u = u} {changes = changes} m id is stale =
     limit_is here J changes
     ∙ subst (λ (x : Update). limit_of_own here J x (OwnPut x (values_of changes) ∷ []) ≡ Some (limits.collides id)) m.next
@@ -127,20 +127,17 @@ planned {here = here} {J = J} {u = u} {changes = changes} {values = values} m id
           ∙ subst (λ (x : Update). limit_of_own here J x (OwnPut x (values_of changes) ∷ []) ≡ option_map limits.full (full_by here.me J (OwnPut x (values_of changes) ∷ []))) m.next
           (limit_is_room here J u (OwnPut u (values_of changes) ∷ []) m.leaf m.narrow fresh_too)
           ∙ ap (λ (rs : List Record). option_map limits.full (full_by here.me J rs)) (sym (grows ∙ made_grows m));
-      told = subst (λ (x : Update). done ≡ told_of x) m.next (ap (λ (h : List ℕ). record { id = h; seq = u.seq; clock = u.clock }) is);
+      told = subst (λ (x : Update). done ≡ put_done_of x) m.next (ap (λ (h : List ℕ). record { id = h; seq = u.seq; clock = u.clock }) is);
       grows = grows ∙ made_grows m;
       lawful = λ room. subst (λ (rs : List Record). IsLawful here (J ++ rs)) (sym grows) (made_is_lawful m fresh_too (ap (full_by here.me J) (sym grows) ∙ room));
     }
 
 -- a refusal leaves the journal as it is
-pub refused_puts : (here : Setting) (J : List Record) (changes : List Change) (e : PutError) → IsRefused here J changes e → Puts here J changes (Err e) J
-refused_puts here J changes refused.Memory r = refl
-refused_puts here J changes refused.Disk r = absurd r
-refused_puts here J changes refused.Stopped r = absurd r
-refused_puts here J changes (refused.Spent n) r = (r, refl)
-refused_puts here J changes (refused.Tips n) r = (r, refl)
-refused_puts here J changes (refused.Collides h) r = (r, refl)
-refused_puts here J changes (refused.Full what) r = absurd r
+pub refused_puts : (here : Setting) (J : List Record) (changes : List Change) (e : PlanError) → IsRefused here J changes e → Puts here J changes (Err (put_error_of e)) J
+refused_puts here J changes plan.Memory r = refl
+refused_puts here J changes (plan.Spent n) r = (r, refl)
+refused_puts here J changes (plan.Tips n) r = (r, refl)
+refused_puts here J changes (plan.Collides h) r = (r, refl)
 
 -- ---- carried out
 

@@ -12,7 +12,6 @@ use Rattle.depot_base.specs.declared.record.Record.TheVariants.{OwnVoucher, Fore
 use Rattle.depot_base.specs.declared.statement.Signed.{Signed}
 use Rattle.depot_base.specs.declared.update.Update.{Update}
 use Rattle.depot_base.specs.declared.voucher.Voucher.{Voucher}
-use Rattle.depot_model.specs.declared.bundle.VoucherError.{VoucherError}
 use Rattle.depot_model.specs.declared.bundle.VoucherError.TheVariants as refused
 use Rattle.depot_model.specs.Checks.{Setting}
 use Rattle.depot_model.specs.Journal.{accepted, is_foreign, own}
@@ -30,10 +29,13 @@ use Rattle.depot_accept.proofs.FirstFound.{first_one}
 use Rattle.depot_laws.proofs.Groups.{IsSized, from_groups, groups_sized, numbered_count}
 use Rattle.depot_laws.proofs.NewVouchers.{foreign_is_digest, voucher_fits, new_are_lawful}
 use Rattle.depot_laws.proofs.OwnTexts.{few_own, lawful_is_short, me_fits}
-use Rattle.depot_store.specs.NewRecords.{MayGrow}
-use Rattle.depot_store.specs.RoomByCounts.{HasGrown, HadNoRoom}
-use Rattle.depot_store.proofs.LeafLaws.{few_accepted}
+use Rattle.depot_readings.specs.NewRecords.{MayGrow}
+use Rattle.depot_readings.proofs.LeafLaws.{few_accepted}
+use Rattle.depot_decide.specs.Deciding.{HasGrown, HadNoRoom}
+use Rattle.depot_decide.specs.PlanErrors.{voucher_error_of}
 use Rattle.depot_decide.specs.PlannedVouchers.{ArePlanned, AreRefused}
+use Rattle.depot_decide.specs.declared.plan_errors.VoucherPlanError.{VoucherPlanError}
+use Rattle.depot_decide.specs.declared.plan_errors.VoucherPlanError.TheVariants as plan
 use Rattle.depot_decide.proofs.VoucherGroups.{group_count}
 
 -- ---- how many ids there are
@@ -127,7 +129,7 @@ turned false true e = refl
 turned false false e = absurd cc
 
 -- too few leaves are left
-pub too_few_leaves : (here : Setting) (J : List Record) (ids : List (List ℕ)) (n count : ℕ) (enough : Bool) → n ≡ length (own J) → count ≡ length (own J) + length (groups_of 256 ids) → enough ≡ not (ltb (leaf_count here.listed here.me) count) → enough ≡ false → AreRefused here J ids (refused.Spent n)
+pub too_few_leaves : (here : Setting) (J : List Record) (ids : List (List ℕ)) (n count : ℕ) (enough : Bool) → n ≡ length (own J) → count ≡ length (own J) + length (groups_of 256 ids) → enough ≡ not (ltb (leaf_count here.listed here.me) count) → enough ≡ false → AreRefused here J ids (plan.Spent n)
 too_few_leaves here J ids n count enough counted is test fails = limit_is here J ids count is true (turned enough _ test ∙ ap not fails) ∙ ap (λ (k : ℕ). Some (limits.spent k)) (sym counted)
 
 -- and else only the room is open
@@ -142,12 +144,9 @@ planned here J ids new count enough l some foreign is test holds grows =
     }
 
 -- a refusal leaves the journal as it is
-pub refused_vouches : (here : Setting) (J : List Record) (ids : List (List ℕ)) (e : VoucherError) → AreRefused here J ids e → Vouches here J ids (Err e) J
-refused_vouches here J ids refused.Memory r = refl
-refused_vouches here J ids refused.Disk r = absurd r
-refused_vouches here J ids refused.Stopped r = absurd r
-refused_vouches here J ids (refused.Spent n) r = (r, refl)
-refused_vouches here J ids (refused.Full what) r = absurd r
+pub refused_vouches : (here : Setting) (J : List Record) (ids : List (List ℕ)) (e : VoucherPlanError) → AreRefused here J ids e → Vouches here J ids (Err (voucher_error_of e)) J
+refused_vouches here J ids plan.Memory r = refl
+refused_vouches here J ids (plan.Spent n) r = (r, refl)
 
 -- ---- what is carried out
 

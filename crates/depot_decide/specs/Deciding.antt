@@ -1,13 +1,15 @@
 -- What a node decides over its journal, and what comes of it.
-use Rattle.std.specs.Prelude.{◌≡◌, ℕ, List, [], ◌∷◌, Option, Some, None, Result, Ok, Err, slice_get}
+use Rattle.std.specs.Prelude.{◌≡◌, ℕ, List, [], ◌∷◌, ◌++◌, Option, Some, None, Result, Ok, Err, slice_get}
 use Rattle.depot_base.specs.declared.limits.TheConstants.{MOST_VALUE}
 use Rattle.depot_base.specs.Closed.{Closed, closing, rest_of}
 use Rattle.depot_base.specs.declared.check.Check.{Check}
+use Rattle.depot_base.specs.declared.check.Full.{Full}
 use Rattle.depot_base.specs.declared.check.Check.TheVariants as check
 use Rattle.depot_base.specs.declared.proof.Proof.{Proof}
 use Rattle.depot_base.specs.declared.record.Record.{Record}
 use Rattle.depot_base.specs.declared.record.Record.TheVariants.{Conviction}
 use Rattle.depot_base.specs.declared.statement.Signed.{Signed}
+use Rattle.depot_base.specs.declared.update.Update.{Update}
 use Rattle.depot_model.specs.declared.taken.Taken.{Taken}
 use Rattle.depot_model.specs.declared.taken.Taken.TheVariants.{New}
 use Rattle.depot_model.specs.declared.taken.TakeError.{TakeError}
@@ -17,10 +19,16 @@ use Rattle.depot_model.specs.Conviction.{proof_of}
 use Rattle.depot_model.specs.Journal.{foreign}
 use Rattle.depot_model.specs.Limits.{IsCutShort}
 use Rattle.depot_model.specs.Room.{full_by}
+use Rattle.depot_model.specs.Roster.{Verifies}
 use Rattle.depot_model.specs.Taking.{OfGiven}
 use Rattle.depot_model.specs.Texts.{signed, proof}
 use Rattle.depot_fork.specs.declared.Found.{Found}
-use Rattle.depot_store.specs.RoomByCounts.{HasGrown, HadNoRoom}
+use Rattle.depot_graph.specs.UpdateRows.{IsJoinedRow}
+use Rattle.depot_accept.specs.CheckResults.{IsChecked, IsNew}
+use Rattle.depot_accept.specs.StateView.{View, IsStateOf, setting}
+use Rattle.depot_accept.specs.declared.answer.CheckError.{CheckError}
+use Rattle.depot_accept.specs.declared.answer.Parents.{Parents}
+use Rattle.depot_accept.specs.declared.answer.Pass.{Pass}
 
 -- ---- deciding
 
@@ -55,7 +63,33 @@ pub record IsDueBy (here : Setting) (J : List Record) (s : Signed) (found : Foun
   pub known : slice_get (foreign J) found.index ≡ Some kept
   pub first : growth here J (given_statement s) ≡ Conviction (proof_of found.kind kept s) ∷ more
 
+-- where parents are given, their row is the joined one of their items
+abbrev pub AreJoined : List Update → Option Parents → Type 0
+AreJoined us None = Unit {0}
+AreJoined us (Some p) = IsJoinedRow us p.items.items p.row.items
+
+-- ---- by a state, whatever journal it is the state of
+
+abbrev pub DecidesByState : {S : Type 0} → Verifies → View S → Given → Result Taken Check → List Record → Type 0
+DecidesByState verifies v x answer new = (J : List Record) → IsStateOf J v → IsDecided (setting verifies v) J x answer new
+
+-- of a statement of which the checks say this
+abbrev pub DecidesChecked : {S : Type 0} → Verifies → View S → Signed → Result Pass CheckError → Result Taken Check → List Record → Type 0
+DecidesChecked verifies v s checked answer new = (J : List Record) → IsStateOf J v → IsChecked (setting verifies v) J s checked → IsDecided (setting verifies v) J (given_statement s) answer new
+
+-- of a new one, before which the conviction by this one is due
+abbrev pub DecidesNew : {S : Type 0} → Verifies → View S → Signed → Option Found → Result Taken Check → List Record → Type 0
+DecidesNew verifies v s found answer new = (J : List Record) → IsStateOf J v → IsNew (setting verifies v) J s found → IsDecided (setting verifies v) J (given_statement s) answer new
+
 -- ---- what comes of it
+
+-- the journal has grown by these, for which there was room
+abbrev pub HasGrown : ℕ → List Record → List Record → List Record → Type 0
+HasGrown me J new after = (full_by me J new ≡ None) × (after ≡ J ++ new)
+
+-- or this limit was in the way, and it is as before
+abbrev pub HadNoRoom : ℕ → List Record → List Record → Full → List Record → Type 0
+HadNoRoom me J new full after = (full_by me J new ≡ Some full) × (after ≡ J)
 
 -- the answer as it is given, a failed check as a refusal
 abbrev pub Answered : Result Taken Check → Result Taken TakeError → Type 0

@@ -1,13 +1,13 @@
 -- What a node decides where it is to vouch for ids.
 use Rattle.std.specs.Prelude.{◌≡◌, ℕ, List, ◌++◌, Some, None, option_map}
 use Rattle.depot_base.specs.declared.record.Record.{Record}
-use Rattle.depot_model.specs.declared.bundle.VoucherError.{VoucherError}
-use Rattle.depot_model.specs.declared.bundle.VoucherError.TheVariants as refused
 use Rattle.depot_model.specs.Checks.{Setting}
 use Rattle.depot_model.specs.Lawful.{IsLawful}
 use Rattle.depot_model.specs.Limits.{spent, full}
 use Rattle.depot_model.specs.Room.{full_by}
 use Rattle.depot_model.specs.Vouching.{new_vouchers, records_of, limit_of_vouchers}
+use Rattle.depot_decide.specs.declared.plan_errors.VoucherPlanError.{VoucherPlanError}
+use Rattle.depot_decide.specs.declared.plan_errors.VoucherPlanError.TheVariants as refused
 
 -- The vouchers are planned: of their limits only the room is open, they are what the journal is to grow by, and with them it
 -- stays lawful where there is room.
@@ -17,7 +17,6 @@ pub record ArePlanned (here : Setting) (J : List Record) (ids : List (List ℕ))
   pub lawful : full_by here.me J new ≡ None → IsLawful here (J ++ new)
 
 -- What a refusal says before the room is asked for. Memory may stand in place of each answer.
-abbrev pub AreRefused : Setting → List Record → List (List ℕ) → VoucherError → Type 0
+abbrev pub AreRefused : Setting → List Record → List (List ℕ) → VoucherPlanError → Type 0
 AreRefused here J ids refused.Memory = Unit {0}
 AreRefused here J ids (refused.Spent n) = limit_of_vouchers here J ids ≡ Some (spent n)
-AreRefused here J ids e = ⊥

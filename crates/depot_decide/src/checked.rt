@@ -1,24 +1,23 @@
 //! What is decided of a statement once it was checked.
 //!
-//! All of it goes by what a state keeps, whatever journal it is the state of: a node asks it over its store, and a reader over what it
+//! All of it goes by what a state keeps, whatever journal it is the state of: a node asks it over its readings, and a reader over what it
 //! kept of one.
-ghost use Rattle.std.specs.Prelude.{◌≡◌, List, [], ◌∷◌, Err, IfOk, Some};
+ghost use Rattle.std.specs.Prelude.{◌≡◌, List, [], ◌∷◌, Ok, Err, IfOk, Some};
 ghost use Rattle.depot_base.specs.declared.record.Record.{Record};
 ghost use Rattle.depot_base.specs.declared.record.Record.TheVariants.{Conviction};
-ghost use Rattle.depot_model.specs.Checks.{given_statement};
+ghost use Rattle.depot_model.specs.declared.taken.Taken.TheVariants.{New};
 ghost use Rattle.depot_model.specs.Texts.{IsSigned, IsProof, id_of_statement, text_of_signed};
 ghost use Rattle.depot_accept.specs.CheckResults.{IsNew, IsChecked, AreDue};
 ghost use Rattle.depot_accept.specs.StateView.{IsStateOf, setting};
 ghost use Rattle.depot_accept.specs.declared.answer.CheckError.TheVariants as failed;
-ghost use Rattle.depot_decide.specs.Deciding.{IsDecided, IsDueBy};
+ghost use Rattle.depot_decide.specs.Deciding.{AreJoined, DecidesChecked, DecidesNew, IsDueBy};
 
 use crate::decision::Decision;
-use depot_accept::{CheckError, Found, Pass, State};
-use depot_base::{Check, Hash32, Memory, Proof, Record, Signed};
+use depot_accept::{CheckError, Found, Parents, Pass, State};
+use depot_base::{Check, Hash32, Memory, Proof, Signed};
 use depot_judge::make_proof;
 use depot_model::{Scheme, Taken};
-use depot_store::Growth;
-use depot_update::foreign_of_text;
+use depot_readings::Growth;
 use std::alloc::Global;
 
 /// What is decided of a signed statement of this text, of which the checks over the state say this.
@@ -34,13 +33,14 @@ pub fn decide_checked<S: Scheme>(
     requires text { text.now ≡ text_of_signed signed }
     requires id { id ≡ id_of_statement signed.statement }
     requires checked { (J : List Record) × (IsStateOf J state.now × IsChecked (setting S.verifies state.now) J signed checked) }
-    ensures { IfOk result (λ d. (J : List Record) → IsStateOf J state.now → IsChecked (setting S.verifies state.now) J signed checked → IsDecided (setting S.verifies state.now) J (given_statement signed) d.answer d.growth) }
+    ensures decided { IfOk result (λ d. DecidesChecked S.verifies state.now signed checked d.answer d.growth) }
+    ensures joined { IfOk result (λ d. AreJoined state.now.accepted d.parents) }
 {
     match checked {
-        Ok(Pass::Known) => Ok(Decision::of(alloc, Ok(Taken::Known))),
-        Ok(Pass::Voucher) => accept(alloc, state, signed, id, text, Vec::new(alloc), None),
+        Ok(Pass::Known) => Ok(Decision::of(Ok(Taken::Known))),
+        Ok(Pass::Voucher) => accept(alloc, state, signed, id, text, None, None),
         Ok(Pass::Update { against, parents }) => {
-            accept(alloc, state, signed, id, text, parents, against)
+            accept(alloc, state, signed, id, text, Some(parents), against)
         }
         Err(CheckError::Memory) => Err(Memory),
         Err(CheckError::Refused { check, against }) => {
@@ -49,9 +49,45 @@ pub fn decide_checked<S: Scheme>(
     }
 }
 
-/// A new statement of this text is kept, after the conviction of its writer if one is due. Its record is the text as it came
-/// after a tag. The items of an update's parents go with it.
+/// A new statement of this text is kept, after the conviction of its writer if one is due. Where the parents of an update stand goes
+/// with it.
 fn accept<S: Scheme>(
+    alloc: Global,
+    state: &State<S>,
+    signed: Signed,
+    id: Hash32,
+    text: &[u8],
+    parents: Option<Parents>,
+    found: Option<Found>,
+) -> Result<Decision, Memory>
+    requires signed { IsSigned signed }
+    requires text { text.now ≡ text_of_signed signed }
+    requires id { id ≡ id_of_statement signed.statement }
+    requires joined { AreJoined state.now.accepted parents }
+    requires new { (J : List Record) × (IsStateOf J state.now × IsNew (setting S.verifies state.now) J signed found) }
+    ensures decided { IfOk result (λ d. DecidesNew S.verifies state.now signed found d.answer d.growth) }
+    ensures joined { IfOk result (λ d. AreJoined state.now.accepted d.parents) }
+{
+    let items = items_of(alloc, &parents)?;
+    let growth = growth_of_new(alloc, state, signed, id, text, items, found)?;
+    Ok(Decision {
+        answer: Ok(Taken::New),
+        growth,
+        parents,
+    })
+}
+
+/// The items of the parents, or none.
+fn items_of(alloc: Global, parents: &Option<Parents>) -> Result<Vec<u32>, Memory> {
+    let mut items = Vec::new(alloc);
+    if let Some(parents) = parents {
+        items.extend_from_slice(parents.items.as_slice())?;
+    }
+    Ok(items)
+}
+
+/// A new statement of this text, after the conviction of its writer if one is due.
+fn growth_of_new<S: Scheme>(
     alloc: Global,
     state: &State<S>,
     signed: Signed,
@@ -59,30 +95,18 @@ fn accept<S: Scheme>(
     text: &[u8],
     parents: Vec<u32>,
     found: Option<Found>,
-) -> Result<Decision, Memory>
+) -> Result<Growth, Memory>
     requires signed { IsSigned signed }
     requires text { text.now ≡ text_of_signed signed }
     requires id { id ≡ id_of_statement signed.statement }
     requires new { (J : List Record) × (IsStateOf J state.now × IsNew (setting S.verifies state.now) J signed found) }
-    ensures { IfOk result (λ d. (J : List Record) → IsStateOf J state.now → IsNew (setting S.verifies state.now) J signed found → IsDecided (setting S.verifies state.now) J (given_statement signed) d.answer d.growth) }
+    ensures { IfOk result (λ growth. DecidesNew S.verifies state.now signed found (Ok New) growth) }
 {
-    let text = foreign_of_text(alloc, text)?;
     match found {
-        None => {
-            let item = Record::Foreign { signed };
-            let growth = Growth::of_statement(alloc, item, id, text, parents)?;
-            Ok(Decision {
-                answer: Ok(Taken::New),
-                growth,
-            })
-        }
+        None => Ok(Growth::foreign(signed, id, parents, text)),
         Some(found) => {
             let proof = proof_by(state, found, &signed)?;
-            let growth = Growth::convicting(alloc, proof, signed, id, text, parents)?;
-            Ok(Decision {
-                answer: Ok(Taken::New),
-                growth,
-            })
+            Growth::convicting(alloc, proof, signed, id, parents, text)
         }
     }
 }
@@ -97,16 +121,18 @@ fn refuse<S: Scheme>(
 ) -> Result<Decision, Memory>
     requires text { IsSigned signed.now }
     requires failed { (J : List Record) × (IsStateOf J state.now × IsChecked (setting S.verifies state.now) J signed.now (Err (failed.Refused check against))) }
-    ensures { IfOk result (λ d. (J : List Record) → IsStateOf J state.now → IsChecked (setting S.verifies state.now) J signed.now (Err (failed.Refused check against)) → IsDecided (setting S.verifies state.now) J (given_statement signed.now) d.answer d.growth) }
+    ensures decided { IfOk result (λ d. DecidesChecked S.verifies state.now signed.now (Err (failed.Refused check against)) d.answer d.growth) }
+    ensures joined { IfOk result (λ d. AreJoined state.now.accepted d.parents) }
 {
     match against {
-        None => Ok(Decision::of(alloc, Err(check))),
+        None => Ok(Decision::of(Err(check))),
         Some(found) => {
             let proof = proof_by(state, found, signed)?;
-            let growth = Growth::one(alloc, Record::Conviction { proof }, Hash32::zeros())?;
+            let growth = Growth::conviction(alloc, proof)?;
             Ok(Decision {
                 answer: Err(check),
                 growth,
+                parents: None,
             })
         }
     }

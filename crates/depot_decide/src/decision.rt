@@ -1,11 +1,11 @@
 //! What a node decides of what it is given.
-ghost use Rattle.std.specs.Prelude.{◌≡◌, []};
+ghost use Rattle.std.specs.Prelude.{◌≡◌, [], None};
 ghost use Rattle.depot_decide.specs.Deciding.{Answered};
 
+use depot_accept::Parents;
 use depot_base::Check;
 use depot_model::{TakeError, Taken};
-use depot_store::Growth;
-use std::alloc::Global;
+use depot_readings::Growth;
 
 /// What a node answers to what it is given, and what its journal grows by where there is room for that.
 #[derive(Drop)]
@@ -14,16 +14,20 @@ pub struct Decision {
     pub answer: Result<Taken, Check>,
     /// The records that the journal is to grow by: none, one, or a conviction and a statement behind it.
     pub growth: Growth,
+    /// The items of the parents of an update that is taken, with their joined row: for `Readings::keep_row`, before the growth is
+    /// read, so that the rows aren't joined again.
+    pub parents: Option<Parents>,
 }
 
 impl Decision {
     /// An answer by which nothing grows. It takes no memory.
-    pub fn of(alloc: Global, answer: Result<Taken, Check>) -> Decision
-        ensures { result ≡ record { answer = answer; growth = [] } }
+    pub fn of(answer: Result<Taken, Check>) -> Decision
+        ensures { result ≡ record { answer = answer; growth = []; parents = None } }
     {
         Decision {
             answer,
-            growth: Growth::nothing(alloc),
+            growth: Growth::nothing(),
+            parents: None,
         }
     }
 }

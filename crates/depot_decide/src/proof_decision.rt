@@ -1,52 +1,52 @@
 //! What is decided of a proof.
-ghost use Rattle.std.specs.Prelude.{◌≡◌, List, false, IfOk};
+ghost use Rattle.std.specs.Prelude.{◌≡◌, List, IfOk};
 ghost use Rattle.depot_base.specs.declared.record.Record.{Record};
 ghost use Rattle.depot_model.specs.Checks.{check_of_point, given_proof, proof_checks};
 ghost use Rattle.depot_model.specs.Lists.{first};
 ghost use Rattle.depot_model.specs.Texts.{IsProof, text_of_proof};
 ghost use Rattle.depot_accept.specs.StateView.{IsStateOf, setting};
-ghost use Rattle.depot_store.specs.Holdings.{standing};
-ghost use Rattle.depot_decide.specs.Deciding.{DecidesProof, IsDecided, IsSettled};
+ghost use Rattle.depot_model.specs.Journal.{accepted};
+ghost use Rattle.depot_readings.specs.ReadingsView.{standing};
+ghost use Rattle.depot_decide.specs.Deciding.{AreJoined, DecidesByState, DecidesProof, IsDecided, IsSettled};
 
 use crate::decision::Decision;
 use depot_accept::State;
-use depot_base::{Check, DecodeError, Hash32, Memory, Proof, Record};
+use depot_base::{Check, DecodeError, Memory, Proof};
 use depot_judge::first_failed_point;
 use depot_model::{JudgeError, Scheme, Taken};
-use depot_outside::Disk;
-use depot_store::{Growth, Store};
-use depot_update::{conviction_of_text, decode_proof};
+use depot_readings::{Growth, Readings};
+use depot_update::decode_proof;
 use std::alloc::Global;
 
 /// What is decided of the text of a proof: a good one is kept, unless its node is convicted already.
-pub fn decide_proof<D: Disk, S: Scheme>(
+pub fn decide_proof<S: Scheme>(
     alloc: Global,
-    store: &Store<D, S>,
+    readings: &Readings<S>,
     text: &[u8],
 ) -> Result<Decision, Memory>
-    requires runs { store.now.stopped ≡ false }
-    ensures { IfOk result (λ d. DecidesProof (standing S.verifies store.now) store.now.records text.now d.answer d.growth) }
+    ensures decided { IfOk result (λ d. DecidesProof (standing S.verifies readings.now) readings.now.records text.now d.answer d.growth) }
+    ensures joined { IfOk result (λ d. AreJoined (accepted readings.now.records) d.parents) }
 {
     match decode_proof(alloc, text) {
-        Ok(proof) => decide_decoded(alloc, store, proof, text),
+        Ok(proof) => decide_decoded(alloc, readings, proof, text),
         Err(DecodeError::Memory) => Err(Memory),
-        Err(DecodeError::IllFormed(at)) => Ok(Decision::of(alloc, Err(Check::IllFormed(at)))),
+        Err(DecodeError::IllFormed(at)) => Ok(Decision::of(Err(Check::IllFormed(at)))),
     }
 }
 
-/// What is decided of a proof of this text. Its record is the text as it came after a tag.
-pub fn decide_decoded<D: Disk, S: Scheme>(
+/// What is decided of a proof of this text.
+pub fn decide_decoded<S: Scheme>(
     alloc: Global,
-    store: &Store<D, S>,
+    readings: &Readings<S>,
     proof: Proof,
     text: &[u8],
 ) -> Result<Decision, Memory>
-    requires runs { store.now.stopped ≡ false }
     requires proof { IsProof proof }
     requires text { text.now ≡ text_of_proof proof }
-    ensures { IfOk result (λ d. IsDecided (standing S.verifies store.now) store.now.records (given_proof proof) d.answer d.growth) }
+    ensures decided { IfOk result (λ d. IsDecided (standing S.verifies readings.now) readings.now.records (given_proof proof) d.answer d.growth) }
+    ensures joined { IfOk result (λ d. AreJoined (accepted readings.now.records) d.parents) }
 {
-    decide_judged(alloc, store.state(), proof, text)
+    decide_judged(alloc, readings.state(), proof, text)
 }
 
 /// What is decided of a proof of this text by what a state keeps, whatever journal it is the state of.
@@ -58,7 +58,8 @@ pub fn decide_judged<S: Scheme>(
 ) -> Result<Decision, Memory>
     requires proof { IsProof proof }
     requires text { text.now ≡ text_of_proof proof }
-    ensures { IfOk result (λ d. (J : List Record) → IsStateOf J state.now → IsDecided (setting S.verifies state.now) J (given_proof proof) d.answer d.growth) }
+    ensures decided { IfOk result (λ d. DecidesByState S.verifies state.now (given_proof proof) d.answer d.growth) }
+    ensures joined { IfOk result (λ d. AreJoined state.now.accepted d.parents) }
 {
     let Ok(answer) = settled(alloc, state, &proof) else {
         drop(proof);
@@ -66,16 +67,12 @@ pub fn decide_judged<S: Scheme>(
     };
     if let Some(answer) = answer {
         drop(proof);
-        return Ok(Decision::of(alloc, answer));
+        return Ok(Decision::of(answer));
     }
-    let Ok(text) = conviction_of_text(alloc, text) else {
-        drop(proof);
-        return Err(Memory);
-    };
-    let growth = Growth::of_text(alloc, Record::Conviction { proof }, Hash32::zeros(), text)?;
     Ok(Decision {
         answer: Ok(Taken::New),
-        growth,
+        growth: Growth::given_conviction(proof, text),
+        parents: None,
     })
 }
 

@@ -8,19 +8,18 @@ ghost use Rattle.depot_base.specs.declared.limits.TheConstants.{MOST_ENTRIES, MO
 ghost use Rattle.depot_base.specs.declared.record.Record.{Record};
 ghost use Rattle.depot_model.specs.Items.{place_of_prev, updates_at};
 ghost use Rattle.depot_model.specs.Journal.{accepted};
-ghost use Rattle.depot_model.specs.Lawful.{IsLawful, is_empty};
+ghost use Rattle.depot_model.specs.Lawful.{is_empty};
 ghost use Rattle.depot_model.specs.Own.{entry_of, next_with, IsFresh, leaf_count};
-ghost use Rattle.depot_store.specs.Holdings.{standing};
-ghost use Rattle.depot_decide.specs.Putting.{IsPlanned, IsRefused, IsTooWide};
+ghost use Rattle.depot_readings.specs.ReadingsView.{standing};
+ghost use Rattle.depot_decide.specs.PlannedPuts.{IsPlanned, IsRefused, IsTooWide};
 
-use crate::put_answers::{PutDone, PutError};
+use crate::plan_errors::{NextError, PlanError};
 use crate::put_writes::{Written, writes_of};
 use depot_base::limits::MOST_ENTRIES;
-use depot_base::{Changes, Dep, Deps, Hash32, Memory, Record, Update, Writes};
+use depot_base::{Changes, Dep, Deps, Hash32, Memory, Update, Writes};
 use depot_graph::{Graph, changed_leaves, summary};
-use depot_model::{Past, Scheme};
-use depot_outside::Disk;
-use depot_store::{Growth, Store};
+use depot_model::{Past, PutDone, Scheme};
+use depot_readings::{Growth, Readings};
 use depot_update::encode_own_put;
 use std::alloc::Global;
 
@@ -35,29 +34,28 @@ pub struct Plan {
 
 /// What is decided of a put of 1 to 16 changes, whose keys rise strictly: the next own update, unless no leaf is left to sign it
 /// (`Spent`), it has more than 1,024 entries (`Tips`), or its id isn't fresh (`Collides`), asked in this order. Whether there is
-/// room for its record is left open. `Memory` may come in place of each answer; `Disk`, `Stopped` and `Full` never come.
-pub fn decide_put<D: Disk, S: Scheme>(
+/// room for its record is left open. `Memory` may come in place of each answer.
+pub fn decide_put<S: Scheme>(
     alloc: Global,
-    store: &Store<D, S>,
+    readings: &Readings<S>,
     changes: Changes,
-) -> Result<Plan, PutError>
-    requires runs { store.now.stopped ≡ false }
-    requires lawful { IsLawful (standing S.verifies store.now) store.now.records }
-    requires some { is_empty store.now.records ≡ false }
+) -> Result<Plan, PlanError>
+    requires some { is_empty readings.now.records ≡ false }
     requires few { (1 ≤ length changes) × (length changes ≤ MOST_WRITES) }
     requires rising { AllPairsByRecursion (λ c d. is_below c.key d.key ≡ true) changes }
-    ensures planned { IfOk result (λ p. IsPlanned (standing S.verifies store.now) store.now.records changes p.done p.growth) }
-    ensures refused { IfErr result (IsRefused (standing S.verifies store.now) store.now.records changes) }
+    ensures planned { IfOk result (λ p. IsPlanned (standing S.verifies readings.now) readings.now.records changes p.done p.growth) }
+    ensures refused { IfErr result (IsRefused (standing S.verifies readings.now) readings.now.records changes) }
 {
-    let own = store.totals().own;
-    if !has_leaf(store, own) {
-        return Err(PutError::Spent(own));
+    let state = readings.state();
+    let own = readings.totals().own;
+    if !has_leaf(readings, own) {
+        return Err(PlanError::Spent(own));
     }
     let Written { writes, values } = writes_of(alloc, changes)?;
-    let next = next_own(alloc, store, writes)?;
+    let next = next_own(alloc, readings, writes)?;
     let made = encode_own_put(alloc, &next.update, &values)?;
-    if !is_fresh(store.state().graph(), &made.id) {
-        return Err(PutError::Collides(made.id));
+    if !is_fresh(state.graph(), &made.id) {
+        return Err(PlanError::Collides(made.id));
     }
     let done = PutDone {
         id: made.id,
@@ -65,17 +63,16 @@ pub fn decide_put<D: Disk, S: Scheme>(
         clock: next.update.clock,
     };
     let Next { update, parents } = next;
-    let item = Record::OwnPut { update, values };
-    let growth = Growth::of_statement(alloc, item, made.id, made.text, parents)?;
+    let growth = Growth::put(alloc, update, values, made.id, parents, made.text)?;
     Ok(Plan { done, growth })
 }
 
 /// Whether the node has a leaf of this number to sign by.
 #[tactic(auto, unfolding(depot_model::specs::Own::leaf_count))]
-pub fn has_leaf<D: Disk, S: Scheme>(store: &Store<D, S>, leaf: u32) -> bool
-    ensures { result ≡ nat_lt leaf (leaf_count store.now.listed store.now.me) }
+pub fn has_leaf<S: Scheme>(readings: &Readings<S>, leaf: u32) -> bool
+    ensures { result ≡ nat_lt leaf (leaf_count readings.now.listed readings.now.me) }
 {
-    match store.roster().key_of(store.me()) {
+    match readings.roster().key_of(readings.me()) {
         Some(key) => key.has_leaf(leaf),
         None => false,
     }
@@ -86,31 +83,29 @@ pub fn has_leaf<D: Disk, S: Scheme>(store: &Store<D, S>, leaf: u32) -> bool
 pub struct Next {
     /// The next own update.
     pub update: Update,
-    /// The items at which its parents were found, that of its prev first, as `Growth::of_statement` takes them. No clause speaks of
+    /// The items at which its parents were found, that of its prev first, as `Growth::put` takes them. No clause speaks of
     /// them, since none rests on them.
     pub parents: Vec<u32>,
 }
 
 /// The next own update, with these writes. `Tips` comes exactly where it would have more than 1,024 entries, with their number.
-pub fn next_own<D: Disk, S: Scheme>(
+pub fn next_own<S: Scheme>(
     alloc: Global,
-    store: &Store<D, S>,
+    readings: &Readings<S>,
     writes: Writes,
-) -> Result<Next, PutError>
-    requires runs { store.now.stopped ≡ false }
-    requires lawful { IsLawful (standing S.verifies store.now) store.now.records }
-    ensures next { IfOk result (λ n. n.update ≡ next_with store.now.me store.now.records writes) }
+) -> Result<Next, NextError>
+    ensures next { IfOk result (λ n. n.update ≡ next_with readings.now.me readings.now.records writes) }
     ensures narrow { IfOk result (λ n. length n.update.deps ≤ MOST_ENTRIES) }
-    ensures wide { IfErr result (IsTooWide (next_with store.now.me store.now.records writes)) }
+    ensures wide { IfErr result (IsTooWide (next_with readings.now.me readings.now.records writes)) }
 {
-    let state = store.state();
+    let state = readings.state();
     let graph = state.graph();
-    let totals = store.totals();
+    let totals = readings.totals();
     let last = item_of(graph, &totals.last);
     let items = changed_leaves(alloc, graph, state.me(), last)?;
     let items = items.as_slice();
     if items.len() > MOST_ENTRIES as usize {
-        return Err(PutError::Tips(items.len() as u32));
+        return Err(NextError::Tips(items.len() as u32));
     }
     let parents = with_prev(alloc, last, items)?;
     let history = summary(alloc, graph)?;

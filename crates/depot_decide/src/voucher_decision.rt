@@ -3,28 +3,27 @@ ghost use Rattle.std.specs.Prelude.{◌≡◌, ◌<◌, ◌+◌, ◌^◌, length
 ghost use Rattle.std.specs.List.{AllByRecursion};
 ghost use Rattle.depot_base.specs.declared.limits.TheConstants.{MOST_IDS};
 ghost use Rattle.depot_model.specs.Journal.{accepted, is_foreign};
-ghost use Rattle.depot_model.specs.Lawful.{IsLawful, is_empty};
+ghost use Rattle.depot_model.specs.Lawful.{is_empty};
 ghost use Rattle.depot_model.specs.Lists.{AreApart};
 ghost use Rattle.depot_model.specs.Own.{leaf_count};
 ghost use Rattle.depot_model.specs.Vouching.{groups_of, numbered, rising};
-ghost use Rattle.depot_store.specs.Holdings.{standing};
+ghost use Rattle.depot_readings.specs.ReadingsView.{standing};
 ghost use Rattle.depot_decide.specs.PlannedVouchers.{ArePlanned, AreRefused};
 
+use crate::plan_errors::VoucherPlanError;
 use crate::put_decision::has_leaf;
 use depot_base::limits::MOST_IDS;
 use depot_base::{Hash32, Ids, Memory, NodeId, Voucher};
-use depot_model::{Past, Scheme, VoucherError};
-use depot_outside::Disk;
-use depot_store::{Growth, Store};
+use depot_model::{Past, Scheme};
+use depot_readings::{Growth, Readings};
 use std::alloc::Global;
 use std::collections::BTreeSet;
 
 /// Whether an accepted update of another node has this id. It takes no memory.
-pub fn is_foreign<D: Disk, S: Scheme>(store: &Store<D, S>, id: &Hash32) -> bool
-    requires runs { store.now.stopped ≡ false }
-    ensures { result ≡ is_foreign store.now.me (accepted store.now.records) id.now }
+pub fn is_foreign<S: Scheme>(readings: &Readings<S>, id: &Hash32) -> bool
+    ensures { result ≡ is_foreign readings.now.me (accepted readings.now.records) id.now }
 {
-    let state = store.state();
+    let state = readings.state();
     let graph = state.graph();
     match graph.find(id) {
         Some(item) => graph.update(item).writer != state.me(),
@@ -34,35 +33,34 @@ pub fn is_foreign<D: Disk, S: Scheme>(store: &Store<D, S>, id: &Hash32) -> bool
 
 /// What is decided of ids that the node is to vouch for, which are apart and of accepted updates of others: own vouchers, one for
 /// each 256 ids in the order given, unless too few leaves are left to sign them (`Spent`, with the number of the node's statements).
-/// Whether there is room for their records is left open. `Memory` may come in place of each answer; no other error comes.
-pub fn decide_vouchers<D: Disk, S: Scheme>(
+/// Whether there is room for their records is left open. `Memory` may come in place of each answer.
+pub fn decide_vouchers<S: Scheme>(
     alloc: Global,
-    store: &Store<D, S>,
+    readings: &Readings<S>,
     ids: &[Hash32],
-) -> Result<Growth, VoucherError>
-    requires runs { store.now.stopped ≡ false }
-    requires lawful { IsLawful (standing S.verifies store.now) store.now.records }
-    requires some { is_empty store.now.records ≡ false }
+) -> Result<Growth, VoucherPlanError>
+    requires some { is_empty readings.now.records ≡ false }
     requires apart { AreApart ids.now }
-    requires foreign { AllByRecursion (λ h. is_foreign store.now.me (accepted store.now.records) h ≡ true) ids.now }
-    ensures planned { IfOk result (ArePlanned (standing S.verifies store.now) store.now.records ids.now) }
-    ensures refused { IfErr result (AreRefused (standing S.verifies store.now) store.now.records ids.now) }
+    requires foreign { AllByRecursion (λ h. is_foreign readings.now.me (accepted readings.now.records) h ≡ true) ids.now }
+    ensures planned { IfOk result (ArePlanned (standing S.verifies readings.now) readings.now.records ids.now) }
+    ensures refused { IfErr result (AreRefused (standing S.verifies readings.now) readings.now.records ids.now) }
 {
-    let own = store.totals().own;
+    let state = readings.state();
+    let own = readings.totals().own;
     let count = ids.len().div_ceil(MOST_IDS as usize) as u32;
-    if !has_leaves(store, own + count) {
-        return Err(VoucherError::Spent(own));
+    if !has_leaves(readings, own + count) {
+        return Err(VoucherPlanError::Spent(own));
     }
-    let vouchers = vouchers_for(alloc, store.state().me(), own, ids)?;
+    let vouchers = vouchers_for(alloc, state.me(), own, ids)?;
     let growth = Growth::vouchers(alloc, vouchers)?;
     Ok(growth)
 }
 
 /// Whether the node's tree has so many leaves.
-fn has_leaves<D: Disk, S: Scheme>(store: &Store<D, S>, count: u32) -> bool
-    ensures { result ≡ not (nat_lt (leaf_count store.now.listed store.now.me) count) }
+fn has_leaves<S: Scheme>(readings: &Readings<S>, count: u32) -> bool
+    ensures { result ≡ not (nat_lt (leaf_count readings.now.listed readings.now.me) count) }
 {
-    count == 0 || has_leaf(store, count - 1)
+    count == 0 || has_leaf(readings, count - 1)
 }
 
 /// The vouchers of a node for these ids, one for each 256 in the order given, the seqs from `seq` on.

@@ -1,5 +1,5 @@
--- What bytes bring a journal, and what a stop leaves of it while they are fed.
-use Rattle.std.proofs.Common.{◌≡◌, ◌≤◌, ℕ, List, [], ◌++◌, append_assoc, Bool, true, false, IsTrue, cond, ◌==◌, Some, Ok, Err, refl, sym, ap, ◌∙◌, arith}
+-- What bytes bring a journal.
+use Rattle.std.proofs.Common.{◌≡◌, ◌≤◌, ℕ, List, [], ◌++◌, append_assoc, Bool, true, false, cond, ◌==◌, Some, Ok, Err, refl, sym, ap, ◌∙◌, arith}
 use Rattle.std.proofs.lemmas.Bool.Decides.{nat_tests}
 use Rattle.std.proofs.lemmas.List.{append-nil}
 use Rattle.depot_base.specs.declared.record.Record.{Record}
@@ -7,14 +7,10 @@ use Rattle.depot_model.specs.declared.taken.Taken.TheVariants.{New, Known}
 use Rattle.depot_model.specs.Checks.{Setting}
 use Rattle.depot_model.specs.Frames.{Frame}
 use Rattle.depot_model.specs.Feeding.{Feeding, after_outcome, passed, says_more, fed, fed_frame, take_frame}
-use Rattle.depot_model.specs.Stops.{LeavesAll, Lasts}
 use Rattle.depot_model.specs.Taking.{Outcome, no_room, answered, appended_by}
 use Rattle.depot_model.proofs.FeedGrowth.{feed_grows}
 use Rattle.depot_model.proofs.FeedLaws.{fed_in_pieces}
-use Rattle.depot_model.proofs.StopLaws.{idle_lasts}
-use Rattle.depot_feeds.specs.Lasting.{LastsIn, LastsFed}
 use Rattle.depot_feeds.specs.Pieces.{brought_by}
-use Rattle.depot_feeds.proofs.LastingStreams.{lasts_longer, lasts_joined}
 use Rattle.depot_feeds.proofs.PieceLaws.{IsUnderWay}
 
 -- ---- what a frame brings
@@ -48,34 +44,9 @@ given_brings here J f le = by_end (f.tag == 4) (other f.tag le) where
 
 -- ---- bytes
 
--- nothing was done, whatever the bytes bring
-pub nothing_fed : {N : Type 0} {tells stopped : N → Bool} {records : N → List Record} {moment : N → ℕ} {left_since : N → ℕ → List ℕ → Type 0} {may_leave : N → List ℕ → Type 0} → ((v : N) (file : List ℕ) → left_since v (moment v) file → may_leave v file)
-    → (here : Setting) (s : Feeding) (bytes : List ℕ) (v : N) → s.journal ≡ records v → (IsTrue (tells v) → LeavesAll (records v) (stopped v) (may_leave v)) → LastsFed tells stopped records moment left_since may_leave here s bytes v v
-nothing_fed only_now here s bytes v same stable =
-    let g = feed_grows here s bytes in
-    record { appends = g.more; brings = g.is ∙ ap (λ (J : List Record). J ++ g.more) same; lasts = idle_lasts only_now v g.more stable }
-
 -- bytes that take one frame bring what it brings
 pub taken_brings : (here : Setting) (s now : Feeding) (bytes : List ℕ) (n : ℕ) (f : Frame) (J : List Record) → fed here s bytes ≡ fed_frame here n f now → now.journal ≡ J → (fed here s bytes).journal ≡ J ++ brought_by here J f
 taken_brings here s now bytes n f J takes same = ap (λ (x : Feeding). x.journal) takes ∙ frame_brings here n f now ∙ ap (λ (K : List Record). K ++ brought_by here K f) same
-
--- the bytes take one frame
-pub frame_fed : {N : Type 0} {tells stopped : N → Bool} {records : N → List Record} {moment : N → ℕ} {left_since : N → ℕ → List ℕ → Type 0} {may_leave : N → List ℕ → Type 0}
-    → (here : Setting) (s now : Feeding) (bytes : List ℕ) (n : ℕ) (f : Frame) (old new : N) → fed here s bytes ≡ fed_frame here n f now → now.journal ≡ records old → Lasts tells stopped records moment left_since may_leave old new (brought_by here (records old) f) → LastsFed tells stopped records moment left_since may_leave here s bytes old new
-frame_fed {records = records} here s now bytes n f old new takes same lasts = record {
-  appends = brought_by here (records old) f;
-  brings = taken_brings here s now bytes n f (records old) takes same;
-  lasts = lasts;
-}
-
--- all bytes are behind, and nothing failed
-pub piece_fed : {N : Type 0} {tells stopped : N → Bool} {records : N → List Record} {moment : N → ℕ} {left_since : N → ℕ → List ℕ → Type 0} {may_leave : N → List ℕ → Type 0}
-    → (here : Setting) (s now : Feeding) (bytes rest : List ℕ) (old new : N) → rest ≡ [] → IsUnderWay here s bytes rest now → now.journal ≡ records new → LastsIn tells stopped records moment left_since may_leave here false old new → LastsFed tells stopped records moment left_since may_leave here s bytes old new
-piece_fed here s now bytes rest old new none u same lasts = record {
-  appends = lasts.appends;
-  brings = ap (λ (b : List ℕ). (fed here s b).journal) (u.parts ∙ ap (λ (b : List ℕ). u.done ++ b) none ∙ append-nil u.done) ∙ ap (λ (x : Feeding). x.journal) u.is ∙ same ∙ lasts.is.all refl;
-  lasts = lasts.lasts;
-}
 
 -- bytes bring what was brought before a chunk, what the chunk brings, and what the bytes behind it would bring
 pub record Brings (here : Setting) (s : Feeding) (bytes : List ℕ) (J a b : List Record) : Type 0 where
@@ -97,13 +68,3 @@ chunk_brings here there s now bytes rest c behind J K a b stays u parts before b
     ∙ ap (λ (x : List Record). x ++ b) before
     ∙ append_assoc J a b in
     record { more = g.more; is = ap (λ (x : Feeding). x.journal) whole ∙ g.is ∙ ap (λ (x : List Record). x ++ g.more) brought ∙ append_assoc J (a ++ b) g.more }
-
--- a chunk fails: with what the bytes behind it would bring, the list is only longer
-pub piece_fails : {N : Type 0} {tells stopped : N → Bool} {records : N → List Record} {moment : N → ℕ} {left_since : N → ℕ → List ℕ → Type 0} {may_leave : N → List ℕ → Type 0}
-    → (here there : Setting) (s now : Feeding) (bytes rest c behind : List ℕ) (old mid new : N) → there ≡ here → stopped old ≡ false → stopped mid ≡ false → IsUnderWay here s bytes rest now → rest ≡ c ++ behind
-    → LastsIn tells stopped records moment left_since may_leave here false old mid → LastsFed tells stopped records moment left_since may_leave there now c mid new → LastsFed tells stopped records moment left_since may_leave here s bytes old new
-piece_fails {records = records} here there s now bytes rest c behind old mid new stays ran runs u parts one two =
-    let a = one.appends in
-    let b = two.appends in
-    let all = chunk_brings here there s now bytes rest c behind (records old) (records mid) a b stays u parts (one.is.all refl) two.brings in
-    record { appends = (a ++ b) ++ all.more; brings = all.is; lasts = lasts_longer old new (a ++ b) all.more (lasts_joined old mid new a b ran runs (one.is.all refl) one.lasts two.lasts) }

@@ -1,8 +1,11 @@
 -- What a node answers to the payload of a frame is what a feed counts.
-use Rattle.std.proofs.Common.{◌≡◌, ℕ, ◌≤◌, List, [], Bool, true, false, cond, ◌==◌, Some, Result, Ok, Err, refl, sym, ap, subst, ◌∙◌, arith}
+use Rattle.std.proofs.Common.{◌≡◌, ℕ, ◌≤◌, List, [], Bool, true, false, cond, ◌==◌, Some, Result, Ok, Err, refl, sym, ap, ◌∙◌, arith}
 use Rattle.std.proofs.lemmas.Bool.Decides.{nat_tests}
 use Rattle.depot_base.specs.declared.record.Record.{Record}
 use Rattle.depot_base.specs.declared.check.Check.{Check}
+use Rattle.depot_base.specs.Tags.{frame_byte}
+use Rattle.depot_base.specs.declared.tags.FrameTag.{FrameTag}
+use Rattle.depot_base.specs.declared.tags.FrameTag.TheVariants as tag
 use Rattle.depot_model.specs.declared.taken.Taken.{Taken}
 use Rattle.depot_model.specs.declared.taken.TakeError.{TakeError}
 use Rattle.depot_model.specs.declared.taken.TakeError.TheVariants as refused
@@ -15,31 +18,35 @@ use Rattle.depot_feeds.specs.declared.feed_error.FeedError.{FeedError}
 use Rattle.depot_feeds.specs.declared.feed_error.FeedError.TheVariants as error
 use Rattle.depot_feeds.specs.declared.tally.Tally.{Tally}
 use Rattle.depot_feeds.specs.Pieces.{at_work}
-use Rattle.depot_feeds.specs.NodeCalls.{stream_by, told, Answers, TakesFrame}
+use Rattle.depot_feeds.specs.NodeCalls.{stream_by, as_feed_answer, frame_of, Answers, TakesFrame}
 
-told_answers : (o : Outcome) (J : List Record) (r : Result Taken TakeError) (then : List Record) → Tells o J r then → Answers o J (told r) then
-told_answers o J (Ok taken) then t = t
-told_answers o J (Err refused.Memory) then t = t
-told_answers o J (Err refused.Disk) then t = t
-told_answers o J (Err refused.Stopped) then t = t
-told_answers o J (Err (refused.Full what)) then t = t
-told_answers o J (Err (refused.Refused c)) then t = t
+answers_told : (o : Outcome) (J : List Record) (r : Result Taken TakeError) (then : List Record) → Tells o J r then → Answers o J (as_feed_answer r) then
+answers_told o J (Ok taken) then t = t
+answers_told o J (Err refused.Memory) then t = t
+answers_told o J (Err refused.Disk) then t = t
+answers_told o J (Err refused.Stopped) then t = t
+answers_told o J (Err (refused.Full what)) then t = t
+answers_told o J (Err (refused.Refused c)) then t = t
 
 -- ---- the three sorts of frames that are given
 
-abbrev AnswersTo : Setting → List Record → ℕ → List ℕ → Result (Result Taken Check) FeedError → List Record → Type 0
-AnswersTo here J tag payload = Answers (take_frame here J (record { tag = tag; payload = payload })) J
+pub proof_answers : (here : Setting) (J : List Record) (payload : List ℕ) (r : Result Taken TakeError) (then : List Record) → TakesProof here J payload r then → Answers (take_frame here J (frame_of tag.Proof payload)) J (as_feed_answer r) then
+proof_answers here J payload r then t = answers_told _ J r then (proof_frame_tells here J payload r then t)
 
-pub proof_answers : (here : Setting) (J : List Record) (tag : ℕ) (payload : List ℕ) (r : Result Taken TakeError) (then : List Record) → tag ≡ 1 → TakesProof here J payload r then → AnswersTo here J tag payload (told r) then
-proof_answers here J tag payload r then is t = subst (λ (n : ℕ). AnswersTo here J n payload (told r) then) (sym is) (told_answers _ J r then (proof_frame_tells here J payload r then t))
+pub statement_answers : (here : Setting) (J : List Record) (payload : List ℕ) (r : Result Taken TakeError) (then : List Record) → TakesStatement here J payload r then → Answers (take_frame here J (frame_of tag.Statement payload)) J (as_feed_answer r) then
+statement_answers here J payload r then t = answers_told _ J r then (statement_frame_tells here J payload r then t)
 
-pub statement_answers : (here : Setting) (J : List Record) (tag : ℕ) (payload : List ℕ) (r : Result Taken TakeError) (then : List Record) → tag ≡ 2 → TakesStatement here J payload r then → AnswersTo here J tag payload (told r) then
-statement_answers here J tag payload r then is t = subst (λ (n : ℕ). AnswersTo here J n payload (told r) then) (sym is) (told_answers _ J r then (statement_frame_tells here J payload r then t))
-
-pub value_answers : (here : Setting) (J : List Record) (tag : ℕ) (payload : List ℕ) (r : Result Taken TakeError) (then : List Record) → tag ≡ 3 → TakesValue here J payload r then → AnswersTo here J tag payload (told r) then
-value_answers here J tag payload r then is t = subst (λ (n : ℕ). AnswersTo here J n payload (told r) then) (sym is) (told_answers _ J r then (value_frame_tells here J payload r then t))
+pub value_answers : (here : Setting) (J : List Record) (payload : List ℕ) (r : Result Taken TakeError) (then : List Record) → TakesValue here J payload r then → Answers (take_frame here J (frame_of tag.Value payload)) J (as_feed_answer r) then
+value_answers here J payload r then t = answers_told _ J r then (value_frame_tells here J payload r then t)
 
 -- ---- a frame is counted
+
+-- the byte of a tag other than End
+pub given_byte : (t : FrameTag) → (t ≡ tag.End → ⊥) → frame_byte t ≤ 3
+given_byte tag.Proof other = omega arith
+given_byte tag.Statement other = omega arith
+given_byte tag.Value other = omega arith
+given_byte tag.End other = absurd (other refl)
 
 pub end_is_passed : (here : Setting) (n : ℕ) (f : Frame) (s : Feeding) → f.tag ≡ 4 → fed_frame here n f s ≡ passed n (record s { ended = Some (says_more f.payload) })
 unfolding fed_frame

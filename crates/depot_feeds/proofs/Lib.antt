@@ -1,8 +1,8 @@
-pub mod NodeCallLaws
+pub mod LawfulCalls
 pub mod ChunkLaws
 pub mod FeedRecords
 pub mod FrameGrowth
 pub mod GivenLaws
 pub mod LastingStreams
 pub mod PieceLaws
-pub mod StreamCalls
+pub mod FedCalls

@@ -14,7 +14,7 @@ use Rattle.depot_feeds.specs.declared.feed_error.FeedError.TheVariants as error
 use Rattle.depot_feeds.specs.declared.tally.Tally.{Tally}
 use Rattle.depot_frames.specs.FrameHeads.{missing}
 use Rattle.depot_feeds.specs.Pieces.{Stream, stream_of, at_work, shut, AreOf, Feeds}
-use Rattle.depot_feeds.specs.NodeCalls.{stream_by, stream_after, TakesFrame, says_stopped}
+use Rattle.depot_feeds.specs.NodeCalls.{stream_by, stream_after, TakesFrame}
 use Rattle.depot_feeds.proofs.ChunkLaws.{stays_open, chunk_is_fed, closed_before, over_is_fed}
 
 -- ---- a piece in two parts
@@ -49,7 +49,7 @@ feeds_more here s a b error.Disk S J f = record {
 feeds_more here s a b error.Stopped S J f = f
 
 -- what comes behind bytes that were fed
-pub feeds_behind : (here : Setting) (s : Feeding) (a b : List ℕ) (r : Result (Unit {0}) FeedError) (S : Stream) (J : List Record) → says_stopped r ≡ false → Feeds here (fed here s a) b r S J → Feeds here s (a ++ b) r S J
+pub feeds_behind : (here : Setting) (s : Feeding) (a b : List ℕ) (r : Result (Unit {0}) FeedError) (S : Stream) (J : List Record) → (IsErrOf r error.Stopped → ⊥) → Feeds here (fed here s a) b r S J → Feeds here s (a ++ b) r S J
 feeds_behind here s a b (Ok done) S J runs f =
     let same = sym (fed_in_pieces here s a b) in
     (sym (ap (λ (t : Feeding). t.closed) same) ∙ f.0, record { stream = f.1.stream ∙ ap (λ (t : Feeding). stream_of t) same; journal = f.1.journal ∙ ap (λ (t : Feeding). t.journal) same })
@@ -87,7 +87,7 @@ feeds_behind here s a b (Err error.Disk) S J runs f =
       cut = moved (λ t. IsCutShort t.journal f.new J) f.cut;
       stream = f.stream ∙ ap (λ (t : Feeding). shut (stream_of t)) (sym same);
     }
-feeds_behind here s a b (Err error.Stopped) S J runs f = absurd cc
+feeds_behind here s a b (Err error.Stopped) S J runs f = absurd (runs refl)
 
 -- ---- a chunk
 
@@ -219,7 +219,7 @@ under_way_on here there s bytes rest c behind now t begun J stays u parts f = re
 
 -- an error in a chunk is one in the bytes
 pub under_way_fails : (here there : Setting) (s : Feeding) (bytes rest c behind : List ℕ) (now : Feeding) (e : FeedError) (S : Stream) (J : List Record)
-    → there ≡ here → IsUnderWay here s bytes rest now → rest ≡ c ++ behind → says_stopped {X = Unit {0}} (Err e) ≡ false → Feeds there now c (Err e) S J
+    → there ≡ here → IsUnderWay here s bytes rest now → rest ≡ c ++ behind → (IsErrOf {T = Unit {0}} (Err e) error.Stopped → ⊥) → Feeds there now c (Err e) S J
     → Feeds here s bytes (Err e) S J
 under_way_fails here there s bytes rest c behind now e S J stays u parts runs f =
     let moved = subst (λ (h : Setting). Feeds h now c (Err e) S J) stays f in
@@ -233,11 +233,4 @@ pub pieces_join : (here : Setting) (s : Feeding) (a b : List ℕ) (r : Result (U
     → Feeds here s a (Ok tt) S J → (IsErrOf r error.Stopped → ⊥) → Feeds here (at_work S J) b r T K → Feeds here s (a ++ b) r T K
 pieces_join here s a b r S T J K first runs second =
     let is : fed here s a ≡ at_work S J = at_work_again (fed here s a) S J first.0 first.1 in
-    feeds_behind here s a b r T K (other r runs) (subst (λ (x : Feeding). Feeds here x b r T K) (sym is) second) where
-      other : (x : Result (Unit {0}) FeedError) → (IsErrOf x error.Stopped → ⊥) → says_stopped x ≡ false
-      other (Ok done) never = refl
-      other (Err error.Memory) never = refl
-      other (Err error.Disk) never = refl
-      other (Err error.Stopped) never = absurd (never refl)
-      other (Err (error.Full what)) never = refl
-      other (Err (error.IllFormed at)) never = refl
+    feeds_behind here s a b r T K runs (subst (λ (x : Feeding). Feeds here x b r T K) (sym is) second)

@@ -1,24 +1,25 @@
--- What the calls on a node within a piece answer, and how they leave the node.
-use Rattle.std.specs.Prelude.{◌≡◌, ℕ, ◌+◌, ◌*◌, ◌≤◌, List, [], Bool, true, false, Result, Ok, Err}
+-- What the calls on a node within a piece answer, and what they leave of the node.
+use Rattle.std.specs.Prelude.{◌≡◌, ℕ, ◌+◌, ◌*◌, ◌≤◌, List, [], ◌++◌, Bool, true, false, Result, Ok, Err, IsErrOf}
+use Rattle.depot_base.specs.Tags.{frame_byte}
 use Rattle.depot_base.specs.declared.limits.TheConstants.{MOST_FRAMES}
-use Rattle.depot_base.specs.declared.key.PublicKey.{PublicKey}
+use Rattle.depot_base.specs.declared.tags.FrameTag.{FrameTag}
 use Rattle.depot_base.specs.declared.record.Record.{Record}
 use Rattle.depot_base.specs.declared.check.Check.{Check}
 use Rattle.depot_model.specs.declared.taken.Taken.{Taken}
 use Rattle.depot_model.specs.declared.taken.TakeError.{TakeError}
 use Rattle.depot_model.specs.declared.taken.TakeError.TheVariants as refused
 use Rattle.depot_model.specs.Checks.{Setting}
-use Rattle.depot_model.specs.Bundle.{Signs}
 use Rattle.depot_model.specs.Taking.{Outcome, no_room}
-use Rattle.depot_model.specs.Replicas.{IsSameNode, KeepsDisk}
 use Rattle.depot_model.proofs.TakeLaws.{IsTold, IsBrokenOff}
 use Rattle.depot_feeds.specs.declared.feed_error.FeedError.{FeedError}
 use Rattle.depot_feeds.specs.declared.feed_error.FeedError.TheVariants as error
 use Rattle.depot_feeds.specs.declared.tally.Tally.{Tally}
 use Rattle.depot_model.specs.Frames.{Frame}
-use Rattle.depot_model.specs.Feeding.{take_frame, fed_frame, closed_by, out_of_room}
+use Rattle.depot_model.specs.Feeding.{Feeding, take_frame, fed, fed_frame, closed_by, out_of_room}
+use Rattle.depot_model.specs.declared.node_state.NodeState.{Ghosts}
 use Rattle.depot_frames.specs.FrameHeads.{most_frame}
-use Rattle.depot_feeds.specs.Pieces.{Stream, at_work}
+use Rattle.depot_feeds.specs.Lasting.{IsLawfulCall}
+use Rattle.depot_feeds.specs.Pieces.{Stream, at_work, brought_by}
 
 -- ---- a tally as a stream
 
@@ -26,7 +27,11 @@ use Rattle.depot_feeds.specs.Pieces.{Stream, at_work}
 abbrev pub stream_by : Tally → List ℕ → Bool → Stream
 stream_by t begun closed = record { frames = t.frames; begun = begun; start = t.start; ended = t.ended; accepted = t.accepted; known = t.known; refused = t.refused.items; closed = closed }
 
--- the same behind a call: one that answers an error closes the feed
+-- the feed at work, with the journal of the node
+abbrev pub feeding_by : Tally → List ℕ → List Record → Feeding
+feeding_by t begun J = at_work (stream_by t begun false) J
+
+-- what is kept behind a call: one that answers an error closes the feed
 abbrev pub stream_after : {X : Type 0} → Result X FeedError → Tally → List ℕ → Stream
 stream_after (Ok x) t begun = stream_by t begun false
 stream_after (Err e) t begun = stream_by t [] true
@@ -37,34 +42,23 @@ pub record IsTally (t : Tally) : Type 0 where
   pub counted : t.accepted + t.known ≤ t.frames
   pub behind : t.start ≤ t.frames * most_frame
 
--- ---- the node
+-- ---- an error
 
--- the answer says that the disk failed, and that it had failed before
+-- the answer says that the disk failed
 abbrev pub says_disk : {X : Type 0} → Result X FeedError → Bool
 says_disk (Err error.Disk) = true
 says_disk other = false
 
-abbrev pub says_stopped : {X : Type 0} → Result X FeedError → Bool
-says_stopped (Err error.Stopped) = true
-says_stopped other = false
-
--- A call on a running node: it stays who it was, never answers that it was stopped, and is stopped where its disk failed.
-pub record IsKept (old_here new_here : Setting) (old_key new_key : PublicKey) (old_sign new_sign : Signs) (old_handle new_handle before now : ℕ) (was_faultless is_faultless : Type 0) (stopped failed refuses : Bool) : Type 0 where
-  pub same : IsSameNode old_here new_here old_key new_key old_sign new_sign
-  pub stops : stopped ≡ failed
-  pub runs : refuses ≡ false
-  pub disk : KeepsDisk old_handle new_handle before now was_faultless is_faultless (failed ≡ true)
-
 -- ---- an answer
 
 -- what a feed makes of an answer: one that is counted, or an error that closes it
-abbrev pub told : Result Taken TakeError → Result (Result Taken Check) FeedError
-told (Ok taken) = Ok (Ok taken)
-told (Err (refused.Refused c)) = Ok (Err c)
-told (Err refused.Memory) = Err error.Memory
-told (Err refused.Disk) = Err error.Disk
-told (Err refused.Stopped) = Err error.Stopped
-told (Err (refused.Full what)) = Err (error.Full what)
+abbrev pub as_feed_answer : Result Taken TakeError → Result (Result Taken Check) FeedError
+as_feed_answer (Ok taken) = Ok (Ok taken)
+as_feed_answer (Err (refused.Refused c)) = Ok (Err c)
+as_feed_answer (Err refused.Memory) = Err error.Memory
+as_feed_answer (Err refused.Disk) = Err error.Disk
+as_feed_answer (Err refused.Stopped) = Err error.Stopped
+as_feed_answer (Err (refused.Full what)) = Err (error.Full what)
 
 -- what a call answers where this is the outcome
 abbrev pub Answers : Outcome → List Record → Result (Result Taken Check) FeedError → List Record → Type 0
@@ -85,3 +79,22 @@ TakesFrame here n f t J (Err error.Disk) after then = (stream_by after [] true �
 TakesFrame here n f t J (Err error.Stopped) after then = (stream_by after [] true ≡ stream_by t [] true) × (then ≡ J)
 TakesFrame here n f t J (Err (error.Full what)) after then = (stream_by after [] true ≡ stream_by t [] true) × ((then ≡ J) × (fed_frame here n f (at_work (stream_by t [] false) J) ≡ closed_by (out_of_room what) (at_work (stream_by t [] false) J)))
 TakesFrame here n f t J (Err (error.IllFormed at)) after then = ⊥
+
+-- the frame of a tag and a payload
+abbrev pub frame_of : FrameTag → List ℕ → Frame
+frame_of tag payload = record { tag = frame_byte tag; payload = payload }
+
+-- ---- the node
+
+-- the call gave the node a frame, which was to bring what it brings, and answered so
+abbrev pub IsFrameCall : {N X : Type 0} → Ghosts N → Frame → N → N → Result X FeedError → Type 0
+IsFrameCall g f old new result =
+    IsLawfulCall g old new (brought_by (g.stands old) (g.records old) f)
+    (IsErrOf result error.Stopped) (IsErrOf result error.Disk) (says_disk result)
+
+-- What a call that feeds bytes to a feed at work leaves of a node: it was to append all the records that the bytes bring where nothing
+-- fails.
+pub record IsFeedCall {N X : Type 0} (g : Ghosts N) (s : Feeding) (bytes : List ℕ) (old new : N) (result : Result X FeedError) : Type 0 where
+  pub appends : List Record
+  pub brings : (fed (g.stands old) s bytes).journal ≡ g.records old ++ appends
+  pub left : IsLawfulCall g old new appends (IsErrOf result error.Stopped) (IsErrOf result error.Disk) (says_disk result)

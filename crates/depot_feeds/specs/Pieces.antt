@@ -1,5 +1,5 @@
 -- What a feed keeps of a stream, and what a piece makes of it.
-use Rattle.std.specs.Prelude.{◌≡◌, ℕ, ◌==◌, List, [], ◌∷◌, ◌++◌, Bool, true, false, is_some, Option, Some, None, Result, Ok, Err, if◌then◌else◌}
+use Rattle.std.specs.Prelude.{◌≡◌, ℕ, ◌==◌, List, [], ◌∷◌, ◌++◌, Bool, true, false, is_some, Option, Some, None, Result, Ok, Err, IsErrOf, if◌then◌else◌}
 use Rattle.depot_base.specs.declared.record.Record.{Record}
 use Rattle.depot_base.specs.declared.check.Check.{Check}
 use Rattle.depot_model.specs.declared.taken.Taken.{Taken}
@@ -96,3 +96,11 @@ Feeds here s bytes (Err (error.Full what)) S J = ((fed here s bytes).closed ≡ 
 Feeds here s bytes (Err error.Memory) S J = IsDropped here s bytes S J
 Feeds here s bytes (Err error.Disk) S J = IsBrokenOff here s bytes S J
 Feeds here s bytes (Err error.Stopped) S J = (S ≡ shut (stream_of s)) × (J ≡ s.journal)
+
+-- Two pieces were fed, one after the other and with nothing between. The first was taken, and the second was answered so, but not Stopped.
+pub record FeedsBoth (here : Setting) (s : Feeding) (first second : List ℕ) (result : Result (Unit {0}) FeedError) (S : Stream) (J : List Record) : Type 0 where
+  pub stream : Stream
+  pub journal : List Record
+  pub taken : Feeds here s first (Ok tt) stream journal
+  pub runs : IsErrOf result error.Stopped → ⊥
+  pub fed : Feeds here (at_work stream journal) second result S J

@@ -1,13 +1,12 @@
 //! A stream of frames, in pieces.
-ghost use Rattle.std.specs.Prelude.{◌≡◌, ◌<◌, ◌≤◌, ◌+◌, ℕ, List, [], false, true, length, OnOk, IfOk, IsErrOf, IsTrue, Ok};
+ghost use Rattle.std.specs.Prelude.{◌≡◌, ◌<◌, ◌≤◌, ◌+◌, false, length, OnOk, IfOk};
 ghost use Rattle.depot_base.specs.declared.limits.TheConstants.{MOST_PAYLOAD};
 ghost use Rattle.depot_model.specs.Frames.{frame_at, open_frame};
-ghost use Rattle.depot_model.specs.Stops.{LeavesAll};
-ghost use Rattle.depot_model.specs.Replicas.{IsSameNode, StopsBy, KeepsDisk};
+ghost use Rattle.depot_model.specs.JournalCalls.{IsStable};
+ghost use Rattle.depot_model.specs.Replicas.{journal_of};
 ghost use Rattle.depot_frames.specs.FrameHeads.{missing};
 ghost use Rattle.depot_feeds.specs.Pieces.{Feeds, at_work, no_stream, told_of};
-ghost use Rattle.depot_feeds.specs.NodeCalls.{stream_by, stream_after, IsTally, IsKept, says_disk, says_stopped};
-ghost use Rattle.depot_feeds.specs.Lasting.{CallsFed, LastsIn, LastsFed};
+ghost use Rattle.depot_feeds.specs.NodeCalls.{feeding_by, stream_by, stream_after, IsTally, IsFeedCall};
 
 use crate::feed_error::FeedError;
 use crate::tally::Tally;
@@ -55,14 +54,11 @@ fn feed_chunk<R: Replica>(
     requires some { 0 < length chunk.now }
     requires short { length chunk.now ≤ missing begun.old.items }
     requires running { R.stopped node.old ≡ false }
-    requires stable { IsTrue (R.tells node.old) → LeavesAll (R.records node.old) (R.stopped node.old) (R.may_leave node.old) }
-    ensures feeds { Feeds (R.stands node.old) (at_work (stream_by tally.old begun.old.items false) (R.records node.old)) chunk.now result (stream_after result tally.new begun.new.items) (R.records node.new) }
-    ensures kept { IsKept (R.stands node.old) (R.stands node.new) (R.key node.old) (R.key node.new) (R.signature_of node.old) (R.signature_of node.new) (R.handle node.old) (R.handle node.new) (R.faults node.old) (R.faults node.new) (R.is_faultless node.old) (R.is_faultless node.new) (R.stopped node.new) (says_disk result) (says_stopped result) }
+    requires stable { IsStable (journal_of R.NodeState) node.old }
+    ensures feeds { Feeds (R.stands node.old) (feeding_by tally.old begun.old.items (R.records node.old)) chunk.now result (stream_after result tally.new begun.new.items) (R.records node.new) }
     ensures tally { IsTally tally.new }
     ensures begun { OnOk result (frame_at begun.new.items ≡ open_frame) }
-    ensures lasts { LastsIn R.tells R.stopped R.records R.moment R.left_since R.may_leave (R.stands node.old) (says_disk result) node.old node.new }
-    ensures brings { LastsFed R.tells R.stopped R.records R.moment R.left_since R.may_leave (R.stands node.old) (at_work (stream_by tally.old begun.old.items false) (R.records node.old)) chunk.now node.old node.new }
-    ensures calls { CallsFed R.after R.reads R.stopped R.records (R.stands node.old) (at_work (stream_by tally.old begun.old.items false) (R.records node.old)) chunk.now node.old node.new (IsErrOf result FeedError.Disk) }
+    ensures call { IsFeedCall R.NodeState (feeding_by tally.old begun.old.items (R.records node.old)) chunk.now node.old node.new result }
 {
     if tally.is_over() {
         return Err(FeedError::IllFormed(tally.start));
@@ -88,14 +84,11 @@ fn feed_piece<R: Replica>(
     requires tally { IsTally tally.old }
     requires begun { frame_at begun.old.items ≡ open_frame }
     requires running { R.stopped node.old ≡ false }
-    requires stable { IsTrue (R.tells node.old) → LeavesAll (R.records node.old) (R.stopped node.old) (R.may_leave node.old) }
-    ensures feeds { Feeds (R.stands node.old) (at_work (stream_by tally.old begun.old.items false) (R.records node.old)) bytes.now result (stream_after result tally.new begun.new.items) (R.records node.new) }
-    ensures kept { IsKept (R.stands node.old) (R.stands node.new) (R.key node.old) (R.key node.new) (R.signature_of node.old) (R.signature_of node.new) (R.handle node.old) (R.handle node.new) (R.faults node.old) (R.faults node.new) (R.is_faultless node.old) (R.is_faultless node.new) (R.stopped node.new) (says_disk result) (says_stopped result) }
+    requires stable { IsStable (journal_of R.NodeState) node.old }
+    ensures feeds { Feeds (R.stands node.old) (feeding_by tally.old begun.old.items (R.records node.old)) bytes.now result (stream_after result tally.new begun.new.items) (R.records node.new) }
     ensures tally { IsTally tally.new }
     ensures begun { OnOk result (frame_at begun.new.items ≡ open_frame) }
-    ensures lasts { LastsIn R.tells R.stopped R.records R.moment R.left_since R.may_leave (R.stands node.old) (says_disk result) node.old node.new }
-    ensures brings { LastsFed R.tells R.stopped R.records R.moment R.left_since R.may_leave (R.stands node.old) (at_work (stream_by tally.old begun.old.items false) (R.records node.old)) bytes.now node.old node.new }
-    ensures calls { CallsFed R.after R.reads R.stopped R.records (R.stands node.old) (at_work (stream_by tally.old begun.old.items false) (R.records node.old)) bytes.now node.old node.new (IsErrOf result FeedError.Disk) }
+    ensures call { IsFeedCall R.NodeState (feeding_by tally.old begun.old.items (R.records node.old)) bytes.now node.old node.new result }
 {
     let mut rest = bytes;
     while !rest.is_empty() {
@@ -143,12 +136,7 @@ impl Feed {
     pub fn piece<R: Replica>(&mut self, node: &mut R, bytes: &[u8]) -> Result<(), FeedError>
         requires { self.old.closed ≡ false }
         ensures feeds { Feeds (R.stands node.old) (at_work self.old (R.records node.old)) bytes.now result self.new (R.records node.new) }
-        ensures stays { IsSameNode (R.stands node.old) (R.stands node.new) (R.key node.old) (R.key node.new) (R.signature_of node.old) (R.signature_of node.new) }
-        ensures stops { StopsBy (R.stopped node.old) (R.stopped node.new) (IsErrOf result FeedError.Stopped) (IsErrOf result FeedError.Disk) }
-        ensures disk { KeepsDisk (R.handle node.old) (R.handle node.new) (R.faults node.old) (R.faults node.new) (R.is_faultless node.old) (R.is_faultless node.new) (IsErrOf result FeedError.Disk) }
-        ensures lasts { LastsIn R.tells R.stopped R.records R.moment R.left_since R.may_leave (R.stands node.old) (says_disk result) node.old node.new }
-        ensures brings { LastsFed R.tells R.stopped R.records R.moment R.left_since R.may_leave (R.stands node.old) (at_work self.old (R.records node.old)) bytes.now node.old node.new }
-        ensures calls { CallsFed R.after R.reads R.stopped R.records (R.stands node.old) (at_work self.old (R.records node.old)) bytes.now node.old node.new (IsErrOf result FeedError.Disk) }
+        ensures call { IsFeedCall R.NodeState (at_work self.old (R.records node.old)) bytes.now node.old node.new result }
     {
         if node.is_stopped() {
             self.begun.clear();

@@ -1,16 +1,15 @@
 //! What holds of all feeds. Each law is a function that does nothing; its contract is the law.
-ghost use Rattle.std.specs.Prelude.{◌≡◌, ◌++◌, ℕ, List, None, Result, Ok, IsErrOf};
+ghost use Rattle.std.specs.Prelude.{◌≡◌, ◌++◌, ℕ, List, None, Result};
 ghost use Rattle.depot_base.specs.declared.record.Record.{Record};
 ghost use Rattle.depot_model.specs.Checks.{Setting};
 ghost use Rattle.depot_model.specs.Feeding.{Feeding, report_of};
 ghost use Rattle.depot_feeds.specs.declared.feed_error.FeedError.{FeedError};
-ghost use Rattle.depot_feeds.specs.declared.feed_error.FeedError.TheVariants as error;
-ghost use Rattle.depot_feeds.specs.Pieces.{Stream, Feeds, stream_of, at_work, told_of};
+ghost use Rattle.depot_feeds.specs.Pieces.{Stream, Feeds, FeedsBoth, stream_of, at_work, told_of};
 
 /// Two pieces, one after the other and with nothing between, make of a stream and a journal what both together would, whatever the
 /// second is answered but Stopped: so it doesn't matter how a stream was cut.
 pub fn pieces_are_one()
-    ensures { (here : Setting) (s : Feeding) (a b : List ℕ) (result : Result (Unit {0}) FeedError) (S T : Stream) (J K : List Record) → Feeds here s a (Ok tt) S J → (IsErrOf result error.Stopped → ⊥) → Feeds here (at_work S J) b result T K → Feeds here s (a ++ b) result T K }
+    ensures { (here : Setting) (s : Feeding) (a b : List ℕ) (result : Result (Unit {0}) FeedError) (S : Stream) (J : List Record) → FeedsBoth here s a b result S J → Feeds here s (a ++ b) result S J }
 {}
 
 /// What a feed keeps is enough: it tells the report of the feed at work, and with the journal of its node it is the feed at work, as

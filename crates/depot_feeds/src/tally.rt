@@ -1,20 +1,18 @@
 //! What a feed counts, and how a frame is given to a node.
-ghost use Rattle.std.specs.Prelude.{◌≡◌, ◌<◌, ◌≤◌, ◌==◌, ◌||◌, ◌+◌, ◌*◌, ℕ, List, [], ◌++◌, false, Some, IsErrOf, IsTrue, is_some, vec_len};
+ghost use Rattle.std.specs.Prelude.{◌≡◌, ◌≢◌, ◌<◌, ◌≤◌, ◌==◌, ◌||◌, ◌+◌, ◌*◌, List, [], ◌++◌, false, Some, is_some, vec_len};
 ghost use Rattle.std.specs.Vec.{vec_capacity};
 ghost use Rattle.depot_base.specs.declared.limits.TheConstants.{MOST_FRAMES};
 ghost use Rattle.depot_base.specs.declared.record.Record.{Record};
-ghost use Rattle.depot_model.specs.Frames.{Frame};
-ghost use Rattle.depot_model.specs.Stops.{CallsDisk, Lasts, LeavesAll};
-ghost use Rattle.depot_model.specs.Taking.{appended_by};
 ghost use Rattle.depot_model.specs.Feeding.{take_frame, says_more, passed, counted};
+ghost use Rattle.depot_model.specs.JournalCalls.{IsStable};
+ghost use Rattle.depot_model.specs.Replicas.{journal_of};
 ghost use Rattle.depot_frames.specs.FrameHeads.{most_frame};
-ghost use Rattle.depot_feeds.specs.Pieces.{at_work, no_stream, brought_by};
-ghost use Rattle.depot_feeds.specs.NodeCalls.{stream_by, IsTally, IsKept, says_disk, says_stopped, told, Answers, TakesFrame};
-ghost use Rattle.depot_feeds.specs.Lasting.{LastsIn};
+ghost use Rattle.depot_feeds.specs.Pieces.{at_work, no_stream};
+ghost use Rattle.depot_feeds.specs.NodeCalls.{stream_by, IsTally, as_feed_answer, frame_of, Answers, TakesFrame, IsFrameCall};
 
 use crate::feed_error::FeedError;
-use depot_base::Check;
 use depot_base::limits::MOST_FRAMES;
+use depot_base::{Check, FrameTag};
 use depot_model::{Refusal, Replica, TakeError, Taken};
 use std::alloc::Global;
 
@@ -36,8 +34,8 @@ pub(crate) struct Tally {
 }
 
 /// What a feed makes of a node's answer.
-fn told(answer: Result<Taken, TakeError>) -> Result<Result<Taken, Check>, FeedError>
-    ensures { result ≡ told answer }
+fn as_feed_answer(answer: Result<Taken, TakeError>) -> Result<Result<Taken, Check>, FeedError>
+    ensures { result ≡ as_feed_answer answer }
 {
     match answer {
         Ok(taken) => Ok(Ok(taken)),
@@ -49,25 +47,23 @@ fn told(answer: Result<Taken, TakeError>) -> Result<Result<Taken, Check>, FeedEr
     }
 }
 
-/// Gives the payload of a frame to a node: 1 is the tag of a proof, 2 of a statement, 3 of a value.
+/// Gives a node the payload of a frame other than End.
 fn give<R: Replica>(
     node: &mut R,
-    tag: u8,
+    tag: FrameTag,
     payload: &[u8],
 ) -> Result<Result<Taken, Check>, FeedError>
-    requires tag { (1 ≤ tag) × (tag ≤ 3) }
+    requires tag { tag ≢ FrameTag.End }
     requires running { R.stopped node.old ≡ false }
-    requires stable { IsTrue (R.tells node.old) → LeavesAll (R.records node.old) (R.stopped node.old) (R.may_leave node.old) }
-    ensures answers { Answers (take_frame (R.stands node.old) (R.records node.old) (record { tag = tag; payload = payload.now })) (R.records node.old) result (R.records node.new) }
-    ensures kept { IsKept (R.stands node.old) (R.stands node.new) (R.key node.old) (R.key node.new) (R.signature_of node.old) (R.signature_of node.new) (R.handle node.old) (R.handle node.new) (R.faults node.old) (R.faults node.new) (R.is_faultless node.old) (R.is_faultless node.new) (R.stopped node.new) (says_disk result) (says_stopped result) }
-    ensures lasts { LastsIn R.tells R.stopped R.records R.moment R.left_since R.may_leave (R.stands node.old) (says_disk result) node.old node.new }
-    ensures brings { Lasts R.tells R.stopped R.records R.moment R.left_since R.may_leave node.old node.new (appended_by (take_frame (R.stands node.old) (R.records node.old) (record { tag = tag; payload = payload.now }))) }
-    ensures calls { CallsDisk R.after R.reads R.stopped R.records node.old node.new (appended_by (take_frame (R.stands node.old) (R.records node.old) (record { tag = tag; payload = payload.now }))) (IsErrOf result FeedError.Disk) }
+    requires stable { IsStable (journal_of R.NodeState) node.old }
+    ensures answers { Answers (take_frame (R.stands node.old) (R.records node.old) (frame_of tag payload.now)) (R.records node.old) result (R.records node.new) }
+    ensures call { IsFrameCall R.NodeState (frame_of tag payload.now) node.old node.new result }
 {
     match tag {
-        1 => told(node.take_proof(payload)),
-        2 => told(node.take_statement(payload)),
-        _ => told(node.take_value(payload)),
+        FrameTag::Proof => as_feed_answer(node.take_proof(payload)),
+        FrameTag::Statement => as_feed_answer(node.take_statement(payload)),
+        FrameTag::Value => as_feed_answer(node.take_value(payload)),
+        FrameTag::End => unreachable!(),
     }
 }
 
@@ -152,24 +148,20 @@ impl Tally {
     pub(crate) fn take<R: Replica>(
         &mut self,
         node: &mut R,
-        tag: u8,
+        tag: FrameTag,
         payload: &[u8],
         count: usize,
     ) -> Result<(), FeedError>
-        requires tag { (1 ≤ tag) × (tag ≤ 4) }
         requires tally { IsTally self.old }
         requires few { self.old.frames < MOST_FRAMES }
         requires short { count ≤ most_frame }
         requires running { R.stopped node.old ≡ false }
-        requires stable { IsTrue (R.tells node.old) → LeavesAll (R.records node.old) (R.stopped node.old) (R.may_leave node.old) }
-        ensures takes { TakesFrame (R.stands node.old) count (record { tag = tag; payload = payload.now }) self.old (R.records node.old) result self.new (R.records node.new) }
-        ensures kept { IsKept (R.stands node.old) (R.stands node.new) (R.key node.old) (R.key node.new) (R.signature_of node.old) (R.signature_of node.new) (R.handle node.old) (R.handle node.new) (R.faults node.old) (R.faults node.new) (R.is_faultless node.old) (R.is_faultless node.new) (R.stopped node.new) (says_disk result) (says_stopped result) }
+        requires stable { IsStable (journal_of R.NodeState) node.old }
+        ensures takes { TakesFrame (R.stands node.old) count (frame_of tag payload.now) self.old (R.records node.old) result self.new (R.records node.new) }
+        ensures call { IsFrameCall R.NodeState (frame_of tag payload.now) node.old node.new result }
         ensures tally { IsTally self.new }
-        ensures lasts { LastsIn R.tells R.stopped R.records R.moment R.left_since R.may_leave (R.stands node.old) (says_disk result) node.old node.new }
-        ensures brings { Lasts R.tells R.stopped R.records R.moment R.left_since R.may_leave node.old node.new (brought_by (R.stands node.old) (R.records node.old) (record { tag = tag; payload = payload.now })) }
-        ensures calls { CallsDisk R.after R.reads R.stopped R.records node.old node.new (brought_by (R.stands node.old) (R.records node.old) (record { tag = tag; payload = payload.now })) (IsErrOf result FeedError.Disk) }
     {
-        if tag == 4 {
+        if let FrameTag::End = tag {
             self.take_end(payload, count);
             return Ok(());
         }

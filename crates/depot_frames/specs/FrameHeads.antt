@@ -1,7 +1,8 @@
 -- How far an open frame is from its end.
-use Rattle.std.specs.Prelude.{◌≡◌, ℕ, ◌+◌, ◌-◌, ◌≤◌, List, length, take, drop, nat_lt, if◌then◌else◌}
+use Rattle.std.specs.Prelude.{◌≡◌, ℕ, ◌+◌, ◌-◌, List, length, take, drop, nat_lt, if◌then◌else◌}
 use Rattle.std.specs.Int.{w32, from_be_bytes}
 use Rattle.depot_base.specs.declared.limits.TheConstants.{MOST_PAYLOAD}
+use Rattle.depot_base.specs.Tags.{frame_byte}
 use Rattle.depot_model.specs.Frames.{FrameAt, whole_frame, open_frame, no_frame}
 use Rattle.depot_frames.specs.declared.frame.Standing.{Standing}
 use Rattle.depot_frames.specs.declared.frame.Standing.TheVariants as standing
@@ -19,11 +20,11 @@ missing bytes = if nat_lt (length bytes) 5 then 1 else (5 + from_be_bytes w32 (t
 -- what is told of the bytes from a frame's start on is what stands there
 abbrev pub Tells : FrameAt → Standing → Type 0
 Tells at standing.Open = at ≡ open_frame
-Tells at (standing.Whole tag payload) = (at ≡ whole_frame (record { tag = tag; payload = payload.now })) × ((1 ≤ tag) × (tag ≤ 4))
+Tells at (standing.Whole tag payload) = at ≡ whole_frame (record { tag = frame_byte tag; payload = payload.now })
 Tells at standing.Nothing = at ≡ no_frame
 
 -- what is told of a place of a stream is what stands there: a frame by its tag, and by the place behind its five bytes and its payload
 abbrev pub StandsAt : FrameAt → ℕ → Place → Type 0
 StandsAt found at place.Open = found ≡ open_frame
-StandsAt found at (place.Frame tag end) = (payload : List ℕ) × ((found ≡ whole_frame (record { tag = tag; payload = payload })) × (end ≡ at + (5 + length payload)))
+StandsAt found at (place.Frame tag end) = (payload : List ℕ) × ((found ≡ whole_frame (record { tag = frame_byte tag; payload = payload })) × (end ≡ at + (5 + length payload)))
 StandsAt found at place.Ill = found ≡ no_frame

@@ -1,9 +1,11 @@
 //! What stands at the start of a frame.
 ghost use Rattle.std.specs.Prelude.{◌≡◌, ◌≤◌, ◌++◌, ◌-◌, take, drop, length, replicate};
 ghost use Rattle.std.specs.Int.{w32, from_be_bytes};
-ghost use Rattle.depot_model.specs.Frames.{Frame, frame_at, whole_frame, is_tag, least_length, most_length, may_be_within, is_no_flag, goes_astray};
+ghost use Rattle.depot_base.specs.Tags.{frame_byte};
+ghost use Rattle.depot_model.specs.Frames.{frame_at, least_length, most_length, is_no_flag, goes_astray};
 ghost use Rattle.depot_frames.specs.FrameHeads.{missing, Tells, StandsAt};
 
+use depot_base::FrameTag;
 use depot_base::limits::MOST_PAYLOAD;
 
 /// What bytes are, from the start of a frame on.
@@ -13,8 +15,8 @@ pub enum Standing<'a> {
     Open,
     /// A whole frame.
     Whole {
-        /// Its tag, 1 to 4.
-        tag: u8,
+        /// Its tag.
+        tag: FrameTag,
         /// Its payload.
         payload: &'a [u8],
     },
@@ -27,8 +29,8 @@ pub enum Standing<'a> {
 pub enum FrameAt {
     /// A whole frame.
     Frame {
-        /// Its tag, 1 to 4.
-        tag: u8,
+        /// Its tag.
+        tag: FrameTag,
         /// The place behind it. Its payload begins five bytes behind its start.
         end: usize,
     },
@@ -65,11 +67,14 @@ fn reach(bytes: &[u8]) -> (u32, u32)
 }
 
 /// The least and the greatest length of the payload of a frame with this tag.
-fn lengths(tag: u8) -> (u32, u32)
-    ensures least { result.0 ≡ least_length tag }
-    ensures most { result.1 ≡ most_length tag }
+fn lengths(tag: FrameTag) -> (u32, u32)
+    ensures least { result.0 ≡ least_length (frame_byte tag) }
+    ensures most { result.1 ≡ most_length (frame_byte tag) }
 {
-    if tag == 4 { (1, 1) } else { (0, MOST_PAYLOAD) }
+    match tag {
+        FrameTag::Proof | FrameTag::Statement | FrameTag::Value => (0, MOST_PAYLOAD),
+        FrameTag::End => (1, 1),
+    }
 }
 
 /// Whether a payload's front is neither 0 nor 1.
@@ -83,13 +88,13 @@ fn is_no_flag(payload: &[u8]) -> bool
 }
 
 /// Whether a frame with this tag can't go on with these bytes.
-fn goes_astray(tag: u8, bytes: &[u8]) -> bool
-    ensures { result ≡ goes_astray tag (take 4 bytes.now) (drop 4 bytes.now) }
+fn goes_astray(tag: FrameTag, bytes: &[u8]) -> bool
+    ensures { result ≡ goes_astray (frame_byte tag) (take 4 bytes.now) (drop 4 bytes.now) }
 {
     let (low, high) = lengths(tag);
     let (least, greatest) = reach(bytes);
     let within = least <= high && low <= greatest;
-    !within || (tag == 4 && is_no_flag(bytes.get(4..).unwrap_or(&[])))
+    !within || (tag == FrameTag::End && is_no_flag(bytes.get(4..).unwrap_or(&[])))
 }
 
 /// What these bytes are, from the start of a frame on. That they are no frame's is told at the first byte that decides it.
@@ -100,7 +105,10 @@ pub fn stands(bytes: &[u8]) -> Standing<'_>
     let [tag, rest @ ..] = bytes else {
         return Standing::Open;
     };
-    if !(1 <= *tag && *tag <= 4) || goes_astray(*tag, rest) {
+    let Some(tag) = FrameTag::of(*tag) else {
+        return Standing::Nothing;
+    };
+    if goes_astray(tag, rest) {
         return Standing::Nothing;
     }
     let [a, b, c, d, payload @ ..] = rest else {
@@ -111,7 +119,7 @@ pub fn stands(bytes: &[u8]) -> Standing<'_>
         Standing::Open
     } else {
         Standing::Whole {
-            tag: *tag,
+            tag,
             payload: &payload[..count],
         }
     }

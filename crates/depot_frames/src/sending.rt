@@ -1,14 +1,15 @@
 //! The updates and values that a bundle sends, as far as they are chosen.
-ghost use Rattle.std.specs.Prelude.{◌≡◌, ◌++◌, ◌≤◌, ◌+◌, ◌*◌, ℕ, [], length, map, OnOk, false};
+ghost use Rattle.std.specs.Prelude.{◌≡◌, ◌++◌, ◌≤◌, ◌+◌, ◌*◌, ℕ, [], length, OnOk};
 ghost use Rattle.std.specs.List.{flat_map};
 ghost use Rattle.depot_base.specs.declared.limits.TheConstants.{MOST_PAYLOAD, MOST_WRITES};
+ghost use Rattle.depot_base.specs.Tags.{frame_byte};
 ghost use Rattle.depot_model.specs.Frames.{text_of_frame};
 ghost use Rattle.depot_model.specs.Bundle.{bytes_of_frames};
 ghost use Rattle.depot_frames.specs.Sendings.{Holds, IsShort, Adds, ArePayloads, payloads_of, frames_under};
 
 use crate::frame_text::put_frame;
 use depot_base::limits::{MOST_BUNDLE, MOST_BUNDLE_FRAMES};
-use depot_base::{Bytes, Ids, Memory};
+use depot_base::{Bytes, FrameTag, Ids, Memory};
 use std::alloc::Global;
 
 /// The updates and values that a bundle sends, as far as they are chosen.
@@ -41,9 +42,9 @@ fn frames_length(payloads: &[&[u8]]) -> usize
 }
 
 /// Writes the frames of payloads, all under one tag.
-fn put_frames(out: &mut Bytes, tag: u8, payloads: &[&[u8]]) -> Result<(), Memory>
+fn put_frames(out: &mut Bytes, tag: FrameTag, payloads: &[&[u8]]) -> Result<(), Memory>
     requires { ArePayloads (payloads_of payloads.now) }
-    ensures { OnOk result (out.new ≡ out.old ++ flat_map text_of_frame (frames_under tag (payloads_of payloads.now))) }
+    ensures { OnOk result (out.new ≡ out.old ++ flat_map text_of_frame (frames_under (frame_byte tag) (payloads_of payloads.now))) }
 {
     for payload in payloads {
         put_frame(out, tag, payload)?;
@@ -79,8 +80,8 @@ impl Sending {
         if bytes > MOST_BUNDLE as usize || count > MOST_BUNDLE_FRAMES as usize {
             return Ok(false);
         }
-        put_frames(&mut self.frames, 2, told)?;
-        put_frames(&mut self.frames, 3, values)?;
+        put_frames(&mut self.frames, FrameTag::Statement, told)?;
+        put_frames(&mut self.frames, FrameTag::Value, values)?;
         self.updates += told.len() as u32;
         self.values += values.len() as u32;
         Ok(true)

@@ -1,5 +1,5 @@
 -- The stream of a bundle, and what is answered once its vouchers are journaled.
-use Rattle.std.proofs.Common.{◌≡◌, ℕ, List, [], ◌∷◌, ◌++◌, length, map, Bool, true, false, ltb, Option, Some, None, Result, Ok, Err, refl, sym, ap, subst, ◌∙◌, inl, inr, arith}
+use Rattle.std.proofs.Common.{◌≡◌, ◌↔◌, ℕ, List, [], ◌∷◌, ◌++◌, length, map, Bool, true, ltb, Option, Some, None, Result, Ok, Err, refl, sym, ap, subst, ◌∙◌, inl, inr}
 use Rattle.std.specs.Prelude.{IsErrOf}
 use Rattle.std.specs.List.{flat_map}
 use Rattle.std.proofs.lemmas.Grind.{flat_map-append}
@@ -10,7 +10,7 @@ use Rattle.depot_model.specs.declared.bundle.VoucherError.TheVariants as refused
 use Rattle.depot_model.specs.Checks.{Setting}
 use Rattle.depot_model.specs.Frames.{Frame, text_of_frame}
 use Rattle.depot_model.specs.Limits.{Limit}
-use Rattle.depot_model.specs.Replicas.{StopsBy, KeepsDisk}
+use Rattle.depot_model.proofs.JournalCallLaws.{never_stopped}
 use Rattle.depot_model.specs.Vouching.{Vouches, new_vouchers, limit_of_vouchers}
 use Rattle.depot_model.specs.Bundle.{Signs, Parcel, frames_of, proof_frame, end_frame, proofs_for, vouchers_for, sent_foreign, sent_for, parcels, unvouched, with_vouchers, bundled_within, bundle_of, bundle_frames, bundle_answer, voucher_frame}
 use Rattle.depot_base.proofs.GeneralLaws.{flat_push}
@@ -57,15 +57,15 @@ module _ (here : Setting) (sign : Signs) (J : List Record) (stopped : Bool) (tex
   not_bundled (error.Spent n) p = absurd p
   not_bundled (error.Full what) p = absurd p
 
-  -- nor does it stop a node
-  pub not_prepared_stops : (e : BundleError) → Prepares here sign J stopped text (Err e) → StopsBy stopped stopped (IsErrOf {T = Bundled} (Err e) error.Stopped) (IsErrOf {T = Bundled} (Err e) error.Disk)
-  not_prepared_stops error.Stopped p = record { answered = (λ e. p, λ e. refl); left = (λ e. inl e, λ e. p) }
-  not_prepared_stops error.Memory p = record { answered = (λ e. absurd cc, λ e. absurd (let no : false ≡ true = sym p ∙ e in cc)); left = (λ e. inl e, λ e. elim e [ inl was ↦ was | inr failed ↦ absurd cc ]) }
-  not_prepared_stops error.Disk p = absurd p
-  not_prepared_stops (error.IllFormed at) p = record { answered = (λ e. absurd cc, λ e. absurd (let no : false ≡ true = sym p.0 ∙ e in cc)); left = (λ e. inl e, λ e. elim e [ inl was ↦ was | inr failed ↦ absurd cc ]) }
-  not_prepared_stops (error.OtherRoster given mine) p = record { answered = (λ e. absurd cc, λ e. absurd (let no : false ≡ true = sym p.0 ∙ e in cc)); left = (λ e. inl e, λ e. elim e [ inl was ↦ was | inr failed ↦ absurd cc ]) }
-  not_prepared_stops (error.Spent n) p = absurd p
-  not_prepared_stops (error.Full what) p = absurd p
+  -- it says that the node was stopped exactly where it was
+  pub not_prepared_answers : (e : BundleError) → Prepares here sign J stopped text (Err e) → IsErrOf {T = Bundled} (Err e) error.Stopped ↔ (stopped ≡ true)
+  not_prepared_answers error.Stopped p = (λ _. p, λ _. refl)
+  not_prepared_answers error.Memory p = never_stopped stopped p (λ e. cc)
+  not_prepared_answers error.Disk p = absurd p
+  not_prepared_answers (error.IllFormed at) p = never_stopped stopped p.0 (λ e. cc)
+  not_prepared_answers (error.OtherRoster given mine) p = never_stopped stopped p.0 (λ e. cc)
+  not_prepared_answers (error.Spent n) p = absurd p
+  not_prepared_answers (error.Full what) p = absurd p
 
   -- nor was it the disk that failed
   pub no_disk : (e : BundleError) → Prepares here sign J stopped text (Err e) → IsErrOf {T = Bundled} (Err e) error.Disk → ⊥
@@ -76,14 +76,6 @@ module _ (here : Setting) (sign : Signs) (J : List Record) (stopped : Bool) (tex
   no_disk (error.OtherRoster given mine) p is = cc
   no_disk (error.Spent n) p is = p
   no_disk (error.Full what) p is = p
-
-  -- nor does it use its disk
-  pub not_prepared_keeps : (e : BundleError) (handle count : ℕ) (faultless : Type 0) → Prepares here sign J stopped text (Err e) → KeepsDisk handle handle count count faultless faultless (IsErrOf {T = Bundled} (Err e) error.Disk)
-  not_prepared_keeps e handle count faultless p = record {
-    same = refl;
-    cause = record { never_falls = omega arith; rose = λ is. absurd (no_disk e p is); only = λ lt. absurd (omega (arith, lt)) };
-    calm = λ f. (f, refl);
-  }
 
   -- ---- once the vouchers are made
 
@@ -135,47 +127,12 @@ module _ (here : Setting) (sign : Signs) (J : List Record) (stopped : Bool) (tex
         grown = w.1;
       }
 
--- ---- as the trait of nodes says it
-
--- answers of one meaning
-pub stops_alike : (before now : Bool) (a b c d : Type 0) → (a → c) → (c → a) → (b → d) → (d → b) → StopsBy before now a b → StopsBy before now c d
-stops_alike before now a b c d ac ca bd db s = record {
-  answered = (λ x. s.answered.0 (ca x), λ e. ac (s.answered.1 e));
-  left = (λ e. elim (s.left.0 e) [ inl was ↦ inl was | inr failed ↦ inr (bd failed) ], λ e. elim e [ inl was ↦ s.left.1 (inl was) | inr failed ↦ s.left.1 (inr (db failed)) ]);
-}
-
-pub keeps_alike : (d0 d1 n0 n1 : ℕ) (f0 f1 : Type 0) (a b : Type 0) → (a → b) → (b → a) → KeepsDisk d0 d1 n0 n1 f0 f1 a → KeepsDisk d0 d1 n0 n1 f0 f1 b
-keeps_alike d0 d1 n0 n1 f0 f1 a b ab ba k = record { same = k.same; cause = record { never_falls = k.cause.never_falls; rose = λ e. k.cause.rose (ba e); only = λ lt. ab (k.cause.only lt) }; calm = k.calm }
+-- ---- faults
 
 -- a fault of the vouchers is told as it is
-pub record IsSameFault (e : VoucherError) : Type 0 where
-  pub stopped : IsErrOf {T = Unit {0}} (Err e) refused.Stopped → IsErrOf {T = Bundled} (Err (from_vouching e)) error.Stopped
-  pub was_stopped : IsErrOf {T = Bundled} (Err (from_vouching e)) error.Stopped → IsErrOf {T = Unit {0}} (Err e) refused.Stopped
-  pub disk : IsErrOf {T = Unit {0}} (Err e) refused.Disk → IsErrOf {T = Bundled} (Err (from_vouching e)) error.Disk
-  pub was_disk : IsErrOf {T = Bundled} (Err (from_vouching e)) error.Disk → IsErrOf {T = Unit {0}} (Err e) refused.Disk
-
-pub same_fault : (e : VoucherError) → IsSameFault e
-same_fault refused.Memory = record { stopped = λ e. absurd cc; was_stopped = λ e. absurd cc; disk = λ e. absurd cc; was_disk = λ e. absurd cc }
-same_fault refused.Disk = record { stopped = λ e. absurd cc; was_stopped = λ e. absurd cc; disk = λ e. refl; was_disk = λ e. refl }
-same_fault refused.Stopped = record { stopped = λ e. refl; was_stopped = λ e. refl; disk = λ e. absurd cc; was_disk = λ e. absurd cc }
-same_fault (refused.Full what) = record { stopped = λ e. absurd cc; was_stopped = λ e. absurd cc; disk = λ e. absurd cc; was_disk = λ e. absurd cc }
-same_fault (refused.Spent n) = record { stopped = λ e. absurd cc; was_stopped = λ e. absurd cc; disk = λ e. absurd cc; was_disk = λ e. absurd cc }
-
--- the vouchers were made, and the node runs still
-pub still_runs : (before now : Bool) → before ≡ false → StopsBy before now (IsErrOf {T = Unit {0}} {E = VoucherError} (Ok tt) refused.Stopped) (IsErrOf {T = Unit {0}} {E = VoucherError} (Ok tt) refused.Disk) → now ≡ false
-still_runs before false runs s = refl
-still_runs before true runs s = absurd (elim (s.left.0 refl) [ inl was ↦ let both : true ≡ false = sym was ∙ runs in cc | inr failed ↦ cc ])
-
--- the vouchers were made, and memory is wanting
-pub memory_stops : (before now : Bool) → StopsBy before now (IsErrOf {T = Unit {0}} {E = VoucherError} (Ok tt) refused.Stopped) (IsErrOf {T = Unit {0}} {E = VoucherError} (Ok tt) refused.Disk) → StopsBy before now (IsErrOf {T = Bundled} (Err error.Memory) error.Stopped) (IsErrOf {T = Bundled} (Err error.Memory) error.Disk)
-memory_stops before now s = stops_alike before now _ _ _ _ (λ e. absurd cc) (λ e. absurd cc) (λ e. absurd cc) (λ e. absurd cc) s
-
-pub memory_keeps : (d0 d1 n0 n1 : ℕ) (f0 f1 : Type 0) → KeepsDisk d0 d1 n0 n1 f0 f1 (IsErrOf {T = Unit {0}} {E = VoucherError} (Ok tt) refused.Disk) → KeepsDisk d0 d1 n0 n1 f0 f1 (IsErrOf {T = Bundled} (Err error.Memory) error.Disk)
-memory_keeps d0 d1 n0 n1 f0 f1 k = keeps_alike d0 d1 n0 n1 f0 f1 _ _ (λ e. absurd cc) (λ e. absurd cc) k
-
--- the vouchers were made, and so was the bundle
-pub good_stops : (before now : Bool) (b : Bundled) → StopsBy before now (IsErrOf {T = Unit {0}} {E = VoucherError} (Ok tt) refused.Stopped) (IsErrOf {T = Unit {0}} {E = VoucherError} (Ok tt) refused.Disk) → StopsBy before now (IsErrOf {E = BundleError} (Ok b) error.Stopped) (IsErrOf {E = BundleError} (Ok b) error.Disk)
-good_stops before now b s = stops_alike before now _ _ _ _ (λ e. absurd cc) (λ e. absurd cc) (λ e. absurd cc) (λ e. absurd cc) s
-
-pub good_keeps : (d0 d1 n0 n1 : ℕ) (f0 f1 : Type 0) (b : Bundled) → KeepsDisk d0 d1 n0 n1 f0 f1 (IsErrOf {T = Unit {0}} {E = VoucherError} (Ok tt) refused.Disk) → KeepsDisk d0 d1 n0 n1 f0 f1 (IsErrOf {E = BundleError} (Ok b) error.Disk)
-good_keeps d0 d1 n0 n1 f0 f1 b k = keeps_alike d0 d1 n0 n1 f0 f1 _ _ (λ e. absurd cc) (λ e. absurd cc) k
+pub same_fault : (e : VoucherError) → (IsErrOf {T = Unit {0}} (Err e) refused.Stopped ↔ IsErrOf {T = Bundled} (Err (from_vouching e)) error.Stopped) × (IsErrOf {T = Unit {0}} (Err e) refused.Disk ↔ IsErrOf {T = Bundled} (Err (from_vouching e)) error.Disk)
+same_fault refused.Memory = ((λ e. absurd cc, λ e. absurd cc), (λ e. absurd cc, λ e. absurd cc))
+same_fault refused.Disk = ((λ e. absurd cc, λ e. absurd cc), (λ e. refl, λ e. refl))
+same_fault refused.Stopped = ((λ e. refl, λ e. refl), (λ e. absurd cc, λ e. absurd cc))
+same_fault (refused.Full what) = ((λ e. absurd cc, λ e. absurd cc), (λ e. absurd cc, λ e. absurd cc))
+same_fault (refused.Spent n) = ((λ e. absurd cc, λ e. absurd cc), (λ e. absurd cc, λ e. absurd cc))

@@ -1,25 +1,29 @@
--- What the vouchers of a bundle bring a journal, all of which or a front of which was appended, and by which calls on the disk.
-use Rattle.std.proofs.Common.{◌≡◌, ℕ, List, [], ◌++◌, Bool, true, false, Option, None, Ok, Err, refl, sym, ap, subst, ◌∙◌}
-use Rattle.std.specs.Prelude.{IsErrOf}
-use Rattle.depot_base.specs.Calls.{Made}
+-- What the vouchers of a bundle bring a journal, all of which or a front of which was appended, and what making them leaves of a node.
+use Rattle.std.proofs.Common.{◌≡◌, ℕ, List, [], ◌++◌, Bool, true, false, Option, None, Result, Ok, Err, refl, sym, ap, subst, ◌∙◌}
+use Rattle.std.specs.Prelude.{IsErrAnd, IsErrOf}
 use Rattle.depot_base.specs.declared.record.Record.{Record}
 use Rattle.depot_model.specs.declared.bundle.VoucherError.{VoucherError}
 use Rattle.depot_model.specs.declared.bundle.VoucherError.TheVariants as refused
+use Rattle.depot_model.specs.declared.node_state.NodeState.{Ghosts}
 use Rattle.depot_model.specs.Checks.{Setting}
+use Rattle.depot_model.specs.JournalCalls.{JournalView, Lasts, IsJournalCall}
 use Rattle.depot_model.specs.Lawful.{IsLawful, is_empty}
 use Rattle.depot_model.specs.Limits.{Limit}
-use Rattle.depot_model.specs.Stops.{CallsDisk, Lasts}
+use Rattle.depot_model.specs.Replicas.{IsVoucherCall, journal_of}
 use Rattle.depot_model.specs.Vouching.{Vouches, new_vouchers, records_of, limit_of_vouchers}
 use Rattle.depot_model.specs.Bundle.{Signs, bundled_within, bundle_of, bundle_answer}
-use Rattle.depot_model.proofs.CallsOnDisk.{called_well, calls_alike}
+use Rattle.depot_model.proofs.CallsOnDisk.{called_well}
+use Rattle.depot_model.proofs.JournalCallLaws.{never_answered, renamed_call}
+use Rattle.depot_model.proofs.StopLaws.{lasts_longer}
+use Rattle.depot_gossip.specs.declared.bundle_error.BundleError.{BundleError}
 use Rattle.depot_gossip.specs.declared.bundle_error.BundleError.TheVariants as error
 use Rattle.depot_gossip.specs.declared.bundle_stream.Bundled.{Bundled}
 use Rattle.depot_gossip.specs.declared.preparing.Prepared.{Prepared}
 use Rattle.depot_gossip.specs.Errors.{from_vouching}
-use Rattle.depot_gossip.specs.Bundling.{finds_disk, journaled_for}
+use Rattle.depot_gossip.specs.Bundling.{IsBundleCall, finds_disk, journaled_for}
 use Rattle.depot_gossip.specs.Preparing.{IsPrepared}
 use Rattle.depot_feeds.specs.Lasting.{LastsIn}
-use Rattle.depot_feeds.proofs.LastingStreams.{all_of, cut_of, none_in, to_append, lasts_longer, lasts_alike, IsPart}
+use Rattle.depot_feeds.proofs.LastingStreams.{all_of, cut_of, none_in, to_append, IsPart}
 use Rattle.depot_laws.proofs.TrueReceipts.{silent_is_true, vouchers_put_none}
 use Rattle.depot_gossip.proofs.StreamLaws.{same_fault}
 use Rattle.depot_gossip.proofs.ToldLaws.{bundle_is_lawful}
@@ -31,69 +35,74 @@ unfolding bundle_of
 vouchers_are_lawful here sign J stopped text p l some is none =
     subst (λ (ids : List (List ℕ)). IsLawful here (J ++ records_of (new_vouchers here.me J ids))) (sym is.ids) (bundle_is_lawful here sign J p.hello l some (ap (limit_of_vouchers here J) (sym is.ids) ∙ none))
 
--- all of them were appended, or a front of them
-part_in : {N : Type 0} {tells stopped : N → Bool} {records : N → List Record} {moment : N → ℕ} {left_since : N → ℕ → List ℕ → Type 0} {may_leave : N → List ℕ → Type 0}
-    → (here : Setting) (sign : Signs) (ran : Bool) (text : List ℕ) (p : Prepared) (failed : Bool) (old new : N) → IsLawful here (records old) → is_empty (records old) ≡ false → IsPrepared here sign (records old) ran text p → limit_of_vouchers here (records old) p.unvouched ≡ None
-    → IsPart (records old) (records_of (new_vouchers here.me (records old) p.unvouched)) (records new) failed → Lasts tells stopped records moment left_since may_leave old new (records_of (new_vouchers here.me (records old) p.unvouched)) → LastsIn tells stopped records moment left_since may_leave here failed old new
-part_in {records = records} here sign ran text p failed old new l some is none part lasts = record {
-  appends = records_of (new_vouchers here.me (records old) p.unvouched);
-  is = to_append here (records old) _ (records new) failed (vouchers_are_lawful here sign (records old) ran text p l some is none) (silent_is_true (records old) _ (vouchers_put_none (new_vouchers here.me (records old) p.unvouched))) part;
-  lasts = lasts;
-}
-
--- they were made
-pub vouched_in : {N : Type 0} {tells stopped : N → Bool} {records : N → List Record} {moment : N → ℕ} {left_since : N → ℕ → List ℕ → Type 0} {may_leave : N → List ℕ → Type 0}
-    → (here : Setting) (sign : Signs) (ran : Bool) (text : List ℕ) (p : Prepared) (failed : Bool) (old new : N) → IsLawful here (records old) → is_empty (records old) ≡ false → IsPrepared here sign (records old) ran text p → Vouches here (records old) p.unvouched (Ok tt) (records new)
-    → Lasts tells stopped records moment left_since may_leave old new (records_of (new_vouchers here.me (records old) p.unvouched)) → LastsIn tells stopped records moment left_since may_leave here failed old new
-vouched_in {records = records} here sign ran text p failed old new l some is v lasts = part_in here sign ran text p failed old new l some is v.0 (all_of (records old) _ (records new) failed v.1) lasts
-
--- they weren't made: the disk failed, or none was appended
-pub not_vouched_in : {N : Type 0} {tells stopped : N → Bool} {records : N → List Record} {moment : N → ℕ} {left_since : N → ℕ → List ℕ → Type 0} {may_leave : N → List ℕ → Type 0}
-    → (here : Setting) (sign : Signs) (ran : Bool) (text : List ℕ) (p : Prepared) (e : VoucherError) (old new : N) → IsLawful here (records old) → is_empty (records old) ≡ false → IsPrepared here sign (records old) ran text p → (e ≡ refused.Stopped → ⊥) → Vouches here (records old) p.unvouched (Err e) (records new)
-    → Lasts tells stopped records moment left_since may_leave old new (records_of (new_vouchers here.me (records old) p.unvouched)) → ((e ≡ refused.Disk → ⊥) → Lasts tells stopped records moment left_since may_leave old new [])
-    → LastsIn tells stopped records moment left_since may_leave here (finds_disk {X = Bundled} (Err (from_vouching e))) old new
-not_vouched_in here sign ran text p refused.Memory old new l some is never v lasts idle = none_in here false old new l v (idle (λ e. cc))
-not_vouched_in {records = records} here sign ran text p refused.Disk old new l some is never v lasts idle = part_in here sign ran text p true old new l some is v.0 (cut_of (records old) _ (records new) v.1) lasts
-not_vouched_in here sign ran text p refused.Stopped old new l some is never v lasts idle = absurd (never refl)
-not_vouched_in here sign ran text p (refused.Spent n) old new l some is never v lasts idle = none_in here false old new l v.1 (idle (λ e. cc))
-not_vouched_in here sign ran text p (refused.Full what) old new l some is never v lasts idle = none_in here false old new l v.1 (idle (λ e. cc))
-
--- ---- they are those of the bundle
-
 -- vouchers that meet no limit are those that are journaled for the answer
-pub are_journaled : (here : Setting) (sign : Signs) (J : List Record) (stopped : Bool) (text : List ℕ) (p : Prepared) → IsPrepared here sign J stopped text p → limit_of_vouchers here J p.unvouched ≡ None
+are_journaled : (here : Setting) (sign : Signs) (J : List Record) (stopped : Bool) (text : List ℕ) (p : Prepared) → IsPrepared here sign J stopped text p → limit_of_vouchers here J p.unvouched ≡ None
     → records_of (new_vouchers here.me J p.unvouched) ≡ journaled_for (bundle_answer here sign J text)
 unfolding bundle_of
 are_journaled here sign J stopped text p is none =
     ap (λ (ids : List (List ℕ)). records_of (new_vouchers here.me J ids)) is.ids
     ∙ sym (ap journaled_for (is.heard ∙ ap (λ (o : Option Limit). bundled_within o (bundle_of here.me sign J p.hello)) (ap (limit_of_vouchers here J) (sym is.ids) ∙ none)))
 
--- they were made, or the disk cut them short
-pub vouched_lasts : {N : Type 0} {tells stopped : N → Bool} {records : N → List Record} {moment : N → ℕ} {left_since : N → ℕ → List ℕ → Type 0} {may_leave : N → List ℕ → Type 0}
-    → (here : Setting) (sign : Signs) (ran : Bool) (text : List ℕ) (p : Prepared) (old new : N) → IsPrepared here sign (records old) ran text p → limit_of_vouchers here (records old) p.unvouched ≡ None
-    → Lasts tells stopped records moment left_since may_leave old new (records_of (new_vouchers here.me (records old) p.unvouched)) → Lasts tells stopped records moment left_since may_leave old new (journaled_for (bundle_answer here sign (records old) text))
-vouched_lasts {records = records} here sign ran text p old new is none lasts = lasts_alike old new _ _ (are_journaled here sign (records old) ran text p is none) lasts
+-- a call that answers that it appended nothing might have been to append whatever it was
+idle_anyway : {N : Type 0} (v : JournalView N) (old new : N) (a b : List Record) (stopped failed nothing : Type 0) → nothing → (failed → ⊥) → IsJournalCall v old new a stopped failed nothing → IsJournalCall v old new b stopped failed ⊥
+idle_anyway v old new a b stopped failed nothing is well c = record { stops = c.stops; disk = c.disk; lasts = lasts_longer old new [] b (c.idle is); calls = called_well old new a b well well c.calls; idle = λ never. absurd never }
 
--- they weren't made: the disk failed, or none was appended
-pub not_vouched_lasts : {N : Type 0} {tells stopped : N → Bool} {records : N → List Record} {moment : N → ℕ} {left_since : N → ℕ → List ℕ → Type 0} {may_leave : N → List ℕ → Type 0}
-    → (here : Setting) (sign : Signs) (ran : Bool) (text : List ℕ) (p : Prepared) (e : VoucherError) (old new : N) → IsPrepared here sign (records old) ran text p → Vouches here (records old) p.unvouched (Err e) (records new)
-    → Lasts tells stopped records moment left_since may_leave old new (records_of (new_vouchers here.me (records old) p.unvouched)) → ((e ≡ refused.Disk → ⊥) → Lasts tells stopped records moment left_since may_leave old new [])
-    → Lasts tells stopped records moment left_since may_leave old new (journaled_for (bundle_answer here sign (records old) text))
-not_vouched_lasts here sign ran text p refused.Disk old new is v lasts idle = vouched_lasts here sign ran text p old new is v.0 lasts
-not_vouched_lasts here sign ran text p refused.Memory old new is v lasts idle = lasts_longer old new [] _ (idle (λ e. cc))
-not_vouched_lasts here sign ran text p refused.Stopped old new is v lasts idle = lasts_longer old new [] _ (idle (λ e. cc))
-not_vouched_lasts here sign ran text p (refused.Spent n) old new is v lasts idle = lasts_longer old new [] _ (idle (λ e. cc))
-not_vouched_lasts here sign ran text p (refused.Full what) old new is v lasts idle = lasts_longer old new [] _ (idle (λ e. cc))
+module _ {N : Type 0} (g : Ghosts N) (text : List ℕ) (p : Prepared) (old new : N) (lawful : IsLawful (g.stands old) (g.records old)) (some : is_empty (g.records old) ≡ false)
+    (is : IsPrepared (g.stands old) (g.signature_of old) (g.records old) (g.stopped old) text p) where
+  abbrev vouchers : List Record
+  vouchers = records_of (new_vouchers (g.stands old).me (g.records old) p.unvouched)
 
--- ---- which calls it makes on its disk
+  abbrev journaled : List Record
+  journaled = journaled_for (bundle_answer (g.stands old) (g.signature_of old) (g.records old) text)
 
--- the vouchers weren't made: the disk failed, or none was appended
-pub not_vouched_calls : {N : Type 0} {after : N → List Made → N → Type 0} {reads : N → List ℕ} {stopped : N → Bool} {records : N → List Record}
-    → (here : Setting) (sign : Signs) (ran : Bool) (text : List ℕ) (p : Prepared) (e : VoucherError) (old new : N) → IsPrepared here sign (records old) ran text p → Vouches here (records old) p.unvouched (Err e) (records new)
-    → CallsDisk after reads stopped records old new (records_of (new_vouchers here.me (records old) p.unvouched)) (IsErrOf {T = Unit {0}} (Err e) refused.Disk)
-    → CallsDisk after reads stopped records old new (journaled_for (bundle_answer here sign (records old) text)) (IsErrOf {T = Bundled} (Err (from_vouching e)) error.Disk)
-not_vouched_calls {records = records} here sign ran text p refused.Disk old new is v calls = let f = same_fault refused.Disk in calls_alike old new _ _ f.was_disk f.disk (are_journaled here sign (records old) ran text p is v.0) calls
-not_vouched_calls here sign ran text p refused.Memory old new is v calls = called_well old new _ _ (λ e. cc) (λ e. cc) calls
-not_vouched_calls here sign ran text p refused.Stopped old new is v calls = called_well old new _ _ (λ e. cc) (λ e. cc) calls
-not_vouched_calls here sign ran text p (refused.Spent n) old new is v calls = called_well old new _ _ (λ e. cc) (λ e. cc) calls
-not_vouched_calls here sign ran text p (refused.Full what) old new is v calls = called_well old new _ _ (λ e. cc) (λ e. cc) calls
+  -- all of them were appended, or a front of them
+  part_in : (failed : Bool) → limit_of_vouchers (g.stands old) (g.records old) p.unvouched ≡ None → IsPart (g.records old) vouchers (g.records new) failed → Lasts (journal_of g) old new vouchers → LastsIn g failed old new
+  part_in failed none part lasts = record {
+    appends = vouchers;
+    is = to_append (g.stands old) (g.records old) _ (g.records new) failed (vouchers_are_lawful (g.stands old) (g.signature_of old) (g.records old) (g.stopped old) text p lawful some is none) (silent_is_true (g.records old) _ (vouchers_put_none (new_vouchers (g.stands old).me (g.records old) p.unvouched))) part;
+    lasts = lasts;
+  }
+
+  -- they weren't made: the disk failed, or none was appended
+  not_vouched_in : (e : VoucherError) → (e ≡ refused.Stopped → ⊥) → Vouches (g.stands old) (g.records old) p.unvouched (Err e) (g.records new) → Lasts (journal_of g) old new vouchers
+      → (IsErrAnd {T = Unit {0}} (Err e) (λ d. d ≡ refused.Disk → ⊥) → Lasts (journal_of g) old new []) → LastsIn g (finds_disk {X = Bundled} (Err (from_vouching e))) old new
+  not_vouched_in refused.Memory never v lasts idle = none_in g false old new lawful v (idle (λ e. cc))
+  not_vouched_in refused.Disk never v lasts idle = part_in true v.0 (cut_of (g.records old) _ (g.records new) v.1) lasts
+  not_vouched_in refused.Stopped never v lasts idle = absurd (never refl)
+  not_vouched_in (refused.Spent n) never v lasts idle = none_in g false old new lawful v.1 (idle (λ e. cc))
+  not_vouched_in (refused.Full what) never v lasts idle = none_in g false old new lawful v.1 (idle (λ e. cc))
+
+  -- they were made
+  pub vouched_call : (r : Result Bundled BundleError) → (IsErrOf r error.Stopped → ⊥) → (IsErrOf r error.Disk → ⊥) → Vouches (g.stands old) (g.records old) p.unvouched (Ok tt) (g.records new) → IsVoucherCall g old new p.unvouched (Ok tt)
+      → IsBundleCall g old new text r
+  vouched_call r no_stop no_disk v call =
+      let same = are_journaled (g.stands old) (g.signature_of old) (g.records old) (g.stopped old) text p is v.0 in
+      record {
+        node = record {
+          same = call.same;
+          journal = subst (λ (x : List Record). IsJournalCall (journal_of g) old new x (IsErrOf r error.Stopped) (IsErrOf r error.Disk) ⊥) same
+              (renamed_call (λ e. absurd cc, λ e. absurd (no_stop e)) (λ e. absurd cc, λ e. absurd (no_disk e)) (λ never. absurd never) call.journal);
+        };
+        lasts = part_in (finds_disk r) v.0 (all_of (g.records old) _ (g.records new) (finds_disk r) v.1) call.journal.lasts;
+      }
+
+  -- what making them leaves of the journal, where they weren't made
+  not_vouched_journal : (e : VoucherError) → Vouches (g.stands old) (g.records old) p.unvouched (Err e) (g.records new)
+      → IsJournalCall (journal_of g) old new vouchers (IsErrOf {T = Unit {0}} (Err e) refused.Stopped) (IsErrOf {T = Unit {0}} (Err e) refused.Disk) (IsErrAnd {T = Unit {0}} (Err e) (λ d. d ≡ refused.Disk → ⊥))
+      → IsJournalCall (journal_of g) old new journaled (IsErrOf {T = Unit {0}} (Err e) refused.Stopped) (IsErrOf {T = Unit {0}} (Err e) refused.Disk) ⊥
+  not_vouched_journal refused.Disk v c =
+      subst (λ (x : List Record). IsJournalCall (journal_of g) old new x (IsErrOf {T = Unit {0}} (Err refused.Disk) refused.Stopped) (IsErrOf {T = Unit {0}} (Err refused.Disk) refused.Disk) ⊥)
+      (are_journaled (g.stands old) (g.signature_of old) (g.records old) (g.stopped old) text p is v.0) (renamed_call (λ e. e, λ e. e) (λ e. e, λ e. e) (λ never. absurd never) c)
+  not_vouched_journal refused.Memory v c = idle_anyway (journal_of g) old new vouchers journaled _ _ _ (λ e. cc) (λ e. cc) c
+  not_vouched_journal refused.Stopped v c = idle_anyway (journal_of g) old new vouchers journaled _ _ _ (λ e. cc) (λ e. cc) c
+  not_vouched_journal (refused.Spent n) v c = idle_anyway (journal_of g) old new vouchers journaled _ _ _ (λ e. cc) (λ e. cc) c
+  not_vouched_journal (refused.Full what) v c = idle_anyway (journal_of g) old new vouchers journaled _ _ _ (λ e. cc) (λ e. cc) c
+
+  -- they weren't made
+  pub not_vouched_call : (e : VoucherError) → Vouches (g.stands old) (g.records old) p.unvouched (Err e) (g.records new) → IsVoucherCall g old new p.unvouched (Err e) → IsBundleCall g old new text (Err (from_vouching e))
+  not_vouched_call e v call =
+      let f = same_fault e in
+      record {
+        node = record { same = call.same; journal = renamed_call f.0 f.1 (λ never. never) (not_vouched_journal e v call.journal) };
+        lasts = not_vouched_in e (λ stopped. never_answered (g.stopped old) is.runs call.journal.stops (ap (λ (d : VoucherError). Err d) stopped)) v call.journal.lasts call.journal.idle;
+      }

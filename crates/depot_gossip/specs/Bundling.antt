@@ -1,11 +1,13 @@
 -- What a node answers to a hello, and what its journal is then.
-use Rattle.std.specs.Prelude.{◌≡◌, ℕ, ◌⊎◌, List, [], Bool, true, false, Result, Ok, Err}
+use Rattle.std.specs.Prelude.{◌≡◌, ℕ, ◌⊎◌, List, [], Bool, true, false, Result, Ok, Err, IsErrOf}
 use Rattle.depot_base.specs.declared.record.Record.{Record}
 use Rattle.depot_model.specs.Checks.{Setting}
 use Rattle.depot_model.specs.Texts.{hash_of_roster}
 use Rattle.depot_model.specs.Limits.{spent, full, IsCutShort}
 use Rattle.depot_model.specs.Vouching.{records_of}
 use Rattle.depot_model.specs.Bundle.{Signs, Bundle, BundleAnswer, bundled, bad_hello, other_roster, limited, bytes_of_bundle, with_vouchers, bundle_answer}
+use Rattle.depot_model.specs.declared.node_state.NodeState.{Ghosts}
+use Rattle.depot_feeds.specs.Lasting.{IsLawfulCall}
 use Rattle.depot_gossip.specs.declared.bundle_stream.Bundled.{Bundled}
 use Rattle.depot_gossip.specs.declared.bundle_error.BundleError.{BundleError}
 use Rattle.depot_gossip.specs.declared.bundle_error.BundleError.TheVariants as error
@@ -50,9 +52,15 @@ Bundles here sign J stopped text (Err (error.OtherRoster given mine)) then = (bu
 Bundles here sign J stopped text (Err (error.Spent n)) then = (bundle_answer here sign J text ≡ limited (spent n)) × (then ≡ J)
 Bundles here sign J stopped text (Err (error.Full what)) then = (bundle_answer here sign J text ≡ limited (full what)) × (then ≡ J)
 
--- ---- the disk
+-- ---- the node
 
 -- the answer says that the disk failed
 abbrev pub finds_disk : {X : Type 0} → Result X BundleError → Bool
 finds_disk (Err error.Disk) = true
 finds_disk other = false
+
+-- the call was to journal the vouchers of the bundle for this text, and answered so
+abbrev pub IsBundleCall : {N : Type 0} → Ghosts N → N → N → List ℕ → Result Bundled BundleError → Type 0
+IsBundleCall g old new text result =
+    IsLawfulCall g old new (journaled_for (bundle_answer (g.stands old) (g.signature_of old) (g.records old) text))
+    (IsErrOf result error.Stopped) (IsErrOf result error.Disk) (finds_disk result)

@@ -1,15 +1,17 @@
 -- What a bundle sends of updates and values, as far as it is chosen.
-use Rattle.std.specs.Prelude.{◌≡◌, ℕ, ◌+◌, List, [], ◌∷◌, ◌++◌, length, map, filter, Bool, true, false, not, ◌==◌, Option, Some, None, option_to_list, slice_get, Result, Ok, Err}
+use Rattle.std.specs.Prelude.{◌≡◌, ℕ, ◌+◌, List, [], ◌∷◌, ◌++◌, length, map, filter, Bool, true, false, nat_lt, not, ◌==◌, Option, Some, None, option_to_list, slice_get, Result, Ok, Err}
 use Rattle.std.specs.List.{flat_map}
 use Rattle.sha2.specs.Sha256.{sha256}
 use Rattle.depot_base.specs.declared.update.NamedValue.{NamedValue}
 use Rattle.depot_base.specs.declared.update.Update.{Update}
 use Rattle.depot_base.specs.declared.record.Record.{Record}
+use Rattle.depot_model.specs.declared.hello.Hello.{Hello}
+use Rattle.depot_model.specs.declared.node_state.NodeState.{Ghosts}
 use Rattle.depot_model.specs.Lists.{is_among, AreTogether}
 use Rattle.depot_model.specs.Texts.{id_of_update}
 use Rattle.depot_model.specs.Journal.{accepted_by}
 use Rattle.depot_model.specs.Frames.{text_of_frame}
-use Rattle.depot_model.specs.Bundle.{Parcel, values_behind, hashes_of}
+use Rattle.depot_model.specs.Bundle.{Parcel, Signs, candidate_parcel, candidate_parcels, hashes_of, parcels, sent_for, values_behind, wanted_parcel}
 use Rattle.depot_frames.specs.declared.sending.Sending.{Sending}
 use Rattle.depot_frames.specs.Sendings.{DoFit, Holds, parcel_frames, IsShort, HasNoRoom}
 
@@ -33,6 +35,14 @@ Carries me all s false = IsCutAt me all s
 abbrev pub AddsTo : {E : Type 0} → ℕ → List Parcel → Sending → Result Bool E → Type 0
 AddsTo me all s (Ok fits) = Carries me all s fits
 AddsTo me all s (Err e) = Unit {0}
+
+-- Whatever parcels were chosen before, with these behind them all are chosen or cut.
+abbrev pub AddsBehind : {E : Type 0} → ℕ → Sending → List Parcel → Sending → Result Bool E → Type 0
+AddsBehind me s more t result = (xs : List Parcel) → Holds me xs s → AddsTo me (xs ++ more) t result
+
+-- of what there is to send for a hello something isn't sent
+abbrev pub leaves_out : Signs → List Record → Hello → Bool
+leaves_out sign J h = nat_lt (length (sent_for sign J h)) (length (parcels sign J h))
 
 -- ---- one parcel more
 
@@ -62,6 +72,18 @@ pub record TellsAt (J : List Record) (place : ℕ) : Type 0 where
 -- the records of these places
 abbrev pub records_at : List Record → List ℕ → List Record
 records_at J places = flat_map (λ place. option_to_list (slice_get J place)) places
+
+-- This holds of the parcel of the record of a place; these hashes are those of the values before it.
+abbrev pub ForParcelAt : {N : Type 0} → Ghosts N → N → ℕ → List (List ℕ) → (Parcel → Type 0) → Type 0
+ForParcelAt g node place keys P = (r : Record) → slice_get (g.records node) place ≡ Some r → P (candidate_parcel (g.signature_of node) (g.records node) keys r)
+
+-- the parcels of a node's candidates of these places
+abbrev pub parcels_at : {N : Type 0} → Ghosts N → N → List ℕ → List Parcel
+parcels_at g node places = candidate_parcels (g.signature_of node) (g.records node) [] (records_at (g.records node) places)
+
+-- the same, and then the wanted values that are held and that none of them has
+abbrev pub parcels_with : {N : Type 0} → Ghosts N → N → List ℕ → List (List ℕ) → List Parcel
+parcels_with g node places wanted = parcels_at g node places ++ flat_map (wanted_parcel (g.records node) (hashes_of (parcels_at g node places))) wanted
 
 -- the ids of those of these updates that are of another node than this
 abbrev pub foreign_ids : ℕ → List Update → List (List ℕ)

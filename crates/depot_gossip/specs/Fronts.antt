@@ -1,5 +1,5 @@
 -- What stands in front of the updates and values of a bundle.
-use Rattle.std.specs.Prelude.{◌≡◌, ℕ, List, length, map}
+use Rattle.std.specs.Prelude.{◌≡◌, ◌++◌, ◌∷◌, [], ℕ, List, OnOk, Result, length, map}
 use Rattle.std.specs.List.{flat_map}
 use Rattle.depot_base.specs.declared.record.Record.{Record}
 use Rattle.depot_model.specs.declared.hello.Hello.{Hello}
@@ -20,3 +20,7 @@ pub record IsFront (sign : Signs) (J : List Record) (h : Hello) (ids : List (Lis
 pub record AreFrames (fs : List Frame) (made : FrontFrames) : Type 0 where
   pub bytes : made.bytes ≡ flat_map text_of_frame fs
   pub count : made.count ≡ length fs
+
+-- whatever frames stood there, after Ok this one stands behind them
+abbrev pub AddsFrame : {A E : Type 0} → FrontFrames → Frame → FrontFrames → Result A E → Type 0
+AddsFrame old f new result = (fs : List Frame) → AreFrames fs old → OnOk result (AreFrames (fs ++ f ∷ []) new)

@@ -1,12 +1,13 @@
 -- What is chosen for the text of a hello, before any voucher is made.
-use Rattle.std.specs.Prelude.{◌≡◌, ℕ, List, Bool, true, false, length, nat_lt, Result, Ok, Err}
+use Rattle.std.specs.Prelude.{◌≡◌, ℕ, List, Bool, true, false, Result, Ok, Err}
 use Rattle.depot_base.specs.declared.record.Record.{Record}
 use Rattle.depot_model.specs.declared.hello.Hello.{Hello}
 use Rattle.depot_model.specs.Checks.{Setting}
 use Rattle.depot_model.specs.Texts.{hash_of_roster}
 use Rattle.depot_model.specs.Vouching.{limit_of_vouchers}
-use Rattle.depot_model.specs.Bundle.{Signs, bad_hello, other_roster, bundle_answer, bundled_within, bundle_of, parcels, sent_for, unvouched}
+use Rattle.depot_model.specs.Bundle.{Signs, bad_hello, other_roster, bundle_answer, bundled_within, bundle_of, sent_for, unvouched}
 use Rattle.depot_frames.specs.Sendings.{Holds}
+use Rattle.depot_gossip.specs.Choosing.{leaves_out}
 use Rattle.depot_gossip.specs.declared.preparing.Prepared.{Prepared}
 use Rattle.depot_gossip.specs.declared.bundle_error.BundleError.{BundleError}
 use Rattle.depot_gossip.specs.declared.bundle_error.BundleError.TheVariants as error
@@ -31,7 +32,7 @@ pub record IsPrepared (here : Setting) (sign : Signs) (J : List Record) (stopped
   pub runs : stopped ≡ false
   pub heard : IsHeard here sign J text p.hello
   pub holds : Holds here.me (sent_for sign J p.hello) p.sending
-  pub more : p.sending.more ≡ nat_lt (length (sent_for sign J p.hello)) (length (parcels sign J p.hello))
+  pub more : p.sending.more ≡ leaves_out sign J p.hello
   pub ids : p.unvouched ≡ unvouched here.me J (sent_for sign J p.hello)
 
 -- the same of an answer

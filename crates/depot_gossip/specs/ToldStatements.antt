@@ -1,12 +1,15 @@
 -- What a bundle tells of its node's own statements.
-use Rattle.std.specs.Prelude.{◌≡◌, ℕ, ◌≤◌, List, length}
+use Rattle.std.specs.Prelude.{◌≡◌, ℕ, ◌≤◌, List, false, length}
 use Rattle.depot_base.specs.declared.limits.TheConstants.{MOST_SIGNATURE}
 use Rattle.depot_base.specs.declared.statement.Signed.{Signed}
 use Rattle.depot_base.specs.declared.record.Record.{Record}
-use Rattle.depot_base.specs.Statement.{seq_of}
-use Rattle.depot_model.specs.Bundle.{Signs}
+use Rattle.depot_base.specs.Statement.{seq_of, writer_of}
+use Rattle.depot_model.specs.Bundle.{Bundle, Signs, bundle_answer, bundled, statement_frame}
+use Rattle.depot_model.specs.Checks.{Setting}
 use Rattle.depot_model.specs.Journal.{own}
+use Rattle.depot_model.specs.Lawful.{IsLawful, is_empty}
 use Rattle.depot_model.specs.Lists.{IsIn}
+use Rattle.depot_model.specs.Texts.{IsSigned}
 
 -- all that the signer gives is short enough for a text
 abbrev pub IsShort : Signs → Type 0
@@ -16,3 +19,17 @@ IsShort sign = (seq : ℕ) (body : List ℕ) → length (sign seq body) ≤ MOST
 pub record IsSignedOwn (sign : Signs) (J : List Record) (s : Signed) : Type 0 where
   pub on : IsIn s.statement (own J)
   pub signature : s.signature ≡ sign (seq_of s.statement) s.body
+
+-- A node of this journal, which is lawful and has begun, answers some text with this bundle.
+pub record AnswersBundle (here : Setting) (sign : Signs) (J : List Record) (b : Bundle) : Type 0 where
+  pub text : List ℕ
+  pub lawful : IsLawful here J
+  pub begun : is_empty J ≡ false
+  pub short : IsShort sign
+  pub is : bundle_answer here sign J text ≡ bundled b
+
+-- In the bytes of the bundle stands this signed statement, which is the node's own.
+pub record TellsOwn (here : Setting) (b : Bundle) (s : Signed) : Type 0 where
+  pub fits : IsSigned s
+  pub on : IsIn (statement_frame s) b.frames
+  pub mine : writer_of s.statement ≡ here.me

@@ -3,7 +3,7 @@ ghost use Rattle.std.specs.Prelude.{◌≡◌, false, IfOk, if◌then◌else◌}
 ghost use Rattle.depot_gossip.specs.BundleStreams.{IsJoined, IsStream};
 
 use crate::front::BundleFront;
-use depot_base::{Bytes, Memory};
+use depot_base::{Bytes, FrameTag, Memory};
 use depot_frames::{Sending, put_frame};
 use depot_model::{Counts, Hello, Peer};
 use std::alloc::Global;
@@ -40,7 +40,7 @@ fn stream_of(front: BundleFront, sending: &Sending) -> Result<Bundled, Memory>
     let mut bytes = proofs;
     bytes.push_all(vouchers.as_slice())?;
     bytes.push_all(sending.frames.as_slice())?;
-    put_frame(&mut bytes, 4, &[flag_of(sending.more)])?;
+    put_frame(&mut bytes, FrameTag::End, &[flag_of(sending.more)])?;
     Ok(Bundled {
         bytes,
         counts: Counts {

@@ -1,12 +1,11 @@
 //! What a bundle sends for a hello.
-ghost use Rattle.std.specs.Prelude.{◌≡◌, ◌++◌, ◌≤◌, List, [], ◌∷◌, false, length, map, nat_lt, Some, OnOk, IfOk, option_to_list, option_copied, slice_get};
+ghost use Rattle.std.specs.Prelude.{◌≡◌, ◌++◌, ◌≤◌, List, [], ◌∷◌, false, length, map, OnOk, IfOk, option_to_list, option_copied};
 ghost use Rattle.std.specs.List.{AllByRecursion, flat_map};
 ghost use Rattle.sha2.specs.Sha256.{sha256};
 ghost use Rattle.depot_base.specs.declared.limits.TheConstants.{MOST_PAYLOAD, MOST_WRITES};
-ghost use Rattle.depot_base.specs.declared.record.Record.{Record};
-ghost use Rattle.depot_model.specs.Bundle.{Parcel, candidate_parcel, candidate_parcels, wanted_parcel, hashes_of, parcels, sent_for};
+ghost use Rattle.depot_model.specs.Bundle.{Parcel, wanted_parcel, sent_for};
 ghost use Rattle.depot_frames.specs.Sendings.{Holds, IsShort, ArePayloads, payloads_of};
-ghost use Rattle.depot_gossip.specs.Choosing.{AddsTo, AddsFound, TellsAt, records_at, AddsHashes, AreHashesOf, value_parcels};
+ghost use Rattle.depot_gossip.specs.Choosing.{AddsBehind, AddsFound, AddsHashes, AddsTo, AreHashesOf, ForParcelAt, TellsAt, leaves_out, parcels_at, parcels_with, value_parcels};
 
 use crate::candidate::{foreign_id, values_behind};
 use crate::hashes::{Hashes, has_hash};
@@ -69,8 +68,8 @@ fn add_candidate<R: Peer>(
     requires running { R.stopped node.now ≡ false }
     requires tells { TellsAt (R.records node.now) place }
     requires short { IsShort sending.old }
-    ensures adds { (xs : List Parcel) (r : Record) → Holds (R.stands node.now).me xs sending.old → slice_get (R.records node.now) place ≡ Some r → AddsTo (R.stands node.now).me (xs ++ candidate_parcel (R.signature_of node.now) (R.records node.now) hashes.old.keys r ∷ []) sending.new result }
-    ensures hashes { (r : Record) → slice_get (R.records node.now) place ≡ Some r → AddsHashes hashes.old.keys (map sha256 (candidate_parcel (R.signature_of node.now) (R.records node.now) hashes.old.keys r).values) result hashes.new.keys }
+    ensures adds { ForParcelAt R.NodeState node.now place hashes.old.keys (λ x. AddsBehind (R.stands node.now).me sending.old (x ∷ []) sending.new result) }
+    ensures hashes { ForParcelAt R.NodeState node.now place hashes.old.keys (λ x. AddsHashes hashes.old.keys (map sha256 x.values) result hashes.new.keys) }
 {
     let Some(update) = node.update_at(place) else {
         unreachable!()
@@ -96,8 +95,8 @@ fn add_candidates<R: Peer>(
     requires tell { AllByRecursion (TellsAt (R.records node.now)) places.now }
     requires none { Holds (R.stands node.now).me [] sending.old }
     requires new { hashes.old.keys ≡ [] }
-    ensures adds { AddsTo (R.stands node.now).me (candidate_parcels (R.signature_of node.now) (R.records node.now) [] (records_at (R.records node.now) places.now)) sending.new result }
-    ensures hashes { AreHashesOf (candidate_parcels (R.signature_of node.now) (R.records node.now) [] (records_at (R.records node.now) places.now)) result hashes.new.keys }
+    ensures adds { AddsTo (R.stands node.now).me (parcels_at R.NodeState node.now places.now) sending.new result }
+    ensures hashes { AreHashesOf (parcels_at R.NodeState node.now places.now) result hashes.new.keys }
 {
     for place in places {
         if !add_candidate(alloc, sending, hashes, node, *place)? {
@@ -127,7 +126,7 @@ fn add_wanted_value<R: Peer>(
 ) -> Result<bool, Memory>
     requires running { R.stopped node.now ≡ false }
     requires short { IsShort sending.old }
-    ensures { (xs : List Parcel) → Holds (R.stands node.now).me xs sending.old → AddsTo (R.stands node.now).me (xs ++ wanted_parcel (R.records node.now) hashes.now.keys hash.now) sending.new result }
+    ensures { AddsBehind (R.stands node.now).me sending.old (wanted_parcel (R.records node.now) hashes.now.keys hash.now) sending.new result }
 {
     match wanted_value(node, hashes, hash) {
         Some(value) => sending.add(&[], &[value]),
@@ -144,7 +143,7 @@ fn add_wanted<R: Peer>(
 ) -> Result<bool, Memory>
     requires running { R.stopped node.now ≡ false }
     requires some { (xs : List Parcel) × Holds (R.stands node.now).me xs sending.old }
-    ensures { (xs : List Parcel) → Holds (R.stands node.now).me xs sending.old → AddsTo (R.stands node.now).me (xs ++ flat_map (wanted_parcel (R.records node.now) hashes.now.keys) wanted.now) sending.new result }
+    ensures { AddsBehind (R.stands node.now).me sending.old (flat_map (wanted_parcel (R.records node.now) hashes.now.keys) wanted.now) sending.new result }
 {
     for hash in wanted {
         if !add_wanted_value(sending, hashes, node, hash)? {
@@ -165,7 +164,7 @@ fn add_all<R: Peer>(
     requires running { R.stopped node.now ≡ false }
     requires tell { AllByRecursion (TellsAt (R.records node.now)) places.now }
     requires none { Holds (R.stands node.now).me [] sending.old }
-    ensures { AddsTo (R.stands node.now).me (candidate_parcels (R.signature_of node.now) (R.records node.now) [] (records_at (R.records node.now) places.now) ++ flat_map (wanted_parcel (R.records node.now) (hashes_of (candidate_parcels (R.signature_of node.now) (R.records node.now) [] (records_at (R.records node.now) places.now)))) wanted.now) sending.new result }
+    ensures { AddsTo (R.stands node.now).me (parcels_with R.NodeState node.now places.now wanted.now) sending.new result }
 {
     let mut hashes = Hashes::new(alloc);
     if !add_candidates(alloc, sending, &mut hashes, node, places)? {
@@ -178,7 +177,7 @@ fn add_all<R: Peer>(
 pub(crate) fn chosen<R: Peer>(alloc: Global, node: &R, hello: &Hello) -> Result<Sending, Memory>
     requires { R.stopped node.now ≡ false }
     ensures holds { IfOk result (λ s. Holds (R.stands node.now).me (sent_for (R.signature_of node.now) (R.records node.now) hello.now) s) }
-    ensures more { IfOk result (λ s. s.more ≡ nat_lt (length (sent_for (R.signature_of node.now) (R.records node.now) hello.now)) (length (parcels (R.signature_of node.now) (R.records node.now) hello.now))) }
+    ensures more { IfOk result (λ s. s.more ≡ leaves_out (R.signature_of node.now) (R.records node.now) hello.now) }
 {
     let ids = ids_of(alloc, &hello.leaves)?;
     let places = node.candidates(&ids, hello.node)?;

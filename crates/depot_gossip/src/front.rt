@@ -1,15 +1,15 @@
 //! What stands in front of the updates and values of a bundle: proofs, and own vouchers.
-ghost use Rattle.std.specs.Prelude.{◌≡◌, ◌<◌, ◌≤◌, ◌+◌, ◌++◌, List, [], ◌∷◌, false, length, map, Some, OnOk, IfOk, slice_get};
+ghost use Rattle.std.specs.Prelude.{◌≡◌, ◌<◌, ◌≤◌, ◌+◌, [], false, length, map, Some, OnOk, IfOk, slice_get};
+ghost use Rattle.depot_base.specs.Tags.{frame_byte};
 ghost use Rattle.depot_base.specs.declared.limits.TheConstants.{MOST_PAYLOAD, MOST_RECORDS};
 ghost use Rattle.depot_base.specs.declared.record.Record.TheVariants.{OwnVoucher, Conviction};
 ghost use Rattle.depot_base.specs.declared.proof.Proof.{Proof};
 ghost use Rattle.depot_base.specs.declared.voucher.Voucher.{Voucher};
-ghost use Rattle.depot_model.specs.Frames.{Frame};
 ghost use Rattle.depot_model.specs.Bundle.{proof_frame, proofs_for, voucher_frame, vouchers_for};
 ghost use Rattle.depot_model.specs.Texts.{text_of_proof};
-ghost use Rattle.depot_gossip.specs.Fronts.{AreFrames, IsFront};
+ghost use Rattle.depot_gossip.specs.Fronts.{AddsFrame, AreFrames, IsFront};
 
-use depot_base::{Bytes, Ids, Memory};
+use depot_base::{Bytes, FrameTag, Ids, Memory};
 use depot_frames::put_frame;
 use depot_model::{Hello, Peer};
 use std::alloc::Global;
@@ -46,10 +46,10 @@ impl FrontFrames {
     }
 
     /// Adds a frame.
-    fn put(&mut self, tag: u8, payload: &[u8]) -> Result<(), Memory>
+    fn put(&mut self, tag: FrameTag, payload: &[u8]) -> Result<(), Memory>
         requires short { length payload.now ≤ MOST_PAYLOAD }
         requires few { self.old.count < MOST_RECORDS }
-        ensures added { (fs : List Frame) → AreFrames fs self.old → OnOk result (AreFrames (fs ++ (record { tag = tag; payload = payload.now }) ∷ []) self.new) }
+        ensures added { AddsFrame self.old (record { tag = frame_byte tag; payload = payload.now }) self.new result }
         ensures count { OnOk result (self.new.count ≡ self.old.count + 1) }
     {
         put_frame(&mut self.bytes, tag, payload)?;
@@ -61,21 +61,21 @@ impl FrontFrames {
     fn put_proof<R: Peer>(&mut self, node: &R, place: u32) -> Result<(), Memory>
         requires at { (p : Proof) × (slice_get (R.records node.now) place ≡ Some (Conviction p)) }
         requires few { self.old.count < MOST_RECORDS }
-        ensures added { (p : Proof) (fs : List Frame) → slice_get (R.records node.now) place ≡ Some (Conviction p) → AreFrames fs self.old → OnOk result (AreFrames (fs ++ proof_frame p ∷ []) self.new) }
+        ensures added { (p : Proof) → slice_get (R.records node.now) place ≡ Some (Conviction p) → AddsFrame self.old (proof_frame p) self.new result }
         ensures count { OnOk result (self.new.count ≡ self.old.count + 1) }
     {
-        self.put(1, proof_text(node, place))
+        self.put(FrameTag::Proof, proof_text(node, place))
     }
 
     /// Adds the frame of the own voucher of a place.
     fn put_voucher<R: Peer>(&mut self, node: &R, place: u32) -> Result<(), Memory>
         requires at { (v : Voucher) × (slice_get (R.records node.now) place ≡ Some (OwnVoucher v)) }
         requires few { self.old.count < MOST_RECORDS }
-        ensures added { (v : Voucher) (fs : List Frame) → slice_get (R.records node.now) place ≡ Some (OwnVoucher v) → AreFrames fs self.old → OnOk result (AreFrames (fs ++ voucher_frame (R.signature_of node.now) v ∷ []) self.new) }
+        ensures added { (v : Voucher) → slice_get (R.records node.now) place ≡ Some (OwnVoucher v) → AddsFrame self.old (voucher_frame (R.signature_of node.now) v) self.new result }
         ensures count { OnOk result (self.new.count ≡ self.old.count + 1) }
     {
         let text = node.signed_text(place)?;
-        self.put(2, text.as_slice())
+        self.put(FrameTag::Statement, text.as_slice())
     }
 }
 

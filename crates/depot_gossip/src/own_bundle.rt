@@ -1,10 +1,5 @@
 //! What a node sends for a hello.
-ghost use Rattle.std.specs.Prelude.{IsErrOf};
-ghost use Rattle.depot_model.specs.Replicas.{IsSameNode, StopsBy, KeepsDisk};
-ghost use Rattle.depot_model.specs.Bundle.{bundle_answer};
-ghost use Rattle.depot_model.specs.Stops.{CallsDisk, Lasts};
-ghost use Rattle.depot_gossip.specs.Bundling.{Bundles, finds_disk, journaled_for};
-ghost use Rattle.depot_feeds.specs.Lasting.{LastsIn};
+ghost use Rattle.depot_gossip.specs.Bundling.{Bundles, IsBundleCall};
 
 use crate::bundle_error::BundleError;
 use crate::bundle_stream::{Bundled, told_of};
@@ -23,12 +18,7 @@ use std::alloc::Global;
 /// the node's disk it makes the calls that append the vouchers, and no other; where one of them fails, it is the last.
 pub fn bundle<R: Peer>(alloc: Global, node: &mut R, hello: &[u8]) -> Result<Bundled, BundleError>
     ensures bundles { Bundles (R.stands node.old) (R.signature_of node.old) (R.records node.old) (R.stopped node.old) hello.now result (R.records node.new) }
-    ensures stays { IsSameNode (R.stands node.old) (R.stands node.new) (R.key node.old) (R.key node.new) (R.signature_of node.old) (R.signature_of node.new) }
-    ensures stops { StopsBy (R.stopped node.old) (R.stopped node.new) (IsErrOf result BundleError.Stopped) (IsErrOf result BundleError.Disk) }
-    ensures disk { KeepsDisk (R.handle node.old) (R.handle node.new) (R.faults node.old) (R.faults node.new) (R.is_faultless node.old) (R.is_faultless node.new) (IsErrOf result BundleError.Disk) }
-    ensures lasts { LastsIn R.tells R.stopped R.records R.moment R.left_since R.may_leave (R.stands node.old) (finds_disk result) node.old node.new }
-    ensures brings { Lasts R.tells R.stopped R.records R.moment R.left_since R.may_leave node.old node.new (journaled_for (bundle_answer (R.stands node.old) (R.signature_of node.old) (R.records node.old) hello.now)) }
-    ensures calls { CallsDisk R.after R.reads R.stopped R.records node.old node.new (journaled_for (bundle_answer (R.stands node.old) (R.signature_of node.old) (R.records node.old) hello.now)) (IsErrOf result BundleError.Disk) }
+    ensures call { IsBundleCall R.NodeState node.old node.new hello.now result }
 {
     let chosen = prepare(alloc, node, hello)?;
     node.own_vouchers(&chosen.unvouched)?;

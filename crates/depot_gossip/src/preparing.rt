@@ -1,7 +1,8 @@
 //! What is chosen for the text of a hello, before any voucher is made.
-ghost use Rattle.std.specs.Prelude.{◌≡◌, ◌++◌, [], ◌∷◌, false, not, OnOk, IfOk, IsTrue};
+ghost use Rattle.std.specs.Prelude.{◌≡◌, ◌++◌, [], ◌∷◌, false, not, OnOk, IfOk};
 ghost use Rattle.std.specs.List.{filter};
-ghost use Rattle.depot_model.specs.Stops.{LeavesAll};
+ghost use Rattle.depot_model.specs.JournalCalls.{IsStable};
+ghost use Rattle.depot_model.specs.Replicas.{journal_of};
 ghost use Rattle.depot_model.specs.Vouching.{is_mine_vouched};
 ghost use Rattle.depot_gossip.specs.Preparing.{Hears, Prepares};
 
@@ -67,7 +68,7 @@ fn unvouched_of<R: Peer>(alloc: Global, node: &R, ids: &Ids) -> Result<Ids, Memo
 /// before any voucher is made, in their order.
 pub fn prepare<R: Peer>(alloc: Global, node: &R, text: &[u8]) -> Result<Prepared, BundleError>
     ensures prepares { Prepares (R.stands node.now) (R.signature_of node.now) (R.records node.now) (R.stopped node.now) text.now result }
-    ensures stable { IsTrue (R.tells node.now) → LeavesAll (R.records node.now) (R.stopped node.now) (R.may_leave node.now) }
+    ensures stable { IsStable (journal_of R.NodeState) node.now }
 {
     if node.is_stopped() {
         return Err(BundleError::Stopped);

@@ -1,7 +1,6 @@
 -- The leaves of a past on the chains of the forest by prev.
 use Rattle.std.proofs.Common.{◌≡◌, ℕ, zero, suc, ◌+◌, ◌-◌, ◌<◌, ◌≤◌, nat_lt, slice_index, Bool, true, false, cond, not, List, [], ◌∷◌, ◌++◌, length, Option, Some, None, option_map, refl, sym, ap, subst, ◌∙◌, arith, inl, inr}
 use Rattle.std.specs.Prelude.{slice_get}
-use Rattle.std.specs.List.{AllByRecursion}
 use Rattle.std.specs.Str.{bytes_eq}
 use Rattle.std.proofs.lemmas.Bool.{not-true, false_from_ne_true, ltb-true, ltb-false}
 use Rattle.std.proofs.lemmas.List.{length-map}
@@ -14,7 +13,7 @@ use Rattle.depot_model.specs.Order.{IsCausal, Precedes, parents, prevs}
 use Rattle.depot_model.specs.History.{is_prev_in, leaves_of}
 use Rattle.depot_model.specs.Items.{AreLeaves, places_where, place_of_id, place_of_prev, children_of, children_by}
 use Rattle.depot_model.proofs.Elements.{in_at, both_at, of_place, at_its_place}
-use Rattle.depot_model.proofs.Members.{in_left, in_pushed, in_last, all_push, any_from, any_to, among_from, among_to, chosen_cases, chosen_front, chosen_behind, from_filter, in_filter}
+use Rattle.depot_model.proofs.Members.{in_left, in_pushed, in_last, any_from, any_to, among_from, among_to, chosen_cases, chosen_front, chosen_behind, from_filter, in_filter}
 use Rattle.depot_model.proofs.Orders.{first_names_none, causal_behind}
 use Rattle.depot_model.proofs.RisingLists.{HaveSame}
 use Rattle.depot_virtual.specs.Spots.{IsForest, IsTip, IsAt, spots, number_of_chains}
@@ -26,7 +25,7 @@ use Rattle.depot_base.proofs.GeneralLaws.{at_place}
 use Rattle.depot_graph.proofs.ClockedItems.{place_of}
 use Rattle.depot_graph.specs.Closure.{closure_of}
 use Rattle.depot_graph.specs.PastLeaves.{standing}
-use Rattle.depot_graph.specs.PastChains.{IsCovered, IsLast, IsLastCounted}
+use Rattle.depot_graph.specs.PastChains.{IsCovered, IsLast, AreLast, IsLastCounted}
 use Rattle.depot_graph.proofs.ItemPlaces.{has_place, below_more}
 use Rattle.depot_graph.proofs.Reaching.{closure_in, closure_precedes, precedes_closure}
 use Rattle.depot_graph.proofs.Sorting.{standing_is, is_standing}
@@ -186,7 +185,7 @@ leaf_last us items n t c at on =
     }
 
 -- what stands at the last places is the leaves of the past
-pub last_are_leaves : (us : List Update) (items found : List ℕ) → IsCausal [] us → ((n : ℕ) → n < length us → (IsIn n found → IsLast us items n) × (IsLast us items n → IsIn n found)) → HaveSame (standing us found) (leaves_of (closure_of items us))
+pub last_are_leaves : (us : List Update) (items found : List ℕ) → IsCausal [] us → AreLast us items found → HaveSame (standing us found) (leaves_of (closure_of items us))
 unfolding leaves_of
 last_are_leaves us items found c are = record {
   to = λ t on.
@@ -199,7 +198,7 @@ last_are_leaves us items found c are = record {
 
 -- ---- chains
 
-spots_long : (us : List Update) → length (spots (prev_places us)) ≡ length us
+pub spots_long : (us : List Update) → length (spots (prev_places us)) ≡ length us
 spots_long us = (all_placed (prev_places us)).size ∙ length-map us (λ (t : Update). place_of_prev t.prev us)
 
 -- what stands in a chain is one of the updates
@@ -259,25 +258,26 @@ none_is_counted us items row chain n place joined none at last =
 
 -- what is found once this many chains were looked at
 pub record AreFound (us : List Update) (items found : List ℕ) (i : ℕ) : Type 0 where
-  pub inside : AllByRecursion (λ n. n < length us) found
   pub only : (n : ℕ) → IsIn n found → IsLast us items n
   pub all : (chain : ℕ) → chain < i → (n place : ℕ) → IsAt (prev_places us) n chain place → IsLast us items n → IsIn n found
 
 pub found_none : (us : List Update) (items found : List ℕ) (i : ℕ) → AreFound us items found i → ((n place : ℕ) → IsAt (prev_places us) n i place → IsLast us items n → ⊥) → AreFound us items found (i + 1)
 found_none us items found i f none = record {
-  inside = f.inside;
   only = f.only;
   all = below_more (λ chain. (n place : ℕ) → IsAt (prev_places us) n chain place → IsLast us items n → IsIn n found) i f.all (λ n place at last. absurd (none n place at last));
 }
 
-pub found_one : (us : List Update) (items found : List ℕ) (i m : ℕ) → AreFound us items found i → m < length us → IsLast us items m → ((n place : ℕ) → IsAt (prev_places us) n i place → IsLast us items n → m ≡ n) → AreFound us items (found ++ m ∷ []) (i + 1)
-found_one us items found i m f inside here one = record {
-  inside = all_push (λ n. n < length us) found m f.inside inside;
+pub found_one : (us : List Update) (items found : List ℕ) (i m : ℕ) → AreFound us items found i → IsLast us items m → ((n place : ℕ) → IsAt (prev_places us) n i place → IsLast us items n → m ≡ n) → AreFound us items (found ++ m ∷ []) (i + 1)
+found_one us items found i m f here one = record {
   only = λ n on. elim (in_pushed n found m on) [ inl old ↦ f.only n old | inr new ↦ subst (IsLast us items) new here ];
   all = below_more (λ chain. (n place : ℕ) → IsAt (prev_places us) n chain place → IsLast us items n → IsIn n (found ++ m ∷ [])) i (λ chain below n place at last. in_left n found (m ∷ []) (f.all chain below n place at last)) (λ n place at last. subst (λ (k : ℕ). IsIn k (found ++ m ∷ [])) (one n place at last) (in_last found m));
 }
 
-pub found_all : (us : List Update) (items found : List ℕ) (i n : ℕ) → number_of_chains (prev_places us) ≤ i → AreFound us items found i → n < length us → IsLast us items n → IsIn n found
-found_all us items found i n whole f lt last =
-    let s = at_place (spots (prev_places us)) n (omega (arith, lt, spots_long us)) in
-    f.all s.0.chain (omega (arith, (all_placed (prev_places us)).chain n s.0 s.1, whole)) n s.0.place s.1 last
+-- once all were
+pub found_all : (us : List Update) (items found : List ℕ) (i : ℕ) → number_of_chains (prev_places us) ≤ i → AreFound us items found i → AreLast us items found
+found_all us items found i whole f n lt = (
+  f.only n,
+  (λ last.
+      let s = at_place (spots (prev_places us)) n (omega (arith, lt, spots_long us)) in
+      f.all s.0.chain (omega (arith, (all_placed (prev_places us)).chain n s.0 s.1, whole)) n s.0.place s.1 last),
+)

@@ -28,7 +28,8 @@ use Rattle.depot_graph.proofs.ClockedItems.{AreClocked, AreSpotted, clocked_none
 
 -- ---- the places of parents
 
-in_flat : (f : List ℕ → Option ℕ) (hs : List (List ℕ)) (a : ℕ) → IsIn a (flat_map (λ h. option_to_list (f h)) hs) → (h : List ℕ) × (IsIn h hs × (f h ≡ Some a))
+-- what these ids name is the item of one of them
+pub in_flat : (f : List ℕ → Option ℕ) (hs : List (List ℕ)) (a : ℕ) → IsIn a (flat_map (λ h. option_to_list (f h)) hs) → (h : List ℕ) × (IsIn h hs × (f h ≡ Some a))
 in_flat f [] a never = absurd never
 in_flat f (h ∷ hs) a on = go (f h) refl on (in_flat f hs a) where
   go : (o : Option ℕ) → f h ≡ o → IsIn a (option_to_list o ++ flat_map (λ h. option_to_list (f h)) hs) → (IsIn a (flat_map (λ h. option_to_list (f h)) hs) → (k : List ℕ) × (IsIn k hs × (f k ≡ Some a))) → (k : List ℕ) × (IsIn k (h ∷ hs) × (f k ≡ Some a))
@@ -36,7 +37,7 @@ in_flat f (h ∷ hs) a on = go (f h) refl on (in_flat f hs a) where
   go (Some b) e (inl here) rest = (h, (inl refl, e ∙ ap (λ (n : ℕ). Some n) here))
   go (Some b) e (inr on) rest = let r = rest on in (r.0, (inr r.1.0, r.1.1))
 
-flat_in : (f : List ℕ → Option ℕ) (hs : List (List ℕ)) (h : List ℕ) (a : ℕ) → IsIn h hs → f h ≡ Some a → IsIn a (flat_map (λ h. option_to_list (f h)) hs)
+pub flat_in : (f : List ℕ → Option ℕ) (hs : List (List ℕ)) (h : List ℕ) (a : ℕ) → IsIn h hs → f h ≡ Some a → IsIn a (flat_map (λ h. option_to_list (f h)) hs)
 flat_in f [] h a never e = absurd never
 flat_in f (k ∷ hs) h a (inl here) e = go (f k) (ap f here ∙ e) where
   go : (o : Option ℕ) → o ≡ Some a → IsIn a (option_to_list o ++ flat_map (λ h. option_to_list (f h)) hs)

@@ -3,7 +3,8 @@ use Rattle.std.proofs.Common.{◌≡◌, ℕ, zero, suc, ◌<◌, List, [], ◌�
 use Rattle.std.proofs.lemmas.Option.{slice_get-map, slice_get_within}
 use Rattle.depot_base.specs.declared.update.Update.{Update}
 use Rattle.depot_model.specs.Lists.{IsIn}
-use Rattle.depot_model.specs.Order.{IsCausal}
+use Rattle.depot_model.specs.Order.{IsCausal, Precedes}
+use Rattle.depot_model.proofs.Elements.{both_at}
 use Rattle.depot_virtual.specs.declared.Spot.{Spot}
 use Rattle.depot_virtual.specs.Spots.{spots, chains_of, IsAt as SpotIsAt}
 use Rattle.depot_virtual.proofs.Placing.{all_placed}
@@ -138,6 +139,36 @@ joined_row_is us items ms row c clocked inside joined =
           let k = (joins chain (there a chain place at)).only a x.it x.at x.of_chain (omega (arith, below, x.at_place)) in
           (slice_index ms k.0, (in_place ms k.0 k.1.0, up_to us a (slice_index ms k.0) c (low_at us a x.it c x.at) (inside k.0 k.1.0) k.1.1));
     }
+
+-- what another is up to, or is up to another, stands among them
+up_inside : (us : List Update) (a m : ℕ) → a < length us → IsUpToAt us a m → m < length us
+up_inside us a m low (inl same) = omega (arith, low, same)
+up_inside us a m low (inr p) = let both = both_at us a m (Precedes us) p in slice_get_within us m both.second both.at_second
+
+item_inside : (items : List ChainItem) (a m : ℕ) → a < length items → IsUpTo items a m → m < length items
+item_inside items a m low (zero, same) = omega (arith, low, same)
+item_inside items a m low (suc steps, (p, (leads, rest))) = slice_get_within items m leads.0 leads.1.0
+
+-- a joined row of the updates is one of clocks that are theirs
+pub joined_row_from : (us : List Update) (items : List ChainItem) (ms row : List ℕ) → IsCausal [] us → items ≡ clock_items us → IsJoinedRow us ms row → IsJoined items ms row
+joined_row_from us items ms row c clocked joined = subst (λ (xs : List ChainItem). IsJoined xs ms row) (sym clocked) (record {
+  long = joined.long ∙ sym (clock_number us c);
+  joins = λ chain low. record {
+    there = omega (arith, joined.there chain low, spotted_length (clock_items us) (spots (prev_places us)) chain (clock_spotted us c));
+    counted = λ a x k at is low_k up.
+        let low_a = low_at us a x c at in
+        let low_m = item_inside (clock_items us) a (slice_index ms k) (slice_get_within (clock_items us) a x at) up in
+        let spot = subst (λ (d : ℕ). SpotIsAt (prev_places us) a d x.place) is (to_spot us a x c at) in
+        joined.counted (slice_index ms k) a chain x.place (in_place ms k low_k) spot (up_to us a (slice_index ms k) c low_a (omega (arith, low_m, clock_long us c)) up);
+    only = λ a x at is below.
+        let low_a = low_at us a x c at in
+        let spot = subst (λ (d : ℕ). SpotIsAt (prev_places us) a d x.place) is (to_spot us a x c at) in
+        let m = joined.only a chain x.place spot below in
+        let k = place_in ms m.0 m.1.0 in
+        let up : IsUpToAt us a (slice_index ms k.0) = subst (IsUpToAt us a) (sym k.1.1) m.1.1 in
+        (k.0, (k.1.0, up_from us a (slice_index ms k.0) c low_a (up_inside us a (slice_index ms k.0) low_a up) up));
+  };
+})
 
 -- where memory was found for it
 pub joined_row_if : {T E : Type 0} (us : List Update) (items : List ChainItem) (ms : List ℕ) (view : T → List ℕ) (r : Result T E) → IsCausal [] us → items ≡ clock_items us → ((k : ℕ) → k < length ms → slice_index ms k < length us)

@@ -5,7 +5,8 @@ use Rattle.depot_base.specs.Cursor.{numeral}
 use Rattle.depot_base.specs.declared.update.Update.{Update}
 use Rattle.depot_model.specs.Lists.{is_among}
 use Rattle.depot_model.specs.Texts.{id_of_update}
-use Rattle.depot_model.specs.Items.{at, place_of_id, updates_at, PrecedesAt}
+use Rattle.depot_model.specs.Items.{at, place_of_id, place_of_prev, updates_at, PrecedesAt}
+use Rattle.depot_model.specs.Own.{next_entries}
 use Rattle.depot_graph.specs.declared.leaf.Leaf.{Leaf}
 
 -- a row of the history text: writer, clock, id
@@ -24,3 +25,7 @@ standing us places = filter (λ t. is_among (id_of_update t) (map id_of_update (
 pub record IsUnseen (us : List Update) (me : ℕ) (last : Option ℕ) (n : ℕ) : Type 0 where
   pub other : at us n (λ t. t.writer ≡ me → ⊥)
   pub apart : (p : ℕ) → last ≡ Some p → PrecedesAt us n p → ⊥
+
+-- Where the update of this id, the last of a node, stands at this place, these are the places of the entries of the node's next update.
+abbrev pub AreNextEntries : ℕ → List Update → Option ℕ → List ℕ → Type 0
+AreNextEntries me us prev items = (id : List ℕ) → place_of_prev id us ≡ prev → updates_at us items ≡ next_entries me us id

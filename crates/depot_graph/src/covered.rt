@@ -1,11 +1,10 @@
 //! Whether an item is one of some others, or precedes one.
 ghost use Rattle.std.specs.Prelude.{◌≡◌, ◌<◌, ◌↔◌, ℕ, List, length, IsTrue};
-ghost use Rattle.depot_model.specs.Items.{PrecedesAt, children_of};
-ghost use Rattle.depot_model.specs.Lists.{IsIn};
+ghost use Rattle.depot_model.specs.Items.{PrecedesAt};
 ghost use Rattle.depot_virtual.specs.Spots.{number_of_chains};
 ghost use Rattle.depot_graph.specs.Kept.{prev_places};
 ghost use Rattle.depot_graph.specs.UpdateRows.{IsJoinedRow};
-ghost use Rattle.depot_graph.specs.PastChains.{IsCovered};
+ghost use Rattle.depot_graph.specs.PastChains.{HasCoveredChild, IsCovered};
 
 use crate::graph::Graph;
 use depot_base::Steps;
@@ -49,7 +48,7 @@ pub fn is_covered(graph: &Graph, row: &[u32], item: u32) -> bool
 pub fn has_covered_child(graph: &Graph, row: &[u32], item: u32) -> bool
     requires item { item < length (⟦<Graph as Past>⟧.updates graph.now) }
     requires row { length row.now ≡ number_of_chains (prev_places (⟦<Graph as Past>⟧.updates graph.now)) }
-    ensures { (items : List ℕ) → IsJoinedRow (⟦<Graph as Past>⟧.updates graph.now) items row.now → (IsTrue result ↔ ((child : ℕ) × (IsIn child (children_of (⟦<Graph as Past>⟧.updates graph.now) item) × IsCovered (⟦<Graph as Past>⟧.updates graph.now) items child))) }
+    ensures { (items : List ℕ) → IsJoinedRow (⟦<Graph as Past>⟧.updates graph.now) items row.now → (IsTrue result ↔ HasCoveredChild (⟦<Graph as Past>⟧.updates graph.now) items item) }
 {
     for child in graph.children(item) {
         if is_covered(graph, row, *child) {

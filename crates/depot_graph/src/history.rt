@@ -1,13 +1,15 @@
-//! The three calls.
+//! The history hash, and what the next own update names.
 ghost use Rattle.std.specs.Prelude.{◌≡◌, ◌<◌, ◌↔◌, ℕ, List, Option, length, map, IfOk, IsTrue};
 ghost use Rattle.std.specs.Option.{ForSome};
 ghost use Rattle.std.specs.List.{AllByRecursion};
 ghost use Rattle.depot_model.specs.History.{by_id, history_hash as hash_of_history};
-ghost use Rattle.depot_model.specs.Items.{at, place_of_prev, updates_at};
+ghost use Rattle.depot_model.specs.Items.{at, updates_at};
 ghost use Rattle.depot_model.specs.Lists.{IsIn};
-ghost use Rattle.depot_model.specs.Own.{next_entries};
+ghost use Rattle.depot_virtual.specs.Spots.{number_of_chains};
 ghost use Rattle.depot_graph.specs.Closure.{closure_of};
-ghost use Rattle.depot_graph.specs.PastLeaves.{leaf_in, standing, IsUnseen};
+ghost use Rattle.depot_graph.specs.Kept.{prev_places};
+ghost use Rattle.depot_graph.specs.PastLeaves.{leaf_in, standing, AreNextEntries, IsUnseen};
+ghost use Rattle.depot_graph.specs.UpdateRows.{IsJoinedRow};
 
 use crate::covered::precedes;
 use crate::graph::Graph;
@@ -49,7 +51,16 @@ pub fn history_hash(alloc: Global, graph: &Graph, parents: &[u32]) -> Result<Has
     requires { AllByRecursion (λ item. item < length (⟦<Graph as Past>⟧.updates graph.now)) parents.now }
     ensures { IfOk result (λ hash. hash ≡ hash_of_history (closure_of parents.now (⟦<Graph as Past>⟧.updates graph.now))) }
 {
-    let items = leaves_of_past(alloc, graph, parents)?;
+    let row = graph.joined_row(parents)?;
+    history_of_row(alloc, graph, row.as_slice())
+}
+
+/// The same, of the items whose joined row this is.
+pub fn history_of_row(alloc: Global, graph: &Graph, row: &[u32]) -> Result<Hash32, Memory>
+    requires { length row.now ≡ number_of_chains (prev_places (⟦<Graph as Past>⟧.updates graph.now)) }
+    ensures { (items : List ℕ) → IsJoinedRow (⟦<Graph as Past>⟧.updates graph.now) items row.now → IfOk result (λ hash. hash ≡ hash_of_history (closure_of items (⟦<Graph as Past>⟧.updates graph.now))) }
+{
+    let items = leaves_of_past(alloc, graph, row)?;
     let leaves = sorted(alloc, graph, items.as_slice())?;
     Ok(hash_of_rows(&leaves))
 }
@@ -71,7 +82,7 @@ pub fn changed_leaves(
     prev: Option<u32>,
 ) -> Result<Items, Memory>
     requires { ForSome prev (λ item. item < length (⟦<Graph as Past>⟧.updates graph.now)) }
-    ensures entries { IfOk result (λ items. (id : List ℕ) → place_of_prev id (⟦<Graph as Past>⟧.updates graph.now) ≡ prev → updates_at (⟦<Graph as Past>⟧.updates graph.now) items ≡ next_entries me (⟦<Graph as Past>⟧.updates graph.now) id) }
+    ensures entries { IfOk result (λ items. AreNextEntries me (⟦<Graph as Past>⟧.updates graph.now) prev items) }
     ensures items { IfOk result (λ items. AllByRecursion (λ item. item < length (⟦<Graph as Past>⟧.updates graph.now)) items) }
 {
     let unseen = unseen_of(alloc, graph, graph.leaves(), me, prev)?;

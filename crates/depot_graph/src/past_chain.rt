@@ -1,10 +1,11 @@
 //! The leaves of a past, by the chains of the forest by prev.
-ghost use Rattle.std.specs.Prelude.{◌≡◌, ◌<◌, ◌≤◌, ◌↔◌, ℕ, length, IfOk, IfSome, IfNone, slice_index};
+ghost use Rattle.std.specs.Prelude.{◌≡◌, ◌<◌, ◌≤◌, ◌↔◌, ℕ, List, length, IfOk, IfSome, IfNone, slice_index};
 ghost use Rattle.std.specs.List.{AllByRecursion};
 ghost use Rattle.depot_model.specs.Lists.{IsIn};
 ghost use Rattle.depot_virtual.specs.Spots.{number_of_chains};
 ghost use Rattle.depot_graph.specs.Kept.{prev_places};
-ghost use Rattle.depot_graph.specs.PastChains.{IsLast, IsLastCounted};
+ghost use Rattle.depot_graph.specs.UpdateRows.{IsJoinedRow};
+ghost use Rattle.depot_graph.specs.PastChains.{AreLast, IsLastCounted};
 
 use crate::covered::has_covered_child;
 use crate::graph::Graph;
@@ -28,23 +29,19 @@ fn last_before(graph: &Graph, chain: u32, place: u32) -> Option<u32>
     Some(item)
 }
 
-/// The leaves of what these items are with all that precedes one of them: of each chain at most one, the last item that their
-/// joined row counts.
-pub fn leaves_of_past(alloc: Global, graph: &Graph, items: &[u32]) -> Result<Vec<u32>, Memory>
-    requires { AllByRecursion (λ item. item < length (⟦<Graph as Past>⟧.updates graph.now)) items.now }
-    ensures leaves { IfOk result (λ found. (n : ℕ) → n < length (⟦<Graph as Past>⟧.updates graph.now) → (IsIn n found.items ↔ IsLast (⟦<Graph as Past>⟧.updates graph.now) items.now n)) }
+/// The leaves of what some items are with all that precedes one of them, by the joined row of these items: of each chain at most
+/// one, the last item that the row counts.
+pub fn leaves_of_past(alloc: Global, graph: &Graph, row: &[u32]) -> Result<Vec<u32>, Memory>
+    requires { length row.now ≡ number_of_chains (prev_places (⟦<Graph as Past>⟧.updates graph.now)) }
+    ensures leaves { (items : List ℕ) → IsJoinedRow (⟦<Graph as Past>⟧.updates graph.now) items row.now → IfOk result (λ found. AreLast (⟦<Graph as Past>⟧.updates graph.now) items found.items) }
     ensures inside { IfOk result (λ found. AllByRecursion (λ item. item < length (⟦<Graph as Past>⟧.updates graph.now)) found.items) }
 {
     let mut found = Vec::new(alloc);
-    if items.is_empty() {
-        return Ok(found);
-    }
-    let row = graph.joined_row(items)?;
     for chain in 0..graph.chain_count() {
         let Some(item) = last_before(graph, chain, row[chain as usize]) else {
             continue;
         };
-        if !has_covered_child(graph, row.as_slice(), item) {
+        if !has_covered_child(graph, row, item) {
             found.push(item)?;
         }
     }

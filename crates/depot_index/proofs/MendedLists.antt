@@ -75,10 +75,6 @@ latest_mended precedes listed item among old new o (kept, (place, (k, (is_place,
       rising = mended_rises precedes listed item old kept place o (λ a on. (newest a (known a on)).0) k is_place latest.rising;
     })
 
--- the latest of no items
-pub latest_of_none : (precedes listed : ℕ → ℕ → Type 0) → AreLatestOf precedes listed [] []
-latest_of_none precedes listed = record { all = λ a is. is.0; only = λ a on. (on, λ b b_in p. from_contains b [] b_in); rising = tt }
-
 -- the latest of some items are the same in orders that agree on these items
 pub latest_agree : (precedes listed precedes' listed' : ℕ → ℕ → Type 0) (among latest : List ℕ) → ((a b : ℕ) → Contains among a → Contains among b → (precedes a b → precedes' a b) × (precedes' a b → precedes a b))
     → ((a b : ℕ) → Contains among a → Contains among b → listed a b → listed' a b) → AreLatestOf precedes listed among latest → AreLatestOf precedes' listed' among latest

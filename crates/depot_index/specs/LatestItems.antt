@@ -1,5 +1,5 @@
 -- The latest of some items, in an order and as they are listed.
-use Rattle.std.specs.Prelude.{◌≡◌, ◌<◌, ◌≤◌, ◌⊎◌, ℕ, List, [], ◌∷◌, ◌++◌, length, take, drop, slice_index, Contains}
+use Rattle.std.specs.Prelude.{◌≡◌, ◌<◌, ◌≤◌, ◌⊎◌, ℕ, List, [], ◌∷◌, ◌++◌, length, take, drop, slice_index, All, Contains}
 use Rattle.depot_base.specs.Pairs.{AllPairsByRecursion}
 
 -- a is one of these items and precedes none of them
@@ -11,6 +11,11 @@ pub record AreLatestOf (precedes listed : ℕ → ℕ → Type 0) (among latest 
   pub all : (a : ℕ) → IsLatestOf precedes among a → Contains latest a
   pub only : (a : ℕ) → Contains latest a → IsLatestOf precedes among a
   pub rising : AllPairsByRecursion listed latest
+
+-- Whatever these items are, as long as the order has them: the latest of them, as they are listed, are one list.
+abbrev pub HaveOneLatest : (ℕ → Type 0) → (ℕ → ℕ → Type 0) → (ℕ → ℕ → Type 0) → Type 0
+HaveOneLatest has precedes listed = (among latest others : List ℕ) → All has among
+    → AreLatestOf precedes listed among latest → AreLatestOf precedes listed among others → latest ≡ others
 
 -- the item is none of these and precedes none of them
 abbrev pub IsNewest : (ℕ → ℕ → Type 0) → List ℕ → ℕ → Type 0

@@ -1,7 +1,7 @@
 //! How the latest items of a key are mended when an item more is written.
 ghost use Rattle.std.specs.Prelude.{◌≡◌, ◌<◌, ◌≤◌, ◌+◌, ℕ, List, length, All, vec_len};
 ghost use Rattle.std.specs.Vec.{vec_capacity};
-ghost use Rattle.depot_index.specs.LatestItems.{AreLatestOf, AreKept, IsPlaceFor, IsMended};
+ghost use Rattle.depot_index.specs.LatestItems.{AreKept, HaveOneLatest, IsPlaceFor, IsMended};
 
 use depot_base::{Precedes, Steps};
 use std::sync::ledger::Ledger;
@@ -62,7 +62,7 @@ fn place_among<P: Precedes>(list: &[u32], order: &P, item: u32) -> usize
 
 /// The latest of some items, in an order and as it lists them, are one list, whatever the order is.
 pub fn latest_items_are_one_list<P: Precedes>(order: &P)
-    ensures { (among xs ys : List ℕ) → All (P.has order.now) among → AreLatestOf (P.precedes order.now) (P.listed order.now) among xs → AreLatestOf (P.precedes order.now) (P.listed order.now) among ys → xs ≡ ys }
+    ensures { HaveOneLatest (P.has order.now) (P.precedes order.now) (P.listed order.now) }
 {
     let _ = order;
 }

@@ -3,7 +3,9 @@ use Rattle.std.proofs.Common.{◌≡◌, ◌≤◌, inl, inr, ℕ, ◌+◌, ◌-
 use Rattle.std.proofs.lemmas.List.{take_all}
 use Rattle.depot_base.specs.declared.limits.TheConstants.{MOST_RECORDS}
 use Rattle.depot_base.specs.Disk.{Elapses, LeavesOnly, Only, Within}
-use Rattle.depot_base.specs.File.{AreWithinLimits, HasFront, HasRoom, IsCutShort, IsFileOf, StandsFor, blocks, framed}
+use Rattle.depot_base.specs.File.{AreWithinLimits, HasFront, HasRoom, IsCutShort, IsFileOf, PassesLimit, StandsFor, blocks, framed}
+use Rattle.depot_base.specs.declared.check.FullOf.{FullOf}
+use Rattle.depot_base.specs.declared.check.FullOf.TheVariants as full_of
 use Rattle.depot_journal.specs.WriteSteps.{FailsAt, StandsBetween, StandsTo}
 use Rattle.depot_journal.specs.JournalView.{IsReserved}
 use Rattle.depot_base.proofs.CallLaws.{framed_long}
@@ -19,6 +21,16 @@ blocks_many (x ∷ bodies) = omega (arith, blocks_many bodies, length-append (fr
 -- no number was cut
 pub counted : (old new : List (List ℕ)) (records bytes : ℕ) → HasRoom old records bytes → bytes ≡ min (length (blocks new)) (2 ^ 64 - 1) → bytes ≡ length (blocks new)
 counted old new records bytes room long = omega (arith, long, room.bytes_fit)
+
+pub room_counted : (old new : List (List ℕ)) (records bytes : ℕ) → HasRoom old records bytes → records ≡ length new → bytes ≡ length (blocks new) → HasRoom old (length new) (length (blocks new))
+room_counted old new records bytes room many long = record { records_fit = omega (arith, room.records_fit, many); bytes_fit = omega (arith, room.bytes_fit, long) }
+
+-- the limit is that of the records themselves
+pub limit_counted : (old new : List (List ℕ)) (records bytes : ℕ) (what : FullOf) (number : ℕ) → records ≡ length new → bytes ≡ min (length (blocks new)) (2 ^ 64 - 1) → PassesLimit old records bytes what number
+    → PassesLimit old (length new) (length (blocks new)) what number
+limit_counted old new records bytes full_of.Records number many long p = (p.0, omega (arith, p.1, many))
+limit_counted old new records bytes full_of.Bytes number many long p = (p.0, omega (arith, p.1, many), omega (arith, p.2, long))
+limit_counted old new records bytes full_of.Writers number many long p = p
 
 -- a front of records for which there is room keeps to the limits
 pub front_within : (old new : List (List ℕ)) (n records bytes : ℕ) → HasRoom old records bytes → records ≡ length new → bytes ≡ length (blocks new) → AreWithinLimits (old ++ take n new)

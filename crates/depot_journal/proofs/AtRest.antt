@@ -1,9 +1,9 @@
 -- What a stop leaves of a journal at rest, and what a later start makes of it.
-use Rattle.std.proofs.Common.{◌≡◌, inl, inr, ℕ, ◌≤◌, List, [], ◌∷◌, ◌++◌, length, take, drop, get_or, Bool, true, false, refl, sym, ◌∙◌, ap, subst, arith, append-nil, append_assoc}
+use Rattle.std.proofs.Common.{◌≡◌, inl, inr, ℕ, ◌≤◌, List, [], ◌∷◌, ◌++◌, length, take, drop, get_or, Bool, true, refl, sym, ◌∙◌, ap, subst, arith, append-nil, append_assoc}
 use Rattle.std.proofs.lemmas.List.{drop_all, take_more}
 use Rattle.depot_base.specs.Disk.{IsWritten, Only}
 use Rattle.depot_base.specs.File.{AreWithinLimits, IsCutShort, IsDamagedAt, IsFileOf, StandsFor}
-use Rattle.depot_journal.specs.Stable.{HasAllOf, IsStarted, LeavesAll}
+use Rattle.depot_journal.specs.Stable.{BeginsWithAll, HasAllOf, IsStarted, LeavesAll}
 use Rattle.depot_journal.specs.WriteSteps.{StandsTo}
 use Rattle.depot_journal.proofs.OneList.{not_damaged, one_list}
 use Rattle.depot_journal.proofs.Walk.{stands_of}
@@ -49,5 +49,5 @@ stands_read file bodies read stands within is = one_list file read bodies is (in
 pub left_undamaged : (bodies : List (List ℕ)) (stopped : Bool) (file : List ℕ) (at : ℕ) → HasAllOf bodies stopped file → IsDamagedAt file at → ⊥
 left_undamaged bodies stopped file at all = not_damaged file (bodies ++ all.more) at all.has
 
-pub left_read : (bodies read : List (List ℕ)) (stopped : Bool) (file : List ℕ) → HasAllOf bodies stopped file → IsFileOf file read → (more : List (List ℕ)) × (read ≡ bodies ++ more) × (stopped ≡ false → more ≡ [])
+pub left_read : (bodies read : List (List ℕ)) (stopped : Bool) (file : List ℕ) → HasAllOf bodies stopped file → IsFileOf file read → BeginsWithAll bodies stopped read
 left_read bodies read stopped file all is = (all.more, one_list file read (bodies ++ all.more) is all.has, all.none)

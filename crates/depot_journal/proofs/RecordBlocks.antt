@@ -2,7 +2,7 @@
 use Rattle.std.proofs.Common.{◌≡◌, ◌<◌, ℕ, List, [], ◌∷◌, ◌++◌, ◌+◌, length, length-append, take, drop, refl, ap, ◌∙◌, sym, arith, append_assoc, append-nil}
 use Rattle.std.proofs.lemmas.List.{take_at}
 use Rattle.std.proofs.lemmas.Grind.{common_steps}
-use Rattle.std.specs.Prelude.{Result, Ok, Err, OnOk, OnErr, is_err, true, false}
+use Rattle.std.specs.Prelude.{Result, Ok, Err, IsOk, OnOk, OnErr, is_err, true, false}
 use Rattle.depot_base.proofs.CallLaws.{framed_long}
 use Rattle.depot_base.specs.Disk.{IsWritten}
 use Rattle.depot_base.specs.File.{blocks, framed, closed_block}
@@ -48,3 +48,7 @@ if_not_err (Err e) P ok p = absurd cc
 pub if_err : {T E : Type 0} → (r : Result T E) (P : Type 0) → is_err r ≡ true → OnErr r P → P
 if_err (Ok x) P failed p = absurd cc
 if_err (Err e) P failed p = p
+
+pub ok_no_err : {T E : Type 0} → (r : Result T E) → IsOk r → is_err r ≡ true → ⊥
+ok_no_err (Ok x) ok failed = absurd cc
+ok_no_err (Err e) ok failed = absurd cc

@@ -18,12 +18,13 @@ blocks_next texts i h = sym (one_longer (length (blocks (take i texts))) (get_or
 pub blocks_front : (texts : List (List ℕ)) (i : ℕ) → length (blocks (take i texts)) ≤ length (blocks texts)
 blocks_front texts i = omega (arith, ap (λ (l : List (List ℕ)). length (blocks l)) (sym (take-append-drop i texts)), blocks-append (take i texts) (drop i texts))
 
--- the next record is the text at hand
-pub next_text : (texts : List (List ℕ)) (i : ℕ) (item text : List ℕ) → i < length texts → item ≡ get_or texts i item → text ≡ item → take (i + 1) texts ≡ take i texts ++ text ∷ []
-next_text texts i item text h is same = take_more texts i item h ∙ ap (λ (x : List ℕ). take i texts ++ x ∷ []) (sym (same ∙ is))
+-- the bytes of the next record come behind
+pub next_long : (texts : List (List ℕ)) (i : ℕ) (text : List ℕ) → take (i + 1) texts ≡ take i texts ++ text ∷ [] → length (blocks (take (i + 1) texts)) ≡ length (blocks (take i texts)) + (5 + length text)
+next_long texts i text next = sym (one_longer (length (blocks (take i texts))) text (take i texts) (take (i + 1) texts) refl next)
 
-pub next_long : (texts : List (List ℕ)) (i : ℕ) (item text : List ℕ) → i < length texts → item ≡ get_or texts i item → text ≡ item → length (blocks (take (i + 1) texts)) ≡ length (blocks (take i texts)) + (5 + length text)
-next_long texts i item text h is same = sym (one_longer (length (blocks (take i texts))) text (take i texts) (take (i + 1) texts) refl (next_text texts i item text h is same))
+-- the records with the next of them
+pub bodies_next : (old at more new : List (List ℕ)) (text : List ℕ) (i : ℕ) → at ≡ old ++ take i new → take (i + 1) new ≡ take i new ++ text ∷ [] → more ≡ at ++ text ∷ [] → more ≡ old ++ take (i + 1) new
+bodies_next old at more new text i was next is = is ∙ ap (λ (l : List (List ℕ)). l ++ text ∷ []) was ∙ append_assoc old (take i new) (text ∷ []) ∙ ap (λ (l : List (List ℕ)). old ++ l) (sym next)
 
 pub stands_of : (file : List ℕ) (bodies : List (List ℕ)) (end : ℕ) → StandsTo file bodies end → StandsFor file bodies
 stands_of file bodies end (gate, rest, closed, parts, at) = (gate, rest, closed, parts)

@@ -1,10 +1,15 @@
 -- What a journal answers.
-use Rattle.std.specs.Prelude.{ℕ, List, Result, Ok, Err}
+use Rattle.std.specs.Prelude.{◌≡◌, ◌≤◌, ◌+◌, ◌*◌, ℕ, List, [], Bool, false, IsTrue, Result, Ok, Err, OnOk, IsErrOf, length}
+use Rattle.depot_base.specs.Calls.{FailsAmong, Made, calls_to_append_all, made}
+use Rattle.depot_base.specs.Disk.{LeavesOnly, Within}
+use Rattle.depot_base.specs.Faults.{HasCause}
 use Rattle.depot_journal.specs.declared.journal_error.JournalError.{JournalError}
 use Rattle.depot_journal.specs.declared.journal_error.JournalError.TheVariants as journal_error
 use Rattle.depot_journal.specs.declared.journal_error.AppendError.{AppendError}
 use Rattle.depot_journal.specs.declared.journal_error.AppendError.TheVariants as refused
-use Rattle.depot_base.specs.File.{HasRoom, IsDamagedAt, PassesLimit}
+use Rattle.depot_base.specs.File.{HasRoom, IsDamagedAt, IsFileOf, PassesLimit, blocks}
+use Rattle.depot_journal.specs.JournalView.{View}
+use Rattle.depot_outside.specs.declared.disk.Back.{Back}
 
 -- Full comes exactly where these records, of so many bytes with their gates and lengths, would pass a limit, and names the first such
 -- limit. A stopped journal doesn't look.
@@ -22,6 +27,43 @@ UnlessDisk (Err refused.Disk) P = Unit {0}
 UnlessDisk (Err refused.Memory) P = P
 UnlessDisk (Err (refused.Full full)) P = P
 UnlessDisk (Err refused.Stopped) P = P
+
+-- Where the disk tells its bytes and the journal ran, each image of each moment since then has this property.
+abbrev pub LeavesRunning : {D : Type 0} → (D → Bool) → (D → ℕ) → (D → ℕ → List ℕ → Type 0) → View D → View D → (List ℕ → Type 0) → Type 0
+LeavesRunning tells moment left_since old new P = IsTrue (tells old.disk) → old.is_stopped ≡ false → LeavesOnly moment left_since old.disk new.disk P
+
+-- The journal is as it was, and no more than time went by for its disk: the records and the file, what a stop leaves, and the memory found.
+pub record IsUnchanged {D : Type 0} (tells : D → Bool) (seen : D → List ℕ) (may_leave : D → List ℕ → Type 0) (moment : D → ℕ) (left_since : D → ℕ → List ℕ → Type 0) (old new : View D) : Type 0 where
+  pub records : new.records ≡ old.records
+  pub running : new.is_stopped ≡ old.is_stopped
+  pub seen_kept : seen new.disk ≡ seen old.disk
+  pub images : Within (may_leave old.disk) (may_leave new.disk)
+  pub records_kept : old.room_records ≤ new.room_records
+  pub bytes_kept : old.room_bytes ≤ new.room_bytes
+  -- a stop at any moment leaves the records
+  pub idle : LeavesRunning tells moment left_since old new (λ file. IsFileOf file old.records)
+
+-- The disk is the same one, and the journal made these calls on it: those that append these texts, up to the one that fails, or none. It failed
+-- exactly where its count says so.
+pub record MakesCalls {D : Type 0} (handle : D → ℕ) (tells : D → Bool) (faults : D → ℕ) (is_faultless : D → Type 0) (after : D → List Made → D → Type 0)
+    (old new : View D) (texts : List (List ℕ)) (result : Result (Unit {0}) AppendError) : Type 0 where
+  pub same : handle new.disk ≡ handle old.disk
+  pub told : tells new.disk ≡ tells old.disk
+  pub all : OnOk result (after old.disk (made (calls_to_append_all (length (blocks old.records)) texts)) new.disk)
+  pub failing : IsErrOf result refused.Disk → FailsAmong after old.disk new.disk (calls_to_append_all (length (blocks old.records)) texts)
+  pub none : UnlessDisk result (after old.disk [] new.disk)
+  pub cause : HasCause (faults old.disk) (faults new.disk) (IsErrOf result refused.Disk)
+  pub faultless : is_faultless old.disk → is_faultless new.disk × (faults new.disk ≡ faults old.disk)
+
+-- Of the memory found no more was taken than for these texts.
+pub record HasRoomLeft {D : Type 0} (old new : View D) (texts : List (List ℕ)) : Type 0 where
+  pub records : old.room_records ≤ new.room_records + length texts
+  pub bytes : old.room_bytes + 5 * length texts ≤ new.room_bytes + length (blocks texts)
+
+-- the disk as a start leaves it, in the journal or given back
+abbrev pub disk_of : {D : Type 0} → Result (View D) (Back JournalError D) → D
+disk_of (Ok journal) = journal.disk
+disk_of (Err back) = back.disk
 
 -- Where the answer is Damaged, the file is, at the offset that it carries.
 abbrev pub IsDamage : List ℕ → JournalError → Type 0

@@ -1,8 +1,11 @@
 -- A journal as callers see it.
-use Rattle.std.specs.Prelude.{◌≤◌, ℕ, ◌+◌, ◌-◌, ◌*◌, min, List, Bool, length, refl}
+use Rattle.std.specs.Prelude.{◌≤◌, ℕ, ◌+◌, ◌-◌, ◌*◌, min, List, Bool, length, refl, vec_capacity, vec_len}
 use Rattle.std.specs.Coded.{Coded, code_by, coded×, coded_ℕ, coded_bool, coded_list}
 use Rattle.depot_base.specs.File.{blocks}
 use Rattle.depot_base.specs.declared.limits.TheConstants.{MOST_RECORDS}
+use Rattle.depot_outside.specs.declared.disk.Disk as disk_of
+use Rattle.depot_journal.specs.declared.journal_room.Room.{Room}
+use Rattle.depot_journal.specs.declared.mirror.Mirror.{Mirror}
 
 -- its records, its disk, whether a call on the disk has failed, and for how many more records and bytes of bodies there is memory
 pub record View (D : Type 0) : Type 0 where
@@ -31,3 +34,9 @@ pub record IsReserved (records bytes held long spans_capacity bytes_capacity dis
   pub blocks_fit : long + (6 * min records (MOST_RECORDS - held) + bytes) ≤ bytes_capacity
   pub written_fit : 6 * min records (MOST_RECORDS - held) + bytes ≤ disk_bytes
   pub calls_fit : 4 * min records (MOST_RECORDS - held) ≤ disk_calls
+
+-- for the records and bytes of this room there is memory in the mirror and on its disk
+abbrev pub IsReservedIn : {D : Type 0} → disk_of.Ghosts D → Mirror D → Room → Type 0
+IsReservedIn g mirror room =
+    IsReserved room.records room.bytes (vec_len mirror.spans) (vec_len mirror.bytes) (vec_capacity mirror.spans) (vec_capacity mirror.bytes)
+    (g.room_bytes mirror.disk) (g.room_calls mirror.disk)

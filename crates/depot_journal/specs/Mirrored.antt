@@ -1,5 +1,6 @@
 -- The records of a journal in memory: the bytes of their blocks, as they stand in the file, and where each body stands in them.
 use Rattle.std.specs.Prelude.{◌≡◌, ◌≤◌, ℕ, List, [], ◌∷◌, length, map, slice_range}
+use Rattle.depot_journal.specs.declared.mirror.Mirror.{Mirror}
 use Rattle.depot_journal.specs.declared.span.Span.{Span}
 use Rattle.depot_base.specs.File.{blocks}
 
@@ -10,6 +11,10 @@ cut bytes s = slice_range bytes s.start s.end
 -- the bodies at the spans
 abbrev pub bodies_at : List ℕ → List Span → List (List ℕ)
 bodies_at bytes spans = map (cut bytes) spans
+
+-- the records of a mirror
+abbrev pub records_of : {D : Type 0} → Mirror D → List (List ℕ)
+records_of mirror = bodies_at mirror.bytes.items mirror.spans.items
 
 -- the spans end within so many bytes
 abbrev pub EndWithin : ℕ → List Span → Type 0

@@ -9,6 +9,10 @@ pub record HasAllOf (bodies : List (List ℕ)) (stopped : Bool) (file : List ℕ
   pub has : IsFileOf file (bodies ++ more)
   pub none : stopped ≡ false → more ≡ []
 
+-- What is read later begins with all records of the journal. Behind them stands nothing but, once the disk failed, maybe more.
+abbrev pub BeginsWithAll : List (List ℕ) → Bool → List (List ℕ) → Type 0
+BeginsWithAll bodies stopped read = (more : List (List ℕ)) × (read ≡ bodies ++ more) × (stopped ≡ false → more ≡ [])
+
 -- each file that a stop may leave has all records of the journal
 abbrev pub LeavesAll : List (List ℕ) → Bool → (List ℕ → Type 0) → Type 0
 LeavesAll bodies stopped images = (file : List ℕ) → images file → HasAllOf bodies stopped file

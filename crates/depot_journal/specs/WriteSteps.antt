@@ -1,6 +1,8 @@
 -- What an append does, step by step.
-use Rattle.std.specs.Prelude.{◌≡◌, ◌≢◌, ◌⊎◌, ◌<◌, ℕ, ◌+◌, List, [], ◌∷◌, ◌++◌, ◌^◌, length, take}
-use Rattle.depot_base.specs.File.{StandsFor, blocks, framed}
+use Rattle.std.specs.Prelude.{◌≡◌, ◌≢◌, ◌⊎◌, ◌<◌, ℕ, ◌+◌, List, [], ◌∷◌, ◌++◌, ◌^◌, IsTrue, length, take}
+use Rattle.depot_base.specs.Disk.{LeavesOnly, Only}
+use Rattle.depot_base.specs.File.{StandsFor, blocks, closed_block, framed}
+use Rattle.depot_outside.specs.declared.disk.Disk as disk_of
 
 -- These records stand in the file up to this offset, where a closed gate stands.
 abbrev pub StandsTo : List ℕ → List (List ℕ) → ℕ → Type 0
@@ -9,6 +11,18 @@ StandsTo file bodies end = (gate : ℕ) × (rest : List ℕ) × (gate ≢ 1) × 
 -- the file has one record more, or not
 abbrev pub IsBeforeOrAfter : List (List ℕ) → List ℕ → List ℕ → Type 0
 IsBeforeOrAfter bodies body file = StandsFor file bodies ⊎ StandsFor file (bodies ++ body ∷ [])
+
+-- Where the disk tells its bytes and the block is that of a body, the body stands behind the records that stood up to the gate.
+abbrev pub HasAppended : {D : Type 0} → disk_of.Ghosts D → D → D → ℕ → List ℕ → Type 0
+HasAppended g old new gate block =
+    (bodies : List (List ℕ)) (body : List ℕ) → IsTrue (g.tells old) → block ≡ closed_block body → StandsTo (g.seen old) bodies gate
+    → StandsTo (g.seen new) (bodies ++ body ∷ []) (gate + (5 + length body))
+
+-- Where moreover nothing was unsynced, a stop at any moment leaves the records that stood up to the gate, with the one of the block or without.
+abbrev pub LeavesBlockOrNot : {D : Type 0} → disk_of.Ghosts D → D → D → ℕ → List ℕ → Type 0
+LeavesBlockOrNot g old new gate block =
+    (bodies : List (List ℕ)) (body : List ℕ) → IsTrue (g.tells old) → block ≡ closed_block body → StandsTo (g.seen old) bodies gate
+    → Only (g.seen old) (g.may_leave old) → LeavesOnly g.moment g.left_since old new (IsBeforeOrAfter bodies body)
 
 -- the file stands for these records and so many of the new ones
 pub record StandsBetween (bodies new : List (List ℕ)) (file : List ℕ) : Type 0 where

@@ -1,18 +1,20 @@
 //! The calls of a journal.
-ghost use Rattle.std.specs.Prelude.{◌≡◌, ◌≢◌, ◌⊎◌, ◌↔◌, ◌++◌, ◌+◌, ◌*◌, ◌<◌, ◌≤◌, ◌∷◌, [], List, ℕ, true, false, IsTrue, IsOk, OnOk, IfOk, IfErr, IsErrOf, Some, length, slice_get};
-ghost use Rattle.depot_base.specs.Calls.{FailsAmong, calls_to_append_all, calls_to_start, made};
+ghost use Rattle.std.specs.Prelude.{◌≡◌, ◌≢◌, ◌↔◌, ◌++◌, ◌+◌, ◌<◌, ◌≤◌, [], true, false, IsTrue, IsOk, OnOk, IfOk, IfErr, IsErrOf, Some, length, slice_get};
+ghost use Rattle.depot_base.specs.Calls.{FailsAmong, calls_to_start, made};
 ghost use Rattle.depot_base.specs.Faults.{HasCause};
-ghost use Rattle.depot_base.specs.Disk.{Elapses, LeavesOnly, Only, Within};
-ghost use Rattle.depot_base.specs.File.{AreWithinLimits, HasFront, HasRoom, IsCutShort, IsFileOf, PassesLimit, StartLeaves, blocks};
+ghost use Rattle.depot_base.specs.Disk.{LeavesOnly, Only, Within};
+ghost use Rattle.depot_base.specs.File.{AreWithinLimits, HasFront, IsCutShort, IsFileOf, StartLeaves, blocks};
 ghost use Rattle.depot_journal.specs.JournalView.{Covers};
-ghost use Rattle.depot_journal.specs.JournalAnswers.{IsDamage, KeepsLimits, SaysDamaged, UnlessDisk};
+ghost use Rattle.depot_journal.specs.JournalAnswers.{HasRoomLeft, IsDamage, IsUnchanged, KeepsLimits, LeavesRunning, MakesCalls, SaysDamaged, UnlessDisk, disk_of};
 ghost use Rattle.depot_journal.specs.Stable.{IsStarted, LeavesAll};
+ghost use Rattle.depot_base.specs.WithRest.{with_rest};
+ghost use Rattle.depot_outside.specs.Told.{TimePasses};
 
 use crate::journal_error::{AppendError, JournalError};
 use crate::journal_room::{Room, bytes_of, find_room, room_for};
 use crate::journal_start::{Found, start_on};
 use crate::mirror::{Mirror, append_each};
-use depot_base::{Bytes, Full, Memory};
+use depot_base::{Bytes, Memory};
 use depot_outside::{Back, Disk};
 use std::alloc::Global;
 use std::marker::Model;
@@ -30,11 +32,11 @@ pub struct Journal<D: Disk> {
 }
 
 impl<D: Disk> Model for Journal<D> {
-    ghost use Rattle.std.specs.Prelude.{◌≡◌, IsTrue, false, length, vec_len, vec_capacity};
+    ghost use Rattle.std.specs.Prelude.{◌≡◌, IsTrue, false, vec_len};
     ghost use Rattle.depot_base.specs.Disk.{Only};
-    ghost use Rattle.depot_journal.specs.JournalView.{IsReserved, View, view_code};
+    ghost use Rattle.depot_journal.specs.JournalView.{IsReservedIn, View, view_code};
     ghost use Rattle.depot_base.specs.File.{AreWithinLimits};
-    ghost use Rattle.depot_journal.specs.Mirrored.{IsMirror, bodies_at};
+    ghost use Rattle.depot_journal.specs.Mirrored.{IsMirror, records_of};
     ghost use Rattle.depot_journal.specs.Stable.{LeavesAll};
     ghost use Rattle.depot_journal.specs.WriteSteps.{StandsTo};
 
@@ -42,12 +44,12 @@ impl<D: Disk> Model for Journal<D> {
 
     ghost coded = { view_code D.code };
 
-    ghost view = { λ j. record { records = bodies_at j.mirror.bytes.items j.mirror.spans.items; disk = j.mirror.disk; is_stopped = j.stopped; room_records = j.room.records; room_bytes = j.room.bytes } };
+    ghost view = { λ j. record { records = records_of j.mirror; disk = j.mirror.disk; is_stopped = j.stopped; room_records = j.room.records; room_bytes = j.room.bytes } };
 
-    ghost invariant = { λ j. IsMirror j.mirror.bytes.items j.mirror.spans.items × AreWithinLimits (bodies_at j.mirror.bytes.items j.mirror.spans.items)
-        × IsReserved j.room.records j.room.bytes (vec_len j.mirror.spans) (vec_len j.mirror.bytes) (vec_capacity j.mirror.spans) (vec_capacity j.mirror.bytes) (D.room_bytes j.mirror.disk) (D.room_calls j.mirror.disk)
-        × (j.stopped ≡ false → IsTrue (D.tells j.mirror.disk) → StandsTo (D.seen j.mirror.disk) (bodies_at j.mirror.bytes.items j.mirror.spans.items) (vec_len j.mirror.bytes) × Only (D.seen j.mirror.disk) (D.may_leave j.mirror.disk))
-        × (IsTrue (D.tells j.mirror.disk) → LeavesAll (bodies_at j.mirror.bytes.items j.mirror.spans.items) j.stopped (D.may_leave j.mirror.disk)) };
+    ghost invariant = { λ j. IsMirror j.mirror.bytes.items j.mirror.spans.items × AreWithinLimits (records_of j.mirror)
+        × IsReservedIn D.Disk j.mirror j.room
+        × (j.stopped ≡ false → IsTrue (D.tells j.mirror.disk) → StandsTo (D.seen j.mirror.disk) (records_of j.mirror) (vec_len j.mirror.bytes) × Only (D.seen j.mirror.disk) (D.may_leave j.mirror.disk))
+        × (IsTrue (D.tells j.mirror.disk) → LeavesAll (records_of j.mirror) j.stopped (D.may_leave j.mirror.disk)) };
 }
 
 impl<D: Disk> Journal<D> {
@@ -90,20 +92,6 @@ impl<D: Disk> Journal<D> {
         self.mirror.disk
     }
 
-    /// Whether so many records, with so many bytes of bodies in all, keep to the limits; a record takes 5 bytes more than its
-    /// body.
-    pub fn room(&self, records: u32, bytes: u32) -> Result<(), Full>
-        ensures room { OnOk result (HasRoom self.now.records records (bytes + 5 * records)) }
-        ensures full { IfErr result (λ full. PassesLimit self.now.records records (bytes + 5 * records) full.what full.number) }
-    {
-        room_for(
-            self.count(),
-            self.mirror.bytes.len() as u64,
-            records as u64,
-            bytes as u64 + 5 * records as u64,
-        )
-    }
-
     /// Finds the memory for so many more records, with so many bytes of bodies in all: to append them answers no Memory then.
     /// No record and no byte of the file changes, whatever is answered.
     pub fn reserve(&mut self, records: u32, bytes: u32) -> Result<(), Memory>
@@ -116,7 +104,7 @@ impl<D: Disk> Journal<D> {
         ensures running { self.new.is_stopped ≡ self.old.is_stopped }
         ensures seen { D.seen self.new.disk ≡ D.seen self.old.disk }
         ensures images { Within (D.may_leave self.old.disk) (D.may_leave self.new.disk) }
-        ensures time { Elapses (D.moment self.old.disk) (D.moment self.new.disk) (D.left_since self.old.disk) (D.left_since self.new.disk) (D.may_leave self.new.disk) }
+        ensures time { TimePasses D.Disk self.old.disk self.new.disk }
         ensures handle { D.handle self.new.disk ≡ D.handle self.old.disk }
         ensures tells { D.tells self.new.disk ≡ D.tells self.old.disk }
         ensures made { D.after self.old.disk [] self.new.disk }
@@ -128,49 +116,35 @@ impl<D: Disk> Journal<D> {
 }
 
 impl<D: Disk> Journal<D> {
-    /// Appends records. Memory and limits are settled for all of them before the first write; where memory was found for them
-    /// before, none is wanting.
+    /// Appends records: their texts, and behind the last text the rest; without texts none. Memory and limits are settled for all
+    /// of them before the first write; where memory was found for them before, none is wanting.
     ///
     /// After `Memory` and `Full` the records, the file and what a stop may leave are as before, and the memory that was found
     /// before is kept. After `Disk` the records before the failing one are stable, the failing one may be, and the journal is
     /// stopped. After `Stopped` nothing has changed.
-    pub fn append_all(&mut self, texts: &[Bytes]) -> Result<(), AppendError>
-        ensures ok { OnOk result (self.new.records ≡ self.old.records ++ texts.now) }
-        ensures unchanged { UnlessDisk result ((self.new.records ≡ self.old.records) × (self.new.is_stopped ≡ self.old.is_stopped)) }
-        ensures seen { UnlessDisk result (D.seen self.new.disk ≡ D.seen self.old.disk) }
-        ensures images { UnlessDisk result (Within (D.may_leave self.old.disk) (D.may_leave self.new.disk)) }
-        ensures records_kept { UnlessDisk result (self.old.room_records ≤ self.new.room_records) }
-        ensures bytes_kept { UnlessDisk result (self.old.room_bytes ≤ self.new.room_bytes) }
-        ensures disk { IsErrOf result AppendError.Disk → IsCutShort self.old.records texts.now self.new.records (IsTrue (D.tells self.old.disk)) (D.may_leave self.new.disk) }
+    pub fn append_all(&mut self, texts: &[Bytes], rest: &[u8]) -> Result<(), AppendError>
+        ensures ok { OnOk result (self.new.records ≡ self.old.records ++ with_rest texts.now rest.now) }
+        ensures unchanged { UnlessDisk result (IsUnchanged D.tells D.seen D.may_leave D.moment D.left_since self.old self.new) }
+        ensures disk { IsErrOf result AppendError.Disk → IsCutShort self.old.records (with_rest texts.now rest.now) self.new.records (IsTrue (D.tells self.old.disk)) (D.may_leave self.new.disk) }
         ensures running { OnOk result (self.new.is_stopped ≡ false) }
         ensures stops { IsErrOf result AppendError.Disk → self.new.is_stopped ≡ true }
         ensures stopped { IsErrOf result AppendError.Stopped ↔ (self.old.is_stopped ≡ true) }
-        ensures limits { KeepsLimits self.old.records (length texts.now) (length (blocks texts.now)) result }
-        ensures memory { Covers self.old texts.now → IsErrOf result AppendError.Memory → ⊥ }
-        ensures room_records { OnOk result (self.old.room_records ≤ self.new.room_records + length texts.now) }
-        ensures room_bytes { OnOk result (self.old.room_bytes + 5 * length texts.now ≤ self.new.room_bytes + length (blocks texts.now)) }
-        ensures handle { D.handle self.new.disk ≡ D.handle self.old.disk }
-        ensures tells { D.tells self.new.disk ≡ D.tells self.old.disk }
+        ensures untouched { self.old.is_stopped ≡ true → self.new.disk ≡ self.old.disk }
+        ensures limits { KeepsLimits self.old.records (length (with_rest texts.now rest.now)) (length (blocks (with_rest texts.now rest.now))) result }
+        ensures memory { Covers self.old (with_rest texts.now rest.now) → IsErrOf result AppendError.Memory → ⊥ }
+        ensures room { OnOk result (HasRoomLeft self.old self.new (with_rest texts.now rest.now)) }
+        ensures calls { MakesCalls D.handle D.tells D.faults D.is_faultless D.after self.old self.new (with_rest texts.now rest.now) result }
         ensures file { IsTrue (D.tells self.old.disk) → self.new.is_stopped ≡ false → IsFileOf (D.seen self.new.disk) self.new.records }
         ensures stable { IsTrue (D.tells self.old.disk) → self.new.is_stopped ≡ false → Only (D.seen self.new.disk) (D.may_leave self.new.disk) }
         // Whatever was answered, a stop leaves all records of the journal.
         ensures stands { IsTrue (D.tells self.old.disk) → LeavesAll self.new.records self.new.is_stopped (D.may_leave self.new.disk) }
         // A stop at any moment leaves the records from before the call, and then a front of the new ones.
-        ensures any_moment { IsTrue (D.tells self.old.disk) → self.old.is_stopped ≡ false → LeavesOnly D.moment D.left_since self.old.disk self.new.disk (HasFront self.old.records texts.now) }
-        // After another refusal than Disk the records from before are all that a stop at any moment leaves.
-        ensures idle { IsTrue (D.tells self.old.disk) → self.old.is_stopped ≡ false → UnlessDisk result (LeavesOnly D.moment D.left_since self.old.disk self.new.disk (λ file. IsFileOf file self.old.records)) }
-        ensures untouched { self.old.is_stopped ≡ true → self.new.disk ≡ self.old.disk }
-        // The calls on the disk: those that append the records, up to the one that fails, or none.
-        ensures made { OnOk result (D.after self.old.disk (made (calls_to_append_all (length (blocks self.old.records)) texts.now)) self.new.disk) }
-        ensures failing { IsErrOf result AppendError.Disk → FailsAmong D.after self.old.disk self.new.disk (calls_to_append_all (length (blocks self.old.records)) texts.now) }
-        ensures none { UnlessDisk result (D.after self.old.disk [] self.new.disk) }
-        ensures cause { HasCause (D.faults self.old.disk) (D.faults self.new.disk) (IsErrOf result AppendError.Disk) }
-        ensures faultless { D.is_faultless self.old.disk → D.is_faultless self.new.disk × (D.faults self.new.disk ≡ D.faults self.old.disk) }
+        ensures any_moment { LeavesRunning D.tells D.moment D.left_since self.old self.new (HasFront self.old.records (with_rest texts.now rest.now)) }
     {
         if self.stopped {
             return Err(AppendError::Stopped);
         }
-        let long = bytes_of(texts);
+        let long = bytes_of(texts, rest);
         if let Err(full) = room_for(
             self.count(),
             self.mirror.bytes.len() as u64,
@@ -185,7 +159,7 @@ impl<D: Disk> Journal<D> {
             return Err(AppendError::Memory);
         }
         self.stopped = true;
-        if append_each(&mut self.mirror, texts).is_err() {
+        if append_each(&mut self.mirror, texts, rest).is_err() {
             self.room = Room {
                 records: 0,
                 bytes: 0,
@@ -243,19 +217,15 @@ impl<D: Disk> Journal<D> {
         ensures calm { IfOk result (λ j. D.faults j.disk ≡ D.faults disk) }
 
         // Images of the moments of the call.
-        ensures any_moment { IfOk result (λ j. IsTrue (D.tells disk) → LeavesOnly D.moment D.left_since disk j.disk (StartLeaves (D.may_leave disk) (D.seen disk))) }
-        ensures any_moment_back { IfErr result (λ b. IsTrue (D.tells disk) → LeavesOnly D.moment D.left_since disk b.disk (StartLeaves (D.may_leave disk) (D.seen disk))) }
+        ensures any_moment { IsTrue (D.tells disk) → LeavesOnly D.moment D.left_since disk (disk_of result) (StartLeaves (D.may_leave disk) (D.seen disk)) }
 
         // The calls on the disk, and where one of them failed, those up to it.
         ensures made { IfOk result (λ j. IsTrue (D.tells disk) → D.after disk (made (calls_to_start (D.seen disk))) j.disk) }
         ensures failing { IfErr result (λ b. b.error ≡ JournalError.Disk → IsTrue (D.tells disk) → FailsAmong D.after disk b.disk (calls_to_start (D.seen disk))) }
 
-        ensures handle { IfOk result (λ j. D.handle j.disk ≡ D.handle disk) }
-        ensures handle_back { IfErr result (λ b. D.handle b.disk ≡ D.handle disk) }
-        ensures tells { IfOk result (λ j. D.tells j.disk ≡ D.tells disk) }
-        ensures tells_back { IfErr result (λ b. D.tells b.disk ≡ D.tells disk) }
-        ensures faultless { IfOk result (λ j. D.is_faultless disk → D.is_faultless j.disk) }
-        ensures faultless_back { IfErr result (λ b. D.is_faultless disk → D.is_faultless b.disk × (D.faults b.disk ≡ D.faults disk)) }
+        ensures handle { D.handle (disk_of result) ≡ D.handle disk }
+        ensures tells { D.tells (disk_of result) ≡ D.tells disk }
+        ensures faultless { D.is_faultless disk → D.is_faultless (disk_of result) × (D.faults (disk_of result) ≡ D.faults disk) }
     {
         let mut disk = disk;
         match start_on(alloc, &mut disk) {

@@ -1,7 +1,7 @@
 //! Laws of the file of a journal.
-ghost use Rattle.std.specs.Prelude.{◌≡◌, ◌++◌, [], List, ℕ, Bool, false};
+ghost use Rattle.std.specs.Prelude.{◌≡◌, List, ℕ, Bool};
 ghost use Rattle.depot_base.specs.File.{AreWithinLimits, IsDamagedAt, IsFileOf, StandsFor};
-ghost use Rattle.depot_journal.specs.Stable.{HasAllOf};
+ghost use Rattle.depot_journal.specs.Stable.{BeginsWithAll, HasAllOf};
 
 /// A file has one list of records at most.
 pub fn files_have_one_list()
@@ -28,5 +28,5 @@ pub fn standing_records_are_read()
 /// disk failed on. So a later start answers these.
 pub fn what_a_stop_leaves_is_read()
     ensures undamaged { (records : List (List ℕ)) (stopped : Bool) (file : List ℕ) (at : ℕ) → HasAllOf records stopped file → IsDamagedAt file at → ⊥ }
-    ensures read { (records read : List (List ℕ)) (stopped : Bool) (file : List ℕ) → HasAllOf records stopped file → IsFileOf file read → (more : List (List ℕ)) × (read ≡ records ++ more) × (stopped ≡ false → more ≡ []) }
+    ensures read { (records read : List (List ℕ)) (stopped : Bool) (file : List ℕ) → HasAllOf records stopped file → IsFileOf file read → BeginsWithAll records stopped read }
 {}

@@ -1,13 +1,15 @@
 //! The limits of a journal, and the memory that is found before an append.
-ghost use Rattle.std.specs.Prelude.{◌≡◌, ◌++◌, ◌+◌, ◌-◌, ◌*◌, ◌^◌, ◌≤◌, List, [], ℕ, OnOk, IfErr, IsOk, length, min, vec_len, vec_capacity};
-ghost use Rattle.depot_base.specs.Disk.{Elapses, Within};
+ghost use Rattle.std.specs.Prelude.{◌≡◌, ◌+◌, ◌-◌, ◌*◌, ◌^◌, ◌≤◌, List, [], ℕ, OnOk, IfErr, IsOk, length, min, vec_len};
+ghost use Rattle.depot_base.specs.Disk.{Within};
 ghost use Rattle.depot_base.specs.File.{HasRoom, PassesLimit, blocks};
-ghost use Rattle.depot_journal.specs.JournalView.{IsReserved};
+ghost use Rattle.depot_journal.specs.JournalView.{IsReservedIn};
+ghost use Rattle.depot_base.specs.WithRest.{with_rest};
+ghost use Rattle.depot_outside.specs.Told.{TimePasses};
 
 use crate::mirror::Mirror;
 use depot_base::limits::{MOST_JOURNAL, MOST_RECORDS};
 use depot_base::{Bytes, Full, FullOf, Memory};
-use depot_outside::Disk;
+use depot_outside::{Disk, reserve_tightly};
 
 /// For how many more records and bytes of bodies there is memory.
 #[derive(Clone, Copy, Debug, PartialEq, Eq)]
@@ -16,12 +18,16 @@ pub struct Room {
     pub bytes: u32,
 }
 
-/// How many bytes these records take in the file, with their gates and lengths; the greatest number where it is more.
-#[tactic(auto, using(crate::proofs::Walk::blocks_next, std::proofs::lemmas::List::take_all))]
-pub fn bytes_of(texts: &[Bytes]) -> u64
-    ensures { result ≡ min (length (blocks texts.now)) (2 ^ 64 - 1) }
+/// How many bytes the records of these texts take in the file, with their gates and lengths, where the rest stands behind the
+/// last text; the greatest number where it is more.
+#[tactic(auto, using(crate::proofs::Walk::blocks_next, depot_base::proofs::WithRestLaws::rest_longer, std::proofs::lemmas::List::take_all))]
+pub fn bytes_of(texts: &[Bytes], rest: &[u8]) -> u64
+    ensures { result ≡ min (length (blocks (with_rest texts.now rest.now))) (2 ^ 64 - 1) }
 {
-    let mut bytes: u64 = 0;
+    if texts.is_empty() {
+        return 0;
+    }
+    let mut bytes = rest.len() as u64;
     for text in texts {
         bytes = bytes.saturating_add(text.as_slice().len() as u64 + 5);
     }
@@ -60,8 +66,8 @@ pub fn find_room<D: Disk>(
 ) -> Result<(), Memory>
     requires held { vec_len mirror.old.spans ≤ MOST_RECORDS }
     requires long { vec_len mirror.old.bytes ≤ MOST_JOURNAL }
-    requires reserved { IsReserved room.old.records room.old.bytes (vec_len mirror.old.spans) (vec_len mirror.old.bytes) (vec_capacity mirror.old.spans) (vec_capacity mirror.old.bytes) (D.room_bytes mirror.old.disk) (D.room_calls mirror.old.disk) }
-    ensures reserved { IsReserved room.new.records room.new.bytes (vec_len mirror.new.spans) (vec_len mirror.new.bytes) (vec_capacity mirror.new.spans) (vec_capacity mirror.new.bytes) (D.room_bytes mirror.new.disk) (D.room_calls mirror.new.disk) }
+    requires reserved { IsReservedIn D.Disk mirror.old room.old }
+    ensures reserved { IsReservedIn D.Disk mirror.new room.new }
     ensures records { OnOk result (records ≤ room.new.records) }
     ensures bytes { OnOk result (bytes ≤ room.new.bytes) }
     ensures records_kept { room.old.records ≤ room.new.records }
@@ -71,7 +77,7 @@ pub fn find_room<D: Disk>(
     ensures bytes_same { mirror.new.bytes.items ≡ mirror.old.bytes.items }
     ensures seen { D.seen mirror.new.disk ≡ D.seen mirror.old.disk }
     ensures images { Within (D.may_leave mirror.old.disk) (D.may_leave mirror.new.disk) }
-    ensures time { Elapses (D.moment mirror.old.disk) (D.moment mirror.new.disk) (D.left_since mirror.old.disk) (D.left_since mirror.new.disk) (D.may_leave mirror.new.disk) }
+    ensures time { TimePasses D.Disk mirror.old.disk mirror.new.disk }
     ensures handle { D.handle mirror.new.disk ≡ D.handle mirror.old.disk }
     ensures tells { D.tells mirror.new.disk ≡ D.tells mirror.old.disk }
     ensures made { D.after mirror.old.disk [] mirror.new.disk }
@@ -86,8 +92,8 @@ pub fn find_room<D: Disk>(
     let most = records.min(MOST_RECORDS - mirror.spans.len() as u32);
     // A record takes its body, a length of 4 bytes and a gate, and the next gate is written with it.
     let written = 6 * most as u64 + bytes as u64;
-    mirror.spans.reserve(most as usize)?;
-    mirror.bytes.reserve(written as usize)?;
+    reserve_tightly(&mut mirror.spans, most as usize)?;
+    reserve_tightly(&mut mirror.bytes, written as usize)?;
     mirror.disk.make_room(written, 4 * most)?;
     *room = Room { records, bytes };
     Ok(())

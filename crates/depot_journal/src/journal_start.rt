@@ -1,5 +1,5 @@
 //! A journal that is read from its disk.
-ghost use Rattle.std.specs.Prelude.{◌≡◌, ◌≢◌, ◌++◌, ◌+◌, ◌≤◌, ◌<◌, ◌∷◌, [], List, ℕ, min, IsTrue, IsErr, is_err, IfErr, IfOk, IsErrOf, OnOk, length, slice_range, vec_len};
+ghost use Rattle.std.specs.Prelude.{◌≡◌, ◌≢◌, ◌≤◌, ◌<◌, ◌∷◌, [], List, ℕ, min, IsTrue, IsErr, is_err, IfErr, IfOk, IsErrOf, OnOk, length, slice_range, vec_len};
 ghost use Rattle.depot_base.specs.Calls.{FailsAmong, asks_length, calls_to_start, made, reads_at, syncs};
 ghost use Rattle.depot_base.specs.Faults.{HasCause};
 ghost use Rattle.depot_base.specs.Disk.{LeavesOnly, Only};

@@ -1,10 +1,11 @@
 //! A disk and the records on it, in memory too.
-ghost use Rattle.std.specs.Prelude.{◌≡◌, ◌++◌, ◌+◌, ◌<◌, ◌≤◌, ◌*◌, ◌^◌, ◌∷◌, [], List, ℕ, IsTrue, IsErr, OnOk, OnErr, length, take, vec_len, vec_capacity};
+ghost use Rattle.std.specs.Prelude.{◌≡◌, ◌++◌, ◌+◌, ◌<◌, ◌≤◌, ◌*◌, ◌^◌, ◌∷◌, [], IsTrue, IsErr, OnOk, OnErr, length, vec_len, vec_capacity};
 ghost use Rattle.depot_base.specs.Calls.{FailsAmong, calls_to_append, calls_to_append_all, made};
 ghost use Rattle.depot_base.specs.Faults.{HasCause};
 ghost use Rattle.depot_base.specs.Disk.{LeavesOnly, Only};
 ghost use Rattle.depot_base.specs.File.{blocks, closed_block};
-ghost use Rattle.depot_journal.specs.Mirrored.{IsMirror, bodies_at};
+ghost use Rattle.depot_journal.specs.Mirrored.{IsMirror, records_of};
+ghost use Rattle.depot_base.specs.WithRest.{with_rest};
 ghost use Rattle.depot_journal.specs.WriteSteps.{FailsAt, IsBeforeOrAfter, StandsBetween, StandsTo};
 
 use crate::span::Span;
@@ -20,51 +21,55 @@ pub struct Mirror<D: Disk> {
     pub spans: Vec<Span>,
 }
 
-/// Adds a record's block with its gate open, and the closed gate behind it. There is room for it.
+/// Adds a record's block with its gate open, and the closed gate behind it; its text comes in two parts. There is room for
+/// it.
 #[tactic(auto, unfolding(depot_base::specs::File::framed, depot_base::specs::Cursor::numeral))]
-fn put_block(bytes: &mut Vec<u8>, text: &[u8])
-    requires room { vec_len bytes.old + (6 + length text.now) ≤ vec_capacity bytes.old }
-    requires short { length text.now < 2 ^ 32 }
-    ensures block { bytes.new.items ≡ bytes.old.items ++ (1 ∷ closed_block text.now) }
+fn put_block(bytes: &mut Vec<u8>, head: &[u8], rest: &[u8])
+    requires room { vec_len bytes.old + (6 + length (head.now ++ rest.now)) ≤ vec_capacity bytes.old }
+    requires short { length (head.now ++ rest.now) < 2 ^ 32 }
+    ensures block { bytes.new.items ≡ bytes.old.items ++ (1 ∷ closed_block (head.now ++ rest.now)) }
     ensures capacity { vec_capacity bytes.old ≤ vec_capacity bytes.new }
 {
+    let size = (head.len() + rest.len()) as u32;
     let _ = bytes.push(1);
-    let _ = bytes.extend_from_slice(&(text.len() as u32).to_be_bytes());
-    let _ = bytes.extend_from_slice(text);
+    let _ = bytes.extend_from_slice(&size.to_be_bytes());
+    let _ = bytes.extend_from_slice(head);
+    let _ = bytes.extend_from_slice(rest);
     let _ = bytes.push(0);
 }
 
-/// Appends one record, for which there is room. After Failed it may stand on the disk, and the list is as before.
-fn append_one<D: Disk>(mirror: &mut Mirror<D>, text: &[u8]) -> Result<(), Failed>
+/// Appends one record, for which there is room; its text comes in two parts. After Failed it may stand on the disk, and the
+/// list is as before.
+fn append_one<D: Disk>(mirror: &mut Mirror<D>, head: &[u8], rest: &[u8]) -> Result<(), Failed>
     requires mirror { IsMirror mirror.old.bytes.items mirror.old.spans.items }
     requires spans { vec_len mirror.old.spans < vec_capacity mirror.old.spans }
-    requires bytes { vec_len mirror.old.bytes + (6 + length text.now) ≤ vec_capacity mirror.old.bytes }
-    requires short { vec_len mirror.old.bytes + (6 + length text.now) ≤ 2 ^ 30 }
-    requires room { 6 + length text.now ≤ D.room_bytes mirror.old.disk }
+    requires bytes { vec_len mirror.old.bytes + (6 + length (head.now ++ rest.now)) ≤ vec_capacity mirror.old.bytes }
+    requires short { vec_len mirror.old.bytes + (6 + length (head.now ++ rest.now)) ≤ 2 ^ 30 }
+    requires room { 6 + length (head.now ++ rest.now) ≤ D.room_bytes mirror.old.disk }
     requires calls { 4 ≤ D.room_calls mirror.old.disk }
-    requires stands { IsTrue (D.tells mirror.old.disk) → StandsTo (D.seen mirror.old.disk) (bodies_at mirror.old.bytes.items mirror.old.spans.items) (vec_len mirror.old.bytes) }
+    requires stands { IsTrue (D.tells mirror.old.disk) → StandsTo (D.seen mirror.old.disk) (records_of mirror.old) (vec_len mirror.old.bytes) }
     requires stable { IsTrue (D.tells mirror.old.disk) → Only (D.seen mirror.old.disk) (D.may_leave mirror.old.disk) }
     ensures mirror { IsMirror mirror.new.bytes.items mirror.new.spans.items }
-    ensures bodies { OnOk result (bodies_at mirror.new.bytes.items mirror.new.spans.items ≡ bodies_at mirror.old.bytes.items mirror.old.spans.items ++ text.now ∷ []) }
-    ensures kept { OnErr result (bodies_at mirror.new.bytes.items mirror.new.spans.items ≡ bodies_at mirror.old.bytes.items mirror.old.spans.items) }
+    ensures bodies { OnOk result (records_of mirror.new ≡ records_of mirror.old ++ (head.now ++ rest.now) ∷ []) }
+    ensures kept { OnErr result (records_of mirror.new ≡ records_of mirror.old) }
     ensures count { vec_len mirror.new.spans ≤ vec_len mirror.old.spans + 1 }
-    ensures long { vec_len mirror.new.bytes ≤ vec_len mirror.old.bytes + (5 + length text.now) }
+    ensures long { vec_len mirror.new.bytes ≤ vec_len mirror.old.bytes + (5 + length (head.now ++ rest.now)) }
     ensures handle { D.handle mirror.new.disk ≡ D.handle mirror.old.disk }
     ensures tells { D.tells mirror.new.disk ≡ D.tells mirror.old.disk }
-    ensures stands { OnOk result (IsTrue (D.tells mirror.old.disk) → StandsTo (D.seen mirror.new.disk) (bodies_at mirror.new.bytes.items mirror.new.spans.items) (vec_len mirror.new.bytes)) }
+    ensures stands { OnOk result (IsTrue (D.tells mirror.old.disk) → StandsTo (D.seen mirror.new.disk) (records_of mirror.new) (vec_len mirror.new.bytes)) }
     ensures stable { OnOk result (IsTrue (D.tells mirror.old.disk) → Only (D.seen mirror.new.disk) (D.may_leave mirror.new.disk)) }
-    ensures any_moment { IsTrue (D.tells mirror.old.disk) → LeavesOnly D.moment D.left_since mirror.old.disk mirror.new.disk (IsBeforeOrAfter (bodies_at mirror.old.bytes.items mirror.old.spans.items) text.now) }
-    ensures made { OnOk result (D.after mirror.old.disk (made (calls_to_append (vec_len mirror.old.bytes) text.now)) mirror.new.disk) }
-    ensures failing { OnErr result (FailsAmong D.after mirror.old.disk mirror.new.disk (calls_to_append (vec_len mirror.old.bytes) text.now)) }
+    ensures any_moment { IsTrue (D.tells mirror.old.disk) → LeavesOnly D.moment D.left_since mirror.old.disk mirror.new.disk (IsBeforeOrAfter (records_of mirror.old) (head.now ++ rest.now)) }
+    ensures made { OnOk result (D.after mirror.old.disk (made (calls_to_append (vec_len mirror.old.bytes) (head.now ++ rest.now))) mirror.new.disk) }
+    ensures failing { OnErr result (FailsAmong D.after mirror.old.disk mirror.new.disk (calls_to_append (vec_len mirror.old.bytes) (head.now ++ rest.now))) }
     ensures cause { HasCause (D.faults mirror.old.disk) (D.faults mirror.new.disk) (IsErr result) }
     ensures faultless { D.is_faultless mirror.old.disk → D.is_faultless mirror.new.disk × (D.faults mirror.new.disk ≡ D.faults mirror.old.disk) }
-    ensures room_left { D.room_bytes mirror.old.disk ≤ D.room_bytes mirror.new.disk + (6 + length text.now) }
+    ensures room_left { D.room_bytes mirror.old.disk ≤ D.room_bytes mirror.new.disk + (6 + length (head.now ++ rest.now)) }
     ensures calls_left { D.room_calls mirror.old.disk ≤ D.room_calls mirror.new.disk + 4 }
     ensures spans_left { vec_capacity mirror.old.spans ≤ vec_capacity mirror.new.spans }
     ensures bytes_left { vec_capacity mirror.old.bytes ≤ vec_capacity mirror.new.bytes }
 {
     let gate = mirror.bytes.len();
-    put_block(&mut mirror.bytes, text);
+    put_block(&mut mirror.bytes, head, rest);
     let end = mirror.bytes.len() - 1;
     let outcome = append_on(&mut mirror.disk, gate as u64, &mirror.bytes[gate + 1..]);
     if outcome.is_err() {
@@ -79,37 +84,52 @@ fn append_one<D: Disk>(mirror: &mut Mirror<D>, text: &[u8]) -> Result<(), Failed
     Ok(())
 }
 
-/// Appends records, for which there is room. After Failed those before the failing one stand in the list.
-pub fn append_each<D: Disk>(mirror: &mut Mirror<D>, texts: &[Bytes]) -> Result<(), Failed>
+/// What stands behind a text in its record: the rest behind the last of so many, and nothing behind another.
+fn rest_behind(place: usize, count: usize, rest: &[u8]) -> &[u8]
+    requires { place < count }
+    ensures last { place + 1 ≡ count → result.now ≡ rest.now }
+    ensures other { place + 1 < count → result.now ≡ [] }
+{
+    if place + 1 == count { rest } else { &[] }
+}
+
+/// Appends records, for which there is room; the rest stands behind the last text. After Failed those before the failing one
+/// stand in the list.
+pub fn append_each<D: Disk>(
+    mirror: &mut Mirror<D>,
+    texts: &[Bytes],
+    rest: &[u8],
+) -> Result<(), Failed>
     requires mirror { IsMirror mirror.old.bytes.items mirror.old.spans.items }
-    requires spans { vec_len mirror.old.spans + length texts.now ≤ vec_capacity mirror.old.spans }
-    requires bytes { vec_len mirror.old.bytes + (length (blocks texts.now) + length texts.now) ≤ vec_capacity mirror.old.bytes }
-    requires short { vec_len mirror.old.bytes + length (blocks texts.now) + 1 ≤ 2 ^ 30 }
-    requires room { length (blocks texts.now) + length texts.now ≤ D.room_bytes mirror.old.disk }
-    requires calls { 4 * length texts.now ≤ D.room_calls mirror.old.disk }
-    requires stands { IsTrue (D.tells mirror.old.disk) → StandsTo (D.seen mirror.old.disk) (bodies_at mirror.old.bytes.items mirror.old.spans.items) (vec_len mirror.old.bytes) }
+    requires spans { vec_len mirror.old.spans + length (with_rest texts.now rest.now) ≤ vec_capacity mirror.old.spans }
+    requires bytes { vec_len mirror.old.bytes + (length (blocks (with_rest texts.now rest.now)) + length (with_rest texts.now rest.now)) ≤ vec_capacity mirror.old.bytes }
+    requires short { vec_len mirror.old.bytes + length (blocks (with_rest texts.now rest.now)) + 1 ≤ 2 ^ 30 }
+    requires room { length (blocks (with_rest texts.now rest.now)) + length (with_rest texts.now rest.now) ≤ D.room_bytes mirror.old.disk }
+    requires calls { 4 * length (with_rest texts.now rest.now) ≤ D.room_calls mirror.old.disk }
+    requires stands { IsTrue (D.tells mirror.old.disk) → StandsTo (D.seen mirror.old.disk) (records_of mirror.old) (vec_len mirror.old.bytes) }
     requires stable { IsTrue (D.tells mirror.old.disk) → Only (D.seen mirror.old.disk) (D.may_leave mirror.old.disk) }
     ensures mirror { IsMirror mirror.new.bytes.items mirror.new.spans.items }
-    ensures bodies { OnOk result (bodies_at mirror.new.bytes.items mirror.new.spans.items ≡ bodies_at mirror.old.bytes.items mirror.old.spans.items ++ texts.now) }
-    ensures fails { OnErr result (FailsAt (bodies_at mirror.old.bytes.items mirror.old.spans.items) texts.now (bodies_at mirror.new.bytes.items mirror.new.spans.items) (IsTrue (D.tells mirror.old.disk)) (D.may_leave mirror.new.disk)) }
+    ensures bodies { OnOk result (records_of mirror.new ≡ records_of mirror.old ++ with_rest texts.now rest.now) }
+    ensures fails { OnErr result (FailsAt (records_of mirror.old) (with_rest texts.now rest.now) (records_of mirror.new) (IsTrue (D.tells mirror.old.disk)) (D.may_leave mirror.new.disk)) }
     ensures handle { D.handle mirror.new.disk ≡ D.handle mirror.old.disk }
     ensures tells { D.tells mirror.new.disk ≡ D.tells mirror.old.disk }
-    ensures stands { OnOk result (IsTrue (D.tells mirror.old.disk) → StandsTo (D.seen mirror.new.disk) (bodies_at mirror.new.bytes.items mirror.new.spans.items) (vec_len mirror.new.bytes)) }
+    ensures stands { OnOk result (IsTrue (D.tells mirror.old.disk) → StandsTo (D.seen mirror.new.disk) (records_of mirror.new) (vec_len mirror.new.bytes)) }
     ensures stable { OnOk result (IsTrue (D.tells mirror.old.disk) → Only (D.seen mirror.new.disk) (D.may_leave mirror.new.disk)) }
-    ensures any_moment { IsTrue (D.tells mirror.old.disk) → LeavesOnly D.moment D.left_since mirror.old.disk mirror.new.disk (StandsBetween (bodies_at mirror.old.bytes.items mirror.old.spans.items) texts.now) }
-    ensures made { OnOk result (D.after mirror.old.disk (made (calls_to_append_all (vec_len mirror.old.bytes) texts.now)) mirror.new.disk) }
-    ensures failing { OnErr result (FailsAmong D.after mirror.old.disk mirror.new.disk (calls_to_append_all (vec_len mirror.old.bytes) texts.now)) }
+    ensures any_moment { IsTrue (D.tells mirror.old.disk) → LeavesOnly D.moment D.left_since mirror.old.disk mirror.new.disk (StandsBetween (records_of mirror.old) (with_rest texts.now rest.now)) }
+    ensures made { OnOk result (D.after mirror.old.disk (made (calls_to_append_all (vec_len mirror.old.bytes) (with_rest texts.now rest.now))) mirror.new.disk) }
+    ensures failing { OnErr result (FailsAmong D.after mirror.old.disk mirror.new.disk (calls_to_append_all (vec_len mirror.old.bytes) (with_rest texts.now rest.now))) }
     ensures cause { HasCause (D.faults mirror.old.disk) (D.faults mirror.new.disk) (IsErr result) }
     ensures faultless { D.is_faultless mirror.old.disk → D.is_faultless mirror.new.disk × (D.faults mirror.new.disk ≡ D.faults mirror.old.disk) }
-    ensures count { vec_len mirror.new.spans ≤ vec_len mirror.old.spans + length texts.now }
-    ensures long { vec_len mirror.new.bytes ≤ vec_len mirror.old.bytes + length (blocks texts.now) }
+    ensures count { vec_len mirror.new.spans ≤ vec_len mirror.old.spans + length (with_rest texts.now rest.now) }
+    ensures long { vec_len mirror.new.bytes ≤ vec_len mirror.old.bytes + length (blocks (with_rest texts.now rest.now)) }
     ensures spans_left { vec_capacity mirror.old.spans ≤ vec_capacity mirror.new.spans }
     ensures bytes_left { vec_capacity mirror.old.bytes ≤ vec_capacity mirror.new.bytes }
-    ensures room_left { D.room_bytes mirror.old.disk ≤ D.room_bytes mirror.new.disk + (length (blocks texts.now) + length texts.now) }
-    ensures calls_left { D.room_calls mirror.old.disk ≤ D.room_calls mirror.new.disk + 4 * length texts.now }
+    ensures room_left { D.room_bytes mirror.old.disk ≤ D.room_bytes mirror.new.disk + (length (blocks (with_rest texts.now rest.now)) + length (with_rest texts.now rest.now)) }
+    ensures calls_left { D.room_calls mirror.old.disk ≤ D.room_calls mirror.new.disk + 4 * length (with_rest texts.now rest.now) }
 {
-    for text in texts {
-        append_one(mirror, text.as_slice())?;
+    for (place, text) in texts.iter().enumerate() {
+        let behind = rest_behind(place, texts.len(), rest);
+        append_one(mirror, text.as_slice(), behind)?;
     }
     Ok(())
 }

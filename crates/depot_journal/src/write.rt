@@ -1,10 +1,10 @@
 //! What an append does to the disk.
-ghost use Rattle.std.specs.Prelude.{◌≡◌, ◌++◌, ◌+◌, ◌<◌, ◌≤◌, ◌⊎◌, ◌^◌, ◌∷◌, [], List, ℕ, IsTrue, IsErr, OnOk, OnErr, length};
+ghost use Rattle.std.specs.Prelude.{◌≡◌, ◌+◌, ◌<◌, ◌≤◌, ◌⊎◌, ◌^◌, ◌∷◌, [], List, ℕ, IsTrue, IsErr, OnOk, OnErr, length};
 ghost use Rattle.depot_base.specs.Calls.{FailsAmong, calls_to_append, made, syncs, writes_at};
 ghost use Rattle.depot_base.specs.Faults.{HasCause};
 ghost use Rattle.depot_base.specs.Disk.{IsTorn, IsWritten, LeavesOnly, Only};
 ghost use Rattle.depot_base.specs.File.{closed_block};
-ghost use Rattle.depot_journal.specs.WriteSteps.{IsBeforeOrAfter, StandsTo};
+ghost use Rattle.depot_journal.specs.WriteSteps.{HasAppended, LeavesBlockOrNot};
 
 use depot_outside::{Disk, Failed};
 
@@ -37,12 +37,10 @@ pub fn append_on<D: Disk>(disk: &mut D, gate: u64, block: &[u8]) -> Result<(), F
     requires inside { IsTrue (D.tells disk.old) → gate < length (D.seen disk.old) }
     ensures handle { D.handle disk.new ≡ D.handle disk.old }
     ensures tells { D.tells disk.new ≡ D.tells disk.old }
-    ensures ok { OnOk result ((bodies : List (List ℕ)) (body : List ℕ) → IsTrue (D.tells disk.old) → block.now ≡ closed_block body → StandsTo (D.seen disk.old) bodies gate
-        → StandsTo (D.seen disk.new) (bodies ++ body ∷ []) (gate + (5 + length body))) }
+    ensures ok { OnOk result (HasAppended D.Disk disk.old disk.new gate block.now) }
     ensures stable { OnOk result (IsTrue (D.tells disk.old) → Only (D.seen disk.new) (D.may_leave disk.new)) }
     // A stop at any moment leaves the records from before the call, with the new one or without.
-    ensures any_moment { (bodies : List (List ℕ)) (body : List ℕ) → IsTrue (D.tells disk.old) → block.now ≡ closed_block body → StandsTo (D.seen disk.old) bodies gate
-        → Only (D.seen disk.old) (D.may_leave disk.old) → LeavesOnly D.moment D.left_since disk.old disk.new (IsBeforeOrAfter bodies body) }
+    ensures any_moment { LeavesBlockOrNot D.Disk disk.old disk.new gate block.now }
     ensures made { OnOk result ((body : List ℕ) → block.now ≡ closed_block body → D.after disk.old (made (calls_to_append gate body)) disk.new) }
     ensures failing { OnErr result ((body : List ℕ) → block.now ≡ closed_block body → FailsAmong D.after disk.old disk.new (calls_to_append gate body)) }
     ensures cause { HasCause (D.faults disk.old) (D.faults disk.new) (IsErr result) }

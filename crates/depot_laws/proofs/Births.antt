@@ -21,7 +21,7 @@ pub IsRecord-Birth : (node : ℕ) (h : List ℕ) → node_number.fits node → d
 unfolding record_text tagged birth number
 IsRecord-Birth node h node_in long = ((omega arith, omega arith), (node_in, (long, refl)))
 
-short_birth : (node : ℕ) (h : List ℕ) → length h ≡ 32 → length (text_of_record (Birth node h)) ≡ 35
+pub short_birth : (node : ℕ) (h : List ℕ) → length h ≡ 32 → length (text_of_record (Birth node h)) ≡ 35
 unfolding record_text tagged birth number bytes_of numeral
 short_birth node h long = omega (arith, long, length-append h [])
 

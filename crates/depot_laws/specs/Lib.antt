@@ -6,3 +6,9 @@ pub mod Streams
 pub mod Rejoin
 pub mod OneText
 pub mod ToReads
+pub mod AuditFacts
+pub mod WorldFacts
+pub mod OwnGrowth
+pub mod Forests
+pub mod ReceiptFacts
+pub mod TrimFacts

@@ -1,5 +1,5 @@
 -- Two histories that rejoin: a node takes what another one sends for its hello.
-use Rattle.std.specs.Prelude.{◌≡◌, ℕ, ◌≤◌, List, [], ◌∷◌, ◌++◌, length, true, Some, ◌⊎◌, ◌↔◌}
+use Rattle.std.specs.Prelude.{◌≡◌, ℕ, ◌≤◌, List, [], ◌∷◌, ◌++◌, length, true, false, Some, ◌⊎◌, ◌↔◌}
 use Rattle.std.specs.List.{flat_map}
 use Rattle.depot_base.specs.declared.limits.TheConstants.{MOST_SIGNATURE}
 use Rattle.depot_base.specs.Statement.{writer_of}
@@ -8,6 +8,7 @@ use Rattle.depot_base.specs.declared.statement.Statement.{Statement}
 use Rattle.depot_base.specs.declared.statement.Signed.{Signed}
 use Rattle.depot_base.specs.declared.proof.Kind.{Kind}
 use Rattle.depot_base.specs.declared.record.Record.{Record}
+use Rattle.depot_base.specs.declared.check.Full.{Full}
 use Rattle.depot_model.specs.declared.hello.Hello.{Hello}
 use Rattle.depot_model.specs.declared.bundle.Ending.TheVariants as ending
 use Rattle.depot_model.specs.Lists.{IsIn}
@@ -18,9 +19,10 @@ use Rattle.depot_model.specs.Roster.{is_signed}
 use Rattle.depot_model.specs.Journal.{accepted, own, foreign, update_in, is_convicted, held_as}
 use Rattle.depot_model.specs.Contents.{NamedValue, values_named}
 use Rattle.depot_model.specs.Hello.{hello_of}
-use Rattle.depot_model.specs.Bundle.{Signs, signed_with, Parcel, sent_for, statement_frame, Bundle, with_vouchers, bundle_of}
-use Rattle.depot_model.specs.Feeding.{Feeding, report_of}
+use Rattle.depot_model.specs.Bundle.{Signs, signed_with, Parcel, sent_for, statement_frame, Bundle, with_vouchers, bundle_of, bytes_of_bundle}
+use Rattle.depot_model.specs.Feeding.{Feeding, report_of, out_of_room, feeding_from}
 use Rattle.depot_model.specs.World.{World, Correct, setting_of}
+use Rattle.depot_laws.specs.Streams.{fed_pieces}
 
 -- the updates that parcels tell of, in order
 abbrev pub updates_of : List Parcel → List Update
@@ -33,6 +35,10 @@ hello_at W a P = hello_of (setting_of W a) P
 -- what another node with the journal J sends for it
 abbrev pub bundle_at : World → Correct → Correct → Signs → List Record → List Record → Bundle
 bundle_at W a v sign P J = bundle_of v.node sign J (hello_at W a P)
+
+-- the updates of that bundle
+abbrev pub updates_sent : World → Correct → Signs → List Record → List Record → List Update
+updates_sent W a sign P J = updates_of (sent_for sign J (hello_at W a P))
 
 -- A node v of a world hears a hello of another, a. The reader a made it when its journal was P, and its journal may have grown
 -- since. The sender's journal was J, and may have grown since.
@@ -54,6 +60,11 @@ pub record HasOrGets (a : Correct) (front : List Update) (h : List ℕ) : Type 0
 -- each parent of each of these updates is one that the reader accepted, or one of those in front of it
 abbrev pub ComeInOrder : Correct → List Update → Type 0
 ComeInOrder a us = (front : List Update) (u : Update) (behind : List Update) → us ≡ front ++ u ∷ behind → (h : List ℕ) → IsIn h (parents u) → HasOrGets a front h
+
+-- where the bundle doesn't say that there is more, each update that the sender had accepted the reader has, or it is sent
+abbrev pub SendsAll : World → Correct → Correct → Signs → List Record → List Record → Type 0
+SendsAll W a v sign P J = (u : Update) → (bundle_at W a v sign P J).more ≡ false → IsIn u (accepted J)
+    → IsIn u (accepted a.journal) ⊎ IsIn u (updates_sent W a sign P J)
 
 -- the signature isn't too long, and verifies under the writer's key
 pub record IsWellSigned (W : World) (s : Signed) : Type 0 where
@@ -79,5 +90,19 @@ pub record HasRejoined (W : World) (a v : Correct) (sign : Signs) (P J : List Re
   pub union : (u : Update) → (IsIn u (accepted s.journal) ↔ (IsIn u (accepted a.journal) ⊎ IsIn u (accepted J)))
   pub none_refused : (report_of s).refused ≡ []
   pub whole : (report_of s).ending ≡ ending.Whole
-  pub values : (u : Update) (n : NamedValue) (value : List ℕ) → IsIn u (updates_of (sent_for sign J (hello_at W a P))) → IsIn n (values_named u) → held_as J n ≡ Some value → held_as s.journal n ≡ Some value
+  pub values : (u : Update) (n : NamedValue) (value : List ℕ) → IsIn u (updates_sent W a sign P J) → IsIn n (values_named u) → held_as J n ≡ Some value → held_as s.journal n ≡ Some value
   pub exposed : (f g : Signed) → IsIn f (foreign s.journal) → IsIn g (foreign s.journal) → (k : Kind) → contradicts k f.statement g.statement ≡ true → is_convicted s.journal (writer_of f.statement) ≡ true
+
+-- the reader's feed after these pieces
+abbrev pub feed_after : World → Correct → List (List ℕ) → Feeding
+feed_after W a pieces = fed_pieces (setting_of W a) (feeding_from a.journal) pieces
+
+-- The pieces are all of a bundle that leaves nothing out, and the reader meets no limit in taking them.
+pub record TakesAll (W : World) (a v : Correct) (sign : Signs) (P J : List Record) (pieces : List (List ℕ)) : Type 0 where
+  pub all : (bundle_at W a v sign P J).more ≡ false
+  pub are : flat_map (λ p. p) pieces ≡ bytes_of_bundle (bundle_at W a v sign P J)
+  pub has_room : (what : Full) → (feed_after W a pieces).closed ≡ Some (out_of_room what) → ⊥
+
+-- where the reader takes all of the bundle, in whatever pieces, it has rejoined
+abbrev pub Rejoins : World → Correct → Correct → Signs → List Record → List Record → Type 0
+Rejoins W a v sign P J = (pieces : List (List ℕ)) → TakesAll W a v sign P J pieces → HasRejoined W a v sign P J (feed_after W a pieces)

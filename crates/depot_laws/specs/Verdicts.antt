@@ -1,14 +1,18 @@
 -- What a conviction record shows, and what convicts a writer.
-use Rattle.std.specs.Prelude.{◌≡◌, List, [], ◌∷◌, false, None}
+use Rattle.std.specs.Prelude.{◌≡◌, List, [], ◌∷◌, true, false, None, Err}
 use Rattle.depot_base.specs.Statement.{writer_of}
 use Rattle.depot_base.specs.declared.statement.Signed.{Signed}
+use Rattle.depot_base.specs.declared.proof.Kind.{Kind}
 use Rattle.depot_base.specs.declared.proof.Proof.{Proof}
 use Rattle.depot_base.specs.declared.record.Record.{Record}
 use Rattle.depot_base.specs.declared.record.Record.TheVariants.{Conviction}
+use Rattle.depot_base.specs.declared.check.Check.{Check}
+use Rattle.depot_model.specs.Lists.{IsIn}
 use Rattle.depot_model.specs.Texts.{IsProof}
+use Rattle.depot_model.specs.Contradictions.{contradicts}
 use Rattle.depot_model.specs.Judgement.{first_failed_point}
-use Rattle.depot_model.specs.Journal.{accused, is_convicted}
-use Rattle.depot_model.specs.Checks.{Setting, given_statement, growth}
+use Rattle.depot_model.specs.Journal.{foreign, accused, is_convicted}
+use Rattle.depot_model.specs.Checks.{Setting, given_statement, answer_to, growth}
 use Rattle.depot_model.specs.Room.{HasRoom}
 
 -- The proof has a text and a verdict, its accused is another node that isn't convicted yet, and there is room for its record.
@@ -24,3 +28,13 @@ pub record ConvictsWriter (here : Setting) (J : List Record) (s : Signed) : Type
   pub proof : Proof
   pub grown : growth here J (given_statement s) ≡ Conviction proof ∷ []
   pub names : accused proof ≡ writer_of s.statement
+
+-- where the journal refuses the statement by this check, and nobody convicted its writer, it convicts the writer
+abbrev pub RefusalConvicts : Setting → List Record → Signed → Check → Type 0
+RefusalConvicts here J s fault = answer_to here J (given_statement s) ≡ Err fault
+    → is_convicted J (writer_of s.statement) ≡ false → ConvictsWriter here J s
+
+-- two statements of others in the journal that contradict each other, in whatever kind, have a convicted writer
+abbrev pub ContradictionsConvict : List Record → Type 0
+ContradictionsConvict J = (a b : Signed) → IsIn a (foreign J) → IsIn b (foreign J) → (k : Kind)
+    → contradicts k a.statement b.statement ≡ true → is_convicted J (writer_of a.statement) ≡ true

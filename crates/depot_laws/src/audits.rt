@@ -1,21 +1,21 @@
 //! The audit: what it finds in a world, and when it says yes.
-ghost use Rattle.std.specs.Prelude.{◌≡◌, ℕ, List, [], ◌∷◌, Bool, true, Some, None, ◌↔◌, slice_get, find, map, option_map};
+ghost use Rattle.std.specs.Prelude.{◌≡◌, ℕ, List, [], Bool, true, Some, None, ◌↔◌, slice_get, find, option_map};
 ghost use Rattle.depot_base.specs.declared.update.Update.{Update};
 ghost use Rattle.depot_model.specs.Lists.{IsIn};
 ghost use Rattle.depot_model.specs.Order.{Precedes};
-ghost use Rattle.depot_model.specs.World.{Shown, Read, Correct, World, IsWorld, IsAuthentic, IsCollisionFree, writes_of};
-ghost use Rattle.depot_model.specs.Causality.{Operation, write, read_at, IsOperation, puts_of, ObservedBefore, IsExact, IsForkJoinCausal, ConvictsNoCorrectNode};
+ghost use Rattle.depot_model.specs.World.{Read, Correct, World, IsWorld, IsAuthentic, IsCollisionFree, writes_of};
+ghost use Rattle.depot_model.specs.Causality.{Operation, write, read_at, IsOperation, ObservedBefore, IsExact, IsForkJoinCausal, ConvictsNoCorrectNode};
 ghost use Rattle.depot_base.specs.declared.key.RosterEntry.{RosterEntry};
 ghost use Rattle.depot_base.specs.declared.record.Record.{Record};
 ghost use Rattle.depot_model.specs.declared.record_fault.RecordFault.{RecordFault};
 ghost use Rattle.depot_model.specs.Checks.{Setting};
-ghost use Rattle.depot_model.specs.Items.{AreDistinct};
 ghost use Rattle.depot_model.specs.RecordFaults.{IsFault};
-ghost use Rattle.depot_model.specs.Roster.{Verifies, has_node};
+ghost use Rattle.depot_model.specs.Roster.{Verifies};
 ghost use Rattle.depot_model.specs.Traces.{Trace, AreTraced, IsFindingOf, IsCausalWorldOf};
 ghost use Rattle.depot_laws.specs.OneText.{HaveOneText};
-ghost use Rattle.depot_model.specs.Audit.{Finding, HasPath, writes_once, closed, observed, observed_by_parents, observed_by_read, op_of, yes_found, circle_found, circle, unordered, unseen, is_exact, split, finding_in};
+ghost use Rattle.depot_model.specs.Audit.{Finding, HasPath, writes_once, closed, observed, observed_by_parents, op_of, yes_found, circle_found, circle, unordered, unseen, is_exact, split, finding_in};
 ghost use Rattle.depot_laws.specs.ToReads.{IsUpToRead};
+ghost use Rattle.depot_laws.specs.AuditFacts.{ListsPuts, ReadsLookAtWrites, AreOfNodes};
 
 /// A closure by a list of stops finds a path exactly where one leads over these stops.
 pub fn closures_find_paths()
@@ -48,7 +48,7 @@ pub fn writes_are_observed_by_parents()
 /// write that it lists of a node of the world is one that this node put.
 pub fn worlds_apart_are_ordered()
     ensures circle { (W : World) → IsWorld W → HaveOneText W → circle W ≡ None }
-    ensures exact { (W : World) (c : Correct) (place : ℕ) (r : Read) → IsWorld W → HaveOneText W → IsIn c W.nodes → slice_get c.reads place ≡ Some r → (is_exact W c place r ≡ true ↔ ((s : Shown) (d : Correct) → IsIn s r.answer → IsIn d W.nodes → s.update.writer ≡ d.node → IsIn s.update (puts_of d.journal))) }
+    ensures exact { (W : World) (c : Correct) (place : ℕ) (r : Read) → IsWorld W → HaveOneText W → IsIn c W.nodes → slice_get c.reads place ≡ Some r → (is_exact W c place r ≡ true ↔ ListsPuts W r) }
 {}
 
 /// In a world the test of a read passes exactly where the read is exact.
@@ -61,7 +61,7 @@ pub fn exact_reads_pass()
 /// that is observed before itself is a write.
 pub fn audits_look_at_writes_alone()
     ensures writes { (W : World) (t u : Update) → IsWorld W → IsIn t (writes_of W) → IsIn u (writes_of W) → observed W (write t) (write u) ≡ observed_by_parents W t u }
-    ensures reads { (W : World) (u : Update) (c : Correct) (place : ℕ) (r : Read) → IsWorld W → IsIn u (writes_of W) → IsIn c W.nodes → slice_get c.reads place ≡ Some r → observed W (write u) (read_at c place r) ≡ observed_by_read W u c r }
+    ensures reads { (W : World) → IsWorld W → ReadsLookAtWrites W }
     ensures circle { (W : World) → IsWorld W → circle W ≡ option_map (λ u. circle_found (op_of W (write u))) (find (λ u. observed_by_parents W u u) (writes_once W)) }
 {}
 
@@ -91,6 +91,6 @@ pub fn traces_have_one_finding()
 /// and its reads are what its journal showed, and their finding is yes exactly where this world is fork-join-causal and no conviction
 /// in it names one of its nodes.
 pub fn traces_get_yes()
-    ensures world { (verifies : Verifies) (listed : List RosterEntry) (traces : List Trace) (W : World) → AreDistinct (map (λ t. t.node) traces) → ((t : Trace) → IsIn t traces → has_node listed t.node ≡ true) → ((t : Trace) → IsIn t traces → t.texts ≡ [] → ⊥) → AreTraced verifies listed traces W → IsWorld W }
-    ensures yes { (verifies : Verifies) (listed : List RosterEntry) (traces : List Trace) → AreDistinct (map (λ t. t.node) traces) → ((t : Trace) → IsIn t traces → has_node listed t.node ≡ true) → ((t : Trace) → IsIn t traces → t.texts ≡ [] → ⊥) → (IsFindingOf verifies listed traces yes_found ↔ IsCausalWorldOf verifies listed traces) }
+    ensures world { (verifies : Verifies) (listed : List RosterEntry) (ts : List Trace) (W : World) → AreOfNodes listed ts → AreTraced verifies listed ts W → IsWorld W }
+    ensures yes { (verifies : Verifies) (listed : List RosterEntry) (ts : List Trace) → AreOfNodes listed ts → (IsFindingOf verifies listed ts yes_found ↔ IsCausalWorldOf verifies listed ts) }
 {}

@@ -2,32 +2,27 @@
 ghost use Rattle.std.specs.Prelude.{◌≡◌, ℕ, List, [], ◌∷◌, ◌++◌, take, map, None, ◌↔◌};
 ghost use Rattle.depot_base.specs.declared.update.Update.{Update};
 ghost use Rattle.depot_base.specs.declared.statement.Statement.TheVariants as statement;
-ghost use Rattle.depot_base.specs.Statement.{writer_of};
-ghost use Rattle.depot_base.specs.declared.statement.Signed.{Signed};
-ghost use Rattle.depot_base.specs.declared.proof.Kind.{Kind};
-ghost use Rattle.depot_base.specs.declared.proof.Proof.{Proof};
-ghost use Rattle.depot_base.specs.declared.proof.Proof.TheVariants.{Pair};
 ghost use Rattle.depot_base.specs.declared.record.Record.{Record};
 ghost use Rattle.depot_base.specs.declared.record.Record.TheVariants.{OwnPut};
 ghost use Rattle.depot_model.specs.Lists.{IsIn, first};
-ghost use Rattle.depot_model.specs.Texts.{IsProof, id_of_update};
+ghost use Rattle.depot_model.specs.Texts.{id_of_update};
 ghost use Rattle.depot_model.specs.Order.{Precedes, past};
 ghost use Rattle.depot_model.specs.Items.{AreDistinct};
-ghost use Rattle.depot_model.specs.Judgement.{first_failed_point};
 ghost use Rattle.depot_model.specs.Journal.{accepted};
 ghost use Rattle.depot_model.specs.Own.{next_with, IsFresh};
 ghost use Rattle.depot_model.specs.Checks.{Setting, sight, content_of};
 ghost use Rattle.depot_model.specs.Lawful.{IsLawful};
-ghost use Rattle.depot_model.specs.World.{Correct, World, IsCorrect, IsWorld, IsAuthentic, IsCollisionFree, proofs_of};
+ghost use Rattle.depot_model.specs.World.{Correct, World, IsWorld, IsAuthentic, IsCollisionFree};
 ghost use Rattle.depot_model.specs.Causality.{puts_of, IsForkJoinCausal, ConvictsNoCorrectNode};
-ghost use Rattle.depot_laws.specs.Parents.{HasParents};
+ghost use Rattle.depot_laws.specs.Parents.{ShareParents};
+ghost use Rattle.depot_laws.specs.WorldFacts.{OwnPutsFollowAll, PutsPassAt, AreCorrect, AreJudged, PairsConvictNoCorrectNode};
 
 /// All that a correct node accepted precedes its next own update, whose past it is: each leaf is the last own update, an
 /// entry, or precedes the last own update. So in a lawful journal an own update has in its past all that was accepted
 /// before it. With a fresh id, the next own update passes the checks of its content where it is put.
 pub fn own_puts_follow_all()
     ensures precedes { (here : Setting) (J : List Record) (u t : Update) → IsLawful here J → u ≡ next_with here.me J u.writes → IsIn t (accepted J) → Precedes (accepted J ++ u ∷ []) t u }
-    ensures recorded { (here : Setting) (J after : List Record) (u t : Update) (values : List (List ℕ)) → IsLawful here (J ++ OwnPut u values ∷ after) → IsIn t (accepted J) → Precedes (accepted (J ++ OwnPut u values ∷ after)) t u }
+    ensures recorded { (here : Setting) (J : List Record) → IsLawful here J → OwnPutsFollowAll J }
     ensures past { (here : Setting) (J : List Record) (u : Update) → IsLawful here J → u ≡ next_with here.me J u.writes → past u (accepted J) ≡ accepted J }
     ensures content { (here : Setting) (J : List Record) (u : Update) → IsLawful here J → u ≡ next_with here.me J u.writes → IsFresh J (id_of_update u) → first (content_of J (statement.Update u)) ≡ None }
 {}
@@ -41,20 +36,20 @@ pub fn own_puts_stand_once()
 /// its journal, has one past at both. What they see of what it names is the same too, and so are the answers of the checks
 /// of its content, which look at nothing else.
 pub fn pasts_agree()
-    ensures past { (W : World) (c d : Correct) (m n : ℕ) (u t : Update) → IsWorld W → IsCollisionFree W → IsIn c W.nodes → IsIn d W.nodes → HasParents (take m c.journal) u → HasParents (take n d.journal) u → (IsIn t (past u (accepted (take m c.journal))) ↔ IsIn t (past u (accepted (take n d.journal)))) }
-    ensures sight { (W : World) (c d : Correct) (m n : ℕ) (u : Update) → IsWorld W → IsCollisionFree W → IsIn c W.nodes → IsIn d W.nodes → HasParents (take m c.journal) u → HasParents (take n d.journal) u → sight (accepted (take m c.journal)) u ≡ sight (accepted (take n d.journal)) u }
-    ensures content { (W : World) (c d : Correct) (m n : ℕ) (u : Update) → IsWorld W → IsCollisionFree W → IsIn c W.nodes → IsIn d W.nodes → HasParents (take m c.journal) u → HasParents (take n d.journal) u → content_of (take m c.journal) (statement.Update u) ≡ content_of (take n d.journal) (statement.Update u) }
+    ensures past { (c d : Correct) (m n : ℕ) (u t : Update) → ShareParents c d m n u → (IsIn t (past u (accepted (take m c.journal))) ↔ IsIn t (past u (accepted (take n d.journal)))) }
+    ensures sight { (c d : Correct) (m n : ℕ) (u : Update) → ShareParents c d m n u → sight (accepted (take m c.journal)) u ≡ sight (accepted (take n d.journal)) u }
+    ensures content { (c d : Correct) (m n : ℕ) (u : Update) → ShareParents c d m n u → content_of (take m c.journal) (statement.Update u) ≡ content_of (take n d.journal) (statement.Update u) }
 {}
 
 /// So an update that a correct node put passes the checks of its content at each node that has accepted its parents.
 pub fn own_puts_pass_everywhere()
-    ensures { (W : World) (c d : Correct) (before : List Record) (u : Update) (values : List (List ℕ)) (after : List Record) (n : ℕ) → IsWorld W → IsCollisionFree W → IsIn c W.nodes → IsIn d W.nodes → c.journal ≡ before ++ OwnPut u values ∷ after → HasParents (take n d.journal) u → first (content_of (take n d.journal) (statement.Update u)) ≡ None }
+    ensures { (W : World) (c d : Correct) → IsWorld W → IsCollisionFree W → IsIn c W.nodes → IsIn d W.nodes → PutsPassAt c d }
 {}
 
 /// Correct nodes under one scheme and one roster make a world, each with its reads, as long as no two have one number. Whatever
 /// proofs with a text and a verdict were judged belong to it too.
 pub fn correct_nodes_make_a_world()
-    ensures { (W : World) → AreDistinct (map (λ c. c.node) W.nodes) → ((c : Correct) → IsIn c W.nodes → IsCorrect (record { verifies = W.verifies; listed = W.listed; nodes = []; judged = [] }) c) → ((p : Proof) → IsIn p W.judged → IsProof p × (first_failed_point W.verifies W.listed p ≡ None)) → IsWorld W }
+    ensures { (W : World) → AreDistinct (map (λ c. c.node) W.nodes) → AreCorrect W → AreJudged W → IsWorld W }
 {}
 
 /// Whatever the nodes of a world were given, while no correct node's signature was forged and no two hashed texts collide:
@@ -66,5 +61,5 @@ pub fn correct_nodes_make_a_world()
 pub fn fjc_law()
     ensures causal { (W : World) → IsWorld W → IsAuthentic W → IsCollisionFree W → IsForkJoinCausal W }
     ensures convicts { (W : World) → IsWorld W → IsAuthentic W → IsCollisionFree W → ConvictsNoCorrectNode W }
-    ensures pairs { (W : World) (c : Correct) (kind : Kind) (first second : Signed) → IsWorld W → IsAuthentic W → IsIn c W.nodes → IsIn (Pair kind first second) (proofs_of W) → writer_of first.statement ≡ c.node → ⊥ }
+    ensures pairs { (W : World) → IsWorld W → IsAuthentic W → PairsConvictNoCorrectNode W }
 {}

@@ -1,23 +1,19 @@
 //! What nodes send each other: bundles, feeds, and histories that rejoin.
-ghost use Rattle.std.specs.Prelude.{◌≡◌, ◌↔◌, ◌≤◌, ℕ, List, [], ◌∷◌, ◌++◌, length, false, Some, ◌⊎◌};
+ghost use Rattle.std.specs.Prelude.{◌≡◌, ◌↔◌, ◌≤◌, ℕ, List, [], ◌++◌, length, false};
 ghost use Rattle.std.specs.List.{AllByRecursion, flat_map};
 ghost use Rattle.depot_base.specs.declared.limits.TheConstants.{MOST_FRAMES};
-ghost use Rattle.depot_base.specs.declared.update.Update.{Update};
 ghost use Rattle.depot_base.specs.declared.record.Record.{Record};
-ghost use Rattle.depot_base.specs.declared.check.Full.{Full};
 ghost use Rattle.depot_model.specs.declared.hello.Hello.{Hello};
-ghost use Rattle.depot_model.specs.Lists.{IsIn};
 ghost use Rattle.depot_model.specs.Texts.{IsRoster};
-ghost use Rattle.depot_model.specs.Journal.{accepted};
 ghost use Rattle.depot_model.specs.Checks.{Setting};
 ghost use Rattle.depot_model.specs.Lawful.{IsLawful, is_empty};
 ghost use Rattle.depot_model.specs.Hello.{IsHello, hello_of};
 ghost use Rattle.depot_model.specs.Frames.{Frame, text_of_frame, IsFrame, whole_frame, open_frame, no_frame, frame_at};
-ghost use Rattle.depot_model.specs.Bundle.{Signs, sent_for, bundle_of, bytes_of_bundle};
-ghost use Rattle.depot_model.specs.Feeding.{Feeding, out_of_room, feeding_from, fed};
-ghost use Rattle.depot_model.specs.World.{Correct, World, setting_of, IsWorld, IsAuthentic, IsCollisionFree};
+ghost use Rattle.depot_model.specs.Bundle.{Signs, bundle_of};
+ghost use Rattle.depot_model.specs.Feeding.{Feeding, fed};
+ghost use Rattle.depot_model.specs.World.{Correct, World, IsWorld, IsAuthentic, IsCollisionFree};
 ghost use Rattle.depot_laws.specs.Streams.{fed_pieces, fed_frames, StaysOpen, AreBytes, IsInOrder, BeginsWith, IsBegun};
-ghost use Rattle.depot_laws.specs.Rejoin.{updates_of, hello_at, bundle_at, Hears, ComeInOrder, Meet, HasRejoined};
+ghost use Rattle.depot_laws.specs.Rejoin.{updates_sent, Hears, ComeInOrder, SendsAll, Meet, Rejoins};
 
 /// The hello of a lawful journal has a text: it names at most 256 convicted nodes, 4,097 leaves and 1,024 wanted hashes, each in
 /// rising order.
@@ -56,8 +52,8 @@ pub fn bundles_fit_a_stream()
 /// leaves something out or not. So what a bundle sends never waits for something else. No correct node's signature was forged,
 /// and no two hashed texts collide.
 pub fn bundles_are_closed()
-    ensures left { (W : World) (a v : Correct) (sign : Signs) (P J : List Record) (u : Update) → IsWorld W → IsAuthentic W → IsCollisionFree W → Hears W a v P J → (bundle_at W a v sign P J).more ≡ false → IsIn u (accepted J) → IsIn u (accepted a.journal) ⊎ IsIn u (updates_of (sent_for sign J (hello_at W a P))) }
-    ensures parents { (W : World) (a v : Correct) (sign : Signs) (P J : List Record) → IsWorld W → IsAuthentic W → IsCollisionFree W → Hears W a v P J → ComeInOrder a (updates_of (sent_for sign J (hello_at W a P))) }
+    ensures left { (W : World) (a v : Correct) (sign : Signs) (P J : List Record) → IsWorld W → IsAuthentic W → IsCollisionFree W → Hears W a v P J → SendsAll W a v sign P J }
+    ensures parents { (W : World) (a v : Correct) (sign : Signs) (P J : List Record) → IsWorld W → IsAuthentic W → IsCollisionFree W → Hears W a v P J → ComeInOrder a (updates_sent W a sign P J) }
 {}
 
 /// Where a node takes all of a bundle that another one made for its hello, in whatever pieces, and meets no limit, the two
@@ -66,5 +62,5 @@ pub fn bundles_are_closed()
 /// writer whom it convicted. Both may have gone on in between, the reader since its hello and the sender since its bundle.
 /// The bundle left nothing out, no correct node's signature was forged, and no two hashed texts collide.
 pub fn rejoin_law()
-    ensures { (W : World) (a v : Correct) (sign : Signs) (P J : List Record) (pieces : List (List ℕ)) → IsWorld W → IsAuthentic W → IsCollisionFree W → Meet W a v sign P J → (bundle_at W a v sign P J).more ≡ false → flat_map (λ p. p) pieces ≡ bytes_of_bundle (bundle_at W a v sign P J) → ((what : Full) → (fed_pieces (setting_of W a) (feeding_from a.journal) pieces).closed ≡ Some (out_of_room what) → ⊥) → HasRejoined W a v sign P J (fed_pieces (setting_of W a) (feeding_from a.journal) pieces) }
+    ensures { (W : World) (a v : Correct) (sign : Signs) (P J : List Record) → IsWorld W → IsAuthentic W → IsCollisionFree W → Meet W a v sign P J → Rejoins W a v sign P J }
 {}

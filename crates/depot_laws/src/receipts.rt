@@ -1,19 +1,18 @@
 //! Receipts: what a node says by signature that it holds.
-ghost use Rattle.std.specs.Prelude.{◌≡◌, ℕ, List, [], ◌∷◌, ◌++◌, length, filter, not, true, false, Some, None, ◌≤◌, ◌<◌, ◌↔◌};
-ghost use Rattle.depot_base.specs.declared.key.RosterEntry.{RosterEntry};
+ghost use Rattle.std.specs.Prelude.{◌≡◌, ℕ, List, [], ◌∷◌, ◌++◌, length, true, Some, None, ◌<◌, ◌↔◌};
 ghost use Rattle.depot_base.specs.declared.update.Update.{Update};
 ghost use Rattle.depot_base.specs.declared.voucher.Voucher.{Voucher};
 ghost use Rattle.depot_base.specs.declared.record.Record.{Record};
 ghost use Rattle.depot_base.specs.declared.record.Record.TheVariants.{OwnPut};
 ghost use Rattle.depot_model.specs.Lists.{IsIn};
 ghost use Rattle.depot_model.specs.Contents.{NamedValue};
-ghost use Rattle.depot_model.specs.Journal.{accepted, holds, held_as};
+ghost use Rattle.depot_model.specs.Journal.{held_as};
 ghost use Rattle.depot_model.specs.Checks.{Setting, Given, growth};
 ghost use Rattle.depot_model.specs.Vouching.{records_of};
 ghost use Rattle.depot_model.specs.Causality.{puts_of};
-ghost use Rattle.depot_model.specs.World.{Correct, World, IsWorld, IsAuthentic};
-ghost use Rattle.depot_model.specs.Contents.{keys_written};
-ghost use Rattle.depot_model.specs.Receipts.{receipt_key, receipt_of, gives_receipt, receipts, HoldsAllOf, AreReceiptsTrue, no_receipt, is_node};
+ghost use Rattle.depot_model.specs.World.{World, IsWorld, IsAuthentic};
+ghost use Rattle.depot_model.specs.Receipts.{receipt_key, receipt_of, gives_receipt, HoldsAllOf, AreReceiptsTrue, no_receipt};
+ghost use Rattle.depot_laws.specs.ReceiptFacts.{GivesTrueReceipts, WritesNoReceipt, WritesReceipts, HaveTrueReceipts, count_incorrect, ReceiptsSettle};
 
 /// A key is that of a receipt for an id exactly where it is the 8 bytes and then the id, of 32 bytes.
 pub fn receipt_keys()
@@ -29,9 +28,9 @@ pub fn receipts_stay_true()
     ensures silent { (J new : List Record) → puts_of new ≡ [] → AreReceiptsTrue J → AreReceiptsTrue (J ++ new) }
     ensures given { (here : Setting) (J : List Record) (x : Given) → AreReceiptsTrue J → AreReceiptsTrue (J ++ growth here J x) }
     ensures vouched { (J : List Record) (vs : List Voucher) → AreReceiptsTrue J → AreReceiptsTrue (J ++ records_of vs) }
-    ensures put { (J : List Record) (u : Update) (values : List (List ℕ)) → ((h : List ℕ) → length h ≡ 32 → gives_receipt h u ≡ true → HoldsAllOf J h) → AreReceiptsTrue J → AreReceiptsTrue (J ++ OwnPut u values ∷ []) }
-    ensures plain { (J : List Record) (u : Update) (values : List (List ℕ)) → ((key : List ℕ) → IsIn key (keys_written u) → receipt_of key ≡ None) → AreReceiptsTrue J → AreReceiptsTrue (J ++ OwnPut u values ∷ []) }
-    ensures receipts { (J : List Record) (u : Update) (values : List (List ℕ)) (ids : List (List ℕ)) → no_receipt J ids ≡ None → ((key : List ℕ) → IsIn key (keys_written u) → (h : List ℕ) × (IsIn h ids × (key ≡ receipt_key h))) → AreReceiptsTrue J → AreReceiptsTrue (J ++ OwnPut u values ∷ []) }
+    ensures put { (J : List Record) (u : Update) (values : List (List ℕ)) → GivesTrueReceipts J u → AreReceiptsTrue J → AreReceiptsTrue (J ++ OwnPut u values ∷ []) }
+    ensures plain { (J : List Record) (u : Update) (values : List (List ℕ)) → WritesNoReceipt u → AreReceiptsTrue J → AreReceiptsTrue (J ++ OwnPut u values ∷ []) }
+    ensures receipts { (J : List Record) (u : Update) (values ids : List (List ℕ)) → no_receipt J ids ≡ None → WritesReceipts u ids → AreReceiptsTrue J → AreReceiptsTrue (J ++ OwnPut u values ∷ []) }
     ensures due { (J : List Record) (ids : List (List ℕ)) (h : List ℕ) → no_receipt J ids ≡ None → IsIn h ids → HoldsAllOf J h }
 {}
 
@@ -47,5 +46,5 @@ pub fn receipts_speak_of_held_values()
 /// of more nodes than there are nodes of the roster that aren't correct, some correct node has accepted the update and holds
 /// all its values. Nothing is assumed of hashes.
 pub fn settled_law()
-    ensures { (W : World) (c : Correct) (h : List ℕ) (k : ℕ) → IsWorld W → IsAuthentic W → ((d : Correct) → IsIn d W.nodes → AreReceiptsTrue d.journal) → length (filter (λ e. not (is_node W e.node)) W.listed) < k → IsIn c W.nodes → length h ≡ 32 → k ≤ length (receipts c.journal h) → (d : Correct) × (IsIn d W.nodes × HoldsAllOf d.journal h) }
+    ensures { (W : World) (k : ℕ) → IsWorld W → IsAuthentic W → HaveTrueReceipts W → count_incorrect W < k → ReceiptsSettle W k }
 {}

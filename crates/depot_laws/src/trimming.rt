@@ -1,55 +1,52 @@
 //! Checkpoints, and what is trimmed below them.
-ghost use Rattle.std.specs.Prelude.{None, ◌⊎◌, ◌↔◌, ◌≡◌, ℕ, List, take, ◌++◌, true, false};
-ghost use Rattle.depot_base.specs.declared.key.RosterEntry.{RosterEntry};
+ghost use Rattle.std.specs.Prelude.{◌↔◌, ◌≡◌, ℕ, List, ◌++◌, true};
 ghost use Rattle.depot_base.specs.declared.update.Update.{Update};
 ghost use Rattle.depot_base.specs.declared.statement.Statement.{Statement};
 ghost use Rattle.depot_model.specs.Lists.{IsIn};
-ghost use Rattle.depot_model.specs.Journal.{accepted, own};
-ghost use Rattle.depot_model.specs.Checks.{Setting, Given, given_statement, given_proof, is_kept, growth};
+ghost use Rattle.depot_model.specs.Journal.{accepted};
+ghost use Rattle.depot_model.specs.Checks.{Setting, Given, given_proof, growth};
 ghost use Rattle.depot_model.specs.Lawful.{IsLawful};
-ghost use Rattle.depot_model.specs.Order.{Precedes, IsLatest};
 ghost use Rattle.depot_base.specs.declared.record.Record.{Record};
-ghost use Rattle.depot_model.specs.World.{Correct, World, setting_of, IsWorld, IsAuthentic, IsCollisionFree};
+ghost use Rattle.depot_model.specs.World.{World, IsWorld, IsAuthentic, IsCollisionFree};
 ghost use Rattle.depot_base.specs.declared.statement.Statement.TheVariants as statement;
-ghost use Rattle.depot_base.specs.declared.statement.Signed.{Signed};
 ghost use Rattle.depot_base.specs.declared.proof.Kind.{Kind};
 ghost use Rattle.depot_base.specs.declared.proof.Proof.{Proof};
 ghost use Rattle.depot_model.specs.Contradictions.{contradicts};
-ghost use Rattle.depot_model.specs.Contents.{keys_written};
-ghost use Rattle.depot_model.specs.Pruning.{pruned, below_of, AnswersAlike};
-ghost use Rattle.depot_model.specs.Trimming.{below, is_signed_by, trimmed, names};
+ghost use Rattle.depot_model.specs.Pruning.{pruned, AnswersAlike};
+ghost use Rattle.depot_model.specs.Trimming.{trimmed};
+ghost use Rattle.depot_laws.specs.TrimFacts.{NoneNamesBelow, NoneStandsBelow, IsClosedBelow, IsSuperseded, IsLatestIn, NamesOrIsKept, AreAccepted, AboveAnswersAlike};
 
 /// Let every node of the roster have signed a checkpoint in what a correct node's journal was. Then no own statement of a
 /// correct node that this journal lacked names an update below: each node's signing update has all listed ids in its past, so
 /// its later updates name none of them. So a reader that was made then, and took whatever since, answers no own statement of a
 /// correct node that it stands below. No correct node's signature was forged, and no two hashed texts collide.
 pub fn trim_law()
-    ensures names { (W : World) (c d : Correct) (n : ℕ) (text : List ℕ) (ids : List (List ℕ)) (s : Statement) (t : Update) → IsWorld W → IsAuthentic W → IsCollisionFree W → IsIn c W.nodes → IsIn d W.nodes → ((e : RosterEntry) → IsIn e W.listed → is_signed_by (take n c.journal) text ids e.node ≡ true) → IsIn s (own d.journal) → is_kept (take n c.journal) s ≡ false → IsIn t (below (take n c.journal) ids) → names s t ≡ true → ⊥ }
-    ensures below { (W : World) (c d : Correct) (n : ℕ) (text : List ℕ) (ids : List (List ℕ)) (more : List Record) (s : Signed) → IsWorld W → IsAuthentic W → IsCollisionFree W → IsIn c W.nodes → IsIn d W.nodes → ((e : RosterEntry) → IsIn e W.listed → is_signed_by (take n c.journal) text ids e.node ≡ true) → IsIn s.statement (own d.journal) → below_of (setting_of W c) (take n c.journal ++ more) (trimmed (take n c.journal) ids) s ≡ None }
+    ensures names { (W : World) → IsWorld W → IsAuthentic W → IsCollisionFree W → NoneNamesBelow W }
+    ensures below { (W : World) → IsWorld W → IsAuthentic W → IsCollisionFree W → NoneStandsBelow W }
 {}
 
 /// What precedes an update below a checkpoint is below it, and precedes it there. An update is trimmed exactly where it is below
 /// and is a latest write of none of its keys there.
 pub fn superseded_updates_are_trimmed()
-    ensures closed { (here : Setting) (J : List Record) (ids : List (List ℕ)) (t u : Update) → IsLawful here J → Precedes (accepted J) t u → IsIn u (below J ids) → IsIn t (below J ids) × Precedes (below J ids) t u }
-    ensures trimmed { (here : Setting) (J : List Record) (ids : List (List ℕ)) (u : Update) → IsLawful here J → (IsIn u (trimmed J ids) ↔ (IsIn u (below J ids) × ((key : List ℕ) → IsIn key (keys_written u) → IsLatest key (λ t. IsIn t (below J ids)) (Precedes (accepted J)) u → ⊥))) }
+    ensures closed { (here : Setting) (J : List Record) (ids : List (List ℕ)) → IsLawful here J → IsClosedBelow J ids }
+    ensures trimmed { (here : Setting) (J : List Record) (ids : List (List ℕ)) (u : Update) → IsLawful here J → (IsIn u (trimmed J ids) ↔ IsSuperseded J ids u) }
 {}
 
 /// A trimmed update is a latest write of no key in any lawful journal that goes on from the trimmed one. So each read of it lists
 /// kept updates alone, as the whole journal's reads do.
 pub fn trimmed_updates_are_never_latest()
-    ensures { (here : Setting) (J more : List Record) (ids : List (List ℕ)) (u : Update) (key : List ℕ) → IsLawful here (J ++ more) → IsIn u (trimmed J ids) → IsLatest key (λ t. IsIn t (accepted (J ++ more))) (Precedes (accepted (J ++ more))) u → ⊥ }
+    ensures { (here : Setting) (J more : List Record) (ids : List (List ℕ)) (u : Update) (key : List ℕ) → IsLawful here (J ++ more) → IsIn u (trimmed J ids) → IsLatestIn key (accepted (J ++ more)) u → ⊥ }
 {}
 
 /// A statement that contradicts an accepted update, in whatever kind, names it, or is kept itself.
 pub fn contrary_statements_name()
-    ensures { (here : Setting) (J : List Record) (k : Kind) (t : Update) (s : Statement) → IsLawful here J → IsIn t (accepted J) → contradicts k (statement.Update t) s ≡ true → (names s t ≡ true) ⊎ (is_kept J s ≡ true) }
+    ensures { (here : Setting) (J : List Record) (k : Kind) (t : Update) (s : Statement) → IsLawful here J → IsIn t (accepted J) → contradicts k (statement.Update t) s ≡ true → NamesOrIsKept J s t }
 {}
 
 /// A reader may give up the signed statements of trimmed updates. A statement that doesn't stand below, and each proof, is then
 /// answered as before, with the same growth; and what the journal grows by is left as it is.
 pub fn pruned_journals_answer_alike()
-    ensures statements { (here : Setting) (J : List Record) (ts : List Update) (s : Signed) → IsLawful here J → ((t : Update) → IsIn t ts → IsIn t (accepted J)) → below_of here J ts s ≡ None → AnswersAlike here J (pruned ts J) (given_statement s) }
+    ensures statements { (here : Setting) (J : List Record) (ts : List Update) → IsLawful here J → AreAccepted J ts → AboveAnswersAlike here J ts }
     ensures proofs { (here : Setting) (J : List Record) (ts : List Update) (p : Proof) → AnswersAlike here J (pruned ts J) (given_proof p) }
-    ensures grows { (here : Setting) (J : List Record) (ts : List Update) (x : Given) → ((t : Update) → IsIn t ts → IsIn t (accepted J)) → pruned ts (J ++ growth here J x) ≡ pruned ts J ++ growth here J x }
+    ensures grows { (here : Setting) (J : List Record) (ts : List Update) (x : Given) → AreAccepted J ts → pruned ts (J ++ growth here J x) ≡ pruned ts J ++ growth here J x }
 {}

@@ -3,8 +3,8 @@
 //! What a number makes is defined in `specs/Loads.antt`, round by round; each load has a text (`IsSchedule`), so it can be printed and replayed. What is summed up of a
 //! transcript is defined in `specs/Summaries.antt` over its bytes, line by line, and of every other text too.
 //!
-//! A `LoadDraft` is a load as it grows: `rounds` has its rounds and `closing` its end, `words` the words of its events, and `making` all of it. `telling` says what a line of a
-//! transcript tells, `totals` and `agreement` sum up what lines tell, and `summing` writes it.
+//! A `LoadDraft` is a load as it grows: `rounds` has its rounds and `closing` its end, `word_pairs` the words of its events, and `making` all of it. `transcript_lines` says what
+//! a line of a transcript tells, `load_totals` and `agreement` sum up what lines tell, and `summing` writes it.
 //!
 //! Nothing here says what an event does, and nothing is replayed: the command `load` does that (`depot_cli`).
 #![tactic(auto)]

@@ -55,6 +55,7 @@ pub mod TakingExamples
 pub mod SchemeExamples
 pub mod StopLaws
 pub mod CallsOnDisk
+pub mod JournalCallLaws
 pub mod NodeCallExamples
 pub mod InsertionLaws
 pub mod LatestWrites

@@ -11,8 +11,11 @@ use Rattle.depot_base.specs.Closed.{rest_of}
 use Rattle.depot_model.specs.Records.{tagged, record_text, text_of_record}
 use Rattle.depot_model.specs.Bundle.{Signs}
 use Rattle.depot_model.specs.Checks.{Setting}
-use Rattle.depot_model.specs.Replicas.{IsSameNode, StopsBy, KeepsDisk}
-use Rattle.depot_model.specs.Stops.{HasRecords, HasFront, HasAll, LeavesAll, IsUntouched, Lasts, calls_to_record, CallsDisk}
+use Rattle.depot_model.specs.JournalCalls.{JournalView, StopsBy, KeepsDisk, IsUntouched, Lasts, CallsDisk, IsJournalCall}
+use Rattle.depot_model.specs.Replicas.{IsSameNode}
+use Rattle.depot_model.specs.Stops.{HasRecords, HasFront, HasAll, LeavesAll, calls_to_record}
+use Rattle.depot_model.specs.declared.node_state.NodeState.{Ghosts}
+use Rattle.depot_model.proofs.StopLaws.{idle_lasts}
 use Rattle.depot_model.proofs.Cast.{here}
 
 -- ---- stopping
@@ -41,58 +44,105 @@ not_by_itself by = elim (by.left.0 refl) [ inl wrong ↦ (let e : false ≡ true
 
 -- ---- the node's disk
 
-calm : KeepsDisk 3 3 7 7 ⊥ ⊥ ⊥
+-- a journal without a record, of whose disk nothing is known
+abbrev bare : {N : Type 0} → JournalView N
+bare = record {
+  records = λ n. [];
+  stopped = λ n. false;
+  handle = λ n. 3;
+  faults = λ n. 7;
+  is_faultless = λ n. ⊥;
+  tells = λ n. true;
+  may_leave = λ n image. ⊥;
+  moment = λ n. 0;
+  left_since = λ n since image. ⊥;
+  reads = λ n. [];
+  after = λ old calls new. Unit {0};
+}
+
+-- a disk, and how often it failed; whether it promises that it never fails
+abbrev counted : Type 0 → JournalView (ℕ × ℕ)
+counted promised = record bare { handle = λ n. n.0; faults = λ n. n.1; is_faultless = λ n. promised }
+
+calm : KeepsDisk (counted ⊥) (3, 7) (3, 7) ⊥
 calm = record { same = refl; cause = record { never_falls = omega arith; rose = λ never. absurd never; only = λ less. absurd (omega (arith, less)) }; calm = λ never. absurd never }
 
-failed_once : KeepsDisk 3 3 7 8 ⊥ ⊥ (Unit {0})
+failed_once : KeepsDisk (counted ⊥) (3, 7) (3, 8) (Unit {0})
 failed_once = record { same = refl; cause = record { never_falls = omega arith; rose = λ failed. omega arith; only = λ less. tt }; calm = λ never. absurd never }
 
 -- a fault that isn't counted, one that isn't told, and another disk
-not_counted : {was is : Type 0} → KeepsDisk 3 3 7 7 was is (Unit {0}) → ⊥
-not_counted k = omega (arith, k.cause.rose tt)
+not_counted : (promised : Type 0) → KeepsDisk (counted promised) (3, 7) (3, 7) (Unit {0}) → ⊥
+not_counted promised k = omega (arith, k.cause.rose tt)
 
-not_told : {was is : Type 0} → KeepsDisk 3 3 7 8 was is ⊥ → ⊥
-not_told k = k.cause.only (omega arith)
+not_told : (promised : Type 0) → KeepsDisk (counted promised) (3, 7) (3, 8) ⊥ → ⊥
+not_told promised k = k.cause.only (omega arith)
 
-not_another_disk : {was is failed : Type 0} → KeepsDisk 3 4 7 7 was is failed → ⊥
-not_another_disk k = omega (arith, k.same)
+not_another_disk : (promised failed : Type 0) → KeepsDisk (counted promised) (3, 7) (4, 7) failed → ⊥
+not_another_disk promised failed k = omega (arith, k.same)
 
 -- a disk that never fails by itself didn't fail
-not_calm : {is failed : Type 0} → KeepsDisk 3 3 7 8 (Unit {0}) is failed → ⊥
-not_calm k = omega (arith, (k.calm tt).1)
+not_calm : (failed : Type 0) → KeepsDisk (counted (Unit {0})) (3, 7) (3, 8) failed → ⊥
+not_calm failed k = omega (arith, (k.calm tt).1)
 
 -- ---- who the node is
 
-abbrev key : PublicKey
-key = record { root = []; height = 2 }
+-- a node that stands here, under this key
+record Who : Type 0 where
+  stands : Setting
+  key : PublicKey
 
-same_node : (sign : Signs) → IsSameNode here here key key sign sign
-same_node sign = record { stands = refl; key = refl; signs = refl }
-
--- it doesn't become another
-not_another_node : (sign : Signs) → IsSameNode here (record here { me = 2 }) key key sign sign → ⊥
-not_another_node sign same = omega (arith, ap (λ (s : Setting). s.me) same.stands)
-
-not_another_key : (sign : Signs) → IsSameNode here here key (record key { height = 3 }) sign sign → ⊥
-not_another_key sign same = omega (arith, ap (λ (k : PublicKey). k.height) same.key)
+abbrev who : Signs → Ghosts Who
+who sign = record {
+  stands = λ n. n.stands;
+  records = λ n. [];
+  key = λ n. n.key;
+  signature_of = λ n. sign;
+  stopped = λ n. false;
+  handle = λ n. 3;
+  faults = λ n. 7;
+  is_faultless = λ n. ⊥;
+  tells = λ n. true;
+  may_leave = λ n image. ⊥;
+  moment = λ n. 0;
+  left_since = λ n since image. ⊥;
+  reads = λ n. [];
+  after = λ old calls new. Unit {0};
+}
 
 abbrev its_key : PublicKey
 its_key = record { root = []; height = 2 }
 
+abbrev node : Who
+node = record { stands = here; key = its_key }
+
+same_node : (sign : Signs) → IsSameNode (who sign) node node
+same_node sign = record { stands = refl; key = refl; signs = refl }
+
+-- it doesn't become another
+not_another_node : (sign : Signs) → IsSameNode (who sign) node (record node { stands = record here { me = 2 } }) → ⊥
+not_another_node sign same = omega (arith, ap (λ (s : Setting). s.me) same.stands)
+
+not_another_key : (sign : Signs) → IsSameNode (who sign) node (record node { key = record its_key { height = 3 } }) → ⊥
+not_another_key sign same = omega (arith, ap (λ (k : PublicKey). k.height) same.key)
+
 -- ---- what a stop leaves
 
 -- where nothing was done no moment came
-untouched : {N : Type 0} (moment : N → ℕ) (left_since : N → ℕ → List ℕ → Type 0) (n : N) → IsUntouched moment left_since n n
-untouched moment left_since n = record { same_moment = refl; no_more = λ t file left. left }
+untouched : {N : Type 0} (v : JournalView N) (n : N) → IsUntouched v n n
+untouched v n = record { same_moment = refl; no_more = λ t file left. left }
 
-not_untouched : IsUntouched (λ n. n) (λ n since image. Unit {0}) 0 1 → ⊥
+not_untouched : IsUntouched (record bare { moment = λ n. n }) 0 1 → ⊥
 not_untouched u = omega (arith, u.same_moment)
 
 -- nor where a stop may leave a file more; one less is no harm
-not_an_image_more : IsUntouched {N = Bool} (λ n. 0) (λ n since image. n ≡ true) false true → ⊥
+-- a disk of which a stop leaves a file only once it is true
+abbrev later : JournalView Bool
+later = record bare { left_since = λ n since image. n ≡ true }
+
+not_an_image_more : IsUntouched later false true → ⊥
 not_an_image_more u = let wrong : false ≡ true = u.no_more 0 [] refl in cc
 
-an_image_less : IsUntouched {N = Bool} (λ n. 0) (λ n since image. n ≡ true) true false
+an_image_less : IsUntouched later true false
 an_image_less = record { same_moment = refl; no_more = λ t image left. refl }
 
 -- ---- the records of a file
@@ -159,7 +209,7 @@ not_all leaves = not_lost (leaves shut refl)
 
 -- A node that runs, with one record, of whose disk a stop leaves these images, and that appends nothing.
 abbrev LastsWith : (List ℕ → Type 0) → Type 0
-LastsWith images = Lasts {N = Unit {0}} (λ n. true) (λ n. false) (λ n. one ∷ []) (λ n. 0) (λ n since image. images image) (λ n image. images image) tt tt []
+LastsWith images = Lasts {N = Unit {0}} (record bare { records = λ n. one ∷ []; left_since = λ n since image. images image; may_leave = λ n image. images image }) tt tt []
 
 lasts : LastsWith (λ image. image ≡ file)
 lasts = record {
@@ -184,12 +234,12 @@ next_gate : calls_to_record (one ∷ []) (one ∷ []) ≡ writes_at 8 (0 ∷ 0 �
 unfolding record_text tagged rest_of number framed numeral
 next_gate = refl
 
--- the calls so far, for a node
-abbrev follow : List Made → List Made → List Made → Type 0
-follow old calls new = new ≡ old ++ calls
+-- a journal that is seen as the calls on its disk so far
+abbrev so_far : JournalView (List Made)
+so_far = record bare { after = λ old calls new. new ≡ old ++ calls }
 
 -- a call that appends nothing makes none
-nothing_made : CallsDisk {N = List Made} follow (λ n. []) (λ n. false) (λ n. []) [] [] [] ⊥
+nothing_made : CallsDisk so_far [] [] [] ⊥
 nothing_made = record {
   whole = λ well grown none. subst (λ (g : List Record). [] ≡ made (calls_to_record [] g)) none refl;
   part = λ never. absurd never;
@@ -197,7 +247,7 @@ nothing_made = record {
 }
 
 -- a call that fails was made up to the one that failed
-first_fails : CallsDisk {N = List Made} follow (λ n. []) (λ n. false) (λ n. []) [] (record { call = writes_at 1 (0 ∷ 0 ∷ 0 ∷ 2 ∷ 6 ∷ 7 ∷ 0 ∷ []); failed = true } ∷ []) (one ∷ []) (Unit {0})
+first_fails : CallsDisk so_far [] (record { call = writes_at 1 (0 ∷ 0 ∷ 0 ∷ 2 ∷ 6 ∷ 7 ∷ 0 ∷ []); failed = true } ∷ []) (one ∷ []) (Unit {0})
 first_fails = record {
   whole = λ well. absurd (well tt);
   part = λ failed. record { before = []; failing = writes_at 1 (0 ∷ 0 ∷ 0 ∷ 2 ∷ 6 ∷ 7 ∷ 0 ∷ []); rest = syncs ∷ writes_at 0 (1 ∷ []) ∷ syncs ∷ []; parts = calls; fails = refl };
@@ -205,9 +255,32 @@ first_fails = record {
 }
 
 -- a stopped node leaves its file as it reads
-not_still : CallsDisk {N = ℕ} (λ old calls new. Unit {0}) (λ n. n ∷ []) (λ n. true) (λ n. []) 0 1 [] ⊥ → ⊥
+not_still : CallsDisk (record bare { reads = λ n. n ∷ []; stopped = λ n. true }) 0 1 [] ⊥ → ⊥
 not_still c = omega (arith, ap (λ (bytes : List ℕ). get_or bytes 0 0) (c.still refl))
 
 -- a sync more is a call too many
-not_one_more : CallsDisk {N = List Made} follow (λ n. []) (λ n. false) (λ n. []) [] (made (syncs ∷ [])) [] ⊥ → ⊥
+not_one_more : CallsDisk so_far [] (made (syncs ∷ [])) [] ⊥ → ⊥
 not_one_more c = let wrong : made (syncs ∷ []) ≡ [] = c.whole (λ never. never) [] refl in cc
+
+-- ---- a whole call
+
+-- a call that was to append a record, and found no memory
+abbrev NoMemory : List Made → List Made → Type 0
+NoMemory old new = IsJournalCall so_far old new (one ∷ []) ⊥ ⊥ (Unit {0})
+
+does_nothing : NoMemory [] []
+does_nothing = record {
+  stops = runs_on;
+  disk = record { same = refl; cause = record { never_falls = omega arith; rose = λ never. absurd never; only = λ less. absurd (omega (arith, less)) }; calm = λ never. absurd never };
+  lasts = idle_lasts so_far (λ n image left. left) [] (one ∷ []) (λ tells image left. absurd left);
+  calls = record {
+    whole = λ well grown none. subst (λ (g : List Record). [] ≡ made (calls_to_record [] g)) none refl;
+    part = λ never. absurd never;
+    still = λ wrong. absurd cc;
+  };
+  idle = λ memory. idle_lasts so_far (λ n image left. left) [] [] (λ tells image left. absurd left);
+}
+
+-- it may not sync
+not_a_sync : NoMemory [] (made (syncs ∷ [])) → ⊥
+not_a_sync c = not_one_more (record { whole = c.calls.whole; part = λ never. absurd never; still = c.calls.still })

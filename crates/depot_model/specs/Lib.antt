@@ -33,8 +33,10 @@ pub mod Causality
 pub mod Codes
 pub mod TextFacts
 pub mod LawfulFacts
-pub mod Replicas
 pub mod Stops
+pub mod JournalCalls
+pub mod Replicas
+pub mod Putting
 pub mod RecordFaults
 pub mod Insertion
 pub mod LatestList

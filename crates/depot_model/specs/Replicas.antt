@@ -1,25 +1,51 @@
--- What a call on a node leaves as it was, and when it stops the node.
-use Rattle.std.specs.Prelude.{◌≡◌, ◌↔◌, ◌⊎◌, ℕ, Bool, true}
-use Rattle.depot_base.specs.Faults.{HasCause}
-use Rattle.depot_base.specs.declared.key.PublicKey.{PublicKey}
-use Rattle.depot_model.specs.Checks.{Setting}
-use Rattle.depot_model.specs.Bundle.{Signs}
+-- What a call on a node leaves.
+use Rattle.std.specs.Prelude.{◌≡◌, ◌≢◌, ℕ, List, Result, IsErrAnd, IsErrOf}
+use Rattle.depot_base.specs.declared.record.Record.{Record}
+use Rattle.depot_model.specs.JournalCalls.{JournalView, IsJournalCall}
+use Rattle.depot_model.specs.Taking.{Form, growth_of_text}
+use Rattle.depot_model.specs.Vouching.{new_vouchers, records_of}
+use Rattle.depot_model.specs.declared.bundle.VoucherError.{VoucherError}
+use Rattle.depot_model.specs.declared.bundle.VoucherError.TheVariants as unvouched
+use Rattle.depot_model.specs.declared.node_state.NodeState.{Ghosts}
+use Rattle.depot_model.specs.declared.taken.TakeError.{TakeError}
+use Rattle.depot_model.specs.declared.taken.TakeError.TheVariants as refused
+use Rattle.depot_model.specs.declared.taken.Taken.{Taken}
+
+-- the journal of a node, on its disk
+abbrev pub journal_of : {N : Type 0} → Ghosts N → JournalView N
+journal_of g = record {
+  records = g.records;
+  stopped = g.stopped;
+  handle = g.handle;
+  faults = g.faults;
+  is_faultless = g.is_faultless;
+  tells = g.tells;
+  may_leave = g.may_leave;
+  moment = g.moment;
+  left_since = g.left_since;
+  reads = g.reads;
+  after = g.after;
+}
 
 -- The node is who it was: it stands where it stood, under its key, and its signer gives what it gave.
-pub record IsSameNode (old_here new_here : Setting) (old_key new_key : PublicKey) (old_sign new_sign : Signs) : Type 0 where
-  pub stands : new_here ≡ old_here
-  pub key : new_key ≡ old_key
-  pub signs : new_sign ≡ old_sign
+pub record IsSameNode {N : Type 0} (g : Ghosts N) (old new : N) : Type 0 where
+  pub stands : g.stands new ≡ g.stands old
+  pub key : g.key new ≡ g.key old
+  pub signs : g.signature_of new ≡ g.signature_of old
 
--- A call answers Stopped exactly where the node was stopped before it, and leaves it stopped exactly where it was or where the
--- disk failed in the call.
-pub record StopsBy (before now : Bool) (stopped failed : Type 0) : Type 0 where
-  pub answered : stopped ↔ (before ≡ true)
-  pub left : (now ≡ true) ↔ ((before ≡ true) ⊎ failed)
+-- What a call on a node leaves: the node is who it was, and its journal grows as a call that was to append these records leaves it.
+pub record IsNodeCall {N : Type 0} (g : Ghosts N) (old new : N) (appends : List Record) (stopped failed nothing : Type 0) : Type 0 where
+  pub same : IsSameNode g old new
+  pub journal : IsJournalCall (journal_of g) old new appends stopped failed nothing
 
--- The call used the node's own disk and no other, and answered that it failed exactly where its count of faults rose. A disk that
--- never fails by itself stays one.
-pub record KeepsDisk (old_handle new_handle before now : ℕ) (was_faultless is_faultless failed : Type 0) : Type 0 where
-  pub same : new_handle ≡ old_handle
-  pub cause : HasCause before now failed
-  pub calm : was_faultless → is_faultless × (now ≡ before)
+-- the call was given a text of this form, and answered so; after Memory nothing is appended
+abbrev pub IsTakeCall : {N : Type 0} → Ghosts N → Form → N → N → List ℕ → Result Taken TakeError → Type 0
+IsTakeCall g form old new text result =
+    IsNodeCall g old new (growth_of_text (g.stands old) (g.records old) form text)
+    (IsErrOf result refused.Stopped) (IsErrOf result refused.Disk) (IsErrOf result refused.Memory)
+
+-- the call was to vouch for these ids, and answered so; after each error but Disk nothing is appended
+abbrev pub IsVoucherCall : {N : Type 0} → Ghosts N → N → N → List (List ℕ) → Result (Unit {0}) VoucherError → Type 0
+IsVoucherCall g old new ids result =
+    IsNodeCall g old new (records_of (new_vouchers (g.stands old).me (g.records old) ids))
+    (IsErrOf result unvouched.Stopped) (IsErrOf result unvouched.Disk) (IsErrAnd result (λ e. e ≢ unvouched.Disk))

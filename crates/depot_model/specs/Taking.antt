@@ -123,3 +123,10 @@ IsSettled (Err refused.Memory) = ⊥
 IsSettled (Err refused.Disk) = ⊥
 IsSettled (Err refused.Stopped) = ⊥
 IsSettled other = Unit {0}
+
+-- Texts of a form have one answer: where neither memory nor the disk gave out, what is answered and what the journal is then are
+-- the functions'.
+abbrev pub HaveOneAnswer : Form → Type 0
+HaveOneAnswer form = (here : Setting) (J : List Record) (text : List ℕ) (result : Result Taken TakeError) (then : List Record)
+    → TakesAs form here J text result then → IsSettled result
+    → (result ≡ answer_to_text here J form text) × (then ≡ J ++ growth_of_text here J form text)

@@ -1,15 +1,14 @@
 //! What a node tells others of what it has.
-ghost use Rattle.std.specs.Prelude.{◌≡◌, ◌≢◌, List, [], ◌∷◌, true, false, length, map, Some, IfOk, IfErr, IsErrOf, option_copied, option_to_list, slice_get};
+ghost use Rattle.std.specs.Prelude.{◌≡◌, List, [], ◌∷◌, true, false, length, map, Some, IfOk, option_copied, option_to_list, slice_get};
 ghost use Rattle.std.specs.List.{AllByRecursion};
 ghost use Rattle.depot_base.specs.declared.record.Record.{Record};
 ghost use Rattle.depot_model.specs.Bundle.{signed_by, candidate_places, proof_places, voucher_places};
 ghost use Rattle.depot_model.specs.Hello.{convicted_nodes, wanted_of, leaves_named};
 ghost use Rattle.depot_model.specs.Journal.{accepted, accepted_at, held, value_with, is_foreign};
 ghost use Rattle.depot_model.specs.Lists.{AreApart};
-ghost use Rattle.depot_model.specs.Replicas.{IsSameNode, StopsBy, KeepsDisk};
-ghost use Rattle.depot_model.specs.Stops.{CallsDisk, Lasts};
+ghost use Rattle.depot_model.specs.Replicas.{IsVoucherCall};
 ghost use Rattle.depot_model.specs.Texts.{id_of_update, text_of_signed};
-ghost use Rattle.depot_model.specs.Vouching.{Vouches, is_mine_vouched, new_vouchers, records_of};
+ghost use Rattle.depot_model.specs.Vouching.{Vouches, is_mine_vouched};
 
 use crate::{HelloLeaves, Replica, VoucherError};
 use depot_base::{Bytes, Hash32, Ids, Items, Memory, NodeId, Nodes, Update};
@@ -86,10 +85,5 @@ pub trait Peer: Replica {
         requires foreign { AllByRecursion (λ h. is_foreign (Self.stands self.old).me (accepted (Self.records self.old)) h ≡ true) ids.now }
         requires fresh { AllByRecursion (λ h. is_mine_vouched (Self.records self.old) h ≡ false) ids.now }
         ensures vouches { Vouches (Self.stands self.old) (Self.records self.old) ids.now result (Self.records self.new) }
-        ensures stays { IsSameNode (Self.stands self.old) (Self.stands self.new) (Self.key self.old) (Self.key self.new) (Self.signature_of self.old) (Self.signature_of self.new) }
-        ensures stops { StopsBy (Self.stopped self.old) (Self.stopped self.new) (IsErrOf result VoucherError.Stopped) (IsErrOf result VoucherError.Disk) }
-        ensures disk { KeepsDisk (Self.handle self.old) (Self.handle self.new) (Self.faults self.old) (Self.faults self.new) (Self.is_faultless self.old) (Self.is_faultless self.new) (IsErrOf result VoucherError.Disk) }
-        ensures lasts { Lasts Self.tells Self.stopped Self.records Self.moment Self.left_since Self.may_leave self.old self.new (records_of (new_vouchers (Self.stands self.old).me (Self.records self.old) ids.now)) }
-        ensures calls { CallsDisk Self.after Self.reads Self.stopped Self.records self.old self.new (records_of (new_vouchers (Self.stands self.old).me (Self.records self.old) ids.now)) (IsErrOf result VoucherError.Disk) }
-        ensures idle { IfErr result (λ e. e ≢ VoucherError.Disk → Lasts Self.tells Self.stopped Self.records Self.moment Self.left_since Self.may_leave self.old self.new []) };
+        ensures call { IsVoucherCall Self.NodeState self.old self.new ids.now result };
 }

@@ -1,15 +1,15 @@
-mod RecordParts
-mod RecordChecks
-mod PutValues
-mod RecordFaultExamples
-pub mod TakenTexts
-pub mod LastingCalls
-pub mod TakenGrowth
-pub mod DiskCalls
+pub mod JournalRecordLaws
+pub mod JournalTexts
+pub mod SeenRecords
+pub mod AppendLaws
+pub mod KeptStores
+pub mod GivenTexts
+pub mod CallNames
 pub mod Beginnings
 pub mod Started
 pub mod RecordReads
 pub mod Starts
+pub mod Fills
 pub mod StartLaws
 pub mod StartCalls
 pub mod ReadLaws

@@ -7,25 +7,21 @@ use Rattle.depot_model.specs.Lawful.{IsLawful}
 use Rattle.depot_model.specs.RecordFaults.{IsFault, AreTextsOf}
 use Rattle.depot_model.specs.Records.{text_of_record}
 use Rattle.depot_model.specs.Roster.{Verifies}
-use Rattle.depot_laws.proofs.Splits.{lawful_none, lawful_push}
-use Rattle.depot_store.specs.Holdings.{Holding, standing, with_records}
-use Rattle.depot_node.specs.ReadRecords.{IsReadFrom}
+use Rattle.depot_laws.proofs.Splits.{lawful_none}
+use Rattle.depot_node.specs.Holdings.{Holding, standing, with_records}
+use Rattle.depot_decide.specs.ReadRecords.{IsReadFrom}
 use Rattle.depot_node.specs.StartReading.{IsReadOn, IsNextWrong, AreWrong}
 use Rattle.depot_node.specs.declared.start_error.StartError.{StartError}
 use Rattle.depot_node.specs.declared.start_error.StartError.TheVariants as stopped
 
 -- ---- one record
 
--- the journal with it stays lawful
-pub read_is_lawful : (here : Setting) (J : List Record) (text : List ℕ) (new : List Record) → IsLawful here J → IsReadFrom here J text new → IsLawful here (J ++ new)
-read_is_lawful here J text new l r = subst (λ (rs : List Record). IsLawful here (J ++ rs)) (sym r.alone) (lawful_push here J r.one l r.allowed)
-
 -- its text stands first among those that weren't read
 pub read_stands_first : (here : Setting) (J : List Record) (text : List ℕ) (rest : List (List ℕ)) (new : List Record) → IsReadFrom here J text new → text ∷ rest ≡ map text_of_record new ++ rest
 read_stands_first here J text rest new r = ap (λ (t : List ℕ). t ∷ rest) r.is ∙ ap (λ (rs : List Record). map text_of_record rs ++ rest) (sym r.alone)
 
 -- so the first text that wasn't read is read
-pub read_goes_on : {D : Type 0} (here : Setting) (old new : Holding D) (text : List ℕ) (rest : List (List ℕ)) (growth : List Record) → IsLawful here old.records → IsReadFrom here old.records text growth → old.unread ≡ text ∷ rest
+pub read_goes_on : {D : Type 0} (here : Setting) (old new : Holding D) (text : List ℕ) (rest : List (List ℕ)) (growth : List Record) → IsLawful here (old.records ++ growth) → IsReadFrom here old.records text growth → old.unread ≡ text ∷ rest
     → new ≡ with_records old (old.records ++ growth) (drop (length growth) old.unread) → IsReadOn here old new
 read_goes_on here old new text rest growth l r next is =
     let dropped : new.unread ≡ drop 1 old.unread = ap (λ (v : Holding _). v.unread) is ∙ ap (λ (rs : List Record). drop (length rs) old.unread) r.alone in
@@ -34,7 +30,7 @@ read_goes_on here old new text rest growth l r next is =
       one = r.one;
       text = next ∙ ap (λ (t : List ℕ). t ∷ rest) r.is ∙ ap (λ (texts : List (List ℕ)). text_of_record r.one ∷ texts) (sym left);
       is = is ∙ ap (λ (rs : List Record). with_records old (old.records ++ rs) (drop (length rs) old.unread)) r.alone ∙ ap (λ (texts : List (List ℕ)). with_records old (old.records ++ r.one ∷ []) texts) (sym dropped);
-      lawful = lawful_push here old.records r.one l r.allowed;
+      lawful = subst (λ (rs : List Record). IsLawful here (old.records ++ rs)) r.alone l;
     }
 
 -- ---- the way through the texts

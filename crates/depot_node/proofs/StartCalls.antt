@@ -1,6 +1,5 @@
 -- Which calls on the disk a start makes.
-use Rattle.std.proofs.Common.{◌≡◌, ℕ, List, [], ◌∷◌, ◌++◌, map, Result, Ok, Err, refl, arith}
-use Rattle.std.specs.Result.{OnOk}
+use Rattle.std.proofs.Common.{◌≡◌, ℕ, List, [], ◌∷◌, ◌++◌, map, refl, arith}
 use Rattle.depot_base.specs.Calls.{Made, made, FailsAmong, calls_to_start}
 use Rattle.depot_base.specs.Faults.{HasCause}
 use Rattle.depot_base.specs.File.{IsFileOf}
@@ -13,21 +12,15 @@ use Rattle.depot_model.specs.Checks.{Setting}
 use Rattle.depot_model.specs.Records.{text_of_record}
 use Rattle.depot_model.specs.Stops.{calls_to_record}
 use Rattle.depot_node.specs.Starting.{birth_after, calls_to_start_node, of_journal}
-use Rattle.depot_node.specs.declared.start_error.StartError.{StartError}
 use Rattle.depot_node.specs.declared.start_error.StartError.TheVariants as refused
 
 -- ---- records are read
 
-no_birth : {D : Type 0} (after : D → List Made → D → Type 0) (here : Setting) (old new : D) (texts rest : List (List ℕ)) (text : List ℕ) → texts ≡ text ∷ rest → after old [] new
+-- where there is a record, no birth is appended
+pub no_birth : {D : Type 0} (after : D → List Made → D → Type 0) (here : Setting) (old new : D) (texts rest : List (List ℕ)) (text : List ℕ) → texts ≡ text ∷ rest → after old [] new
     → (J : List Record) → texts ≡ map text_of_record J → after old (made (calls_to_record J (birth_after here J))) new
 no_birth after here old new texts rest text some none [] is = absurd cc
 no_birth after here old new texts rest text some none (r ∷ J) is = none
-
--- where there is a record, no birth is appended
-pub calls_as_read : {D : Type 0} (after : D → List Made → D → Type 0) (here : Setting) (old new : D) (texts rest : List (List ℕ)) (text : List ℕ) (result : Result (Unit {0}) StartError) → texts ≡ text ∷ rest → after old [] new
-    → OnOk result ((J : List Record) → texts ≡ map text_of_record J → after old (made (calls_to_record J (birth_after here J))) new)
-calls_as_read after here old new texts rest text (Ok done) some none = no_birth after here old new texts rest text some none
-calls_as_read after here old new texts rest text (Err e) some none = tt
 
 -- ---- a journal is started, and then its records are read
 

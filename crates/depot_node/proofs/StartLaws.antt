@@ -1,6 +1,5 @@
 -- Starts from a file with the records of a lawful journal: none is refused for what stands there.
 use Rattle.std.proofs.Common.{◌≡◌, ℕ, Bool, IsTrue, List, [], ◌∷◌, ◌++◌, map, Some, is_some, refl, sym, ap, subst, ◌∙◌, append_assoc}
-use Rattle.std.specs.List.{AllByRecursion}
 use Rattle.std.proofs.lemmas.Bool.{both_ways}
 use Rattle.std.proofs.lemmas.List.{append-nil}
 use Rattle.depot_base.specs.File.{IsFileOf}
@@ -12,12 +11,12 @@ use Rattle.depot_model.specs.declared.record_fault.RecordFault.{RecordFault}
 use Rattle.depot_model.specs.Checks.{Setting}
 use Rattle.depot_model.specs.Lawful.{IsAllowed, IsLawful}
 use Rattle.depot_model.specs.RecordFaults.{IsFault, HaveFaultAt}
-use Rattle.depot_model.specs.Records.{IsRecord, text_of_record}
+use Rattle.depot_model.specs.Records.{text_of_record}
 use Rattle.depot_model.specs.Roster.{key_of, has_node}
 use Rattle.depot_model.specs.Stops.{HasRecords}
 use Rattle.depot_model.specs.Texts.{hash_of_roster}
-use Rattle.depot_store.specs.RecordTexts.{records_of}
-use Rattle.depot_store.proofs.RecordTextLaws.{records_of_texts}
+use Rattle.depot_node.specs.JournalRecords.{records_of}
+use Rattle.depot_node.proofs.JournalRecordLaws.{all_fit, records_of_texts}
 use Rattle.depot_node.specs.Starting.{BeginWithBirth, IsNotStarted, IsStartedFrom, LeavesFile, OfFile, started}
 use Rattle.depot_node.specs.declared.start_error.StartError.{StartError}
 use Rattle.depot_node.specs.declared.start_error.StartError.TheVariants as refused
@@ -102,10 +101,6 @@ lawful_file_starts here key told file J (refused.OtherRoster kept given) tells k
 lawful_file_starts here key told file J (refused.NotLawful place f) tells keyed has l w leaves =
     let of = w.1 tells in
     no_fault_at here J place f l (subst (λ (texts : List (List ℕ)). HaveFaultAt here texts place f) (one_list file of.0 (map text_of_record J) of.1.0 has) of.1.1.at)
-
-all_fit : (here : Setting) (front J : List Record) → IsLawful here (front ++ J) → AllByRecursion IsRecord J
-all_fit here front [] l = tt
-all_fit here front (r ∷ J) l = ((l.each front r J refl).text, all_fit here (front ++ r ∷ []) J (subst (λ (x : List Record). IsLawful here x) (sym (append_assoc front (r ∷ []) J)) l))
 
 -- the node that is started has these records
 pub lawful_file_is_read : (here : Setting) (file : List ℕ) (J records : List Record) → HasRecords J file → IsLawful here J → IsStartedFrom here file records → records ≡ started here J

@@ -1,6 +1,6 @@
 -- A start: what it leaves on the disk, and what its refusals say.
 use Rattle.std.proofs.Common.{◌≡◌, ◌≢◌, ℕ, List, [], ◌∷◌, ◌++◌, map, Result, Ok, Err, refl, sym, ap, subst, ◌∙◌, arith, inl, inr}
-use Rattle.std.specs.Result.{IfErr, OnOk}
+use Rattle.std.specs.Result.{IfErr}
 use Rattle.std.proofs.lemmas.List.{append-nil}
 use Rattle.depot_base.specs.Disk.{LeavesOnly}
 use Rattle.depot_base.specs.File as files
@@ -11,7 +11,7 @@ use Rattle.depot_model.specs.Checks.{Setting}
 use Rattle.depot_model.specs.Records.{IsRecord, text_of_record}
 use Rattle.depot_model.specs.RecordFaults.{AreTextsOf}
 use Rattle.depot_node.specs.StartReading.{AreOther, AreWrong, IsOtherBirth}
-use Rattle.depot_node.specs.Starting.{AreNotRead, AreOwn, BeginWithBirth, IsDiskFault, IsStartedFrom, LeavesBetween, LeavesFile, LeavesNew, started}
+use Rattle.depot_node.specs.Starting.{AreNotRead, AreOwn, BeginWithBirth, IsDiskFault, IsStartedFrom, LeavesFile, LeavesNew, started}
 use Rattle.depot_node.specs.declared.start_error.StartError.{StartError}
 use Rattle.depot_node.specs.declared.start_error.StartError.TheVariants as refused
 
@@ -22,35 +22,35 @@ journal_leaves : (new : List Record) (file : List ℕ) (before : List ℕ → Ty
 journal_leaves new file before image (inl might) = inl might
 journal_leaves new file before image (inr short) = inr (inl (short.0, refl), record { count = 0; has = inl (short.1, refl) })
 
--- a journal was started, and that was all
-pub left_by_journal : {D : Type 0} (moment : D → ℕ) (left_since : D → ℕ → List ℕ → Type 0) (new : List Record) (file : List ℕ) (before : List ℕ → Type 0) (disk end : D) → LeavesOnly moment left_since disk end (files.StartLeaves before file)
-    → LeavesBetween (moment disk) (moment end) (left_since disk) (left_since end) (LeavesNew new (IsFileOf file []) before)
-left_by_journal moment left_since new file before disk end leaves = record {
-  later = leaves.later;
-  each = λ image left. journal_leaves new file before image (leaves.each image left);
-  before_it = λ t image at left. elim (leaves.before t image at left) [
-    | inl past ↦ inl past
-    | inr now ↦ inr (journal_leaves new file before image now)
-  ];
-}
+module _ {D : Type 0} (moment : D → ℕ) (left_since : D → ℕ → List ℕ → Type 0) (new : List Record) (file : List ℕ) (before : List ℕ → Type 0) where
+  -- a journal was started, and that was all
+  pub left_by_journal : (disk end : D) → LeavesOnly moment left_since disk end (files.StartLeaves before file) → LeavesOnly moment left_since disk end (LeavesNew new (IsFileOf file []) before)
+  left_by_journal disk end leaves = record {
+    later = leaves.later;
+    each = λ image left. journal_leaves new file before image (leaves.each image left);
+    before = λ t image at left. elim (leaves.before t image at left) [
+      | inl past ↦ inl past
+      | inr now ↦ inr (journal_leaves new file before image now)
+    ];
+  }
 
--- the same between three moments
-pub left_by_both : (new : List Record) (file : List ℕ) (texts : List (List ℕ)) (a b c : ℕ) (past mid since : ℕ → List ℕ → Type 0) (before between : List ℕ → Type 0) → IsFileOf file texts → ((image : List ℕ) → between image → mid a image)
-    → LeavesBetween a b past mid (LeavesNew new (IsFileOf file []) before) → LeavesBetween b c mid since (LeavesNew new (texts ≡ []) between) → LeavesBetween a c past since (LeavesNew new (IsFileOf file []) before)
-left_by_both new file texts a b c past mid since before between has counts first second = record {
-  later = omega (arith, first.later, second.later);
-  each = λ image left. elim (second.before_it a image first.later left) [
-    | inl earlier ↦ first.each image earlier
-    | inr now ↦ later image now
-  ];
-  before_it = λ t image at left. elim (second.before_it t image (omega (arith, at, first.later)) left) [
-    | inl earlier ↦ first.before_it t image at earlier
-    | inr now ↦ inr (later image now)
-  ];
-} where
-  later : (image : List ℕ) → LeavesNew new (texts ≡ []) between image → LeavesNew new (IsFileOf file []) before image
-  later image (inl might) = first.each image (counts image might)
-  later image (inr birth) = inr (subst (IsFileOf file) birth.0 has, birth.1)
+  -- the same between three moments
+  pub left_by_both : (texts : List (List ℕ)) (disk mid end : D) (between : List ℕ → Type 0) → IsFileOf file texts → ((image : List ℕ) → between image → left_since mid (moment disk) image)
+      → LeavesOnly moment left_since disk mid (LeavesNew new (IsFileOf file []) before) → LeavesOnly moment left_since mid end (LeavesNew new (texts ≡ []) between) → LeavesOnly moment left_since disk end (LeavesNew new (IsFileOf file []) before)
+  left_by_both texts disk mid end between has counts first second = record {
+    later = omega (arith, first.later, second.later);
+    each = λ image left. elim (second.before (moment disk) image first.later left) [
+      | inl earlier ↦ first.each image earlier
+      | inr now ↦ later image now
+    ];
+    before = λ t image at left. elim (second.before t image (omega (arith, at, first.later)) left) [
+      | inl earlier ↦ first.before t image at earlier
+      | inr now ↦ inr (later image now)
+    ];
+  } where
+    later : (image : List ℕ) → LeavesNew new (texts ≡ []) between image → LeavesNew new (IsFileOf file []) before image
+    later image (inl might) = first.each image (counts image might)
+    later image (inr birth) = inr (subst (IsFileOf file) birth.0 has, birth.1)
 
 -- ---- what refusals say
 
@@ -119,10 +119,8 @@ started_as_read here [] text rest t = let never = t.are in absurd cc
 started_as_read here (r ∷ J) text rest t = sym (append-nil (r ∷ J))
 
 -- so it is what is started from these texts
-pub read_is_started : (here : Setting) (J : List Record) (texts rest : List (List ℕ)) (text : List ℕ) (result : Result (Unit {0}) StartError) → texts ≡ text ∷ rest → OnOk result (AreTextsOf here J texts)
-    → OnOk result ((K : List Record) × (AreTextsOf here K texts × (J ≡ started here K)))
-read_is_started here J texts rest text (Ok done) some t = (J, (t, started_as_read here J text rest (subst (AreTextsOf here J) some t)))
-read_is_started here J texts rest text (Err e) some t = tt
+pub read_is_started : (here : Setting) (J : List Record) (texts rest : List (List ℕ)) (text : List ℕ) → texts ≡ text ∷ rest → AreTextsOf here J texts → (K : List Record) × (AreTextsOf here K texts × (J ≡ started here K))
+read_is_started here J texts rest text some t = (J, (t, started_as_read here J text rest (subst (AreTextsOf here J) some t)))
 
 -- from the texts of a file
 pub started_from : (here : Setting) (file : List ℕ) (texts : List (List ℕ)) (records : List Record) → ((J : List Record) × (AreTextsOf here J texts × (records ≡ started here J))) → IsFileOf file texts → IsStartedFrom here file records

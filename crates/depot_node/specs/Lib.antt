@@ -1,6 +1,7 @@
-pub mod ReadRecords
-pub mod TextFaults
+pub mod Holdings
+pub mod JournalRecords
+pub mod Commits
+pub mod StoreCalls
 pub mod Starting
 pub mod StartReading
 pub mod Keyed
-pub mod ShownValues

@@ -1,13 +1,18 @@
 -- What comes of records that are read one after another.
-use Rattle.std.specs.Prelude.{◌≡◌, ◌≢◌, ℕ, List, [], ◌∷◌, ◌++◌, length}
+use Rattle.std.specs.Prelude.{◌≡◌, ◌≢◌, ℕ, List, [], ◌∷◌, ◌++◌, length, map, false, IsTrue, Result, IsErrAnd, IsErrOf}
+use Rattle.depot_base.specs.Calls.{FailsAmong, made}
+use Rattle.depot_base.specs.Disk.{LeavesOnly}
 use Rattle.depot_base.specs.declared.record.Record.{Record}
 use Rattle.depot_model.specs.Checks.{Setting}
+use Rattle.depot_model.specs.JournalCalls.{IsJournalCall}
 use Rattle.depot_model.specs.Lawful.{IsLawful}
-use Rattle.depot_model.specs.RecordFaults.{IsFault, HaveFaultAt}
+use Rattle.depot_model.specs.RecordFaults.{AreTextsOf, IsFault, HaveFaultAt}
 use Rattle.depot_model.specs.Records.{text_of_record}
+use Rattle.depot_model.specs.Stops.{LeavesAll, calls_to_record}
 use Rattle.depot_model.specs.Texts.{hash_of_roster}
-use Rattle.depot_store.specs.Holdings.{Holding, with_records}
-use Rattle.depot_node.specs.Starting.{AreNotRead}
+use Rattle.depot_outside.specs.declared.disk.Disk.{Ghosts}
+use Rattle.depot_node.specs.Holdings.{Holding, IsWhole, journal_on, with_records}
+use Rattle.depot_node.specs.Starting.{AreNotRead, LeavesFile, LeavesNew, StartLeaves, birth_after, started}
 use Rattle.depot_node.specs.declared.start_error.StartError.{StartError}
 use Rattle.depot_node.specs.declared.start_error.StartError.TheVariants as stopped
 
@@ -42,3 +47,31 @@ AreOther here texts stopped.Memory = Unit {0}
 AreOther here texts (stopped.OtherNode node) = AreNotRead here texts (stopped.OtherNode node)
 AreOther here texts (stopped.OtherRoster kept given) = AreNotRead here texts (stopped.OtherRoster kept given)
 AreOther here texts e = ⊥
+
+-- ---- all of them
+
+-- The records of a journal were read, or it got its birth: all are read, on the disk they stand, and for this these calls were made on it.
+pub record IsFilled {D : Type 0} (g : Ghosts D) (here : Setting) (old new : Holding D) : Type 0 where
+  pub records : (J : List Record) × (AreTextsOf here J old.unread × (new.records ≡ started here J))
+  pub whole : IsWhole new
+  pub calls : (J : List Record) → old.unread ≡ map text_of_record J → g.after old.disk (made (calls_to_record J (birth_after here J))) new.disk
+  pub stable : IsTrue (g.tells old.disk) → LeavesAll new.records false (g.may_leave new.disk)
+
+-- They weren't, for this reason.
+pub record IsNotFilled {D : Type 0} (g : Ghosts D) (here : Setting) (old new : Holding D) (e : StartError) : Type 0 where
+  pub wrong : AreNotRead here old.unread e
+  pub unchanged : LeavesFile e → new.disk ≡ old.disk
+  -- unless the disk failed, a stop leaves no birth
+  pub unborn : e ≢ stopped.Disk → IsTrue (g.tells old.disk) → LeavesOnly g.moment g.left_since old.disk new.disk (LeavesNew [] (old.unread ≡ []) (g.may_leave old.disk))
+  -- where it failed, one of these calls did
+  pub failing : e ≡ stopped.Disk → (J : List Record) → old.unread ≡ map text_of_record J → FailsAmong g.after old.disk new.disk (calls_to_record J (birth_after here J))
+
+-- Whatever is answered: the disk tells its bytes as before, and what a stop may leave is what it might have left before, or, where there was no
+-- record, none or the birth alone.
+pub record IsDiskFilled {D : Type 0} (g : Ghosts D) (here : Setting) (old new : Holding D) : Type 0 where
+  pub told : g.tells new.disk ≡ g.tells old.disk
+  pub any_moment : IsTrue (g.tells old.disk) → LeavesOnly g.moment g.left_since old.disk new.disk (StartLeaves here (old.unread ≡ []) (g.may_leave old.disk))
+
+-- the call was to append this birth, and answered so; after each error but Disk it isn't appended
+abbrev pub IsBirthCall : {D : Type 0} → Ghosts D → Holding D → Holding D → List Record → Result (Unit {0}) StartError → Type 0
+IsBirthCall g old new birth result = IsJournalCall (journal_on g) old new birth ⊥ (IsErrOf result stopped.Disk) (IsErrAnd result (λ e. e ≢ stopped.Disk))

@@ -1,37 +1,34 @@
 //! The node.
-ghost use Rattle.std.specs.Prelude.{◌≡◌, ◌≢◌, ◌<◌, ◌≤◌, [], length, true, false, refl, Some, IfErr, IsErrOf, All, option_copied, slice_get};
+ghost use Rattle.std.specs.Prelude.{◌≡◌, ◌<◌, ◌≤◌, length, true, false, refl, Some, All, option_copied, slice_get};
 ghost use Rattle.depot_base.specs.Pairs.{AllPairsByRecursion};
 ghost use Rattle.depot_base.specs.Parts.{is_below};
 ghost use Rattle.depot_base.specs.Writes.{one_change};
 ghost use Rattle.depot_base.specs.declared.limits.TheConstants.{MOST_WRITES};
-ghost use Rattle.depot_base.specs.declared.record.Record.{Record};
 ghost use Rattle.depot_base.specs.declared.update.Update.{Update};
-ghost use Rattle.depot_model.specs.Journal.{accepted, held_as, seen_under};
+ghost use Rattle.depot_model.specs.Journal.{accepted, held_as};
 ghost use Rattle.depot_model.specs.Contents.{Writes};
-ghost use Rattle.depot_model.specs.Lawful.{IsLawful, is_empty};
-ghost use Rattle.depot_model.specs.LawfulFacts.{IsLawful-prop};
+ghost use Rattle.depot_model.specs.Items.{updates_at};
 ghost use Rattle.depot_model.specs.Order.{AreLatestIn};
-ghost use Rattle.depot_model.specs.Replicas.{IsSameNode, StopsBy, KeepsDisk};
+ghost use Rattle.depot_model.specs.Putting.{IsPutCall};
 ghost use Rattle.depot_model.specs.Roster.{key_of};
-ghost use Rattle.depot_model.specs.Stops.{CallsDisk, Lasts};
 ghost use Rattle.depot_model.specs.TextFacts.{IsRoster-prop};
 ghost use Rattle.depot_model.specs.Texts.{IsRoster};
-ghost use Rattle.depot_model.specs.Items.{updates_at};
-ghost use Rattle.depot_store.specs.Counts.{AreCountsOf};
-ghost use Rattle.depot_store.specs.Holdings.{standing};
-ghost use Rattle.depot_node.specs.ShownValues.{value_seen};
-ghost use Rattle.depot_node.specs.Keyed.{HasKey-prop, AllRead-prop};
-ghost use Rattle.depot_decide.specs.Putting.{Puts, put_records};
+ghost use Rattle.depot_readings.specs.Counts.{AreCountsOf};
+ghost use Rattle.depot_local.specs.ShownValues.{IsWrittenAt};
+ghost use Rattle.depot_node.specs.Holdings.{standing};
+ghost use Rattle.depot_node.specs.Keyed.{HasKey-prop, IsKept-prop};
+ghost use Rattle.depot_node.specs.StoreCalls.{IsKept, PutsOn};
 
-use crate::held::held_as;
 use crate::put::{put, put_all};
+use crate::store::Store;
 use crate::take::{take_proof, take_statement, take_value};
 use depot_base::{Changes, Hash32, Key, NamedValue, NodeId, Update, Value};
-use depot_decide::{PutDone, PutError};
 use depot_graph::Graph;
-use depot_model::{Past, Replica, Scheme, Signer, TakeError, Taken};
+use depot_local::LocalNode;
+use depot_model::{NodeState, Past, PutDone, PutError, Replica, Scheme, Signer, TakeError, Taken};
 use depot_outside::Disk;
-use depot_store::{Counts, Store};
+use depot_queries::held_as;
+use depot_readings::Counts;
 use std::alloc::Global;
 
 /// A node with its journal on a disk. The journal is lawful, and the roster has the signer's key for the node. Once the disk failed
@@ -41,11 +38,9 @@ pub struct Node<D: Disk, S: Scheme, G: Signer<Of = S>> {
     pub(crate) alloc: Global,
     pub(crate) store: Store<D, S>,
     pub(crate) signer: G,
-    ghost lawful: { IsLawful (standing S.verifies store) store.records } by { IsLawful-prop (standing S.verifies store) store.records },
-    ghost some: { is_empty store.records ≡ false },
+    ghost kept: { IsKept S.verifies store } by { IsKept-prop S.verifies store },
     ghost formed: { IsRoster store.listed } by { IsRoster-prop store.listed },
     ghost keyed: { key_of store.listed store.me ≡ Some (G.key_of signer) } by { HasKey-prop store.listed store.me (G.key_of signer) },
-    ghost read: { store.unread ≡ [] } by { AllRead-prop store.unread },
 }
 
 impl<D: Disk, S: Scheme, G: Signer<Of = S>> Node<D, S, G> {
@@ -58,13 +53,8 @@ impl<D: Disk, S: Scheme, G: Signer<Of = S>> Node<D, S, G> {
 
     /// Puts a value under a key, as [`put_all`](Node::put_all) puts this one change.
     pub fn put(&mut self, key: Key, value: Value) -> Result<PutDone, PutError>
-        ensures puts { Puts (⟦<Node<D, S, G> as Replica>⟧.stands self.old) (⟦<Node<D, S, G> as Replica>⟧.records self.old) (one_change key value) result (⟦<Node<D, S, G> as Replica>⟧.records self.new) }
-        ensures stays { IsSameNode (⟦<Node<D, S, G> as Replica>⟧.stands self.old) (⟦<Node<D, S, G> as Replica>⟧.stands self.new) (⟦<Node<D, S, G> as Replica>⟧.key self.old) (⟦<Node<D, S, G> as Replica>⟧.key self.new) (⟦<Node<D, S, G> as Replica>⟧.signature_of self.old) (⟦<Node<D, S, G> as Replica>⟧.signature_of self.new) }
-        ensures stops { StopsBy (⟦<Node<D, S, G> as Replica>⟧.stopped self.old) (⟦<Node<D, S, G> as Replica>⟧.stopped self.new) (IsErrOf result PutError.Stopped) (IsErrOf result PutError.Disk) }
-        ensures disk { KeepsDisk (⟦<Node<D, S, G> as Replica>⟧.handle self.old) (⟦<Node<D, S, G> as Replica>⟧.handle self.new) (⟦<Node<D, S, G> as Replica>⟧.faults self.old) (⟦<Node<D, S, G> as Replica>⟧.faults self.new) (⟦<Node<D, S, G> as Replica>⟧.is_faultless self.old) (⟦<Node<D, S, G> as Replica>⟧.is_faultless self.new) (IsErrOf result PutError.Disk) }
-        ensures lasts { Lasts ⟦<Node<D, S, G> as Replica>⟧.tells ⟦<Node<D, S, G> as Replica>⟧.stopped ⟦<Node<D, S, G> as Replica>⟧.records ⟦<Node<D, S, G> as Replica>⟧.moment ⟦<Node<D, S, G> as Replica>⟧.left_since ⟦<Node<D, S, G> as Replica>⟧.may_leave self.old self.new (put_records (⟦<Node<D, S, G> as Replica>⟧.stands self.old) (⟦<Node<D, S, G> as Replica>⟧.records self.old) (one_change key value)) }
-        ensures calls { CallsDisk ⟦<Node<D, S, G> as Replica>⟧.after ⟦<Node<D, S, G> as Replica>⟧.reads ⟦<Node<D, S, G> as Replica>⟧.stopped ⟦<Node<D, S, G> as Replica>⟧.records self.old self.new (put_records (⟦<Node<D, S, G> as Replica>⟧.stands self.old) (⟦<Node<D, S, G> as Replica>⟧.records self.old) (one_change key value)) (IsErrOf result PutError.Disk) }
-        ensures idle { IfErr result (λ e. e ≢ PutError.Disk → Lasts ⟦<Node<D, S, G> as Replica>⟧.tells ⟦<Node<D, S, G> as Replica>⟧.stopped ⟦<Node<D, S, G> as Replica>⟧.records ⟦<Node<D, S, G> as Replica>⟧.moment ⟦<Node<D, S, G> as Replica>⟧.left_since ⟦<Node<D, S, G> as Replica>⟧.may_leave self.old self.new []) }
+        ensures puts { PutsOn ⟦<Node<D, S, G> as NodeState>⟧ self.old self.new (one_change key value) result }
+        ensures call { IsPutCall ⟦<Node<D, S, G> as NodeState>⟧ self.old self.new (one_change key value) result }
     {
         put(self.alloc, &mut self.store, key, value)
     }
@@ -77,67 +67,62 @@ impl<D: Disk, S: Scheme, G: Signer<Of = S>> Node<D, S, G> {
     pub fn put_all(&mut self, changes: Changes) -> Result<PutDone, PutError>
         requires few { (1 ≤ length changes) × (length changes ≤ MOST_WRITES) }
         requires rising { AllPairsByRecursion (λ c d. is_below c.key d.key ≡ true) changes }
-        ensures puts { Puts (⟦<Node<D, S, G> as Replica>⟧.stands self.old) (⟦<Node<D, S, G> as Replica>⟧.records self.old) changes result (⟦<Node<D, S, G> as Replica>⟧.records self.new) }
-        ensures stays { IsSameNode (⟦<Node<D, S, G> as Replica>⟧.stands self.old) (⟦<Node<D, S, G> as Replica>⟧.stands self.new) (⟦<Node<D, S, G> as Replica>⟧.key self.old) (⟦<Node<D, S, G> as Replica>⟧.key self.new) (⟦<Node<D, S, G> as Replica>⟧.signature_of self.old) (⟦<Node<D, S, G> as Replica>⟧.signature_of self.new) }
-        ensures stops { StopsBy (⟦<Node<D, S, G> as Replica>⟧.stopped self.old) (⟦<Node<D, S, G> as Replica>⟧.stopped self.new) (IsErrOf result PutError.Stopped) (IsErrOf result PutError.Disk) }
-        ensures disk { KeepsDisk (⟦<Node<D, S, G> as Replica>⟧.handle self.old) (⟦<Node<D, S, G> as Replica>⟧.handle self.new) (⟦<Node<D, S, G> as Replica>⟧.faults self.old) (⟦<Node<D, S, G> as Replica>⟧.faults self.new) (⟦<Node<D, S, G> as Replica>⟧.is_faultless self.old) (⟦<Node<D, S, G> as Replica>⟧.is_faultless self.new) (IsErrOf result PutError.Disk) }
-        ensures lasts { Lasts ⟦<Node<D, S, G> as Replica>⟧.tells ⟦<Node<D, S, G> as Replica>⟧.stopped ⟦<Node<D, S, G> as Replica>⟧.records ⟦<Node<D, S, G> as Replica>⟧.moment ⟦<Node<D, S, G> as Replica>⟧.left_since ⟦<Node<D, S, G> as Replica>⟧.may_leave self.old self.new (put_records (⟦<Node<D, S, G> as Replica>⟧.stands self.old) (⟦<Node<D, S, G> as Replica>⟧.records self.old) changes) }
-        ensures calls { CallsDisk ⟦<Node<D, S, G> as Replica>⟧.after ⟦<Node<D, S, G> as Replica>⟧.reads ⟦<Node<D, S, G> as Replica>⟧.stopped ⟦<Node<D, S, G> as Replica>⟧.records self.old self.new (put_records (⟦<Node<D, S, G> as Replica>⟧.stands self.old) (⟦<Node<D, S, G> as Replica>⟧.records self.old) changes) (IsErrOf result PutError.Disk) }
-        ensures idle { IfErr result (λ e. e ≢ PutError.Disk → Lasts ⟦<Node<D, S, G> as Replica>⟧.tells ⟦<Node<D, S, G> as Replica>⟧.stopped ⟦<Node<D, S, G> as Replica>⟧.records ⟦<Node<D, S, G> as Replica>⟧.moment ⟦<Node<D, S, G> as Replica>⟧.left_since ⟦<Node<D, S, G> as Replica>⟧.may_leave self.old self.new []) }
+        ensures puts { PutsOn ⟦<Node<D, S, G> as NodeState>⟧ self.old self.new changes result }
+        ensures call { IsPutCall ⟦<Node<D, S, G> as NodeState>⟧ self.old self.new changes result }
     {
         put_all(self.alloc, &mut self.store, changes)
     }
 
     /// The graph of the updates that it accepted, of a node that runs. It takes no memory.
     pub fn graph(&self) -> &Graph
-        requires { ⟦<Node<D, S, G> as Replica>⟧.stopped self.now ≡ false }
-        ensures { ⟦<Graph as Past>⟧.updates result.now ≡ accepted (⟦<Node<D, S, G> as Replica>⟧.records self.now) }
+        requires { ⟦<Node<D, S, G> as NodeState>⟧.stopped self.now ≡ false }
+        ensures { ⟦<Graph as Past>⟧.updates result.now ≡ accepted (⟦<Node<D, S, G> as NodeState>⟧.records self.now) }
     {
-        self.store.state().graph()
+        self.store.readings().state().graph()
     }
 
     /// How many updates it accepted. It takes no memory.
     pub fn update_count(&self) -> u32
-        requires { ⟦<Node<D, S, G> as Replica>⟧.stopped self.now ≡ false }
-        ensures { result ≡ length (accepted (⟦<Node<D, S, G> as Replica>⟧.records self.now)) }
+        requires { ⟦<Node<D, S, G> as NodeState>⟧.stopped self.now ≡ false }
+        ensures { result ≡ length (accepted (⟦<Node<D, S, G> as NodeState>⟧.records self.now)) }
     {
-        self.store.state().graph().count()
+        self.store.readings().state().graph().count()
     }
 
     /// How much its journal takes, of a node that runs. It takes no memory.
     pub fn counts(&self) -> Counts
-        requires { ⟦<Node<D, S, G> as Replica>⟧.stopped self.now ≡ false }
-        ensures { AreCountsOf (⟦<Node<D, S, G> as Replica>⟧.stands self.now).me (⟦<Node<D, S, G> as Replica>⟧.records self.now) result }
+        requires { ⟦<Node<D, S, G> as NodeState>⟧.stopped self.now ≡ false }
+        ensures { AreCountsOf (⟦<Node<D, S, G> as NodeState>⟧.stands self.now).me (⟦<Node<D, S, G> as NodeState>⟧.records self.now) result }
     {
-        self.store.counts()
+        self.store.readings().counts()
     }
 
     /// The items of the latest writes of a key among the accepted updates, in rising order of clock, writer, seq and id,
     /// and none for a key that no update writes. An item is a place among the accepted updates, from 0. It takes no memory.
     pub fn latest(&self, key: &Key) -> &[u32]
-        requires { ⟦<Node<D, S, G> as Replica>⟧.stopped self.now ≡ false }
-        ensures latest { AreLatestIn key.now (accepted (⟦<Node<D, S, G> as Replica>⟧.records self.now)) (updates_at (accepted (⟦<Node<D, S, G> as Replica>⟧.records self.now)) result.now) }
-        ensures items { All (λ item. item < length (accepted (⟦<Node<D, S, G> as Replica>⟧.records self.now))) result.now }
+        requires { ⟦<Node<D, S, G> as NodeState>⟧.stopped self.now ≡ false }
+        ensures latest { AreLatestIn key.now (accepted (⟦<Node<D, S, G> as NodeState>⟧.records self.now)) (updates_at (accepted (⟦<Node<D, S, G> as NodeState>⟧.records self.now)) result.now) }
+        ensures items { All (λ item. item < length (accepted (⟦<Node<D, S, G> as NodeState>⟧.records self.now))) result.now }
     {
-        self.store.state().graph().latest(key)
+        self.store.readings().state().graph().latest(key)
     }
 
     /// The update of an item. It takes no memory.
     pub fn update(&self, item: u32) -> &Update
-        requires runs { ⟦<Node<D, S, G> as Replica>⟧.stopped self.now ≡ false }
-        requires item { item < length (accepted (⟦<Node<D, S, G> as Replica>⟧.records self.now)) }
-        ensures { slice_get (accepted (⟦<Node<D, S, G> as Replica>⟧.records self.now)) item ≡ Some result.now }
+        requires runs { ⟦<Node<D, S, G> as NodeState>⟧.stopped self.now ≡ false }
+        requires item { item < length (accepted (⟦<Node<D, S, G> as NodeState>⟧.records self.now)) }
+        ensures { slice_get (accepted (⟦<Node<D, S, G> as NodeState>⟧.records self.now)) item ≡ Some result.now }
     {
-        self.store.state().graph().update(item)
+        self.store.readings().state().graph().update(item)
     }
 
     /// The held value that an item's update writes under a key: that of the hash and the length that its write of this key names.
     /// None exactly where this write is a deletion or its value isn't held. It takes no memory.
     pub fn value_of(&self, item: u32, key: &Key) -> Option<&[u8]>
-        requires runs { ⟦<Node<D, S, G> as Replica>⟧.stopped self.now ≡ false }
-        requires item { item < length (accepted (⟦<Node<D, S, G> as Replica>⟧.records self.now)) }
-        requires writes { (u : Update) → slice_get (accepted (⟦<Node<D, S, G> as Replica>⟧.records self.now)) item ≡ Some u → Writes key.now u }
-        ensures { (u : Update) → slice_get (accepted (⟦<Node<D, S, G> as Replica>⟧.records self.now)) item ≡ Some u → option_copied result ≡ value_seen (seen_under (⟦<Node<D, S, G> as Replica>⟧.records self.now) key.now u) }
+        requires runs { ⟦<Node<D, S, G> as NodeState>⟧.stopped self.now ≡ false }
+        requires item { item < length (accepted (⟦<Node<D, S, G> as NodeState>⟧.records self.now)) }
+        requires writes { (u : Update) → slice_get (accepted (⟦<Node<D, S, G> as NodeState>⟧.records self.now)) item ≡ Some u → Writes key.now u }
+        ensures { IsWrittenAt (⟦<Node<D, S, G> as NodeState>⟧.records self.now) item key.now (option_copied result) }
     {
         let Some(wrote) = self.update(item).wrote(key.bytes()) else {
             unreachable!();
@@ -150,16 +135,14 @@ impl<D: Disk, S: Scheme, G: Signer<Of = S>> Node<D, S, G> {
 
     /// The held value of this hash and of so many bytes, of a node that runs. None exactly where it isn't held. It takes no memory.
     pub fn held_as(&self, name: &NamedValue) -> Option<&[u8]>
-        requires { ⟦<Node<D, S, G> as Replica>⟧.stopped self.now ≡ false }
-        ensures { option_copied result ≡ held_as (⟦<Node<D, S, G> as Replica>⟧.records self.now) name.now }
+        requires { ⟦<Node<D, S, G> as NodeState>⟧.stopped self.now ≡ false }
+        ensures { option_copied result ≡ held_as (⟦<Node<D, S, G> as NodeState>⟧.records self.now) name.now }
     {
-        held_as(&self.store, name)
+        held_as(self.store.readings(), name)
     }
 }
 
-impl<D: Disk, S: Scheme, G: Signer<Of = S>> Replica for Node<D, S, G> {
-    type Of = S;
-
+impl<D: Disk, S: Scheme, G: Signer<Of = S>> NodeState for Node<D, S, G> {
     ghost stands = { λ n. standing S.verifies n.store };
 
     ghost records = { λ n. n.store.records };
@@ -187,6 +170,10 @@ impl<D: Disk, S: Scheme, G: Signer<Of = S>> Replica for Node<D, S, G> {
     ghost reads = { λ n. D.seen n.store.disk };
 
     ghost after = { λ n calls m. D.after n.store.disk calls m.store.disk };
+}
+
+impl<D: Disk, S: Scheme, G: Signer<Of = S>> Replica for Node<D, S, G> {
+    type Of = S;
 
     fn me(&self) -> NodeId {
         self.store.me()
@@ -224,9 +211,9 @@ impl<D: Disk, S: Scheme, G: Signer<Of = S>> Replica for Node<D, S, G> {
         take_value(self.alloc, &mut self.store, text)
     }
 
-    ghost lawful = { λ n. n.lawful };
+    ghost lawful = { λ n. n.kept.lawful };
 
-    ghost some = { λ n. n.some };
+    ghost some = { λ n. n.kept.some };
 
     ghost formed = { λ n. n.formed };
 
@@ -245,4 +232,30 @@ impl<D: Disk, S: Scheme, G: Signer<Of = S>> Replica for Node<D, S, G> {
     ghost signs = { λ n seq body below. G.verifies_under_key n.signer seq body below };
 
     ghost short = { λ n seq body. G.is_short n.signer seq body };
+}
+
+impl<D: Disk, S: Scheme, G: Signer<Of = S>> LocalNode for Node<D, S, G> {
+    fn put(&mut self, key: Key, value: Value) -> Result<PutDone, PutError> {
+        Node::put(self, key, value)
+    }
+
+    fn put_all(&mut self, changes: Changes) -> Result<PutDone, PutError> {
+        Node::put_all(self, changes)
+    }
+
+    fn graph(&self) -> &Graph {
+        Node::graph(self)
+    }
+
+    fn held_as(&self, name: &NamedValue) -> Option<&[u8]> {
+        Node::held_as(self, name)
+    }
+
+    fn value_of(&self, item: u32, key: &Key) -> Option<&[u8]> {
+        Node::value_of(self, item, key)
+    }
+
+    fn counts(&self) -> Counts {
+        Node::counts(self)
+    }
 }

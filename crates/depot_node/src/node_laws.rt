@@ -1,17 +1,15 @@
 //! Laws of starts. Each law is a function that does nothing; its contract is the law.
-ghost use Rattle.std.specs.Prelude.{◌≡◌, ℕ, List, Bool, IsTrue, Some};
+ghost use Rattle.std.specs.Prelude.{◌≡◌, ℕ, List};
 ghost use Rattle.depot_base.specs.declared.key.PublicKey.{PublicKey};
 ghost use Rattle.depot_base.specs.declared.record.Record.{Record};
 ghost use Rattle.depot_model.specs.Checks.{Setting};
 ghost use Rattle.depot_model.specs.Lawful.{IsLawful};
-ghost use Rattle.depot_model.specs.Roster.{key_of};
 ghost use Rattle.depot_model.specs.Stops.{HasRecords};
-ghost use Rattle.depot_node.specs.Starting.{IsNotStarted, IsStartedFrom, LeavesFile, started};
-ghost use Rattle.depot_node.specs.declared.start_error.StartError.{StartError};
+ghost use Rattle.depot_node.specs.Starting.{IsStartedFrom, LawfulFilesStart, started};
 
 /// From a file with the records of a lawful journal the node is started again: with its key a start is refused for want of memory or
 /// by the disk alone, and the node that is started has these records, or a birth where there are none.
 pub fn lawful_files_start()
-    ensures started { (here : Setting) (key : PublicKey) (told : Bool) (file : List ℕ) (J : List Record) (e : StartError) → IsTrue told → key_of here.listed here.me ≡ Some key → HasRecords J file → IsLawful here J → IsNotStarted here key (IsTrue told) file e → LeavesFile e → ⊥ }
+    ensures started { (here : Setting) (key : PublicKey) → LawfulFilesStart here key }
     ensures same { (here : Setting) (file : List ℕ) (J records : List Record) → HasRecords J file → IsLawful here J → IsStartedFrom here file records → records ≡ started here J }
 {}

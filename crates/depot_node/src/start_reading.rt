@@ -1,24 +1,22 @@
 //! The records of a journal are read one by one, each checked as if it came now.
-ghost use Rattle.std.specs.Prelude.{◌≡◌, ◌≢◌, ◌∷◌, [], ℕ, List, true, false, map, IsTrue, OnOk, OnErr, IfOk, IfErr, IsErrOf};
-ghost use Rattle.depot_base.specs.Calls.{FailsAmong, made};
-ghost use Rattle.depot_base.specs.declared.record.Record.{Record};
-ghost use Rattle.depot_model.specs.Lawful.{IsLawful};
-ghost use Rattle.depot_model.specs.Records.{text_of_record};
-ghost use Rattle.depot_model.specs.Replicas.{KeepsDisk};
-ghost use Rattle.depot_model.specs.Roster.{has_node};
-ghost use Rattle.depot_model.specs.Stops.{CallsDisk, Lasts, LeavesAll, calls_to_record};
-ghost use Rattle.depot_model.specs.Texts.{hash_of_roster};
+ghost use Rattle.std.specs.Prelude.{◌≡◌, ◌∷◌, [], ℕ, List, true, false, IsTrue, OnOk, OnErr, IfOk, IfErr, IsErrOf};
+ghost use Rattle.depot_model.specs.JournalCalls.{KeepsDisk};
 ghost use Rattle.depot_model.specs.RecordFaults.{AreTextsOf};
-ghost use Rattle.depot_store.specs.Holdings.{standing, IsWhole};
-ghost use Rattle.depot_node.specs.Starting.{AreOwn, AreNotRead, LeavesBetween, LeavesFile, LeavesNew, StartLeaves, birth_after, started};
-ghost use Rattle.depot_node.specs.StartReading.{IsReadOn, IsNextWrong, AreWrong, IsOtherBirth, AreOther};
+ghost use Rattle.depot_model.specs.Roster.{has_node};
+ghost use Rattle.depot_model.specs.Stops.{LeavesAll};
+ghost use Rattle.depot_model.specs.Texts.{hash_of_roster};
+ghost use Rattle.depot_node.specs.Holdings.{IsWhole, journal_on, standing};
+ghost use Rattle.depot_node.specs.Starting.{AreOwn, LeavesFile, birth_after, started};
+ghost use Rattle.depot_node.specs.StartReading.{IsBirthCall, IsDiskFilled, IsFilled, IsNotFilled, IsReadOn, IsNextWrong, AreWrong, IsOtherBirth, AreOther};
 
-use crate::record_check::{ReadError, check_record};
+use crate::commit::WriteError;
 use crate::start_error::StartError;
+use crate::store::Store;
 use depot_base::{DecodeError, Hash32, NodeId, Record};
+use depot_decide::{Fit, ReadError, check_record};
 use depot_model::Scheme;
 use depot_outside::Disk;
-use depot_store::{Growth, Store, WriteError};
+use depot_readings::Growth;
 use depot_update::decode_record;
 use std::alloc::Global;
 
@@ -29,18 +27,11 @@ pub fn fill<D: Disk, S: Scheme>(alloc: Global, store: &mut Store<D, S>) -> Resul
     requires runs { store.old.stopped ≡ false }
     requires none { store.old.records ≡ [] }
     requires listed { has_node store.old.listed store.old.me ≡ true }
-    ensures records { OnOk result ((J : List Record) × (AreTextsOf (standing S.verifies store.old) J store.old.unread × (store.new.records ≡ started (standing S.verifies store.old) J))) }
-    ensures whole { OnOk result (IsWhole store.new) }
-    ensures refused { IfErr result (AreNotRead (standing S.verifies store.old) store.old.unread) }
-    ensures unchanged { IfErr result (λ e. LeavesFile e → store.new.disk ≡ store.old.disk) }
+    ensures filled { OnOk result (IsFilled D.Disk (standing S.verifies store.old) store.old store.new) }
+    ensures refused { IfErr result (IsNotFilled D.Disk (standing S.verifies store.old) store.old store.new) }
     ensures stands { standing S.verifies store.new ≡ standing S.verifies store.old }
-    ensures disk { KeepsDisk (D.handle store.old.disk) (D.handle store.new.disk) (D.faults store.old.disk) (D.faults store.new.disk) (D.is_faultless store.old.disk) (D.is_faultless store.new.disk) (IsErrOf result StartError.Disk) }
-    ensures tells { D.tells store.new.disk ≡ D.tells store.old.disk }
-    ensures calls { OnOk result ((J : List Record) → store.old.unread ≡ map text_of_record J → D.after store.old.disk (made (calls_to_record J (birth_after (standing S.verifies store.old) J))) store.new.disk) }
-    ensures failing { IsErrOf result StartError.Disk → (J : List Record) → store.old.unread ≡ map text_of_record J → FailsAmong D.after store.old.disk store.new.disk (calls_to_record J (birth_after (standing S.verifies store.old) J)) }
-    ensures any_moment { IsTrue (D.tells store.old.disk) → LeavesBetween (D.moment store.old.disk) (D.moment store.new.disk) (D.left_since store.old.disk) (D.left_since store.new.disk) (StartLeaves (standing S.verifies store.old) (store.old.unread ≡ []) (D.may_leave store.old.disk)) }
-    ensures unborn { IfErr result (λ e. e ≢ StartError.Disk → IsTrue (D.tells store.old.disk) → LeavesBetween (D.moment store.old.disk) (D.moment store.new.disk) (D.left_since store.old.disk) (D.left_since store.new.disk) (LeavesNew [] (store.old.unread ≡ []) (D.may_leave store.old.disk))) }
-    ensures stable { OnOk result (IsTrue (D.tells store.old.disk) → LeavesAll store.new.records false (D.may_leave store.new.disk)) }
+    ensures disk { KeepsDisk (journal_on D.Disk) store.old store.new (IsErrOf result StartError.Disk) }
+    ensures left { IsDiskFilled D.Disk (standing S.verifies store.old) store.old store.new }
 {
     let Some(text) = store.unread() else {
         return add_birth(alloc, store);
@@ -59,20 +50,15 @@ fn add_birth<D: Disk, S: Scheme>(alloc: Global, store: &mut Store<D, S>) -> Resu
     ensures whole { OnOk result (IsWhole store.new) }
     ensures refused { IfErr result (λ e. LeavesFile e → ⊥) }
     ensures stands { standing S.verifies store.new ≡ standing S.verifies store.old }
-    ensures disk { KeepsDisk (D.handle store.old.disk) (D.handle store.new.disk) (D.faults store.old.disk) (D.faults store.new.disk) (D.is_faultless store.old.disk) (D.is_faultless store.new.disk) (IsErrOf result StartError.Disk) }
-    ensures lasts { Lasts (λ v. D.tells v.disk) (λ v. v.stopped) (λ v. v.records) (λ v. D.moment v.disk) (λ v t file. D.left_since v.disk t file) (λ v file. D.may_leave v.disk file) store.old store.new (birth_after (standing S.verifies store.old) []) }
-    ensures calls { CallsDisk (λ v calls w. D.after v.disk calls w.disk) (λ v. D.seen v.disk) (λ v. v.stopped) (λ v. v.records) store.old store.new (birth_after (standing S.verifies store.old) []) (IsErrOf result StartError.Disk) }
-    ensures idle { IfErr result (λ e. e ≢ StartError.Disk → Lasts (λ v. D.tells v.disk) (λ v. v.stopped) (λ v. v.records) (λ v. D.moment v.disk) (λ v t file. D.left_since v.disk t file) (λ v file. D.may_leave v.disk file) store.old store.new []) }
+    ensures call { IsBirthCall D.Disk store.old store.new (birth_after (standing S.verifies store.old) []) result }
 {
-    // Called for its clause alone: what a stop may leave has the records.
-    let _runs = store.is_stopped();
     let node = store.me();
     let roster = store.roster();
     // Called for its clause alone: the entries make a roster, so the birth record has a text.
     let _entries = roster.entries();
-    let roster = *roster.hash();
-    let growth = Growth::one(alloc, Record::Birth { node, roster }, Hash32::zeros())?;
-    match store.append(growth) {
+    let hash = *roster.hash();
+    let birth = Growth::birth(node, hash);
+    match store.append(alloc, birth, None, &[]) {
         Ok(()) => Ok(()),
         Err(WriteError::Memory) => Err(StartError::Memory),
         Err(WriteError::Disk) => Err(StartError::Disk),
@@ -143,7 +129,6 @@ fn read_all<D: Disk, S: Scheme>(alloc: Global, store: &mut Store<D, S>) -> Resul
 /// Reads the first record that wasn't read yet. False where every record was.
 fn read_next<D: Disk, S: Scheme>(alloc: Global, store: &mut Store<D, S>) -> Result<bool, StartError>
     requires runs { store.old.stopped ≡ false }
-    requires lawful { IsLawful (standing S.verifies store.old) store.old.records }
     ensures read { IfOk result (λ more. more ≡ true → IsReadOn (standing S.verifies store.old) store.old store.new) }
     ensures end { IfOk result (λ more. more ≡ false → (store.old.unread ≡ []) × (store.new ≡ store.old)) }
     ensures wrong { IfErr result (IsNextWrong (standing S.verifies store.old) store.old.records store.old.unread) }
@@ -152,9 +137,9 @@ fn read_next<D: Disk, S: Scheme>(alloc: Global, store: &mut Store<D, S>) -> Resu
     let Some(text) = store.unread() else {
         return Ok(false);
     };
-    match check_record(alloc, store, text) {
-        Ok(growth) => {
-            store.read(growth)?;
+    match check_record(alloc, store.readings(), text) {
+        Ok(Fit { growth, parents }) => {
+            store.read(growth, parents)?;
             Ok(true)
         }
         Err(ReadError::Memory) => Err(StartError::Memory),

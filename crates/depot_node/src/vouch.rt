@@ -1,19 +1,18 @@
 //! The vouchers that a node makes for what it took from others: what is decided of them is carried out.
-ghost use Rattle.std.specs.Prelude.{◌≡◌, ◌≢◌, [], true, false, IfErr, IsErrOf};
+ghost use Rattle.std.specs.Prelude.{◌≡◌, true, false};
 ghost use Rattle.std.specs.List.{AllByRecursion};
 ghost use Rattle.depot_model.specs.Journal.{accepted, is_foreign};
-ghost use Rattle.depot_model.specs.Lawful.{IsLawful, is_empty};
 ghost use Rattle.depot_model.specs.Lists.{AreApart};
-ghost use Rattle.depot_model.specs.Replicas.{StopsBy, KeepsDisk};
-ghost use Rattle.depot_model.specs.Stops.{CallsDisk, Lasts};
-ghost use Rattle.depot_model.specs.Vouching.{Vouches, is_mine_vouched, new_vouchers, records_of};
-ghost use Rattle.depot_store.specs.Holdings.{standing};
+ghost use Rattle.depot_model.specs.Vouching.{Vouches, is_mine_vouched};
+ghost use Rattle.depot_node.specs.Holdings.{standing};
+ghost use Rattle.depot_node.specs.StoreCalls.{IsKept, IsStoreVouch};
 
+use crate::commit::CommitError;
+use crate::store::Store;
 use depot_base::Ids;
 use depot_decide::decide_vouchers;
 use depot_model::{Scheme, VoucherError};
 use depot_outside::Disk;
-use depot_store::{CommitError, Store};
 use std::alloc::Global;
 
 /// Vouches for accepted updates of others that the node hasn't vouched for, and keeps the journal lawful: one own voucher for each
@@ -26,28 +25,20 @@ pub fn own_vouchers<D: Disk, S: Scheme>(
     store: &mut Store<D, S>,
     ids: &Ids,
 ) -> Result<(), VoucherError>
-    requires read { store.old.unread ≡ [] }
-    requires lawful { IsLawful (standing S.verifies store.old) store.old.records }
-    requires some { is_empty store.old.records ≡ false }
+    requires kept { IsKept S.verifies store.old }
     requires apart { AreApart ids.now }
     requires foreign { AllByRecursion (λ h. is_foreign store.old.me (accepted store.old.records) h ≡ true) ids.now }
     requires fresh { AllByRecursion (λ h. is_mine_vouched store.old.records h ≡ false) ids.now }
     ensures vouches { Vouches (standing S.verifies store.old) store.old.records ids.now result store.new.records }
     ensures stands { standing S.verifies store.new ≡ standing S.verifies store.old }
-    ensures lawful { IsLawful (standing S.verifies store.new) store.new.records }
-    ensures some { is_empty store.new.records ≡ false }
-    ensures read { store.new.unread ≡ [] }
-    ensures stops { StopsBy store.old.stopped store.new.stopped (IsErrOf result VoucherError.Stopped) (IsErrOf result VoucherError.Disk) }
-    ensures disk { KeepsDisk (D.handle store.old.disk) (D.handle store.new.disk) (D.faults store.old.disk) (D.faults store.new.disk) (D.is_faultless store.old.disk) (D.is_faultless store.new.disk) (IsErrOf result VoucherError.Disk) }
-    ensures lasts { Lasts (λ v. D.tells v.disk) (λ v. v.stopped) (λ v. v.records) (λ v. D.moment v.disk) (λ v t file. D.left_since v.disk t file) (λ v file. D.may_leave v.disk file) store.old store.new (records_of (new_vouchers store.old.me store.old.records ids.now)) }
-    ensures calls { CallsDisk (λ v calls w. D.after v.disk calls w.disk) (λ v. D.seen v.disk) (λ v. v.stopped) (λ v. v.records) store.old store.new (records_of (new_vouchers store.old.me store.old.records ids.now)) (IsErrOf result VoucherError.Disk) }
-    ensures idle { IfErr result (λ e. e ≢ VoucherError.Disk → Lasts (λ v. D.tells v.disk) (λ v. v.stopped) (λ v. v.records) (λ v. D.moment v.disk) (λ v t file. D.left_since v.disk t file) (λ v file. D.may_leave v.disk file) store.old store.new []) }
+    ensures kept { IsKept S.verifies store.new }
+    ensures call { IsStoreVouch D.Disk S.verifies store.old store.new ids.now result }
 {
     if store.is_stopped() {
         return Err(VoucherError::Stopped);
     }
-    let growth = decide_vouchers(alloc, store, ids.as_slice())?;
-    match store.commit(growth) {
+    let growth = decide_vouchers(alloc, store.readings(), ids.as_slice())?;
+    match store.commit(alloc, growth, None, &[]) {
         Ok(()) => Ok(()),
         Err(CommitError::Memory) => Err(VoucherError::Memory),
         Err(CommitError::Disk) => Err(VoucherError::Disk),

@@ -4,13 +4,13 @@ use Rattle.std.specs.Prelude.{IsErrOf}
 use Rattle.std.proofs.lemmas.List.{append-nil}
 use Rattle.depot_answers.specs.AnswerTexts.{spaced, text_of_unopened}
 use Rattle.depot_base.specs.declared.record.Record.{Record}
-use Rattle.depot_decide.specs.Putting.{Puts}
-use Rattle.depot_decide.specs.declared.put_answers.PutDone.{PutDone}
-use Rattle.depot_decide.specs.declared.put_answers.PutError.{PutError}
-use Rattle.depot_decide.specs.declared.put_answers.PutError.TheVariants as put
+use Rattle.depot_model.specs.Putting.{Puts}
+use Rattle.depot_model.specs.declared.put_answers.PutDone.{PutDone}
+use Rattle.depot_model.specs.declared.put_answers.PutError.{PutError}
+use Rattle.depot_model.specs.declared.put_answers.PutError.TheVariants as put
 use Rattle.depot_model.specs.Checks.{Setting}
 use Rattle.depot_model.specs.Limits.{Limit, limit_of_put}
-use Rattle.depot_model.specs.Opening.{MadeCheckpoint, no_leaves, many_leaves, made_text, make_of, Opened, opened, opened_text, ill_at, of_roster, with_unknown}
+use Rattle.depot_model.specs.Opening.{MadeCheckpoint, no_leaves, many_leaves, made_text, make_of, Opened, opened_text, ill_at, of_roster, with_unknown}
 use Rattle.depot_model.specs.World.{Correct}
 use Rattle.depot_trim.specs.Making.{Makes}
 use Rattle.depot_trim.specs.Signing.{Signs, PutsCheckpoint}
@@ -136,6 +136,20 @@ sign_cut (Err (sign.Spent n)) answer is = (λ e. cc, λ e. cc)
 sign_cut (Err (sign.Tips n)) answer is = (λ e. cc, λ e. cc)
 sign_cut (Err (sign.Collides h)) answer is = (λ e. cc, λ e. cc)
 sign_cut (Err (sign.Full what)) answer is = (λ e. cc, λ e. cc)
+
+-- it was stopped for both
+pub sign_stopped : (done : Result PutDone CheckpointError) (answer : Result PutDone PutError) → sign_outcome done ≡ Put answer → IsErrOf answer put.Stopped → IsErrOf done sign.Stopped
+sign_stopped (Ok done) answer is = λ e. cc
+sign_stopped (Err sign.Memory) answer is = λ e. cc
+sign_stopped (Err sign.Disk) answer is = λ e. cc
+sign_stopped (Err sign.Stopped) answer is = λ e. refl
+sign_stopped (Err (sign.IllFormed at)) answer is = λ e. cc
+sign_stopped (Err (sign.OtherRoster given mine)) answer is = λ e. cc
+sign_stopped (Err (sign.Unknown id)) answer is = λ e. cc
+sign_stopped (Err (sign.Spent n)) answer is = λ e. cc
+sign_stopped (Err (sign.Tips n)) answer is = λ e. cc
+sign_stopped (Err (sign.Collides h)) answer is = λ e. cc
+sign_stopped (Err (sign.Full what)) answer is = λ e. cc
 
 -- ---- a text that isn't opened
 

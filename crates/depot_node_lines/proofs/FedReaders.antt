@@ -1,12 +1,14 @@
 -- How a reader is fed frame by frame, and what is told of it.
 use Rattle.std.proofs.Common.{◌≡◌, ◌≢◌, ℕ, zero, suc, ◌+◌, ◌-◌, ◌<◌, ◌≤◌, List, [], ◌∷◌, ◌++◌, length, take, drop, get_or, map, Bool, true, false, not, cond, ◌||◌, Option, Some, None, Result, Ok, Err, refl, sym, ap, subst, ◌∙◌, arith}
 use Rattle.std.specs.Option.{option_map_or}
-use Rattle.std.specs.Prelude.{nat_lt, slice_get, ◌==◌, if◌then◌else◌}
+use Rattle.std.specs.Prelude.{nat_lt, slice_get, ◌==◌}
 use Rattle.std.specs.Int.{w32, from_be_bytes}
-use Rattle.std.proofs.lemmas.Bool.Decides.{nat_tests}
 use Rattle.std.proofs.lemmas.Grind.{flat_map-append}
 use Rattle.std.proofs.lemmas.List.{append-nil, drop-drop, length-drop, length-take, map-append}
 use Rattle.depot_answers.specs.AnswerTexts.{spaced, text_of_write}
+use Rattle.depot_base.specs.Tags.{frame_byte}
+use Rattle.depot_base.specs.declared.tags.FrameTag.{FrameTag}
+use Rattle.depot_base.specs.declared.tags.FrameTag.TheVariants as frame_tag
 use Rattle.depot_base.specs.declared.check.Check.{Check}
 use Rattle.depot_base.specs.declared.check.Full.{Full}
 use Rattle.depot_base.specs.declared.limits.TheConstants.{MOST_FRAMES}
@@ -29,7 +31,7 @@ use Rattle.depot_model.specs.Lawful.{IsLawful}
 use Rattle.depot_model.specs.Lists.{IsIn}
 use Rattle.depot_model.specs.Order.{AreLatestIn, Precedes}
 use Rattle.depot_model.specs.ReaderFeeds.{ReaderFeed, frames_from, reader_fed, reader_feed_from, reader_feed_of, told_more}
-use Rattle.depot_model.specs.Readers.{Reader, ReaderOutcome, stands_below, too_full, told, reader_takes, seen_among, seen_by_reader, shown_by_reader}
+use Rattle.depot_model.specs.Readers.{Reader, stands_below, too_full, told, reader_takes, seen_among, seen_by_reader, shown_by_reader}
 use Rattle.depot_model.specs.Roster.{Verifies}
 use Rattle.depot_model.specs.World.{Shown}
 use Rattle.depot_model.specs.declared.taken.Taken.{Taken}
@@ -37,7 +39,7 @@ use Rattle.depot_model.specs.declared.taken.Taken.TheVariants.{New, Known}
 use Rattle.depot_model.proofs.Elements.{one_more}
 use Rattle.depot_model.proofs.LatestLaws.{one_latest_list}
 use Rattle.depot_model.proofs.LatestWrites.{latest_are_listed}
-use Rattle.depot_node.specs.ShownValues.{value_seen}
+use Rattle.depot_local.specs.ShownValues.{value_seen}
 use Rattle.depot_trim.specs.ReaderAnswers.{ReaderTakes}
 use Rattle.depot_trim.specs.ReaderView.{IsReaderOf}
 use Rattle.depot_trim.specs.declared.trim_error.TrimTake.{TrimTake}
@@ -105,20 +107,23 @@ part_is at end tag stream payload is ends =
     sym (payload_behind (drop at stream) (record { tag = tag; payload = payload }) is ∙ ap (take (length payload)) (drop-drop 5 at stream) ∙ ap (λ (k : ℕ). take k (drop (at + 5) stream)) (sym long))
 
 -- a frame stands within its stream
-pub ends_within : (at end tag : ℕ) (stream : List ℕ) → at ≤ length stream → StandsAt (frame_at (drop at stream)) at (place.Frame tag end) → end ≤ length stream
+pub ends_within : (at end : ℕ) (tag : FrameTag) (stream : List ℕ) → at ≤ length stream → StandsAt (frame_at (drop at stream)) at (place.Frame tag end) → end ≤ length stream
 ends_within at end tag stream low stands =
-    let within = whole_within (drop at stream) (record { tag = tag; payload = stands.0 }) stands.1.0 in
+    let within = whole_within (drop at stream) (record { tag = frame_byte tag; payload = stands.0 }) stands.1.0 in
     omega (arith, within, length-drop at stream, stands.1.1, low)
 
 -- the tag of End
-pub is_end : (tag : ℕ) → tag ≡ 4 → (tag == 4) ≡ true
-is_end tag is = grind (arith, nat_tests, is)
+pub is_end : (tag : FrameTag) → tag ≡ frame_tag.End → (frame_byte tag == 4) ≡ true
+is_end tag is = ap (λ (t : FrameTag). frame_byte t == 4) is
 
-pub is_no_end : (tag : ℕ) → (tag ≡ 4 → ⊥) → (tag == 4) ≡ false
-is_no_end tag isnt = grind (arith, nat_tests, isnt)
+pub is_no_end : (tag : FrameTag) → (tag ≡ frame_tag.End → ⊥) → (frame_byte tag == 4) ≡ false
+is_no_end frame_tag.Proof isnt = refl
+is_no_end frame_tag.Statement isnt = refl
+is_no_end frame_tag.Value isnt = refl
+is_no_end frame_tag.End isnt = absurd (isnt refl)
 
 -- where no frame stands no more are taken
-pub no_frame_stands : (n at : ℕ) (bytes : List ℕ) (p : Place) → StandsAt (frame_at bytes) at p → ((tag end : ℕ) → p ≡ place.Frame tag end → ⊥) → frames_from n bytes ≡ []
+pub no_frame_stands : (n at : ℕ) (bytes : List ℕ) (p : Place) → StandsAt (frame_at bytes) at p → ((tag : FrameTag) (end : ℕ) → p ≡ place.Frame tag end → ⊥) → frames_from n bytes ≡ []
 no_frame_stands n at bytes place.Open is never = no_more_frames n bytes is
 no_frame_stands n at bytes place.Ill is never = no_frame_more n bytes is
 no_frame_stands n at bytes (place.Frame tag end) is never = absurd (never tag end refl)
@@ -255,14 +260,14 @@ taken_most n taken bytes all = let none : n - taken ≡ 0 = omega (arith, all) i
 abbrev Takes : {S : Type 0} → Verifies → Trimmed S → ℕ → List ℕ → Result Taken TrimTake → Trimmed S → Type 0
 Takes verifies old tag part answer new = (R : Reader) → IsReaderOf verifies R old → ReaderTakes verifies R (form_of tag) part answer new
 
-pub taking_on : {S : Type 0} (verifies : Verifies) (start : Trimmed S) (stream part : List ℕ) (at taken tag end : ℕ) (t now : ReaderFeedResult) (old new : Trimmed S) (answer : Result Taken TrimTake) → IsTaking verifies start stream at taken t old → taken < MOST_FRAMES → StandsAt (frame_at (drop at stream)) at (place.Frame tag end) → end ≤ length stream
-    → (tag == 4) ≡ false → part ≡ take (end - (at + 5)) (drop (at + 5) stream) → Takes verifies old tag part answer new → now ≡ counted answer t → goes_on answer ≡ true → IsTaking verifies start stream end (taken + 1) now new
-taking_on {S} verifies start stream part at taken tag end t now old new answer k some stands within going cut takes is on =
+pub taking_on : {S : Type 0} (verifies : Verifies) (start : Trimmed S) (stream part : List ℕ) (at taken end : ℕ) (tag : FrameTag) (t now : ReaderFeedResult) (old new : Trimmed S) (answer : Result Taken TrimTake) → IsTaking verifies start stream at taken t old → taken < MOST_FRAMES → StandsAt (frame_at (drop at stream)) at (place.Frame tag end) → end ≤ length stream
+    → (frame_byte tag == 4) ≡ false → part ≡ take (end - (at + 5)) (drop (at + 5) stream) → Takes verifies old (frame_byte tag) part answer new → now ≡ counted answer t → goes_on answer ≡ true → IsTaking verifies start stream end (taken + 1) now new
+taking_on {S} verifies start stream part at taken end tag t now old new answer k some stands within going cut takes is on =
     let payload = stands.0 in
-    let f : Frame = record { tag = tag; payload = payload } in
-    let same : part ≡ payload = cut ∙ part_is at end tag stream payload stands.1.0 stands.1.1 in
-    let next = next_frame MOST_FRAMES taken at end tag stream payload some stands.1.0 stands.1.1 going in
-    let takes_it : (R : Reader) → IsReaderOf verifies R old → ReaderTakes verifies R (form_of tag) payload answer new = λ R reads. subst (λ (x : List ℕ). ReaderTakes verifies R (form_of tag) x answer new) same (takes R reads) in
+    let f : Frame = record { tag = frame_byte tag; payload = payload } in
+    let same : part ≡ payload = cut ∙ part_is at end (frame_byte tag) stream payload stands.1.0 stands.1.1 in
+    let next = next_frame MOST_FRAMES taken at end (frame_byte tag) stream payload some stands.1.0 stands.1.1 going in
+    let takes_it : (R : Reader) → IsReaderOf verifies R old → ReaderTakes verifies R (form_of (frame_byte tag)) payload answer new = λ R reads. subst (λ (x : List ℕ). ReaderTakes verifies R (form_of (frame_byte tag)) x answer new) same (takes R reads) in
     let count : MOST_FRAMES - taken - 1 ≡ MOST_FRAMES - (taken + 1) = omega (arith, some) in
     subst (λ (x : ReaderFeedResult). IsTaking verifies start stream end (taken + 1) x new) (sym is) (record {
       within = within;
@@ -273,16 +278,16 @@ taking_on {S} verifies start stream part at taken tag end t now old new answer k
           (fed_on verifies (reader_feed_of R stream) (MOST_FRAMES - taken) (drop at stream) (drop end stream) f t answer old new so next (takes_it so.feed.reader so.is_reader) on);
     })
 
-pub taking_full : {S : Type 0} (verifies : Verifies) (start : Trimmed S) (stream part : List ℕ) (at taken tag end : ℕ) (t now : ReaderFeedResult) (old new : Trimmed S) (answer : Result Taken TrimTake) → IsTaking verifies start stream at taken t old → taken < MOST_FRAMES → StandsAt (frame_at (drop at stream)) at (place.Frame tag end)
-    → (tag == 4) ≡ false → part ≡ take (end - (at + 5)) (drop (at + 5) stream) → Takes verifies old tag part answer new → now ≡ counted answer t → goes_on answer ≡ false → answer ≢ Err failed.Memory → (R : Reader) → IsReaderOf verifies R start → IsReaderFed verifies (reader_feed_of R stream) (Ok now) new
-taking_full verifies start stream part at taken tag end t now old new answer k some stands going cut takes is on found R reads =
+pub taking_full : {S : Type 0} (verifies : Verifies) (start : Trimmed S) (stream part : List ℕ) (at taken end : ℕ) (tag : FrameTag) (t now : ReaderFeedResult) (old new : Trimmed S) (answer : Result Taken TrimTake) → IsTaking verifies start stream at taken t old → taken < MOST_FRAMES → StandsAt (frame_at (drop at stream)) at (place.Frame tag end)
+    → (frame_byte tag == 4) ≡ false → part ≡ take (end - (at + 5)) (drop (at + 5) stream) → Takes verifies old (frame_byte tag) part answer new → now ≡ counted answer t → goes_on answer ≡ false → answer ≢ Err failed.Memory → (R : Reader) → IsReaderOf verifies R start → IsReaderFed verifies (reader_feed_of R stream) (Ok now) new
+taking_full verifies start stream part at taken end tag t now old new answer k some stands going cut takes is on found R reads =
     let payload = stands.0 in
-    let f : Frame = record { tag = tag; payload = payload } in
-    let same : part ≡ payload = cut ∙ part_is at end tag stream payload stands.1.0 stands.1.1 in
-    let next = next_frame MOST_FRAMES taken at end tag stream payload some stands.1.0 stands.1.1 going in
+    let f : Frame = record { tag = frame_byte tag; payload = payload } in
+    let same : part ≡ payload = cut ∙ part_is at end (frame_byte tag) stream payload stands.1.0 stands.1.1 in
+    let next = next_frame MOST_FRAMES taken at end (frame_byte tag) stream payload some stands.1.0 stands.1.1 going in
     let so = k.so_far R reads in
     subst (λ (x : ReaderFeedResult). IsReaderFed verifies (reader_feed_of R stream) (Ok x) new) (sym is)
-    (fed_to_full verifies (reader_feed_of R stream) (MOST_FRAMES - taken) (drop at stream) (drop end stream) f t answer old new so next (subst (λ (x : List ℕ). ReaderTakes verifies so.feed.reader (form_of tag) x answer new) same (takes so.feed.reader so.is_reader)) on found)
+    (fed_to_full verifies (reader_feed_of R stream) (MOST_FRAMES - taken) (drop at stream) (drop end stream) f t answer old new so next (subst (λ (x : List ℕ). ReaderTakes verifies so.feed.reader (form_of (frame_byte tag)) x answer new) same (takes so.feed.reader so.is_reader)) on found)
 
 -- ---- what it shows
 

@@ -4,9 +4,9 @@ use Rattle.std.specs.Prelude.{IsErrOf}
 use Rattle.std.proofs.lemmas.List.{append-nil}
 use Rattle.depot_answers.specs.AnswerTexts.{spaced, text_of_no_receipt}
 use Rattle.depot_base.specs.declared.record.Record.{Record}
-use Rattle.depot_decide.specs.declared.put_answers.PutDone.{PutDone}
-use Rattle.depot_decide.specs.declared.put_answers.PutError.{PutError}
-use Rattle.depot_decide.specs.declared.put_answers.PutError.TheVariants as put
+use Rattle.depot_model.specs.declared.put_answers.PutDone.{PutDone}
+use Rattle.depot_model.specs.declared.put_answers.PutError.{PutError}
+use Rattle.depot_model.specs.declared.put_answers.PutError.TheVariants as put
 use Rattle.depot_model.specs.Checks.{Setting}
 use Rattle.depot_model.specs.Receipts.{NoReceipt, no_receipt}
 use Rattle.depot_model.specs.World.{Correct}
@@ -64,18 +64,6 @@ settled_by_put (Err (give.Tips n)) answer is settles = tt
 settled_by_put (Err (give.Collides h)) answer is settles = tt
 settled_by_put (Err (give.Full what)) answer is settles = tt
 
-pub put_settled : (done : Result PutDone GiveError) (answer : Result PutDone PutError) → outcome_of done ≡ Put answer → SettlesGive done → SettlesPut answer
-put_settled (Ok done) answer is settles = subst SettlesPut (one_put _ answer is) tt
-put_settled (Err give.Memory) answer is settles = absurd settles
-put_settled (Err give.Disk) answer is settles = subst SettlesPut (one_put _ answer is) tt
-put_settled (Err give.Stopped) answer is settles = absurd settles
-put_settled (Err (give.Unknown h)) answer is settles = absurd cc
-put_settled (Err (give.NoValue h)) answer is settles = absurd cc
-put_settled (Err (give.Spent n)) answer is settles = subst SettlesPut (one_put _ answer is) tt
-put_settled (Err (give.Tips n)) answer is settles = subst SettlesPut (one_put _ answer is) tt
-put_settled (Err (give.Collides h)) answer is settles = subst SettlesPut (one_put _ answer is) tt
-put_settled (Err (give.Full what)) answer is settles = subst SettlesPut (one_put _ answer is) tt
-
 -- the disk failed for both
 pub cut_by_put : (done : Result PutDone GiveError) (answer : Result PutDone PutError) → outcome_of done ≡ Put answer → IsErrOf answer put.Disk ↔ IsErrOf done give.Disk
 cut_by_put (Ok done) answer is = (λ e. cc, λ e. cc)
@@ -88,6 +76,19 @@ cut_by_put (Err (give.Spent n)) answer is = (λ e. cc, λ e. cc)
 cut_by_put (Err (give.Tips n)) answer is = (λ e. cc, λ e. cc)
 cut_by_put (Err (give.Collides h)) answer is = (λ e. cc, λ e. cc)
 cut_by_put (Err (give.Full what)) answer is = (λ e. cc, λ e. cc)
+
+-- it was stopped for both
+pub stopped_by_put : (done : Result PutDone GiveError) (answer : Result PutDone PutError) → outcome_of done ≡ Put answer → IsErrOf answer put.Stopped → IsErrOf done give.Stopped
+stopped_by_put (Ok done) answer is = λ e. cc
+stopped_by_put (Err give.Memory) answer is = λ e. cc
+stopped_by_put (Err give.Disk) answer is = λ e. cc
+stopped_by_put (Err give.Stopped) answer is = λ e. refl
+stopped_by_put (Err (give.Unknown h)) answer is = λ e. cc
+stopped_by_put (Err (give.NoValue h)) answer is = λ e. cc
+stopped_by_put (Err (give.Spent n)) answer is = λ e. cc
+stopped_by_put (Err (give.Tips n)) answer is = λ e. cc
+stopped_by_put (Err (give.Collides h)) answer is = λ e. cc
+stopped_by_put (Err (give.Full what)) answer is = λ e. cc
 
 -- ---- none was tried
 

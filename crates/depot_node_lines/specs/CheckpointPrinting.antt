@@ -1,20 +1,29 @@
 -- What is printed of checkpoints.
-use Rattle.std.specs.Prelude.{◌≡◌, ℕ, List, [], ◌++◌, Result, Ok, Err, codes}
+use Rattle.std.specs.Prelude.{◌≡◌, ℕ, List, [], ◌++◌, Option, Result, Ok, Err, codes}
 use Rattle.depot_answers.specs.AnswerTexts.{text_of_number, spaced, text_of_empty, text_of_many, text_of_unsigned}
-use Rattle.depot_decide.specs.declared.put_answers.PutDone.{PutDone}
-use Rattle.depot_decide.specs.declared.put_answers.PutError.{PutError}
-use Rattle.depot_decide.specs.declared.put_answers.PutError.TheVariants as put
+use Rattle.depot_base.specs.declared.record.Record.{Record}
+use Rattle.depot_model.specs.Checks.{Setting}
+use Rattle.depot_model.specs.Opening.{make_of, made_text}
+use Rattle.depot_model.specs.Putting.{Puts}
+use Rattle.depot_model.specs.World.{Correct}
+use Rattle.depot_model.specs.declared.put_answers.PutDone.{PutDone}
+use Rattle.depot_model.specs.declared.put_answers.PutError.{PutError}
+use Rattle.depot_model.specs.declared.put_answers.PutError.TheVariants as put
+use Rattle.depot_trim.specs.Signing.{Signs}
 use Rattle.depot_trim.specs.declared.make_error.MakeError.{MakeError}
 use Rattle.depot_trim.specs.declared.make_error.MakeError.TheVariants as make
 use Rattle.depot_trim.specs.declared.sign_error.CheckpointError.{CheckpointError}
 use Rattle.depot_trim.specs.declared.sign_error.CheckpointError.TheVariants as sign
 use Rattle.depot_trim.specs.declared.trim_error.TrimError.{TrimError}
 use Rattle.depot_trim.specs.declared.trim_error.TrimError.TheVariants as trim
+use Rattle.depot_world.specs.Effects.{checkpoint_by, checkpoint_changes, sign_by}
 use Rattle.depot_world.specs.Transcript.{ended}
+use Rattle.depot_node_lines.specs.Printing.{IsPrintOf}
 use Rattle.depot_node_lines.specs.declared.checkpoints.Signing.{Signing}
 use Rattle.depot_node_lines.specs.declared.checkpoints.Signing.TheVariants.{Put, Unopened as NotOpened}
 use Rattle.depot_node_lines.specs.declared.checkpoints.Unopened.{Unopened}
 use Rattle.depot_node_lines.specs.declared.checkpoints.Unopened.TheVariants.{IllFormed, OtherRoster, Unknown}
+use Rattle.depot_node_lines.specs.declared.printed.Printed.{Printed}
 
 -- ---- making
 
@@ -33,6 +42,11 @@ SettlesMake other = Unit {0}
 abbrev pub handed_out : List ℕ → Result PutDone PutError → List ℕ
 handed_out text (Ok done) = text
 handed_out text (Err e) = []
+
+-- Whichever correct node makes this text, and answers so to its put, this is what is printed of the checkpoint.
+abbrev pub PrintsCheckpoint : List ℕ → Result PutDone PutError → Option Printed → Type 0
+PrintsCheckpoint text done printed = (here : Setting) (c : Correct) (then : List Record) → here.me ≡ c.node → make_of here c.journal ≡ made_text text
+    → Puts here c.journal (checkpoint_changes text) done then → IsPrintOf printed (checkpoint_by here c)
 
 -- ---- signing
 
@@ -55,6 +69,11 @@ sign_outcome (Err (sign.Spent n)) = Put (Err (put.Spent n))
 sign_outcome (Err (sign.Tips n)) = Put (Err (put.Tips n))
 sign_outcome (Err (sign.Collides h)) = Put (Err (put.Collides h))
 sign_outcome (Err (sign.Full what)) = Put (Err (put.Full what))
+
+-- Whichever correct node answers so where it is to sign a text, this is what is printed of that.
+abbrev pub PrintsSigning : Result PutDone CheckpointError → Option Printed → Type 0
+PrintsSigning done printed = (here : Setting) (c : Correct) (text : List ℕ) (then : List Record) → here.me ≡ c.node → Signs here c.journal text done then
+    → IsPrintOf printed (sign_by here c text)
 
 -- why a text isn't opened
 abbrev pub text_of_why : Unopened → List ℕ

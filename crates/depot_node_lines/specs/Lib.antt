@@ -3,3 +3,4 @@ pub mod PutPrinting
 pub mod ReceiptPrinting
 pub mod CheckpointPrinting
 pub mod ReaderPrinting
+pub mod TracePrinting

@@ -1,17 +1,23 @@
 -- What is printed of what a node does.
-use Rattle.std.specs.Prelude.{◌≡◌, ℕ, List, ◌++◌, map, Bool, true, false, Option, Some, None, Result, Ok, Err, codes}
+use Rattle.std.specs.Prelude.{◌≡◌, ℕ, List, ◌++◌, map, false, Option, Some, None, Result, Ok, Err, codes}
 use Rattle.std.specs.List.{flat_map}
+use Rattle.depot_base.specs.declared.record.Record.{Record}
+use Rattle.depot_gossip.specs.Bundling.{Bundles}
 use Rattle.depot_gossip.specs.declared.bundle_error.BundleError.{BundleError}
 use Rattle.depot_gossip.specs.declared.bundle_error.BundleError.TheVariants as bundle_error
+use Rattle.depot_feeds.specs.Pieces.{Feeds, Stream}
 use Rattle.depot_feeds.specs.declared.feed_error.FeedError.{FeedError}
 use Rattle.depot_feeds.specs.declared.feed_error.FeedError.TheVariants as feed_error
 use Rattle.depot_gossip.specs.declared.bundle_stream.Bundled.{Bundled}
+use Rattle.depot_model.specs.Bundle.{Signs}
+use Rattle.depot_model.specs.Checks.{Setting}
 use Rattle.depot_model.specs.Contents.{Sighting, held_value, not_held}
-use Rattle.depot_model.specs.Feeding.{Feeding, report_of}
+use Rattle.depot_model.specs.Feeding.{Feeding, fed, report_of}
 use Rattle.depot_model.specs.Limits.{full, spent}
-use Rattle.depot_model.specs.World.{Shown}
+use Rattle.depot_model.specs.World.{Correct, Shown}
 use Rattle.depot_answers.specs.AnswerTexts.{text_of_number, spaced, text_of_limit, text_of_refused, text_of_report, text_of_write}
 use Rattle.depot_answers.specs.Closings.{closing_of}
+use Rattle.depot_world.specs.Effects.{bundle_by}
 use Rattle.depot_world.specs.ScheduleStops.{Effect}
 use Rattle.depot_world.specs.Transcript.{lines_after_arrow}
 use Rattle.depot_node_lines.specs.declared.feeds.FeedResult.{FeedResult}
@@ -57,18 +63,29 @@ SettlesBundle (Err bundle_error.Memory) = ⊥
 SettlesBundle (Err bundle_error.Stopped) = ⊥
 SettlesBundle other = Unit {0}
 
--- the same of a stream
+-- Whichever correct node answers a hello so, this is what is printed of its bundle.
+abbrev pub PrintsBundle : Result Bundled BundleError → Option Printed → Type 0
+PrintsBundle made printed = (here : Setting) (sign : Signs) (c : Correct) (hello : List ℕ) (then : List Record)
+    → Bundles here sign c.journal false hello made then → IsPrintOf printed (bundle_by here sign c hello)
+
+-- the answer to a stream is that of a node that was found running, and memory was found
 abbrev pub SettlesFeed : Result FeedResult FeedError → Type 0
 SettlesFeed (Ok told) = Unit {0}
 SettlesFeed (Err feed_error.Disk) = Unit {0}
 SettlesFeed (Err other) = ⊥
+
+-- these are the errors by which a stream isn't told of
+abbrev pub IsMemoryOrDisk : FeedError → Type 0
+IsMemoryOrDisk feed_error.Memory = Unit {0}
+IsMemoryOrDisk feed_error.Disk = Unit {0}
+IsMemoryOrDisk other = ⊥
 
 -- what is told of a stream is what became of this feed, and why it was closed
 pub record IsToldOf (s : Feeding) (f : FeedResult) : Type 0 where
   pub report : report_of s ≡ f.report
   pub closing : s.closed ≡ closing_of f.closing
 
--- the feed was cut short by the disk
-abbrev pub is_disk : Result FeedResult FeedError → Bool
-is_disk (Err feed_error.Disk) = true
-is_disk other = false
+-- Whatever bytes were fed to the feed that this error closed, this is told of it, and its journal is that of the node.
+abbrev pub IsToldClosed : Stream → FeedError → FeedResult → Type 0
+IsToldClosed feed error told = (here : Setting) (s : Feeding) (bytes : List ℕ) (J : List Record) → Feeds here s bytes (Err error) feed J
+    → IsToldOf (fed here s bytes) told × (J ≡ (fed here s bytes).journal)

@@ -1,9 +1,16 @@
 -- What is printed of receipts.
-use Rattle.std.specs.Prelude.{Result, Ok, Err}
-use Rattle.depot_decide.specs.declared.put_answers.PutDone.{PutDone}
-use Rattle.depot_decide.specs.declared.put_answers.PutError.TheVariants as put
+use Rattle.std.specs.Prelude.{◌≡◌, ℕ, List, Option, Result, Ok, Err}
+use Rattle.depot_base.specs.declared.record.Record.{Record}
+use Rattle.depot_model.specs.Checks.{Setting}
+use Rattle.depot_model.specs.World.{Correct}
+use Rattle.depot_model.specs.declared.put_answers.PutDone.{PutDone}
+use Rattle.depot_model.specs.declared.put_answers.PutError.TheVariants as put
+use Rattle.depot_receipts.specs.Giving.{Gives}
 use Rattle.depot_receipts.specs.declared.give_error.GiveError.{GiveError}
 use Rattle.depot_receipts.specs.declared.give_error.GiveError.TheVariants as give
+use Rattle.depot_world.specs.Effects.{receipt_by}
+use Rattle.depot_node_lines.specs.Printing.{IsPrintOf}
+use Rattle.depot_node_lines.specs.declared.printed.Printed.{Printed}
 use Rattle.depot_node_lines.specs.declared.receipts.Outcome.{Outcome}
 use Rattle.depot_node_lines.specs.declared.receipts.Outcome.TheVariants.{Put, Unknown, NoValue}
 
@@ -12,6 +19,11 @@ abbrev pub SettlesGive : Result PutDone GiveError → Type 0
 SettlesGive (Err give.Memory) = ⊥
 SettlesGive (Err give.Stopped) = ⊥
 SettlesGive other = Unit {0}
+
+-- Whichever correct node answers so where it is asked for receipts, this is what is printed of them.
+abbrev pub PrintsReceipts : Result PutDone GiveError → Option Printed → Type 0
+PrintsReceipts done printed = (here : Setting) (c : Correct) (ids : List (List ℕ)) (then : List Record) → here.me ≡ c.node → Gives here c.journal ids done then
+    → IsPrintOf printed (receipt_by here c ids)
 
 -- what giving receipts came to: their put with its answer, unless none was due
 abbrev pub outcome_of : Result PutDone GiveError → Outcome

@@ -2,26 +2,22 @@
 ghost use Rattle.std.specs.Prelude.{◌≡◌, ◌↔◌, ◌++◌, ℕ, Some, None, Err, List, OnOk, IfOk, IsErrOf};
 ghost use Rattle.depot_base.specs.declared.record.Record.{Record};
 ghost use Rattle.depot_model.specs.Checks.{Setting};
-ghost use Rattle.depot_model.specs.Opening.{make_of, made_text};
 ghost use Rattle.depot_model.specs.Readers.{trim_of};
 ghost use Rattle.depot_model.specs.World.{Correct};
 ghost use Rattle.depot_answers.specs.AnswerTexts.{spaced, text_of_kept, text_of_trim, text_of_unsigned};
-ghost use Rattle.depot_decide.specs.Putting.{Puts};
 ghost use Rattle.depot_trim.specs.Making.{Makes};
-ghost use Rattle.depot_trim.specs.Signing.{Signs};
 ghost use Rattle.depot_trim.specs.ReaderAnswers.{Trims};
-ghost use Rattle.depot_world.specs.Effects.{checkpoint_by, checkpoint_changes, sign_by};
+ghost use Rattle.depot_world.specs.Effects.{checkpoint_by};
 ghost use Rattle.depot_world.specs.Transcript.{ended};
 ghost use Rattle.depot_node_lines.specs.Printing.{IsPrintOf};
 ghost use Rattle.depot_node_lines.specs.PutPrinting.{SettlesPut};
-ghost use Rattle.depot_node_lines.specs.CheckpointPrinting.{IsUnmadeText, SettlesMake, SettlesSign, SettlesTrim, handed_out, sign_outcome, text_of_why, IsUntrimmedLine};
+ghost use Rattle.depot_node_lines.specs.CheckpointPrinting.{IsUnmadeText, IsUntrimmedLine, PrintsCheckpoint, PrintsSigning, SettlesMake, SettlesSign, SettlesTrim, handed_out, sign_outcome, text_of_why};
 
 use crate::printed::Printed;
 use crate::puts::put_printed;
 use depot_answers::{empty, kept, many, numbered, unsigned};
 use depot_base::{Bytes, Memory, NodeId};
-use depot_model::Scheme;
-use depot_node::{PutDone, PutError};
+use depot_model::{PutDone, PutError, Scheme};
 use depot_trim::{CheckpointError, MakeError, TrimError, Trimmed};
 use std::alloc::Global;
 
@@ -62,16 +58,17 @@ fn handed_out(alloc: Global, text: Bytes, done: &Result<PutDone, PutError>) -> B
     }
 }
 
-/// What is printed of a node's answer where it puts the text of the checkpoint that it made, and nothing where its disk failed. The
-/// text is handed out where it was put.
+/// What is printed of a running node's answer where it puts the text of the checkpoint that it made, and nothing where its disk failed.
+/// The text is handed out where it was put.
 pub fn checkpoint_printed(
     alloc: Global,
     text: Bytes,
     done: Result<PutDone, PutError>,
 ) -> Result<Option<Printed>, Memory>
+    requires { IsErrOf done PutError.Stopped → ⊥ }
     ensures stopped { IfOk result (λ printed. (printed ≡ None) ↔ IsErrOf done PutError.Disk) }
     ensures settled { IfOk result (λ _. SettlesPut done) }
-    ensures printed { IfOk result (λ printed. (here : Setting) (c : Correct) (then : List Record) → here.me ≡ c.node → make_of here c.journal ≡ made_text text → Puts here c.journal (checkpoint_changes text) done then → IsPrintOf printed (checkpoint_by here c)) }
+    ensures printed { IfOk result (λ printed. PrintsCheckpoint text done printed) }
 {
     let bytes = handed_out(alloc, text, &done);
     match put_printed(alloc, done)? {
@@ -154,14 +151,15 @@ fn unopened_line(alloc: Global, why: Unopened) -> Result<Bytes, Memory>
     Ok(line)
 }
 
-/// What is printed of a node's answer where it is to sign a checkpoint, and nothing where its disk failed.
+/// What is printed of a running node's answer where it is to sign a checkpoint, and nothing where its disk failed.
 pub fn sign_printed(
     alloc: Global,
     done: Result<PutDone, CheckpointError>,
 ) -> Result<Option<Printed>, Memory>
+    requires { IsErrOf done CheckpointError.Stopped → ⊥ }
     ensures stopped { IfOk result (λ printed. (printed ≡ None) ↔ IsErrOf done CheckpointError.Disk) }
     ensures settled { IfOk result (λ _. SettlesSign done) }
-    ensures printed { IfOk result (λ printed. (here : Setting) (c : Correct) (text : List ℕ) (then : List Record) → here.me ≡ c.node → Signs here c.journal text done then → IsPrintOf printed (sign_by here c text)) }
+    ensures printed { IfOk result (λ printed. PrintsSigning done printed) }
 {
     match sign_outcome(done) {
         Signing::Put(put) => put_printed(alloc, put),

@@ -1,14 +1,8 @@
 //! What is printed of a node's hello and of its bundle.
-ghost use Rattle.std.specs.Prelude.{◌≡◌, ◌++◌, ◌↔◌, ℕ, false, None, List, OnOk, IfOk, IsErrOf};
-ghost use Rattle.depot_base.specs.declared.record.Record.{Record};
-ghost use Rattle.depot_model.specs.Bundle.{Signs};
-ghost use Rattle.depot_model.specs.Checks.{Setting};
-ghost use Rattle.depot_model.specs.World.{Correct};
+ghost use Rattle.std.specs.Prelude.{◌≡◌, ◌≢◌, ◌++◌, ◌↔◌, None, OnOk, IfOk, IsErrOf};
 ghost use Rattle.depot_answers.specs.AnswerTexts.{name_of_more, spaced, text_of_counts, text_of_named};
-ghost use Rattle.depot_gossip.specs.Bundling.{Bundles};
-ghost use Rattle.depot_world.specs.Effects.{bundle_by};
 ghost use Rattle.depot_world.specs.Transcript.{ended};
-ghost use Rattle.depot_node_lines.specs.Printing.{IsPrintOf, IsRefusalOf, SettlesBundle};
+ghost use Rattle.depot_node_lines.specs.Printing.{IsRefusalOf, PrintsBundle, SettlesBundle};
 
 use crate::printed::Printed;
 use depot_answers::{counts, full, named, numbered, spent};
@@ -39,9 +33,12 @@ fn bundle_line(alloc: Global, bundle: &Bundled) -> Result<Bytes, Memory>
     Ok(line)
 }
 
-/// Adds why no bundle is made, where it isn't for want of memory or for the disk.
+/// Adds why no bundle is made.
 #[tactic(auto, unfolding(depot_answers::specs::AnswerTexts::text_of_limit))]
 fn refusal(alloc: Global, line: &mut Bytes, error: BundleError) -> Result<(), Memory>
+    requires memory { error ≢ BundleError.Memory }
+    requires disk { error ≢ BundleError.Disk }
+    requires stopped { error ≢ BundleError.Stopped }
     ensures { OnOk result (IsRefusalOf error line.old line.new) }
 {
     match error {
@@ -49,24 +46,26 @@ fn refusal(alloc: Global, line: &mut Bytes, error: BundleError) -> Result<(), Me
         BundleError::OtherRoster { .. } => line.push_all(b"OtherRoster"),
         BundleError::Spent(count) => spent(alloc, line, count),
         BundleError::Full(what) => full(alloc, line, &what),
-        BundleError::Memory | BundleError::Disk | BundleError::Stopped => Err(Memory),
+        BundleError::Memory | BundleError::Disk | BundleError::Stopped => unreachable!(),
     }
 }
 
-/// What is printed of a node's answer to a hello, and nothing where its disk failed.
+/// What is printed of a running node's answer to a hello, and nothing where its disk failed.
 pub fn bundle_printed(
     alloc: Global,
     made: Result<Bundled, BundleError>,
 ) -> Result<Option<Printed>, Memory>
+    requires { IsErrOf made BundleError.Stopped → ⊥ }
     ensures stopped { IfOk result (λ printed. (printed ≡ None) ↔ IsErrOf made BundleError.Disk) }
     ensures settled { IfOk result (λ _. SettlesBundle made) }
-    ensures printed { IfOk result (λ printed. (here : Setting) (sign : Signs) (c : Correct) (hello : List ℕ) (then : List Record) → Bundles here sign c.journal false hello made then → IsPrintOf printed (bundle_by here sign c hello)) }
+    ensures printed { IfOk result (λ printed. PrintsBundle made printed) }
 {
     match made {
         Ok(bundle) => Ok(Some(Printed {
             lines: bundle_line(alloc, &bundle)?,
             bytes: bundle.bytes,
         })),
+        Err(BundleError::Memory) => Err(Memory),
         Err(BundleError::Disk) => Ok(None),
         Err(error) => {
             let mut lines = Bytes::from_slice(alloc, b" ")?;

@@ -1,18 +1,13 @@
 //! A stream that a node takes, and what is printed of it.
-ghost use Rattle.std.specs.Prelude.{◌≡◌, ◌≢◌, ◌↔◌, ◌≤◌, ◌++◌, ℕ, List, false, None, OnOk, IfOk, IfErr, Err, IsErrOf, IsTrue, map};
+ghost use Rattle.std.specs.Prelude.{◌≡◌, ◌≢◌, ◌↔◌, ◌≤◌, ◌++◌, false, None, OnOk, IfOk, IfErr, IsErrOf, map};
 ghost use Rattle.std.specs.List.{flat_map};
-ghost use Rattle.depot_base.specs.declared.record.Record.{Record};
-ghost use Rattle.depot_model.specs.Checks.{Setting};
-ghost use Rattle.depot_model.specs.Feeding.{Feeding, fed, feed_of, feeding_from};
-ghost use Rattle.depot_model.specs.Replicas.{IsSameNode, KeepsDisk};
-ghost use Rattle.depot_model.specs.Stops.{LeavesAll};
+ghost use Rattle.depot_model.specs.Feeding.{Feeding, feed_of, feeding_from};
 ghost use Rattle.depot_answers.specs.AnswerTexts.{text_of_refused};
-ghost use Rattle.depot_feeds.specs.Lasting.{CallsFed, LastsFed, LastsIn};
-ghost use Rattle.depot_feeds.specs.Pieces.{Feeds};
+ghost use Rattle.depot_feeds.specs.NodeCalls.{IsFeedCall};
 ghost use Rattle.depot_model.specs.World.{Correct};
 ghost use Rattle.depot_world.specs.Effects.{fed_by};
 ghost use Rattle.depot_world.specs.Transcript.{ended};
-ghost use Rattle.depot_node_lines.specs.Printing.{IsPrintOf, IsToldOf, SettlesFeed, fed_lines, is_disk};
+ghost use Rattle.depot_node_lines.specs.Printing.{IsMemoryOrDisk, IsPrintOf, IsToldClosed, IsToldOf, SettlesFeed, fed_lines};
 
 use crate::printed::Printed;
 use depot_answers::{Closing, refusal, report};
@@ -33,14 +28,17 @@ pub struct FeedResult {
 
 /// A feed that was closed by an error of the stream, or by want of room.
 fn closed(feed: Feed, error: FeedError) -> Result<FeedResult, FeedError>
-    ensures told { IfOk result (λ told. (here : Setting) (s : Feeding) (bytes : List ℕ) (J : List Record) → Feeds here s bytes (Err error) feed J → IsToldOf (fed here s bytes) told × (J ≡ (fed here s bytes).journal)) }
+    requires { error ≢ FeedError.Stopped }
+    ensures told { IfOk result (λ told. IsToldClosed feed error told) }
     ensures ran { IfOk result (λ _. error ≢ FeedError.Disk) }
     ensures same { IfErr result (λ e. e ≡ error) }
+    ensures only { IfErr result (λ e. IsMemoryOrDisk e) }
 {
     let closing = match error {
         FeedError::IllFormed(at) => Closing::IllFormed(at),
         FeedError::Full(what) => Closing::Full(what),
-        FeedError::Memory | FeedError::Disk | FeedError::Stopped => return Err(error),
+        FeedError::Memory | FeedError::Disk => return Err(error),
+        FeedError::Stopped => unreachable!(),
     };
     Ok(FeedResult {
         report: feed.end(),
@@ -57,15 +55,14 @@ pub fn feed_all<R: Replica>(
 ) -> Result<FeedResult, FeedError>
     requires size { 1 ≤ size }
     requires runs { R.stopped node.old ≡ false }
+    ensures only { IfErr result (λ e. IsMemoryOrDisk e) }
     ensures told { IfOk result (λ told. IsToldOf (feed_of (R.stands node.old) (R.records node.old) stream.now) told) }
     ensures grown { IfOk result (λ _. R.records node.new ≡ (feed_of (R.stands node.old) (R.records node.old) stream.now).journal) }
     ensures runs { IfOk result (λ _. R.stopped node.new ≡ false) }
-    ensures stays { IsSameNode (R.stands node.old) (R.stands node.new) (R.key node.old) (R.key node.new) (R.signature_of node.old) (R.signature_of node.new) }
-    ensures disk { KeepsDisk (R.handle node.old) (R.handle node.new) (R.faults node.old) (R.faults node.new) (R.is_faultless node.old) (R.is_faultless node.new) (IsErrOf result FeedError.Disk) }
-    ensures lasts { (IsTrue (R.tells node.old) → LeavesAll (R.records node.old) (R.stopped node.old) (R.may_leave node.old)) → LastsIn R.tells R.stopped R.records R.moment R.left_since R.may_leave (R.stands node.old) (is_disk result) node.old node.new }
-    ensures brings { (IsTrue (R.tells node.old) → LeavesAll (R.records node.old) (R.stopped node.old) (R.may_leave node.old)) → LastsFed R.tells R.stopped R.records R.moment R.left_since R.may_leave (R.stands node.old) (feeding_from (R.records node.old)) stream.now node.old node.new }
-    ensures calls { CallsFed R.after R.reads R.stopped R.records (R.stands node.old) (feeding_from (R.records node.old)) stream.now node.old node.new (IsErrOf result FeedError.Disk) }
+    ensures call { IsFeedCall R.NodeState (feeding_from (R.records node.old)) stream.now node.old node.new result }
 {
+    // That a stop leaves its records is what this call says of the node.
+    node.is_stopped();
     let Ok(mut feed) = Feed::new(alloc) else {
         return Err(FeedError::Memory);
     };
@@ -90,14 +87,11 @@ pub fn feed_whole<R: Replica>(
     stream: &[u8],
 ) -> Result<FeedResult, FeedError>
     requires runs { R.stopped node.old ≡ false }
-    requires stable { IsTrue (R.tells node.old) → LeavesAll (R.records node.old) (R.stopped node.old) (R.may_leave node.old) }
+    ensures only { IfErr result (λ e. IsMemoryOrDisk e) }
     ensures told { IfOk result (λ told. IsToldOf (feed_of (R.stands node.old) (R.records node.old) stream.now) told) }
     ensures grown { IfOk result (λ _. R.records node.new ≡ (feed_of (R.stands node.old) (R.records node.old) stream.now).journal) }
     ensures runs { IfOk result (λ _. R.stopped node.new ≡ false) }
-    ensures stays { IsSameNode (R.stands node.old) (R.stands node.new) (R.key node.old) (R.key node.new) (R.signature_of node.old) (R.signature_of node.new) }
-    ensures disk { KeepsDisk (R.handle node.old) (R.handle node.new) (R.faults node.old) (R.faults node.new) (R.is_faultless node.old) (R.is_faultless node.new) (IsErrOf result FeedError.Disk) }
-    ensures lasts { LastsIn R.tells R.stopped R.records R.moment R.left_since R.may_leave (R.stands node.old) (is_disk result) node.old node.new }
-    ensures brings { LastsFed R.tells R.stopped R.records R.moment R.left_since R.may_leave (R.stands node.old) (feeding_from (R.records node.old)) stream.now node.old node.new }
+    ensures call { IsFeedCall R.NodeState (feeding_from (R.records node.old)) stream.now node.old node.new result }
 {
     feed_all(alloc, node, stream, TAKEN_PIECE)
 }
@@ -133,11 +127,12 @@ pub fn fed_lines(alloc: Global, told: &FeedResult) -> Result<Bytes, Memory>
     Ok(lines)
 }
 
-/// What is printed of a stream that was fed to a node, and nothing where its disk failed.
+/// What is printed of a stream that was fed to a running node, and nothing where its disk failed.
 pub fn fed_printed(
     alloc: Global,
     fed: Result<FeedResult, FeedError>,
 ) -> Result<Option<Printed>, Memory>
+    requires { IfErr fed (λ e. IsMemoryOrDisk e) }
     ensures stopped { IfOk result (λ printed. (printed ≡ None) ↔ IsErrOf fed FeedError.Disk) }
     ensures settled { IfOk result (λ _. SettlesFeed fed) }
     ensures printed { IfOk result (λ printed. (c : Correct) (s : Feeding) → IfOk fed (λ told. IsToldOf s told) → IsPrintOf printed (fed_by c s)) }
@@ -147,7 +142,8 @@ pub fn fed_printed(
             lines: fed_lines(alloc, &told)?,
             bytes: Bytes::new(alloc),
         })),
+        Err(FeedError::Memory) => Err(Memory),
         Err(FeedError::Disk) => Ok(None),
-        Err(_) => Err(Memory),
+        Err(FeedError::IllFormed(_) | FeedError::Full(_) | FeedError::Stopped) => unreachable!(),
     }
 }

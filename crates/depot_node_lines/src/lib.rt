@@ -1,7 +1,7 @@
 //! What a correct node does, and what is printed of it.
 //!
 //! What a put, a read, a hello, a bundle and a stream come to at a correct node is defined in `depot_world` (`put_by` and its like): its journal
-//! afterwards, the lines that tell of it, and the bytes that are handed out. A node answers a call (`depot_node`, `depot_gossip`); here
+//! afterwards, the lines that tell of it, and the bytes that are handed out. A node answers a call (`LocalNode` of `depot_local`, `depot_gossip`); here
 //! that answer is printed, and the lines are the defined ones. Where the node's disk failed nothing is printed, and Memory is answered for want of memory alone.
 //!
 //! `puts`, `reads`, `receipts`, `checkpoints`, `exchanges` and `feeds` have the effects by kind, `traces` what a node hands in for an audit, and

@@ -1,12 +1,13 @@
 //! What readers take of streams, and what is printed of that and of what they read.
-ghost use Rattle.std.specs.Prelude.{◌≡◌, ◌≢◌, ◌≤◌, ◌+◌, ◌-◌, length, take, drop, None, Err, OnOk, IfOk, IfErr, option_copied};
+ghost use Rattle.std.specs.Prelude.{◌≡◌, ◌≢◌, ◌≤◌, ◌+◌, ◌-◌, length, take, drop, None, Err, IfOk, IfErr, option_copied};
+ghost use Rattle.depot_base.specs.Tags.{frame_byte};
 ghost use Rattle.depot_base.specs.declared.limits.TheConstants.{MOST_FRAMES};
 ghost use Rattle.depot_model.specs.Feeding.{form_of};
 ghost use Rattle.depot_model.specs.ReaderFeeds.{ReaderFeed, reader_feed_of};
 ghost use Rattle.depot_model.specs.Readers.{Reader, seen_by_reader};
 ghost use Rattle.depot_answers.specs.AnswerTexts.{spaced, text_of_reader_feed};
 ghost use Rattle.depot_answers.specs.Sightings.{sighting_of_seen};
-ghost use Rattle.depot_node.specs.ShownValues.{value_seen};
+ghost use Rattle.depot_local.specs.ShownValues.{value_seen};
 ghost use Rattle.depot_trim.specs.ReaderView.{IsReaderOf};
 ghost use Rattle.depot_trim.specs.ReaderAnswers.{ReaderTakes};
 ghost use Rattle.depot_trim.specs.declared.trim_error.TrimTake.TheVariants as failed;
@@ -16,20 +17,11 @@ ghost use Rattle.depot_node_lines.specs.ReaderPrinting.{AreCountedWithin, IsRead
 use crate::reads::{add_write, held};
 use depot_answers::{ReaderCounts, Seen, reader_feed};
 use depot_base::limits::MOST_FRAMES;
-use depot_base::{Bytes, Full, Key, Memory, Update, Wrote};
+use depot_base::{Bytes, FrameTag, Full, Key, Memory, Update, Wrote};
 use depot_gossip::{FrameAt, frame_at};
 use depot_model::{Scheme, Taken};
 use depot_trim::{TrimTake, Trimmed};
 use std::alloc::Global;
-
-/// The tag of a proof.
-const PROOF: u8 = 1;
-
-/// The tag of a signed statement.
-const STATEMENT: u8 = 2;
-
-/// The tag of the last frame.
-const END: u8 = 4;
 
 // ---- taking
 
@@ -103,16 +95,16 @@ fn payload_at(stream: &[u8], at: usize, end: usize) -> &[u8]
 /// Gives a reader the payload of a frame: a proof, a signed statement, or else a value.
 fn take_frame<S: Scheme>(
     reader: &mut Trimmed<S>,
-    tag: u8,
+    tag: FrameTag,
     payload: &[u8],
 ) -> Result<Taken, TrimTake>
     requires { (R : Reader) × IsReaderOf S.verifies R reader.old }
-    ensures { (R : Reader) → IsReaderOf S.verifies R reader.old → ReaderTakes S.verifies R (form_of tag) payload.now result reader.new }
+    ensures { (R : Reader) → IsReaderOf S.verifies R reader.old → ReaderTakes S.verifies R (form_of (frame_byte tag)) payload.now result reader.new }
 {
     match tag {
-        PROOF => reader.take_proof(payload),
-        STATEMENT => reader.take_statement(payload),
-        _ => reader.take_value(payload),
+        FrameTag::Proof => reader.take_proof(payload),
+        FrameTag::Statement => reader.take_statement(payload),
+        FrameTag::Value | FrameTag::End => reader.take_value(payload),
     }
 }
 
@@ -131,7 +123,7 @@ pub fn feed_reader<S: Scheme>(
         let FrameAt::Frame { tag, end } = frame_at(stream, at) else {
             return Ok(told);
         };
-        if tag == END {
+        if tag == FrameTag::End {
             return Ok(told);
         }
         let answer = take_frame(reader, tag, payload_at(stream, at, end));

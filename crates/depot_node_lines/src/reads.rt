@@ -4,16 +4,15 @@ ghost use Rattle.depot_base.specs.declared.record.Record.{Record};
 ghost use Rattle.depot_model.specs.Journal.{seen_under};
 ghost use Rattle.depot_answers.specs.AnswerTexts.{spaced, text_of_write};
 ghost use Rattle.depot_answers.specs.Sightings.{sighting_of_seen};
-ghost use Rattle.depot_node.specs.ShownValues.{value_seen};
+ghost use Rattle.depot_local.specs.ShownValues.{value_seen};
 ghost use Rattle.depot_model.specs.ShownWrites.{shown_of};
 ghost use Rattle.depot_world.specs.Transcript.{ended};
 ghost use Rattle.depot_node_lines.specs.Printing.{shown_text, shown_value};
 
 use depot_answers::{Seen, write};
 use depot_base::{Bytes, Key, Memory, Update, Wrote};
-use depot_model::{Replica, Scheme, Signer};
-use depot_node::Node;
-use depot_outside::Disk;
+use depot_local::LocalNode;
+use depot_model::Past;
 use std::alloc::Global;
 
 /// What a read shows of an update's write of a key, of which this value is held, if one is.
@@ -52,17 +51,14 @@ pub(crate) fn add_write(
 }
 
 /// The line of a read: the latest writes of a key, each behind a space.
-pub fn shown_line<D: Disk, S: Scheme, G: Signer<Of = S>>(
-    alloc: Global,
-    node: &Node<D, S, G>,
-    key: &Key,
-) -> Result<Bytes, Memory>
-    requires { ⟦<Node<D, S, G> as Replica>⟧.stopped node.now ≡ false }
-    ensures { IfOk result (λ line. line ≡ ended (shown_text (shown_of (⟦<Node<D, S, G> as Replica>⟧.records node.now) key.now))) }
+pub fn shown_line<N: LocalNode>(alloc: Global, node: &N, key: &Key) -> Result<Bytes, Memory>
+    requires { N.stopped node.now ≡ false }
+    ensures { IfOk result (λ line. line ≡ ended (shown_text (shown_of (N.records node.now) key.now))) }
 {
+    let graph = node.graph();
     let mut line = Bytes::new(alloc);
-    for item in node.latest(key) {
-        let update = node.update(*item);
+    for item in graph.latest(key) {
+        let update = graph.update(*item);
         let shown = seen(update, key, node.value_of(*item, key));
         add_write(alloc, &mut line, update, shown)?;
     }

@@ -1,23 +1,16 @@
 //! What is printed of receipts.
 ghost use Rattle.std.specs.Prelude.{◌≡◌, ◌↔◌, ℕ, false, None, Err, List, length, nat_le, IfOk, IsErrOf};
-ghost use Rattle.depot_base.specs.declared.record.Record.{Record};
-ghost use Rattle.depot_model.specs.Checks.{Setting};
 ghost use Rattle.depot_model.specs.Receipts.{receipts, unknown, lacks_value};
-ghost use Rattle.depot_model.specs.World.{Correct};
 ghost use Rattle.depot_answers.specs.AnswerTexts.{name_of_settled, spaced, text_of_no_receipt};
-ghost use Rattle.depot_receipts.specs.Giving.{Gives};
-ghost use Rattle.depot_world.specs.Effects.{receipt_by};
 ghost use Rattle.depot_world.specs.Transcript.{ended};
-ghost use Rattle.depot_node_lines.specs.Printing.{IsPrintOf};
-ghost use Rattle.depot_node_lines.specs.ReceiptPrinting.{SettlesGive, outcome_of};
+ghost use Rattle.depot_node_lines.specs.ReceiptPrinting.{PrintsReceipts, SettlesGive, outcome_of};
 
 use crate::printed::Printed;
 use crate::puts::put_printed;
 use depot_answers::{no_value, settled, unknown};
 use depot_base::{Bytes, Hash32, Memory};
-use depot_model::{Replica, Scheme, Signer};
-use depot_node::{Node, PutDone, PutError};
-use depot_outside::Disk;
+use depot_local::LocalNode;
+use depot_model::{PutDone, PutError};
 use depot_receipts::{Book, GiveError};
 use std::alloc::Global;
 
@@ -78,14 +71,15 @@ fn no_value_line(alloc: Global) -> Result<Bytes, Memory>
     Ok(line)
 }
 
-/// What is printed of a node's answer where it is asked for receipts, and nothing where its disk failed.
+/// What is printed of a running node's answer where it is asked for receipts, and nothing where its disk failed.
 pub fn receipt_printed(
     alloc: Global,
     done: Result<PutDone, GiveError>,
 ) -> Result<Option<Printed>, Memory>
+    requires { IsErrOf done GiveError.Stopped → ⊥ }
     ensures stopped { IfOk result (λ printed. (printed ≡ None) ↔ IsErrOf done GiveError.Disk) }
     ensures settled { IfOk result (λ _. SettlesGive done) }
-    ensures printed { IfOk result (λ printed. (here : Setting) (c : Correct) (ids : List (List ℕ)) (then : List Record) → here.me ≡ c.node → Gives here c.journal ids done then → IsPrintOf printed (receipt_by here c ids)) }
+    ensures printed { IfOk result (λ printed. PrintsReceipts done printed) }
 {
     match outcome_of(done) {
         Outcome::Put(put) => put_printed(alloc, put),
@@ -101,14 +95,14 @@ pub fn receipt_printed(
 }
 
 /// Whether at least `k` nodes gave receipts for an id, among all updates that a node accepted, which a new book reads.
-pub fn has_receipts<D: Disk, S: Scheme, G: Signer<Of = S>>(
+pub fn has_receipts<N: LocalNode>(
     alloc: Global,
-    node: &Node<D, S, G>,
+    node: &N,
     id: &Hash32,
     k: u32,
 ) -> Result<bool, Memory>
-    requires { ⟦<Node<D, S, G> as Replica>⟧.stopped node.now ≡ false }
-    ensures { IfOk result (λ enough. enough ≡ nat_le k (length (receipts (⟦<Node<D, S, G> as Replica>⟧.records node.now) id.now))) }
+    requires { N.stopped node.now ≡ false }
+    ensures { IfOk result (λ enough. enough ≡ nat_le k (length (receipts (N.records node.now) id.now))) }
 {
     let mut book = Book::new(alloc);
     book.catch_up(node.graph())?;

@@ -6,22 +6,21 @@ ghost use Rattle.depot_answers.specs.Sightings as sightings;
 ghost use Rattle.depot_base.specs.Sized.{IsValue};
 ghost use Rattle.depot_base.specs.declared.update.Update.{Update};
 ghost use Rattle.depot_model.specs.Contents.{IfHeld, Writes};
-ghost use Rattle.depot_model.specs.Journal.{accepted, seen_under};
+ghost use Rattle.depot_model.specs.Journal.{accepted};
 ghost use Rattle.depot_model.specs.Records.{text_of_record};
-ghost use Rattle.depot_model.specs.Traces as audits;
 ghost use Rattle.depot_traces.specs.SeenTraces as seen_traces;
-ghost use Rattle.depot_traces.specs.TraceTexts.{IsTrace, answered_text, read_text};
+ghost use Rattle.depot_traces.specs.TraceTexts.{read_text};
 ghost use Rattle.depot_traces.specs.declared.trace.TheConstants.{MOST_READS};
 ghost use Rattle.depot_world.specs.Audits.{traced_read};
 ghost use Rattle.depot_world.specs.Effects.{read_of};
 ghost use Rattle.depot_world.specs.Transcript.{ended};
+ghost use Rattle.depot_node_lines.specs.TracePrinting.{IsTraceOf, IsTracedWrite};
 
 use crate::reads::seen;
 use depot_answers::{Seen, traced};
 use depot_base::{Bytes, Key, Memory, Texts, Value};
-use depot_model::{Past, Replica, Scheme, Signer};
-use depot_node::Node;
-use depot_outside::Disk;
+use depot_local::LocalNode;
+use depot_model::{Past, Replica};
 use depot_traces::{Answered, Listing, ReadTrace, Reads, Shown, Trace};
 use std::alloc::Global;
 
@@ -38,36 +37,28 @@ fn shown(alloc: Global, seen: Seen<'_>) -> Result<Shown, Memory>
 }
 
 /// A write of a key that a read lists, the one of an item, as a trace tells it.
-fn answered<D: Disk, S: Scheme, G: Signer<Of = S>>(
-    alloc: Global,
-    node: &Node<D, S, G>,
-    item: u32,
-    key: &Key,
-) -> Result<Answered, Memory>
-    requires runs { ⟦<Node<D, S, G> as Replica>⟧.stopped node.now ≡ false }
-    requires item { item < length (accepted (⟦<Node<D, S, G> as Replica>⟧.records node.now)) }
-    requires writes { (u : Update) → slice_get (accepted (⟦<Node<D, S, G> as Replica>⟧.records node.now)) item ≡ Some u → Writes key.now u }
-    ensures { IfOk result (λ a. (u : Update) × ((slice_get (accepted (⟦<Node<D, S, G> as Replica>⟧.records node.now)) item ≡ Some u) × (answered_text.fits a × (seen_traces.answered_of a ≡ audits.answered (record { update = u; seen = seen_under (⟦<Node<D, S, G> as Replica>⟧.records node.now) key.now u }))))) }
+fn answered<N: LocalNode>(alloc: Global, node: &N, item: u32, key: &Key) -> Result<Answered, Memory>
+    requires runs { N.stopped node.now ≡ false }
+    requires item { item < length (accepted (N.records node.now)) }
+    requires writes { (u : Update) → slice_get (accepted (N.records node.now)) item ≡ Some u → Writes key.now u }
+    ensures { IfOk result (λ a. IsTracedWrite (N.records node.now) item key.now a) }
 {
-    let seen = seen(node.update(item), key, node.value_of(item, key));
+    let graph = node.graph();
+    let seen = seen(graph.update(item), key, node.value_of(item, key));
     Ok(Answered {
-        id: *node.graph().id(item),
+        id: *graph.id(item),
         shown: shown(alloc, seen)?,
     })
 }
 
 /// A read of a key, as a trace tells it: how many records the node has, the key, and the latest writes, each with what is shown of it. Key and
 /// values are copied.
-pub fn read_traced<D: Disk, S: Scheme, G: Signer<Of = S>>(
-    alloc: Global,
-    node: &Node<D, S, G>,
-    key: &Key,
-) -> Result<ReadTrace, Memory>
-    requires { ⟦<Node<D, S, G> as Replica>⟧.stopped node.now ≡ false }
-    ensures { IfOk result (λ r. read_text.fits r × (seen_traces.read_of r ≡ traced_read (read_of (⟦<Node<D, S, G> as Replica>⟧.records node.now) key.now))) }
+pub fn read_traced<N: LocalNode>(alloc: Global, node: &N, key: &Key) -> Result<ReadTrace, Memory>
+    requires { N.stopped node.now ≡ false }
+    ensures { IfOk result (λ r. read_text.fits r × (seen_traces.read_of r ≡ traced_read (read_of (N.records node.now) key.now))) }
 {
     let mut answer = Listing::new(alloc);
-    for item in node.latest(key) {
+    for item in node.graph().latest(key) {
         answer.push(answered(alloc, node, *item, key)?)?;
     }
     Ok(ReadTrace {
@@ -132,7 +123,7 @@ fn record_texts<R: Replica>(alloc: Global, node: &R) -> Result<Texts, Memory>
 pub fn node_trace<R: Replica>(alloc: Global, node: &R, reads: &[ReadTrace]) -> Result<Trace, Memory>
     requires few { length reads.now ≤ MOST_READS }
     requires fit { AllByRecursion read_text.fits reads.now }
-    ensures { IfOk result (λ t. IsTrace t × (seen_traces.trace_of t ≡ record { node = (R.stands node.now).me; texts = map text_of_record (R.records node.now); reads = map seen_traces.read_of reads.now })) }
+    ensures { IfOk result (λ t. IsTraceOf (R.stands node.now).me (R.records node.now) reads.now t) }
 {
     Ok(Trace {
         node: node.me(),

@@ -1,5 +1,6 @@
 -- What a shelf, a disk and a sink tell before and after a run.
 use Rattle.std.specs.Prelude.{◌≡◌, ◌<◌, ◌⊎◌, ℕ, List, [], ◌∷◌, ◌++◌, take, Bool, IsTrue, Option, Some, None}
+use Rattle.depot_base.specs.Disk.{Elapses}
 use Rattle.depot_outside.specs.declared.disk.Disk as disk_of
 use Rattle.depot_outside.specs.declared.shelf.Shelf as shelf_of
 use Rattle.depot_outside.specs.declared.sink.Sink as sink_of
@@ -83,6 +84,10 @@ disks g old new = record {
   faults_before = g.faults old;
   faults_after = g.faults new;
 }
+
+-- time passes on a disk, and what a stop may have left at each moment is remembered
+abbrev pub TimePasses : {D : Type 0} → disk_of.Ghosts D → D → D → Type 0
+TimePasses g old new = Elapses (g.moment old) (g.moment new) (g.left_since old) (g.left_since new) (g.may_leave new)
 
 -- ---- the sink
 

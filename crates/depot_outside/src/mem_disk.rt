@@ -1,11 +1,12 @@
 //! A disk in memory.
 ghost use Rattle.std.specs.Prelude.{◌≡◌, ◌≤◌, [], refl, true, Some, None, IsTrue, OnOk, IsErr, is_err, length};
 ghost use Rattle.depot_base.specs.Calls.{asks_length};
-ghost use Rattle.depot_base.specs.Disk.{Elapses, Only, Within};
+ghost use Rattle.depot_base.specs.Disk.{Only, Within};
 ghost use Rattle.depot_base.specs.Faults.{HasCause};
 ghost use Rattle.depot_outside.specs.Images.{counts, images_at, left_from, only, reads_as};
 ghost use Rattle.depot_outside.specs.Stopping.{IsOutcome, Leads, after_call, fresh, leads_more, state_of};
 ghost use Rattle.depot_outside.specs.StopImages.{numbered};
+ghost use Rattle.depot_outside.specs.Told.{TimePasses};
 ghost use Rattle.depot_outside.specs.Undo.{spare_bytes, spare_writes};
 
 use crate::mem_file::MemFile;
@@ -55,7 +56,7 @@ impl MemDisk {
         requires image { image ≤ 2 }
         ensures state { state_of self.new ≡ record (state_of self.old) { next = Some (record { call = call; image = numbered image }) } }
         ensures images { Within (⟦<MemDisk as Disk>⟧.may_leave self.old) (⟦<MemDisk as Disk>⟧.may_leave self.new) }
-        ensures time { Elapses (⟦<MemDisk as Disk>⟧.moment self.old) (⟦<MemDisk as Disk>⟧.moment self.new) (⟦<MemDisk as Disk>⟧.left_since self.old) (⟦<MemDisk as Disk>⟧.left_since self.new) (⟦<MemDisk as Disk>⟧.may_leave self.new) }
+        ensures time { TimePasses ⟦<MemDisk as Disk>⟧ self.old self.new }
         ensures faults { ⟦<MemDisk as Disk>⟧.faults self.new ≡ ⟦<MemDisk as Disk>⟧.faults self.old }
         ensures faulty { ⟦<MemDisk as Disk>⟧.is_faultless self.new → ⊥ }
         ensures room { ⟦<MemDisk as Disk>⟧.room_bytes self.new ≡ ⟦<MemDisk as Disk>⟧.room_bytes self.old }
@@ -73,7 +74,7 @@ impl MemDisk {
         ensures state { state_of self.new ≡ after_call (state_of self.old) (record { call = asks_length; failed = is_err result }) }
         ensures same { OnOk result (self.new.file ≡ self.old.file) }
         ensures images { Within (⟦<MemDisk as Disk>⟧.may_leave self.old) (⟦<MemDisk as Disk>⟧.may_leave self.new) }
-        ensures time { Elapses (⟦<MemDisk as Disk>⟧.moment self.old) (⟦<MemDisk as Disk>⟧.moment self.new) (⟦<MemDisk as Disk>⟧.left_since self.old) (⟦<MemDisk as Disk>⟧.left_since self.new) (⟦<MemDisk as Disk>⟧.may_leave self.new) }
+        ensures time { TimePasses ⟦<MemDisk as Disk>⟧ self.old self.new }
         ensures cause { HasCause (⟦<MemDisk as Disk>⟧.faults self.old) (⟦<MemDisk as Disk>⟧.faults self.new) (IsErr result) }
         ensures faultless { ⟦<MemDisk as Disk>⟧.is_faultless self.old → ⟦<MemDisk as Disk>⟧.is_faultless self.new × (⟦<MemDisk as Disk>⟧.faults self.new ≡ ⟦<MemDisk as Disk>⟧.faults self.old) }
         ensures room { ⟦<MemDisk as Disk>⟧.room_bytes self.old ≤ ⟦<MemDisk as Disk>⟧.room_bytes self.new }

@@ -6,6 +6,7 @@ ghost use Rattle.depot_outside.specs.StopImages.{left_by, overwritten};
 ghost use Rattle.depot_outside.specs.Undo.{AreLogged, AreLogged-prop, spare_bytes, spare_writes};
 
 use crate::disk_history::History;
+use crate::spare_room::reserve_tightly;
 use crate::stops::Image;
 use crate::undo::UndoLog;
 use depot_base::{Bytes, Memory};
@@ -58,7 +59,7 @@ impl MemFile {
         ensures bytes { self.new.bytes.items ≡ self.old.bytes.items }
         ensures moments { self.new.history.moments ≡ self.old.history.moments }
     {
-        self.bytes.reserve(bytes)?;
+        reserve_tightly(&mut self.bytes, bytes)?;
         self.log.make_room(bytes, writes)
     }
 

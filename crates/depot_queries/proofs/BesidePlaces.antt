@@ -10,9 +10,9 @@ use Rattle.depot_model.specs.Bundle.{records_where, is_candidate, candidate_plac
 use Rattle.depot_model.specs.Journal.{accepted, accepted_by}
 use Rattle.depot_model.proofs.Elements.{from_place}
 use Rattle.depot_laws.proofs.Causes.{none_or_one}
-use Rattle.depot_store.specs.Places.{accepts, accept_places}
+use Rattle.depot_readings.specs.Places.{accepts, accept_places}
 use Rattle.depot_graph.specs.UpdateRows.{IsJoinedRow}
-use Rattle.depot_queries.specs.Telling.{beside}
+use Rattle.depot_queries.specs.ItemPlaces.{beside}
 
 -- ---- one update more
 

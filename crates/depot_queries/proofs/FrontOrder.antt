@@ -23,9 +23,9 @@ use Rattle.depot_model.specs.Lists.{IsIn, is_among}
 use Rattle.depot_model.specs.Vouching.{own_voucher_by}
 use Rattle.depot_model.proofs.Members.{all_from, among_from, among_to, any_from, any_to, chosen_behind, chosen_cases, chosen_front, in_last, in_left, in_parts, in_permuted}
 use Rattle.depot_model.proofs.RisingLists.{RisesByTest, one_rising}
-use Rattle.depot_store.specs.FrontPlaces.{AddsPlaces, convictions_from, vouches, vouches_at}
-use Rattle.depot_store.specs.declared.front_places.ConvictedAt.{ConvictedAt}
-use Rattle.depot_store.proofs.FrontPlaceLaws.{at_passing, passing_at}
+use Rattle.depot_readings.specs.FrontPlaces.{AddsPlaces, convictions_from, vouches, vouches_at}
+use Rattle.depot_readings.specs.declared.front_places.ConvictedAt.{ConvictedAt}
+use Rattle.depot_readings.proofs.FrontPlaceLaws.{at_passing, passing_at}
 use Rattle.depot_queries.specs.InFront.{AreVoucherPlaces}
 
 -- ---- proofs

@@ -31,11 +31,11 @@ use Rattle.depot_graph.specs.OrderLaws.{one_place}
 use Rattle.depot_laws.proofs.Causes.{none_or_one}
 use Rattle.depot_model.proofs.RisingUpdates.{HaveOwnIds, from_by_id, own_ids_filter, own_ids_from_causal, same_by_id}
 use Rattle.depot_model.proofs.NamedIds.{has_id_from, has_id_to}
-use Rattle.depot_store.specs.Places.{accepts, accept_places}
+use Rattle.depot_readings.specs.Places.{accepts, accept_places}
 use Rattle.depot_graph.specs.PastLeaves.{standing}
 use Rattle.depot_graph.proofs.ChainLeaves.{leaf_within, leaves_stand}
 use Rattle.depot_graph.proofs.Sorting.{decided, is_standing, standing_apart, standing_is}
-use Rattle.depot_queries.specs.Telling.{leaf_in, name_of}
+use Rattle.depot_queries.specs.ItemPlaces.{leaf_in, name_of}
 use Rattle.depot_queries.specs.declared.leaf_order.Leaf.{Leaf}
 
 -- ---- where a record accepts an update

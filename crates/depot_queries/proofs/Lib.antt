@@ -1,9 +1,8 @@
 mod OwnBodies
-mod StatementTexts
-mod CoveredItems
+pub mod StatementTexts
 mod BesidePlaces
-mod JoinedRows
 mod TailLaws
 mod LeafInserts
 mod RecordItems
 mod FrontOrder
+mod HeldNames

@@ -13,8 +13,8 @@ use Rattle.depot_base.specs.declared.update.Update.{Update}
 use Rattle.depot_model.specs.Bundle.{records_where}
 use Rattle.depot_model.specs.Journal.{accepted, accepted_at, accepted_by}
 use Rattle.depot_laws.proofs.Causes.{none_or_one}
-use Rattle.depot_store.specs.Places.{accepts, accept_places}
-use Rattle.depot_queries.specs.Telling.{IsItemAt}
+use Rattle.depot_readings.specs.Places.{accepts, accept_places}
+use Rattle.depot_queries.specs.ItemPlaces.{IsItemAt}
 
 -- ---- from an item to its record
 

@@ -27,14 +27,14 @@ use Rattle.depot_laws.proofs.Candidates.{signed_fits}
 use Rattle.depot_laws.proofs.Nexts.{next_of}
 use Rattle.depot_laws.proofs.OwnTexts.{own_statement_fits}
 use Rattle.depot_laws.proofs.Splits.{flat_gives, lawful_texts}
-use Rattle.depot_store.specs.RecordTexts.{IsTextOf}
-use Rattle.depot_queries.specs.Telling.{IsLeafText}
+use Rattle.depot_readings.specs.RecordTexts.{IsTextOf}
+use Rattle.depot_queries.specs.SignedRecords.{IsLeafText, IsSignable, IsSignedTextOf}
 use Rattle.depot_base.proofs.GeneralLaws.{parts_at}
 
 -- ---- the text of a place
 
 -- the text that stands at a place is that of the record there
-pub text_of_place : (here : Setting) (J : List Record) (place : ℕ) (r : Record) (text : List ℕ) → IsLawful here J → slice_get J place ≡ Some r → slice_get (map text_of_record J) place ≡ Some text → IsTextOf r text
+text_of_place : (here : Setting) (J : List Record) (place : ℕ) (r : Record) (text : List ℕ) → IsLawful here J → slice_get J place ≡ Some r → slice_get (map text_of_record J) place ≡ Some text → IsTextOf r text
 text_of_place here J place r text l at e =
     let same : option_map text_of_record (slice_get J place) ≡ Some text = sym (slice_get-map text_of_record J place) ∙ e in
     let is : Some (text_of_record r) ≡ Some text = ap (option_map text_of_record) (sym at) ∙ same in
@@ -63,6 +63,23 @@ own_leaf here J place r s key l at on keyed =
     let below = leaf_of here (take place J) r s (l.each (take place J) r (drop (suc place) J) (parts_at J place r at)).may on in
     let leaves : leaf_count here.listed here.me ≡ 2 ^ key.height = ap (λ (o : Option PublicKey). option_map_or (λ (k : PublicKey). 2 ^ k.height) o 0) keyed in
     subst (λ (n : ℕ). seq_of s < n) leaves below
+
+own_text_leaf : (here : Setting) (J : List Record) (place : ℕ) (r : Record) (key : PublicKey) → IsLawful here J → key_of here.listed here.me ≡ Some key → slice_get J place ≡ Some r → (s : Statement) → IsIn s (own_by r) → IsLeafText key s (text_of_statement s)
+own_text_leaf here J place r key l keyed at s on = record { fits = own_statement_fits here J s l (flat_gives own_by s r J (in_at J place r at) on); is = refl; leaf = own_leaf here J place r s key l at on keyed }
+
+-- a record of a lawful journal that holds a statement can be signed by the node's key
+pub signable_at : (here : Setting) (J : List Record) (place : ℕ) (r : Record) (text : List ℕ) (key : PublicKey) (sign : Signs) → IsLawful here J → key_of here.listed here.me ≡ Some key → slice_get (map text_of_record J) place ≡ Some text
+    → slice_get J place ≡ Some r → length (signed_by sign r) ≡ 1 → IsSignable key sign r text
+signable_at here J place r text key sign l keyed there at one = record { fits = text_of_place here J place r text l at there; one = one; own = own_text_leaf here J place r key l keyed at }
+
+-- and its signed text is that of the record at the place
+pub signed_at : {E : Type 0} (J : List Record) (place : ℕ) (r : Record) (text : List ℕ) (key : PublicKey) (sign : Signs) (result : Result (List ℕ) E) → slice_get J place ≡ Some r → IsSignable key sign r text → IfOk result (IsSignedTextOf key sign text)
+    → IfOk result (λ made. (q : Record) → slice_get J place ≡ Some q → map text_of_signed (signed_by sign q) ≡ made ∷ [])
+signed_at J place r text key sign result at can made = IfOk-weaker result (IsSignedTextOf key sign text) (λ m. (q : Record) → slice_get J place ≡ Some q → map text_of_signed (signed_by sign q) ≡ m ∷ []) (λ m each q there. (
+    let both : Some r ≡ Some q = sym at ∙ there in
+    let one : r ≡ q = cc in
+    ap (λ (x : Record). map text_of_signed (signed_by sign x)) (sym one) ∙ each r can
+    )) made
 
 -- a statement with its text and the signature of that is the one that is signed
 pub signed_by_parts : (sign : Signs) (s : Statement) (body signature : List ℕ) (seq : ℕ) → body ≡ text_of_statement s → seq ≡ seq_of s → signature ≡ sign seq body → record { statement = s; body = body; signature = signature } ≡ signed_with sign s
@@ -101,18 +118,22 @@ pub record IsOwnBody (r : Record) (body : List ℕ) : Type 0 where
   pub on : own_by r ≡ statement ∷ []
   pub is : body ≡ text_of_statement statement
 
-pub own_body : (r : Record) (body : List ℕ) → body ∷ [] ≡ map text_of_statement (own_by r) → IsOwnBody r body
+own_body : (r : Record) (body : List ℕ) → body ∷ [] ≡ map text_of_statement (own_by r) → IsOwnBody r body
 own_body r body e = by_list (own_by r) refl e where
   by_list : (ss : List Statement) → own_by r ≡ ss → body ∷ [] ≡ map text_of_statement ss → IsOwnBody r body
   by_list [] on same = absurd cc
   by_list (s ∷ []) on same = record { statement = s; on = on; is = cc }
   by_list (s ∷ t ∷ ss) on same = absurd cc
 
--- it is that of a statement which one of the key's leaves signs
-pub own_leaf_text : (here : Setting) (J : List Record) (place : ℕ) (r : Record) (body : List ℕ) (key : PublicKey) → IsLawful here J → slice_get J place ≡ Some r → key_of here.listed here.me ≡ Some key → (b : IsOwnBody r body) → IsLeafText key b.statement body
-own_leaf_text here J place r body key l at keyed b =
-    let on : IsIn b.statement (own_by r) = subst (λ (ss : List Statement). IsIn b.statement ss) (sym b.on) (inl refl) in
-    record { fits = own_statement_fits here J b.statement l (flat_gives own_by b.statement r J (in_at J place r at) on); is = b.is; leaf = own_leaf here J place r b.statement key l at on keyed }
+-- and it is one that the key signs
+own_fits : {key : PublicKey} {sign : Signs} {text : List ℕ} (r : Record) (body : List ℕ) (b : IsOwnBody r body) → IsSignable key sign r text → IsLeafText key b.statement (text_of_statement b.statement)
+own_fits r body b can = can.own b.statement (subst (λ (ss : List Statement). IsIn b.statement ss) (sym b.on) (inl refl))
+
+pub own_leaf_text : {key : PublicKey} {sign : Signs} {text : List ℕ} (r : Record) (body : List ℕ) → IsSignable key sign r text → body ∷ [] ≡ map text_of_statement (own_by r) → (s : Statement) × IsLeafText key s body
+own_leaf_text r body can is =
+    let b = own_body r body is in
+    let f = own_fits r body b can in
+    (b.statement, record { fits = f.fits; is = b.is; leaf = f.leaf })
 
 -- such a record is told by that statement, signed now
 signed_own : (sign : Signs) (r : Record) (s : Statement) → own_by r ≡ s ∷ [] → signed_by sign r ≡ signed_with sign s ∷ []
@@ -124,7 +145,7 @@ signed_own sign (Conviction p) s e = absurd cc
 signed_own sign (Held value) s e = absurd cc
 
 -- and one that holds none, and is told by one, is another's
-pub told_by_another : (sign : Signs) (r : Record) → [] ≡ map text_of_statement (own_by r) → length (signed_by sign r) ≡ 1 → (s : Signed) × (r ≡ Foreign s)
+told_by_another : (sign : Signs) (r : Record) → [] ≡ map text_of_statement (own_by r) → length (signed_by sign r) ≡ 1 → (s : Signed) × (r ≡ Foreign s)
 told_by_another sign (OwnPut u values) none one = absurd cc
 told_by_another sign (OwnVoucher v) none one = absurd cc
 told_by_another sign (Birth node h) none one = absurd (omega (arith, one))
@@ -132,22 +153,31 @@ told_by_another sign (Foreign s) none one = (s, refl)
 told_by_another sign (Conviction p) none one = absurd (omega (arith, one))
 told_by_another sign (Held value) none one = absurd (omega (arith, one))
 
--- the text of the one signed statement of the record at a place
-told_text : {E : Type 0} (sign : Signs) (J : List Record) (place : ℕ) (r : Record) (s : Signed) (result : Result (List ℕ) E) → slice_get J place ≡ Some r → signed_by sign r ≡ s ∷ [] → IfOk result (λ text. text ≡ text_of_signed s)
-    → IfOk result (λ text. (q : Record) → slice_get J place ≡ Some q → map text_of_signed (signed_by sign q) ≡ text ∷ [])
-told_text sign J place r s (Ok text) at is made = λ q there.
-    let both : Some r ≡ Some q = sym at ∙ there in
-    let one : r ≡ q = cc in
-    ap (λ (x : Record). map text_of_signed (signed_by sign x)) (sym one) ∙ ap (map text_of_signed) is ∙ ap (λ (x : List ℕ). x ∷ []) (sym made)
-told_text sign J place r s (Err e) at is made = tt
+-- the text of the one signed statement that the record holds
+signed_is : {E : Type 0} (key : PublicKey) (sign : Signs) (result : Result (List ℕ) E) (text : List ℕ) → ((r : Record) → IsSignable key sign r text → (s : Signed) × ((signed_by sign r ≡ s ∷ []) × IfOk result (λ made. made ≡ text_of_signed s)))
+    → IfOk result (IsSignedTextOf key sign text)
+signed_is key sign (Ok made) text each = λ r can. (let s = each r can in ap (map text_of_signed) s.1.0 ∙ ap (λ (x : List ℕ). x ∷ []) (sym s.1.1))
+signed_is key sign (Err e) text each = tt
 
 -- that of an own record
-pub told_own : {E : Type 0} (sign : Signs) (J : List Record) (place : ℕ) (r : Record) (body : List ℕ) (result : Result (List ℕ) E) → slice_get J place ≡ Some r → (b : IsOwnBody r body) → IsStatement b.statement
-    → IfOk result (λ text. (s : Statement) → IsStatement s → body ≡ text_of_statement s → text ≡ text_of_signed (signed_with sign s)) → IfOk result (λ text. (q : Record) → slice_get J place ≡ Some q → map text_of_signed (signed_by sign q) ≡ text ∷ [])
-told_own sign J place r body result at b fits made =
-    told_text sign J place r (signed_with sign b.statement) result at (signed_own sign r b.statement b.on) (IfOk-weaker result (λ text. (s : Statement) → IsStatement s → body ≡ text_of_statement s → text ≡ text_of_signed (signed_with sign s)) (λ text. text ≡ text_of_signed (signed_with sign b.statement)) (λ text each. each b.statement fits b.is) made)
+pub signed_is_own : {E : Type 0} (key : PublicKey) (sign : Signs) (text body : List ℕ) (result : Result (List ℕ) E) → ((r : Record) → IsTextOf r text → body ∷ [] ≡ map text_of_statement (own_by r))
+    → IfOk result (λ made. (s : Statement) → IsStatement s → body ≡ text_of_statement s → made ≡ text_of_signed (signed_with sign s)) → IfOk result (IsSignedTextOf key sign text)
+signed_is_own key sign text body result is made = signed_is key sign result text (λ r can. (
+    let b = own_body r body (is r can.fits) in (
+      signed_with sign b.statement,
+      (
+        signed_own sign r b.statement b.on,
+        IfOk-weaker result (λ m. (s : Statement) → IsStatement s → body ≡ text_of_statement s → m ≡ text_of_signed (signed_with sign s)) (λ m. m ≡ text_of_signed (signed_with sign b.statement)) (λ m each. each b.statement (own_fits r body b can).fits b.is) made,
+      ),
+    )
+    ))
 
 -- and that of another's
-pub told_foreign : {E : Type 0} (sign : Signs) (J : List Record) (place : ℕ) (r : Record) (s : Signed) (result : Result (List ℕ) E) (record_text : List ℕ) → slice_get J place ≡ Some r → r ≡ Foreign s → IsTextOf r record_text
-    → IfOk result (λ made. (n : ℕ) (ns : List ℕ) → record_text ≡ n ∷ ns → made ≡ ns) → IfOk result (λ text. (q : Record) → slice_get J place ≡ Some q → map text_of_signed (signed_by sign q) ≡ text ∷ [])
-told_foreign sign J place r s result text at is t made = told_text sign J place r s result at (ap (signed_by sign) is) (behind_tag result text (text_of_signed s) 4 (foreign_text r s text is t) made)
+pub signed_is_foreign : {E : Type 0} (key : PublicKey) (sign : Signs) (text : List ℕ) (result : Result (List ℕ) E) → ((r : Record) → IsTextOf r text → [] ≡ map text_of_statement (own_by r))
+    → IfOk result (λ made. (n : ℕ) (ns : List ℕ) → text ≡ n ∷ ns → made ≡ ns) → IfOk result (IsSignedTextOf key sign text)
+signed_is_foreign key sign text result is made = signed_is key sign result text (λ r can. (
+    let another = told_by_another sign r (is r can.fits) can.one in (
+      another.0,
+      (ap (signed_by sign) another.1, behind_tag result text (text_of_signed another.0) 4 (foreign_text r another.0 text another.1 can.fits) made),
+    )
+    ))

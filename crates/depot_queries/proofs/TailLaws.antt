@@ -19,9 +19,9 @@ use Rattle.depot_virtual.proofs.Placing.{all_placed, tip_is_highest}
 use Rattle.depot_graph.specs.Kept.{prev_places}
 use Rattle.depot_graph.specs.UpdateRows.{IsJoinedRow}
 use Rattle.depot_graph.proofs.ChainLeaves.{at_within, prevs_are_earlier}
+use Rattle.depot_graph.proofs.CoveredItems.{row_covers}
 use Rattle.depot_queries.specs.Tails.{HoldsBehind, HasTail}
 use Rattle.depot_queries.proofs.BesidePlaces.{IsSoFar, so_far_same}
-use Rattle.depot_queries.proofs.JoinedRows.{row_covers}
 
 -- ---- back on a chain
 

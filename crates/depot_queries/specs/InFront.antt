@@ -2,7 +2,7 @@
 use Rattle.std.specs.Prelude.{◌≡◌, ℕ, List, true}
 use Rattle.depot_base.specs.declared.record.Record.{Record}
 use Rattle.depot_model.specs.Lists.{IsIn}
-use Rattle.depot_store.specs.FrontPlaces.{vouches_at}
+use Rattle.depot_readings.specs.FrontPlaces.{vouches_at}
 
 -- These are the places of the own vouchers that name one of these ids.
 pub record AreVoucherPlaces (J : List Record) (ids : List (List ℕ)) (found : List ℕ) : Type 0 where

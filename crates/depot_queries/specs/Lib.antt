@@ -1,3 +1,4 @@
-pub mod Telling
+pub mod ItemPlaces
 pub mod Tails
 pub mod InFront
+pub mod SignedRecords

@@ -1,5 +1,5 @@
 -- The items that a row of numbers, one a chain, doesn't count, and what a reader lacks.
-use Rattle.std.specs.Prelude.{◌≡◌, ℕ, List, ◌<◌, ◌≤◌, length, slice_index}
+use Rattle.std.specs.Prelude.{◌≡◌, ℕ, List, ◌<◌, ◌≤◌, Bool, Some, length, slice_get, slice_index}
 use Rattle.std.specs.List.{AllByRecursion}
 use Rattle.depot_base.specs.declared.update.Update.{Update}
 use Rattle.depot_model.specs.Bundle.{is_candidate}
@@ -8,7 +8,7 @@ use Rattle.depot_model.specs.Lists.{IsIn}
 use Rattle.depot_virtual.specs.Spots.{IsAt}
 use Rattle.depot_graph.specs.Kept.{prev_places}
 use Rattle.depot_graph.specs.UpdateRows.{IsJoinedRow}
-use Rattle.depot_queries.specs.Telling.{beside}
+use Rattle.depot_queries.specs.ItemPlaces.{beside}
 
 -- each item that stands in its chain at the row's entry or behind it is one of these
 abbrev pub HoldsBehind : List Update → List ℕ → List ℕ → Type 0
@@ -23,3 +23,7 @@ pub record HasTail (us : List Update) (chain from : ℕ) (old new : List ℕ) : 
 -- whatever ids the row joins the rows of, these are, of the numbers beside the updates, those of what a reader with these leaves lacks
 abbrev pub ArePlacesLacked : List Update → List ℕ → List ℕ → ℕ → List ℕ → Type 0
 ArePlacesLacked us row places reader found = (ids : List (List ℕ)) → IsJoinedRow us (places_of us ids) row → found ≡ beside (is_candidate us ids reader) us places
+
+-- whatever ids the row joins the rows of, the update of this item is one that a reader with these leaves lacks exactly where this is so
+abbrev pub IsLackedAt : List Update → List ℕ → ℕ → ℕ → Bool → Type 0
+IsLackedAt us row reader item lacked = (ids : List (List ℕ)) (u : Update) → IsJoinedRow us (places_of us ids) row → slice_get us item ≡ Some u → lacked ≡ is_candidate us ids reader u

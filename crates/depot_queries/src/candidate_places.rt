@@ -1,39 +1,35 @@
 //! The updates that a reader lacks, as far as its leaves tell.
-ghost use Rattle.std.specs.Prelude.{◌≡◌, false, ◌<◌, ℕ, List, length, IfOk, Some, slice_get};
+ghost use Rattle.std.specs.Prelude.{◌≡◌, ◌<◌, length, IfOk};
 ghost use Rattle.std.specs.List.{AllByRecursion};
 ghost use Rattle.std.specs.List.Sorted.{IsNonDecreasing};
-ghost use Rattle.depot_base.specs.declared.update.Update.{Update};
 ghost use Rattle.depot_model.specs.Items.{places_of};
-ghost use Rattle.depot_model.specs.Bundle.{candidate_places, is_candidate};
+ghost use Rattle.depot_model.specs.Bundle.{candidate_places};
 ghost use Rattle.depot_virtual.specs.Spots.{number_of_chains};
 ghost use Rattle.depot_graph.specs.Kept.{prev_places};
-ghost use Rattle.depot_graph.specs.UpdateRows.{IsJoinedRow};
-ghost use Rattle.depot_queries.specs.Tails.{ArePlacesLacked, HoldsBehind};
+ghost use Rattle.depot_queries.specs.Tails.{ArePlacesLacked, HoldsBehind, IsLackedAt};
 
 use crate::tails::{are_few_behind, behind};
 use depot_base::{Hash32, Ids, Items, Memory, NodeId};
 use depot_graph::Graph;
 use depot_model::{Past, Scheme};
-use depot_outside::Disk;
-use depot_store::Store;
+use depot_readings::Readings;
 use std::alloc::Global;
 
 /// The places of the records whose updates a reader with these leaves lacks, rising: those of other writers that neither are
 /// one of the leaves nor precede one. The rows of the leaves are joined once. Where few items stand behind that row, these
 /// alone are looked at; else all are.
-pub fn candidates<D: Disk, S: Scheme>(
+pub fn candidates<S: Scheme>(
     alloc: Global,
-    store: &Store<D, S>,
+    readings: &Readings<S>,
     leaves: &Ids,
     reader: NodeId,
 ) -> Result<Items, Memory>
-    requires runs { store.now.stopped ≡ false }
-    ensures { IfOk result (λ places. places ≡ candidate_places store.now.records leaves.now reader) }
+    ensures { IfOk result (λ places. places ≡ candidate_places readings.now.records leaves.now reader) }
 {
-    let graph = store.state().graph();
+    let graph = readings.state().graph();
     let covering = items_named(alloc, graph, leaves.as_slice())?;
     let row = graph.joined_row(covering.as_slice())?;
-    lacked(alloc, graph, store.places(), row.as_slice(), reader)
+    lacked(alloc, graph, readings.places(), row.as_slice(), reader)
 }
 
 /// The items with these ids. An id that no update has is left out.
@@ -128,7 +124,7 @@ fn lacked_among(
 fn is_lacked(graph: &Graph, row: &[u32], reader: NodeId, item: u32) -> bool
     requires item { item < length (⟦<Graph as Past>⟧.updates graph.now) }
     requires row { length row.now ≡ number_of_chains (prev_places (⟦<Graph as Past>⟧.updates graph.now)) }
-    ensures { (ids : List (List ℕ)) (u : Update) → IsJoinedRow (⟦<Graph as Past>⟧.updates graph.now) (places_of (⟦<Graph as Past>⟧.updates graph.now) ids) row.now → slice_get (⟦<Graph as Past>⟧.updates graph.now) item ≡ Some u → result ≡ is_candidate (⟦<Graph as Past>⟧.updates graph.now) ids reader u }
+    ensures { IsLackedAt (⟦<Graph as Past>⟧.updates graph.now) row.now reader item result }
 {
     let spot = graph.spot(item);
     if spot.place < row[spot.chain as usize] {

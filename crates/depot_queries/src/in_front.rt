@@ -1,13 +1,12 @@
 //! The records that a bundle has in front: proofs, and own vouchers for what it sends.
-ghost use Rattle.std.specs.Prelude.{◌≡◌, ◌==◌, false, IfOk};
+ghost use Rattle.std.specs.Prelude.{◌≡◌, ◌==◌, IfOk};
 ghost use Rattle.std.specs.List.{list_any};
 ghost use Rattle.depot_model.specs.Bundle.{proof_places, voucher_places};
 ghost use Rattle.depot_queries.specs.InFront.{AreVoucherPlaces};
 
 use depot_base::{Hash32, Ids, Items, Memory, NodeId, Nodes};
 use depot_model::Scheme;
-use depot_outside::Disk;
-use depot_store::Store;
+use depot_readings::Readings;
 use std::alloc::Global;
 
 /// Whether a node is one of these.
@@ -18,16 +17,15 @@ fn is_one_of(nodes: &[NodeId], node: NodeId) -> bool
 }
 
 /// The places of the records that convict a node which isn't one of these, rising. No other record is looked at.
-pub fn proof_places<D: Disk, S: Scheme>(
+pub fn proof_places<S: Scheme>(
     alloc: Global,
-    store: &Store<D, S>,
+    readings: &Readings<S>,
     listed: &Nodes,
 ) -> Result<Items, Memory>
-    requires runs { store.now.stopped ≡ false }
-    ensures { IfOk result (λ places. places ≡ proof_places store.now.records listed.now) }
+    ensures { IfOk result (λ places. places ≡ proof_places readings.now.records listed.now) }
 {
     let mut places = Items::new(alloc);
-    for conviction in store.convictions() {
+    for conviction in readings.convictions() {
         if is_one_of(listed.as_slice(), conviction.node) {
             continue;
         }
@@ -37,32 +35,30 @@ pub fn proof_places<D: Disk, S: Scheme>(
 }
 
 /// The places of the own vouchers that name one of these ids, rising, each once. No other record is looked at.
-pub fn voucher_places<D: Disk, S: Scheme>(
+pub fn voucher_places<S: Scheme>(
     alloc: Global,
-    store: &Store<D, S>,
+    readings: &Readings<S>,
     ids: &Ids,
 ) -> Result<Items, Memory>
-    requires runs { store.now.stopped ≡ false }
-    ensures { IfOk result (λ places. places ≡ voucher_places store.now.records ids.now) }
+    ensures { IfOk result (λ places. places ≡ voucher_places readings.now.records ids.now) }
 {
-    let mut found = places_found(alloc, store, ids.as_slice())?;
+    let mut found = places_found(alloc, readings, ids.as_slice())?;
     found.sort_unstable();
     found.dedup();
     Ok(Items::from_vec(found))
 }
 
 /// The same in the order of the ids. A voucher that names two of them comes twice.
-fn places_found<D: Disk, S: Scheme>(
+fn places_found<S: Scheme>(
     alloc: Global,
-    store: &Store<D, S>,
+    readings: &Readings<S>,
     ids: &[Hash32],
 ) -> Result<Vec<u32>, Memory>
-    requires runs { store.now.stopped ≡ false }
-    ensures { IfOk result (λ found. AreVoucherPlaces store.now.records ids.now found.items) }
+    ensures { IfOk result (λ found. AreVoucherPlaces readings.now.records ids.now found.items) }
 {
     let mut found = Vec::new(alloc);
     for id in ids {
-        store.push_voucher_places(id, &mut found)?;
+        readings.push_voucher_places(id, &mut found)?;
     }
     Ok(found)
 }

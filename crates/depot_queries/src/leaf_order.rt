@@ -1,17 +1,16 @@
 //! The leaves of what a node accepted.
-ghost use Rattle.std.specs.Prelude.{◌≡◌, false, ◌<◌, length, map, IfOk};
+ghost use Rattle.std.specs.Prelude.{◌≡◌, ◌<◌, length, map, IfOk};
 ghost use Rattle.depot_model.specs.Hello.{leaves_named};
 ghost use Rattle.depot_model.specs.History.{by_id, leaves_of};
 ghost use Rattle.depot_model.specs.Items.{at};
 ghost use Rattle.depot_model.specs.Texts.{id_of_update};
 ghost use Rattle.depot_model.specs.Journal.{accepted};
-ghost use Rattle.depot_queries.specs.Telling.{leaf_in, name_of};
+ghost use Rattle.depot_queries.specs.ItemPlaces.{leaf_in, name_of};
 
 use depot_base::{Hash32, Memory, NodeId};
 use depot_graph::Graph;
 use depot_model::{HelloLeaf, HelloLeaves, Past, Scheme};
-use depot_outside::Disk;
-use depot_store::Store;
+use depot_readings::Readings;
 use std::alloc::Global;
 use std::collections::BTreeSet;
 
@@ -24,24 +23,22 @@ struct Leaf {
 }
 
 /// The leaves, in rising order of (writer, id), as a hello names them.
-pub fn leaves<D: Disk, S: Scheme>(alloc: Global, store: &Store<D, S>) -> Result<HelloLeaves, Memory>
-    requires runs { store.now.stopped ≡ false }
-    ensures { IfOk result (λ leaves. leaves ≡ leaves_named store.now.records) }
+pub fn leaves<S: Scheme>(alloc: Global, readings: &Readings<S>) -> Result<HelloLeaves, Memory>
+    ensures { IfOk result (λ leaves. leaves ≡ leaves_named readings.now.records) }
 {
-    let leaves = leaves_in_order(alloc, store)?;
+    let leaves = leaves_in_order(alloc, readings)?;
     names_of(alloc, &leaves)
 }
 
 /// The leaves in their order. No other item is looked at.
-fn leaves_in_order<D: Disk, S: Scheme>(
+fn leaves_in_order<S: Scheme>(
     alloc: Global,
-    store: &Store<D, S>,
+    readings: &Readings<S>,
 ) -> Result<BTreeSet<Leaf>, Memory>
-    requires runs { store.now.stopped ≡ false }
-    ensures { IfOk result (λ leaves. leaves.keys ≡ map (leaf_in store.now.records) (by_id (leaves_of (accepted store.now.records)))) }
+    ensures { IfOk result (λ leaves. leaves.keys ≡ map (leaf_in readings.now.records) (by_id (leaves_of (accepted readings.now.records)))) }
 {
-    let graph = store.state().graph();
-    let places = store.places();
+    let graph = readings.state().graph();
+    let places = readings.places();
     let items = graph.leaves();
     let mut leaves = BTreeSet::new(alloc);
     for item in items {

@@ -1,7 +1,7 @@
 -- Whether receipts are due: what is found of each id, and of each value that an update names.
 use Rattle.std.proofs.Common.{◌≡◌, ◌∙◌, ◌<◌, ◌+◌, ◌&&◌, ℕ, Bool, true, false, cond, not, List, [], ◌∷◌, ◌++◌, length, take, drop, suc, get_or, Option, Some, None, is_some, refl, sym, ap, subst, inl, inr}
 use Rattle.std.specs.Prelude.{find, slice_get}
-use Rattle.std.specs.List.{list_all, list_any, AllByRecursion}
+use Rattle.std.specs.List.{list_all, list_any}
 use Rattle.std.specs.Str.{bytes_eq}
 use Rattle.std.proofs.lemmas.Bool.{and_parts, and_from, and_left, and_right, false_from_ne_true}
 use Rattle.std.proofs.lemmas.Slice.Eq.{bytes_eq-Decides}
@@ -16,7 +16,7 @@ use Rattle.depot_model.specs.Items.{place_of_id}
 use Rattle.depot_model.specs.Journal.{accepted, has_id, holds}
 use Rattle.depot_model.specs.Lists.{IsIn}
 use Rattle.depot_model.specs.Order.{IsCausal}
-use Rattle.depot_model.specs.Receipts.{receipt_key, lacks_one, no_receipt, unknown, lacks_value, receipt_changes}
+use Rattle.depot_model.specs.Receipts.{lacks_one, no_receipt, unknown, lacks_value}
 use Rattle.depot_model.specs.Texts.{id_of_update}
 use Rattle.depot_model.proofs.Elements.{in_at}
 use Rattle.depot_model.proofs.Members.{any_from, any_to, all-append}

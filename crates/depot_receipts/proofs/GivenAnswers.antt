@@ -1,19 +1,21 @@
 -- What the put of receipts leaves true, and what no refusal of them is.
-use Rattle.std.proofs.Common.{◌≡◌, ◌∙◌, ℕ, List, [], ◌∷◌, ◌++◌, map, take, drop, None, Result, Ok, Err, refl, sym, ap, subst, inl, inr, append_assoc}
+use Rattle.std.proofs.Common.{◌≡◌, ◌≢◌, ◌↔◌, ◌∙◌, ℕ, List, [], ◌∷◌, ◌++◌, map, take, drop, None, Result, Ok, Err, IsErrOf, IsErrAnd, refl, sym, ap, subst, inl, inr, append_assoc}
 use Rattle.std.proofs.lemmas.List.{take-append-drop}
 use Rattle.depot_base.specs.declared.record.Record.{Record}
 use Rattle.depot_base.specs.declared.write.Change.{Change}
-use Rattle.depot_decide.specs.Putting.{Puts}
-use Rattle.depot_decide.specs.declared.put_answers.PutDone.{PutDone}
-use Rattle.depot_decide.specs.declared.put_answers.PutError.{PutError}
-use Rattle.depot_decide.specs.declared.put_answers.PutError.TheVariants as put
+use Rattle.depot_model.specs.Putting.{Puts, IsPutCall}
+use Rattle.depot_model.specs.declared.node_state.NodeState.{Ghosts}
+use Rattle.depot_model.proofs.JournalCallLaws.{renamed_call}
+use Rattle.depot_model.specs.declared.put_answers.PutDone.{PutDone}
+use Rattle.depot_model.specs.declared.put_answers.PutError.{PutError}
+use Rattle.depot_model.specs.declared.put_answers.PutError.TheVariants as put
 use Rattle.depot_model.specs.Checks.{Setting}
 use Rattle.depot_model.specs.Limits.{IsCutShort}
 use Rattle.depot_model.specs.Lists.{IsIn}
 use Rattle.depot_model.specs.Own.{next_own, write_of, values_of}
 use Rattle.depot_model.specs.Receipts.{receipt_key, AreReceiptsTrue, no_receipt, receipt_changes}
 use Rattle.depot_laws.proofs.TrueReceipts.{front_is_true, receipt_put_is_true}
-use Rattle.depot_receipts.specs.Giving.{AreDue, receipt_records}
+use Rattle.depot_receipts.specs.Giving.{AreDue, IsReceiptCall, as_give, receipt_records}
 use Rattle.depot_receipts.specs.declared.give_error.GiveError.{GiveError}
 use Rattle.depot_receipts.specs.declared.give_error.GiveError.TheVariants as give
 
@@ -54,3 +56,27 @@ given_are_true here J ids changes answer then due puts genuine = by_answer answe
 -- what speaks against receipts is neither a fault nor a node that is stopped
 pub no_fault : (J : List Record) (ids : List (List ℕ)) (e : GiveError) → AreDue J ids (Err e) → (e ≡ give.Disk → ⊥) × (e ≡ give.Stopped → ⊥)
 no_fault J ids e due = ((λ is. let d : AreDue J ids (Err give.Disk) = subst (λ (x : GiveError). AreDue J ids (Err x)) is due in d), (λ is. let d : AreDue J ids (Err give.Stopped) = subst (λ (x : GiveError). AreDue J ids (Err x)) is due in d))
+
+-- ---- the call
+
+-- the answers say the same of a stopped node, of the disk, and of what is appended
+record IsSaidAs (answer : Result PutDone PutError) (result : Result PutDone GiveError) : Type 0 where
+  stopped : IsErrOf answer put.Stopped ↔ IsErrOf result give.Stopped
+  failed : IsErrOf answer put.Disk ↔ IsErrOf result give.Disk
+  nothing : IsErrAnd result (λ e. e ≢ give.Disk) → IsErrAnd answer (λ e. e ≢ put.Disk)
+
+said_as : (answer : Result PutDone PutError) → IsSaidAs answer (as_give answer)
+said_as (Ok done) = record { stopped = ((λ is. absurd cc), (λ is. absurd cc)); failed = ((λ is. absurd cc), (λ is. absurd cc)); nothing = λ never. never }
+said_as (Err put.Memory) = record { stopped = ((λ is. absurd cc), (λ is. absurd cc)); failed = ((λ is. absurd cc), (λ is. absurd cc)); nothing = λ _ is. absurd cc }
+said_as (Err put.Disk) = record { stopped = ((λ is. absurd cc), (λ is. absurd cc)); failed = ((λ _. refl), (λ _. refl)); nothing = λ differs. absurd (differs refl) }
+said_as (Err put.Stopped) = record { stopped = ((λ _. refl), (λ _. refl)); failed = ((λ is. absurd cc), (λ is. absurd cc)); nothing = λ _ is. absurd cc }
+said_as (Err (put.Spent n)) = record { stopped = ((λ is. absurd cc), (λ is. absurd cc)); failed = ((λ is. absurd cc), (λ is. absurd cc)); nothing = λ _ is. absurd cc }
+said_as (Err (put.Tips n)) = record { stopped = ((λ is. absurd cc), (λ is. absurd cc)); failed = ((λ is. absurd cc), (λ is. absurd cc)); nothing = λ _ is. absurd cc }
+said_as (Err (put.Collides h)) = record { stopped = ((λ is. absurd cc), (λ is. absurd cc)); failed = ((λ is. absurd cc), (λ is. absurd cc)); nothing = λ _ is. absurd cc }
+said_as (Err (put.Full what)) = record { stopped = ((λ is. absurd cc), (λ is. absurd cc)); failed = ((λ is. absurd cc), (λ is. absurd cc)); nothing = λ _ is. absurd cc }
+
+-- a put of these receipts, whose answer is given so, is a call that gives them
+pub as_put_call : {N : Type 0} (g : Ghosts N) (old new : N) (ids : List (List ℕ)) (answer : Result PutDone PutError) (result : Result PutDone GiveError) → result ≡ as_give answer → IsPutCall g old new (receipt_changes ids) answer → IsReceiptCall g old new ids result
+as_put_call g old new ids answer result is call =
+    let so = said_as answer in
+    subst (λ (r : Result PutDone GiveError). IsReceiptCall g old new ids r) (sym is) (record { same = call.same; journal = renamed_call so.stopped so.failed so.nothing call.journal })

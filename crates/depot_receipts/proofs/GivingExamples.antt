@@ -13,8 +13,8 @@ use Rattle.depot_base.specs.declared.statement.Statement.TheVariants as statemen
 use Rattle.depot_base.specs.declared.update.Update.{Update}
 use Rattle.depot_base.specs.declared.write.Write.{Write}
 use Rattle.depot_base.specs.declared.write.Wrote.TheVariants.{Put, Gone}
-use Rattle.depot_decide.specs.Putting.{told_of}
-use Rattle.depot_decide.specs.declared.put_answers.PutDone.{PutDone}
+use Rattle.depot_model.specs.Putting.{put_done_of}
+use Rattle.depot_model.specs.declared.put_answers.PutDone.{PutDone}
 use Rattle.depot_model.specs.Checks.{Setting}
 use Rattle.depot_model.specs.History.{leaves_of, put_by_id, by_id, history_text, history_hash}
 use Rattle.depot_model.specs.Journal.{has_id, holds, first_values, prev_of, named}
@@ -99,7 +99,7 @@ abbrev lacking : List Record
 lacking = born ++ Foreign (record { statement = statements.Update one; body = []; signature = [] }) ∷ []
 
 -- its own update and value: a receipt, by the next own update
-is_given : Gives here holding (id ∷ []) (Ok (told_of (next_own 1 holding (receipt_changes (id ∷ []))))) (holding ++ receipt_records here holding (id ∷ []))
+is_given : Gives here holding (id ∷ []) (Ok (put_done_of (next_own 1 holding (receipt_changes (id ∷ []))))) (holding ++ receipt_records here holding (id ∷ []))
 unfolding sha256 first_words schedule rounds compress hash_after digest_bytes id_of_update update_body update_fields numeral number bytes_of list_of dep record_text tagged birth own_put inner signed statement voucher_body voucher_fields rest_of foreign_leaves leaves_of next_own next_entries precedes_named prev_of named past by_id put_by_id history_hash history_text limit_of_put limit_of_own spent_by tips_of collides_by has_id leaf_count key_of full_with no_receipt holds first_values receipt_key
 is_given = (refl, (refl, (refl, refl)))
 

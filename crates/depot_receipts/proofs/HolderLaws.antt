@@ -7,13 +7,13 @@ use Rattle.std.specs.Option.{option_map_or}
 use Rattle.std.specs.Ordering.{nat_cmp, is_eq}
 use Rattle.std.specs.Str.{bytes_eq}
 use Rattle.std.specs.declared.alloc.Global.{Global}
-use Rattle.std.proofs.lemmas.Bool.{lt-ltb, or_left, or_right}
+use Rattle.std.proofs.lemmas.Bool.{lt-ltb, or_right}
 use Rattle.std.proofs.lemmas.Map.Text.{is_eq-slice_cmp}
 use Rattle.std.proofs.lemmas.Slice.Eq.{bytes_eq-Decides}
-use Rattle.depot_base.proofs.GeneralLaws.{bytes_eq_comm, same_bytes, take_next, any_push}
+use Rattle.depot_base.proofs.GeneralLaws.{bytes_eq_comm, take_next, any_push}
 use Rattle.depot_model.specs.Lists.{is_among}
 use Rattle.depot_model.specs.Receipts.{put_number}
-use Rattle.depot_receipts.proofs.RisingPuts.{put_again, put_stands}
+use Rattle.depot_receipts.proofs.RisingPuts.{put_again}
 use Rattle.depot_receipts.specs.RisingPlaces.{has_place_in, stands_in}
 
 abbrev pub Lists : Type 0
@@ -56,13 +56,6 @@ places_stay old new id node list puts place other had = ap (place_in node) (put_
   by_test : (b : Bool) → place_in node (cond b (Some list) (kept old other)) ≡ true
   by_test true = place
   by_test false = had
-
-pub place_made : (old new : Lists) (id : List ℕ) (node : ℕ) (list : Vec ℕ Global) → PutsList old new id list → has_place_in list node ≡ true → place_in node (kept new id) ≡ true
-place_made old new id node list puts place = ap (place_in node) (put_in old new id list puts id) ∙ (ap (λ (b : Bool). place_in node (cond b (Some list) (kept old id))) (same_bytes id) ∙ place)
-
--- a node that was put in has its place
-pub place_taken : (list : Vec ℕ Global) (nodes : List ℕ) (node : ℕ) → list.items ≡ put_number node nodes → has_place_in list node ≡ true
-place_taken list nodes node is = or_left (stands_in node list.items) _ (ap (stands_in node) is ∙ put_stands node nodes)
 
 -- memory for a node is a place for it
 pub place_over : (list : Vec ℕ Global) (node : ℕ) → vec_len list < vec_capacity list → has_place_in list node ≡ true

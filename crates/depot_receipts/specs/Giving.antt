@@ -1,13 +1,15 @@
 -- What a node answers where it is asked for receipts, and what its journal is then.
-use Rattle.std.specs.Prelude.{◌≡◌, List, [], ℕ, map, Some, None, Result, Ok, Err}
+use Rattle.std.specs.Prelude.{◌≡◌, ◌≢◌, List, ℕ, Some, None, Result, Ok, Err, IsErrOf, IsErrAnd}
 use Rattle.depot_base.specs.declared.write.Change.{Change}
 use Rattle.depot_base.specs.declared.record.Record.{Record}
 use Rattle.depot_model.specs.Checks.{Setting}
 use Rattle.depot_model.specs.Receipts.{receipt_changes, no_receipt, unknown, lacks_value}
-use Rattle.depot_decide.specs.Putting.{Puts, put_records}
-use Rattle.depot_decide.specs.declared.put_answers.PutDone.{PutDone}
-use Rattle.depot_decide.specs.declared.put_answers.PutError.{PutError}
-use Rattle.depot_decide.specs.declared.put_answers.PutError.TheVariants as put
+use Rattle.depot_model.specs.Putting.{Puts, put_records}
+use Rattle.depot_model.specs.Replicas.{IsNodeCall}
+use Rattle.depot_model.specs.declared.node_state.NodeState.{Ghosts}
+use Rattle.depot_model.specs.declared.put_answers.PutDone.{PutDone}
+use Rattle.depot_model.specs.declared.put_answers.PutError.{PutError}
+use Rattle.depot_model.specs.declared.put_answers.PutError.TheVariants as put
 use Rattle.depot_receipts.specs.declared.give_error.GiveError.{GiveError}
 use Rattle.depot_receipts.specs.declared.give_error.GiveError.TheVariants as give
 
@@ -32,6 +34,12 @@ Gives here J ids (Err (give.Spent n)) then = PutsReceipts here J ids (Err (put.S
 Gives here J ids (Err (give.Tips n)) then = PutsReceipts here J ids (Err (put.Tips n)) then
 Gives here J ids (Err (give.Collides h)) then = PutsReceipts here J ids (Err (put.Collides h)) then
 Gives here J ids (Err (give.Full what)) then = PutsReceipts here J ids (Err (put.Full what)) then
+
+-- the call was to give these receipts, and answered so; after each error but Disk nothing is appended
+abbrev pub IsReceiptCall : {N : Type 0} → Ghosts N → N → N → List (List ℕ) → Result PutDone GiveError → Type 0
+IsReceiptCall g old new ids result =
+    IsNodeCall g old new (receipt_records (g.stands old) (g.records old) ids)
+    (IsErrOf result give.Stopped) (IsErrOf result give.Disk) (IsErrAnd result (λ e. e ≢ give.Disk))
 
 -- ---- on the way
 

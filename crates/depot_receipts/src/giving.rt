@@ -1,20 +1,16 @@
 //! A node gives receipts.
-ghost use Rattle.std.specs.Prelude.{◌≡◌, ◌≢◌, ◌≤◌, [], length, true, IfErr, IsErrOf};
+ghost use Rattle.std.specs.Prelude.{◌≡◌, ◌≤◌, length, true};
 ghost use Rattle.depot_base.specs.Pairs.{AllPairsByRecursion};
 ghost use Rattle.depot_base.specs.Parts.{is_below};
 ghost use Rattle.depot_base.specs.declared.limits.TheConstants.{MOST_WRITES};
 ghost use Rattle.depot_model.specs.Receipts.{AreReceiptsTrue};
-ghost use Rattle.depot_model.specs.Replicas.{IsSameNode, StopsBy, KeepsDisk};
-ghost use Rattle.depot_model.specs.Stops.{CallsDisk, Lasts};
-ghost use Rattle.depot_receipts.specs.Giving.{Gives, as_give, as_refusal, receipt_records};
+ghost use Rattle.depot_receipts.specs.Giving.{Gives, IsReceiptCall, as_give, as_refusal};
 
 use crate::due::changes_due;
 use crate::give_error::GiveError;
 use depot_base::Ids;
-use depot_decide::{PutDone, PutError};
-use depot_model::{Replica, Scheme, Signer};
-use depot_node::Node;
-use depot_outside::Disk;
+use depot_local::LocalNode;
+use depot_model::{PutDone, PutError, Replica};
 use std::alloc::Global;
 
 /// Gives receipts for 1 to 16 ids, rising strictly, by one put of the empty value under the key of each: the node says by signature
@@ -22,23 +18,14 @@ use std::alloc::Global;
 ///
 /// `Stopped` comes exactly where the disk failed in an earlier call. `Unknown` comes exactly where an id isn't that of an accepted
 /// update, with the first such; else `NoValue` exactly where a value that an update names isn't held, with the first such id. Then
-/// come the answers of [`put_all`](Node::put_all). What stands after each is as there: after `Disk` the node is stopped, and where
+/// come the answers of [`put_all`](LocalNode::put_all). What stands after each is as there: after `Disk` the node is stopped, and where
 /// another error is answered, its journal is as before. Where each receipt that the node gave was true, each is.
-pub fn give<D: Disk, S: Scheme, G: Signer<Of = S>>(
-    alloc: Global,
-    node: &mut Node<D, S, G>,
-    ids: &Ids,
-) -> Result<PutDone, GiveError>
+pub fn give<N: LocalNode>(alloc: Global, node: &mut N, ids: &Ids) -> Result<PutDone, GiveError>
     requires few { (1 ≤ length ids.now) × (length ids.now ≤ MOST_WRITES) }
     requires rising { AllPairsByRecursion (λ g h. is_below g h ≡ true) ids.now }
-    ensures gives { Gives (⟦<Node<D, S, G> as Replica>⟧.stands node.old) (⟦<Node<D, S, G> as Replica>⟧.records node.old) ids.now result (⟦<Node<D, S, G> as Replica>⟧.records node.new) }
-    ensures receipts { AreReceiptsTrue (⟦<Node<D, S, G> as Replica>⟧.records node.old) → AreReceiptsTrue (⟦<Node<D, S, G> as Replica>⟧.records node.new) }
-    ensures stays { IsSameNode (⟦<Node<D, S, G> as Replica>⟧.stands node.old) (⟦<Node<D, S, G> as Replica>⟧.stands node.new) (⟦<Node<D, S, G> as Replica>⟧.key node.old) (⟦<Node<D, S, G> as Replica>⟧.key node.new) (⟦<Node<D, S, G> as Replica>⟧.signature_of node.old) (⟦<Node<D, S, G> as Replica>⟧.signature_of node.new) }
-    ensures stops { StopsBy (⟦<Node<D, S, G> as Replica>⟧.stopped node.old) (⟦<Node<D, S, G> as Replica>⟧.stopped node.new) (IsErrOf result GiveError.Stopped) (IsErrOf result GiveError.Disk) }
-    ensures disk { KeepsDisk (⟦<Node<D, S, G> as Replica>⟧.handle node.old) (⟦<Node<D, S, G> as Replica>⟧.handle node.new) (⟦<Node<D, S, G> as Replica>⟧.faults node.old) (⟦<Node<D, S, G> as Replica>⟧.faults node.new) (⟦<Node<D, S, G> as Replica>⟧.is_faultless node.old) (⟦<Node<D, S, G> as Replica>⟧.is_faultless node.new) (IsErrOf result GiveError.Disk) }
-    ensures lasts { Lasts ⟦<Node<D, S, G> as Replica>⟧.tells ⟦<Node<D, S, G> as Replica>⟧.stopped ⟦<Node<D, S, G> as Replica>⟧.records ⟦<Node<D, S, G> as Replica>⟧.moment ⟦<Node<D, S, G> as Replica>⟧.left_since ⟦<Node<D, S, G> as Replica>⟧.may_leave node.old node.new (receipt_records (⟦<Node<D, S, G> as Replica>⟧.stands node.old) (⟦<Node<D, S, G> as Replica>⟧.records node.old) ids.now) }
-    ensures calls { CallsDisk ⟦<Node<D, S, G> as Replica>⟧.after ⟦<Node<D, S, G> as Replica>⟧.reads ⟦<Node<D, S, G> as Replica>⟧.stopped ⟦<Node<D, S, G> as Replica>⟧.records node.old node.new (receipt_records (⟦<Node<D, S, G> as Replica>⟧.stands node.old) (⟦<Node<D, S, G> as Replica>⟧.records node.old) ids.now) (IsErrOf result GiveError.Disk) }
-    ensures idle { IfErr result (λ e. e ≢ GiveError.Disk → Lasts ⟦<Node<D, S, G> as Replica>⟧.tells ⟦<Node<D, S, G> as Replica>⟧.stopped ⟦<Node<D, S, G> as Replica>⟧.records ⟦<Node<D, S, G> as Replica>⟧.moment ⟦<Node<D, S, G> as Replica>⟧.left_since ⟦<Node<D, S, G> as Replica>⟧.may_leave node.old node.new []) }
+    ensures gives { Gives (N.stands node.old) (N.records node.old) ids.now result (N.records node.new) }
+    ensures receipts { AreReceiptsTrue (N.records node.old) → AreReceiptsTrue (N.records node.new) }
+    ensures call { IsReceiptCall N.NodeState node.old node.new ids.now result }
 {
     if node.is_stopped() {
         return Err(GiveError::Stopped);

@@ -1,18 +1,17 @@
 -- Starts from a disk in memory.
-use Rattle.std.proofs.Common.{◌≡◌, ◌≤◌, ◌<◌, ℕ, suc, min, List, [], ◌∷◌, ◌++◌, length, None, refl, sym, ap, subst, ◌∙◌, inl, inr, arith}
+use Rattle.std.proofs.Common.{◌≡◌, ◌≤◌, ◌<◌, ℕ, suc, min, List, [], ◌∷◌, length, refl, sym, ap, subst, ◌∙◌, inl, inr, arith}
 use Rattle.std.specs.Prelude.{⊤}
 use Rattle.std.proofs.lemmas.Bool.{lt-leb}
-use Rattle.depot_base.specs.Calls.{Call, made, FailsAmong, asks_length, calls_to_append_all, calls_to_start, reads_at, syncs, writes_at}
+use Rattle.depot_base.specs.Calls.{Call, made, FailsAmong, asks_length, calls_to_start, reads_at, syncs, writes_at}
 use Rattle.depot_base.specs.declared.limits.TheConstants.{MOST_JOURNAL}
 use Rattle.depot_outside.specs.Images.{Moment, synced_as}
 use Rattle.depot_outside.specs.StopImages.{left_by}
-use Rattle.depot_outside.specs.Stopping.{State, Leads, done_before_stop, done_by, fresh}
+use Rattle.depot_outside.specs.Stopping.{State, Leads, done_before_stop, done_by}
 use Rattle.depot_outside.specs.declared.stops.Image.{Image}
 use Rattle.depot_outside.specs.declared.stops.Image.TheVariants as image
-use Rattle.depot_replay.specs.Disks.{IsAtRest, StoppedReading, pending_of}
+use Rattle.depot_replay.specs.Disks.{IsAtRest, StoppedReading}
 use Rattle.depot_replay.proofs.DiskLaws.{FailsIn, Gone, StoppedIn, failed_on, fails_in, led_on}
-use Rattle.depot_replay.proofs.DiskAppends.{appends_rest, synced_rest}
-use Rattle.depot_replay.proofs.DiskStops.{StopsAt, none_waits_after, stopped_at, stops_later, stops_now}
+use Rattle.depot_replay.proofs.DiskStops.{StopsAt, stopped_at, stops_later, stops_now}
 
 -- ---- calls that write nothing
 
@@ -105,17 +104,3 @@ stopped_starting s t rest long f =
     record { stopped = stopped_at s t x.place x.image 3 x.stops x.within; same = x.same }
 
 -- ---- a start from an empty disk
-
-empty_started : (t : State) (more : List Call) → Leads (fresh [] []) (made (calls_to_start [] ++ more)) t → (u : State) × IsAtRest u × Leads u (made more) t
-empty_started t more led =
-    let (s1, first, led1) = led_on (fresh [] []) t syncs (asks_length ∷ writes_at 0 (0 ∷ []) ∷ syncs ∷ more) led in
-    let (s2, asked, led2) = led_on s1 t asks_length (writes_at 0 (0 ∷ []) ∷ syncs ∷ more) led1 in
-    let (s3, wrote, led3) = led_on s2 t (writes_at 0 (0 ∷ [])) (syncs ∷ more) led2 in
-    let (u, last, led4) = led_on s3 t syncs more led3 in
-    (u, synced_rest s3 u (wrote.fails_are ∙ asked.fails_are ∙ first.fails_are) last, led4)
-
--- a journal that was born on it is at rest, and no stop waits
-pub fresh_at_rest : (t : State) (texts : List (List ℕ)) → Leads (fresh [] []) (made (calls_to_start [] ++ calls_to_append_all 0 texts)) t → IsAtRest t × (pending_of t.next ≡ None)
-fresh_at_rest t texts led =
-    let (u, rest, more) = empty_started t (calls_to_append_all 0 texts) led in
-    (appends_rest u t 0 texts rest more, none_waits_after (fresh [] []) t (calls_to_start [] ++ calls_to_append_all 0 texts) led refl)

@@ -22,7 +22,8 @@ use Rattle.depot_model.specs.Hello.{hello}
 use Rattle.depot_model.specs.Lawful.{IsLawful, is_empty}
 use Rattle.depot_model.specs.Limits.{Limit}
 use Rattle.depot_model.specs.Roster.{has_node}
-use Rattle.depot_model.specs.Stops.{CallsDisk, calls_to_record}
+use Rattle.depot_model.specs.JournalCalls.{CallsDisk, JournalView}
+use Rattle.depot_model.specs.Stops.{calls_to_record}
 use Rattle.depot_model.specs.Texts.{hash_of_roster}
 use Rattle.depot_model.specs.Vouching.{limit_of_vouchers, records_of}
 use Rattle.depot_model.specs.World.{Correct}
@@ -47,9 +48,9 @@ pub record IsDoneOn (s t : State) (J K appends : List Record) (failed : Type 0) 
   pub whole : (failed → ⊥) → (grown : List Record) → K ≡ J ++ grown → Leads s (made (calls_to_record J grown)) t
   pub part : failed → FailsAmong Leads s t (calls_to_record J appends)
 
-pub done_on : {N : Type 0} {after : N → List Made → N → Type 0} {reads : N → List ℕ} {stopped : N → Bool} {records : N → List Record} {failed : Type 0}
-    → (old new : N) (s t : State) (appends : List Record) → ((calls : List Made) → after old calls new → Leads s calls t) → CallsDisk after reads stopped records old new appends failed → IsDoneOn s t (records old) (records new) appends failed
-done_on old new s t appends sees c = record {
+pub done_on : {N : Type 0} {v : JournalView N} {failed : Type 0} (old new : N) (s t : State) (appends : List Record) → CallsDisk v old new appends failed → ((calls : List Made) → v.after old calls new → Leads s calls t)
+    → IsDoneOn s t (v.records old) (v.records new) appends failed
+done_on old new s t appends c sees = record {
   whole = λ well grown is. sees _ (c.whole well grown is);
   part = λ f. let p = c.part f in record { before = p.before; failing = p.failing; rest = p.rest; parts = p.parts; fails = sees _ p.fails };
 }

@@ -1,5 +1,5 @@
 -- What an event of a hosted node came to: it went as it goes, or a stop fell into it.
-use Rattle.std.proofs.Common.{◌≡◌, ℕ, ◌*◌, List, [], ◌++◌, append_assoc, length, length-append, take, drop, Bool, false, true≢false, Option, None, Some, Result, Ok, Err, IfOk, IsOk, refl, sym, ap, subst, ◌∙◌, arith}
+use Rattle.std.proofs.Common.{◌≡◌, ℕ, ◌*◌, List, [], ◌++◌, append_assoc, length, length-append, take, drop, Bool, false, true≢false, Option, None, Result, Ok, Err, IfOk, IsOk, refl, sym, ap, subst, ◌∙◌, arith}
 use Rattle.std.proofs.Math.Seq.{drop-append_seam}
 use Rattle.std.specs.Prelude.{◌↔◌, IsErrOf}
 use Rattle.std.proofs.lemmas.List.{append-nil, take-append-drop}
@@ -130,9 +130,6 @@ module _ {v : View} {s t : State} {K longer : List Record} {failed : Type 0} (c 
       }) is
 
 -- ---- what is printed of it
-
-pub well_ends : {v : View} {s t : State} {K longer : List Record} (p : Printed) (c : IsCalled v s t K longer (Some p ≡ None)) (w : View) → IsThen v w K (pending_of t.next) → EndsAs v longer (Some p) w p.lines p.bytes
-well_ends p c w then setup x d mem_host a print = called_well c setup x d w p.lines p.bytes (λ never. cc) mem_host a then print.0 print.1
 
 pub cut_ends : {v : View} {s t : State} {K longer : List Record} (p : Option Printed) (none : p ≡ None) (c : IsCalled v s t K longer (p ≡ None)) (w : View) (lines bytes : List ℕ) → IsThen v w (left_by_cut c none) None → lines ≡ stopped_line w.journal → bytes ≡ []
     → EndsAs v longer p w lines bytes

@@ -1,18 +1,18 @@
 -- What a call on a node makes of its disk and its journal, and a stop that falls into it.
-use Rattle.std.proofs.Common.{◌≡◌, ◌≤◌, ◌<◌, ℕ, suc, ◌+◌, ◌-◌, ◌*◌, List, [], ◌∷◌, ◌++◌, length, length-append, map, take, drop, nat_le, get_or, false, Option, None, Some, refl, sym, ap, subst, ◌∙◌, inl, inr, arith}
+use Rattle.std.proofs.Common.{◌≡◌, ◌≤◌, ◌<◌, ℕ, suc, ◌+◌, ◌-◌, ◌*◌, List, [], ◌∷◌, ◌++◌, length, length-append, map, take, drop, nat_le, get_or, false, Option, None, Some, refl, sym, ap, subst, ◌∙◌, inr, arith}
 use Rattle.std.proofs.Math.Seq.{drop-cons}
 use Rattle.std.proofs.lemmas.Bool.{le-leb, lt-leb}
-use Rattle.std.proofs.lemmas.List.{append-nil, length-map, map-append, take-map, take_at, take-append-drop}
+use Rattle.std.proofs.lemmas.List.{length-map, map-append, take-map, take_at, take-append-drop}
 use Rattle.std.proofs.lemmas.List.Sums.{sum_by-cons}
 use Rattle.std.proofs.lemmas.Option.{slice_get-get_or, same_Some}
 use Rattle.depot_base.specs.Calls.{Call, made, FailsAmong, calls_to_append_all}
-use Rattle.depot_base.specs.File.{AreWithinLimits, IsFileOf, StandsFor, blocks, framed}
+use Rattle.depot_base.specs.File.{AreWithinLimits, StandsFor, blocks, framed}
 use Rattle.depot_base.specs.declared.record.Record.{Record}
 use Rattle.depot_base.proofs.CallLaws.{framed_long}
 use Rattle.depot_model.specs.Checks.{Setting}
 use Rattle.depot_model.specs.Lawful.{IsLawful, is_empty}
 use Rattle.depot_model.specs.Records.{journal_bytes, text_of_record}
-use Rattle.depot_model.specs.Stops.{HasAll, HasRecords, calls_to_record}
+use Rattle.depot_model.specs.Stops.{HasRecords, calls_to_record}
 use Rattle.depot_laws.proofs.OwnTexts.{lawful_is_light, lawful_is_short}
 use Rattle.depot_outside.specs.Stopping.{State, Leads}
 use Rattle.depot_world.specs.Run.{PendingStop, Host}
@@ -67,14 +67,6 @@ has_records here file J l s = inr (stands_for file (map text_of_record J) s, wit
 pub two_bytes : (file : List ℕ) (J : List Record) → is_empty J ≡ false → StandIn file (map text_of_record J) → 2 ≤ length file
 two_bytes file [] some s = absurd cc
 two_bytes file (r ∷ J) some s = omega (arith, s.inside, length-append (framed (text_of_record r)) (blocks (map text_of_record J)), framed_long (text_of_record r))
-
--- the file of a node that isn't stopped has its records
-pub all_stand : (file : List ℕ) (J : List Record) → is_empty J ≡ false → HasAll J false file → StandIn file (map text_of_record J)
-all_stand file J some all = by_file J some (subst (IsFileOf file) (ap (λ (x : List (List ℕ)). map text_of_record J ++ x) (all.none refl) ∙ append-nil (map text_of_record J)) all.has) where
-  by_file : (K : List Record) → is_empty K ≡ false → IsFileOf file (map text_of_record K) → StandIn file (map text_of_record K)
-  by_file [] none f = absurd cc
-  by_file (r ∷ K) begun (inl none) = let never = none.1 in absurd cc
-  by_file (r ∷ K) begun (inr stands) = stand_in file (map text_of_record (r ∷ K)) stands.0
 
 -- ---- calls that went well
 

@@ -11,10 +11,10 @@ use Rattle.depot_model.specs.Lawful.{IsLawful}
 use Rattle.depot_model.specs.Limits.{Limit, limit_of_put}
 use Rattle.depot_model.specs.Own.{next_own, values_of}
 use Rattle.depot_model.specs.World.{Correct}
-use Rattle.depot_decide.specs.Putting.{Puts, put_records}
-use Rattle.depot_decide.specs.declared.put_answers.PutDone.{PutDone}
-use Rattle.depot_decide.specs.declared.put_answers.PutError.{PutError}
-use Rattle.depot_decide.specs.declared.put_answers.PutError.TheVariants as refused
+use Rattle.depot_model.specs.Putting.{Puts, put_records}
+use Rattle.depot_model.specs.declared.put_answers.PutDone.{PutDone}
+use Rattle.depot_model.specs.declared.put_answers.PutError.{PutError}
+use Rattle.depot_model.specs.declared.put_answers.PutError.TheVariants as refused
 use Rattle.depot_outside.specs.Stopping.{State}
 use Rattle.depot_world.specs.Effects.{grown, put_by}
 use Rattle.depot_world.specs.ScheduleStops.{Effect}

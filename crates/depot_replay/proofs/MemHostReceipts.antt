@@ -2,9 +2,9 @@
 use Rattle.std.proofs.Common.{◌≡◌, ◌↔◌, ◌-◌, ◌*◌, ◌∙◌, ℕ, List, length, Option, Some, None, Result, Ok, Err, refl, sym, ap, subst, arith}
 use Rattle.std.specs.Prelude.{IsErrOf}
 use Rattle.depot_base.specs.declared.record.Record.{Record}
-use Rattle.depot_decide.specs.declared.put_answers.PutDone.{PutDone}
-use Rattle.depot_decide.specs.declared.put_answers.PutError.{PutError}
-use Rattle.depot_decide.specs.declared.put_answers.PutError.TheVariants as refused
+use Rattle.depot_model.specs.declared.put_answers.PutDone.{PutDone}
+use Rattle.depot_model.specs.declared.put_answers.PutError.{PutError}
+use Rattle.depot_model.specs.declared.put_answers.PutError.TheVariants as refused
 use Rattle.depot_model.specs.Bundle.{Signs}
 use Rattle.depot_model.specs.Changes.{AreChanges}
 use Rattle.depot_model.specs.Checks.{Setting}
@@ -20,7 +20,7 @@ use Rattle.depot_simulation.specs.Acting.{View}
 use Rattle.depot_node_lines.specs.PutPrinting.{SettlesPut}
 use Rattle.depot_node_lines.specs.ReceiptPrinting.{SettlesGive}
 use Rattle.depot_node_lines.specs.declared.printed.Printed.{Printed}
-use Rattle.depot_node_lines.proofs.ReceiptTexts.{cut_by_put, given_by_put, put_settled, receipt_is}
+use Rattle.depot_node_lines.proofs.ReceiptTexts.{cut_by_put, receipt_is}
 use Rattle.depot_replay.specs.Disks.{pending_of}
 use Rattle.depot_replay.specs.MemHosts.{Appends, IsBegunOn, IsCalled}
 use Rattle.depot_replay.proofs.MemHostCalls.{IsDoneOn, done_alike, none_called}

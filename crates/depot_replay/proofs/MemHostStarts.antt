@@ -1,5 +1,5 @@
 -- Starts of a node from a disk in memory.
-use Rattle.std.proofs.Common.{◌≡◌, ◌≤◌, ℕ, ◌+◌, ◌-◌, List, [], ◌∷◌, ◌++◌, length, map, false, Some, None, refl, sym, ap, subst, ◌∙◌, inl, arith}
+use Rattle.std.proofs.Common.{◌≡◌, ◌⊎◌, ◌≤◌, ℕ, ◌+◌, ◌-◌, List, [], ◌∷◌, ◌++◌, length, map, false, Some, None, refl, sym, ap, subst, ◌∙◌, inl, inr, arith}
 use Rattle.std.proofs.lemmas.Bool.{lt-leb}
 use Rattle.std.proofs.lemmas.List.{append-nil}
 use Rattle.std.proofs.lemmas.Option.{same_Some}
@@ -8,21 +8,23 @@ use Rattle.depot_base.specs.declared.record.Record.{Record}
 use Rattle.depot_base.specs.declared.record.Record.TheVariants.{Birth}
 use Rattle.depot_laws.proofs.Splits.{lawful_none}
 use Rattle.depot_model.specs.Checks.{Setting}
-use Rattle.depot_model.specs.Lawful.{is_empty}
+use Rattle.depot_model.specs.Lawful.{IsLawful, is_empty}
 use Rattle.depot_model.specs.Records.{text_of_record}
 use Rattle.depot_model.specs.Stops.{HasRecords}
 use Rattle.depot_model.specs.Texts.{hash_of_roster}
-use Rattle.depot_node.specs.Starting.{IsStartedFrom, calls_to_start_node, started}
+use Rattle.depot_node.specs.Starting.{IsStartedFrom, LeavesFile, calls_to_start_node, started}
+use Rattle.depot_node.specs.declared.start_error.StartError.{StartError}
+use Rattle.depot_node.specs.declared.start_error.StartError.TheVariants as refused
 use Rattle.depot_node.proofs.StartLaws.{lawful_file_is_read}
 use Rattle.depot_outside.specs.Stopping.{State, Leads, done_by, fresh}
 use Rattle.depot_outside.specs.StopImages.{numbered}
 use Rattle.depot_outside.specs.declared.stops.Stop.{Stop}
 use Rattle.depot_world.specs.Run.{PendingStop}
 use Rattle.depot_replay.specs.Disks.{IsAtRest, StoppedReading, pending_of}
-use Rattle.depot_replay.specs.MemHosts.{IsBegunOn, IsKeptOn, StandIn}
+use Rattle.depot_replay.specs.MemHosts.{FailsToStart, IsBegunOn, IsKeptOn, SparesLawful, StandIn, WasStopped}
 use Rattle.depot_replay.proofs.DiskAppends.{appends_rest, appends_stand, synced_rest, synced_same, wrote}
 use Rattle.depot_replay.proofs.DiskStarts as starts
-use Rattle.depot_replay.proofs.DiskStops.{nearer_after, none_waits_after}
+use Rattle.depot_replay.proofs.DiskStops.{nearer_after, none_fails, none_fails_yet, none_waits_after}
 use Rattle.depot_replay.proofs.DiskLaws.{Gone, pending_numbered, led_on}
 use Rattle.depot_replay.proofs.MemHostLaws.{IsToCome, has_records, none_to_come, stand_in, to_come_after, two_bytes}
 
@@ -148,9 +150,50 @@ pending_begun here s u J stop begun is from_one = subst (λ (x : State). IsBegun
   };
 })
 
+waits_behind : (s u : State) (call image : ℕ) → image ≤ 2 → u ≡ record s { next = Some (record { call = call + 3; image = numbered image }) } → pending_of u.next ≡ Some (record { call = call + 3; image = image })
+waits_behind s u call image small is = ap (λ (x : State). pending_of x.next) is ∙ pending_numbered (call + 3) image small
+
 -- the start brings it three calls nearer
 pub pending_on : (here : Setting) (s u t : State) (J K : List Record) (call image : ℕ) → image ≤ 2 → u ≡ record s { next = Some (record { call = call + 3; image = numbered image }) } → IsStartedOn here u t J K → pending_of t.next ≡ Some (record { call = call; image = image })
 pending_on here s u t J K call image small is x =
-    let waits : pending_of u.next ≡ Some (record { call = call + 3; image = image }) = ap (λ (y : State). pending_of y.next) is ∙ pending_numbered (call + 3) image small in
+    let waits = waits_behind s u call image small is in
     let left : call + 3 - length (calls_to_start u.file) ≡ call = omega (arith, three_calls u.file x.long) in
     nearer_after u t (calls_to_start u.file) (record { call = call + 3; image = image }) x.led waits ∙ ap (λ (n : ℕ). Some (record { call = n; image = image })) left
+
+-- ---- a start that is refused
+
+-- where nothing in the file is refused, no memory was found, or the disk failed
+pub memory_or_disk : (e : StartError) → (LeavesFile e → ⊥) → (e ≡ refused.Memory) ⊎ (e ≡ refused.Disk)
+memory_or_disk refused.Memory spared = inl refl
+memory_or_disk refused.Disk spared = inr refl
+memory_or_disk refused.UnknownMe spared = absurd (spared tt)
+memory_or_disk (refused.OtherKey roster signer) spared = absurd (spared tt)
+memory_or_disk (refused.Damaged at) spared = absurd (spared tt)
+memory_or_disk (refused.OtherNode node) spared = absurd (spared tt)
+memory_or_disk (refused.OtherRoster kept given) spared = absurd (spared tt)
+memory_or_disk (refused.NotLawful place fault) spared = absurd (spared tt)
+
+-- from the records of a lawful journal it is for want of memory, where no call fails
+only_memory : (here : Setting) (s t : State) (J : List Record) (e : StartError) → HasRecords J s.file → IsLawful here J → SparesLawful here s e → (e ≡ refused.Disk → FailsToStart here s t) → (FailsAmong Leads s t (calls_to_start_node here s.file J) → ⊥) → e ≡ refused.Memory
+only_memory here s t J e has l spares fails well = elim (memory_or_disk e (spares J has l)) [ inl memory ↦ memory | inr disk ↦ absurd (well (fails disk J has)) ]
+
+-- as from an empty disk
+pub fresh_wants : (here : Setting) (s t : State) (e : StartError) → s ≡ fresh [] [] → SparesLawful here s e → (e ≡ refused.Disk → FailsToStart here s t) → e ≡ refused.Memory
+fresh_wants here s t e is spares fails =
+    let rest : IsAtRest s = subst IsAtRest (sym is) (record { synced = refl; faultless = refl }) in
+    let has : HasRecords [] s.file = subst (λ (x : State). HasRecords [] x.file) (sym is) empty_has in
+    only_memory here s t [] e has (lawful_none here) spares fails (none_fails s t (calls_to_start_node here s.file []) rest (ap (λ (x : State). pending_of x.next) is))
+
+-- of a node that was stopped
+pub again_wants : (here : Setting) (s t : State) (e : StartError) → WasStopped here s → SparesLawful here s e → (e ≡ refused.Disk → FailsToStart here s t) → e ≡ refused.Memory
+again_wants here s t e was spares fails =
+    let begun = was.begun in
+    only_memory here s t was.journal e (has_records here s.file was.journal begun.lawful begun.kept.stand) begun.lawful spares fails (none_fails s t (calls_to_start_node here s.file was.journal) begun.kept.at_rest was.none_waits)
+
+-- and where the stop comes behind the start
+pub behind_wants : (here : Setting) (s u t : State) (J : List Record) (call image : ℕ) (e : StartError) → 1 ≤ call → image ≤ 2 → IsBegunOn here u J → u ≡ record s { next = Some (record { call = call + 3; image = numbered image }) } → SparesLawful here u e
+    → (e ≡ refused.Disk → FailsToStart here u t) → e ≡ refused.Memory
+behind_wants here s u t J call image e from_one small begun is spares fails =
+    let three : length (calls_to_start_node here u.file J) ≡ 3 = ap (λ (calls : List Call). length calls) (again_calls here u.file J begun.some) ∙ three_calls u.file (two_bytes u.file J begun.some begun.kept.stand) in
+    only_memory here u t J e (has_records here u.file J begun.lawful begun.kept.stand) begun.lawful spares fails
+    (none_fails_yet u t (calls_to_start_node here u.file J) (record { call = call + 3; image = image }) begun.kept.at_rest (waits_behind s u call image small is) (omega (arith, three, from_one)))

@@ -18,10 +18,10 @@ use Rattle.depot_model.specs.Feeding.{Feeding, feed_of}
 use Rattle.depot_model.specs.Receipts.{receipt_changes}
 use Rattle.depot_model.specs.Roster.{Verifies}
 use Rattle.depot_model.specs.World.{Correct}
-use Rattle.depot_decide.specs.Putting.{Puts, put_records}
-use Rattle.depot_decide.specs.declared.put_answers.PutDone.{PutDone}
-use Rattle.depot_decide.specs.declared.put_answers.PutError.{PutError}
-use Rattle.depot_decide.specs.declared.put_answers.PutError.TheVariants as put_error
+use Rattle.depot_model.specs.Putting.{Puts, put_records}
+use Rattle.depot_model.specs.declared.put_answers.PutDone.{PutDone}
+use Rattle.depot_model.specs.declared.put_answers.PutError.{PutError}
+use Rattle.depot_model.specs.declared.put_answers.PutError.TheVariants as put_error
 use Rattle.depot_outside.specs.Stopping.{State}
 use Rattle.depot_receipts.specs.Giving.{Gives, receipt_records}
 use Rattle.depot_receipts.specs.declared.give_error.GiveError.{GiveError}

@@ -2,3 +2,4 @@ pub mod Disks
 pub mod PrintedRuns
 pub mod MemHostFacts
 pub mod MemHosts
+pub mod BegunSchedules

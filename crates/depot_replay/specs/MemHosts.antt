@@ -7,7 +7,9 @@ use Rattle.depot_model.specs.Bundle.{Signs}
 use Rattle.depot_model.specs.Checks.{Setting}
 use Rattle.depot_model.specs.Lawful.{IsLawful, is_empty}
 use Rattle.depot_model.specs.Records.{text_of_record}
-use Rattle.depot_model.specs.Stops.{calls_to_record}
+use Rattle.depot_model.specs.Stops.{HasRecords, calls_to_record}
+use Rattle.depot_node.specs.Starting.{IsStartedFrom, LeavesFile, calls_to_start_node}
+use Rattle.depot_node.specs.declared.start_error.StartError.{StartError}
 use Rattle.depot_outside.specs.Stopping.{State, Leads}
 use Rattle.depot_answers.specs.AnswerTexts.{text_of_number}
 use Rattle.depot_world.specs.Run.{PendingStop}
@@ -35,6 +37,27 @@ pub record IsBegunOn (here : Setting) (s : State) (J : List Record) : Type 0 whe
   pub lawful : IsLawful here J
   pub some : is_empty J ≡ false
   pub kept : IsKeptOn s J
+
+-- The node was stopped: its disk has the records of a journal that has begun, and no stop waits.
+pub record WasStopped (here : Setting) (s : State) : Type 0 where
+  pub journal : List Record
+  pub begun : IsBegunOn here s journal
+  pub none_waits : pending_of s.next ≡ None
+
+-- ---- a start
+
+-- A node was started from a disk in memory, and has this journal: by the calls that start it from the records of the file, and by no other.
+pub record IsStartedIn (here : Setting) (s t : State) (records : List Record) : Type 0 where
+  pub from : IsStartedFrom here s.file records
+  pub calls : (J : List Record) → HasRecords J s.file → Leads s (made (calls_to_start_node here s.file J)) t
+
+-- one of the calls that start a node from the records of the file failed
+abbrev pub FailsToStart : Setting → State → State → Type 0
+FailsToStart here s t = (J : List Record) → HasRecords J s.file → FailsAmong Leads s t (calls_to_start_node here s.file J)
+
+-- no start is refused for what stands in the file of a lawful journal
+abbrev pub SparesLawful : Setting → State → StartError → Type 0
+SparesLawful here s e = (J : List Record) → HasRecords J s.file → IsLawful here J → LeavesFile e → ⊥
 
 -- ---- a call
 
@@ -66,12 +89,12 @@ pub record Appends (d : Effect) (J longer : List Record) : Type 0 where
 abbrev pub stopped_line : List Record → List ℕ
 stopped_line J = ended (32 ∷ text_of_number (codes "stopped records") (length J))
 
--- A node was started again from a disk that had a journal that has begun, and is hosted: it is seen so, and these are the lines of the event
--- into which the stop fell, and the bytes that it gives a label.
+-- A node that was stopped was started again from its disk, and is hosted: it is seen so, and these are the lines of the event into which the
+-- stop fell, and the bytes that it gives a label.
 pub record IsHostedAgain (here : Setting) (sign : Signs) (s : State) (w : View) (lines bytes : List ℕ) : Type 0 where
   pub here_is : w.here ≡ here
   pub sign_is : w.sign ≡ sign
   pub journal : (J : List Record) → IsBegunOn here s J → w.journal ≡ J
-  pub none_waits : pending_of s.next ≡ None → w.pending ≡ None
+  pub none_waits : w.pending ≡ None
   pub line : lines ≡ stopped_line w.journal
   pub none : bytes ≡ []

@@ -1,36 +1,30 @@
 //! A correct node over a disk in memory.
-ghost use Rattle.std.specs.Prelude.{◌≡◌, ◌≢◌, ◌≤◌, [], ◌∷◌, ℕ, List, length, false, nat_le, Some, None, Ok, IfOk, IfErr, IfSome, IsOk, refl};
-ghost use Rattle.depot_base.specs.Calls.{FailsAmong, made};
+ghost use Rattle.std.specs.Prelude.{◌≡◌, ◌≢◌, ◌≤◌, [], ℕ, List, length, false, nat_le, Some, None, Ok, IfOk, IfErr, IfSome, IsOk, refl};
 ghost use Rattle.depot_base.specs.declared.record.Record.{Record};
-ghost use Rattle.depot_base.specs.declared.record.Record.TheVariants.{Birth};
 ghost use Rattle.depot_answers.specs.AnswerTexts.{name_of_settled, text_of_number, spaced, text_of_named};
 ghost use Rattle.depot_node_lines.specs.Printing.{shown_text};
 ghost use Rattle.depot_model.specs.Hello.{hello_of, text_of_hello};
 ghost use Rattle.depot_model.specs.Opening.{made_text, make_of};
 ghost use Rattle.depot_model.specs.Receipts.{receipts};
 ghost use Rattle.depot_model.specs.Roster.{key_of};
-ghost use Rattle.depot_model.specs.Stops.{HasRecords};
-ghost use Rattle.depot_model.specs.Texts.{hash_of_roster};
-ghost use Rattle.depot_node.specs.Starting.{IsStartedFrom, calls_to_start_node};
+ghost use Rattle.depot_node.specs.Keyed.{HasKey-prop};
+ghost use Rattle.depot_node.specs.Starting.{IsNodeAt, LeavesFile, placed};
 ghost use Rattle.depot_node.specs.declared.start_error.StartError.TheVariants as start_error;
-ghost use Rattle.depot_outside.specs.Stopping.{State, Leads, state_of};
-ghost use Rattle.depot_store.specs.Holdings.{standing};
+ghost use Rattle.depot_outside.specs.Stopping.{state_of};
+ghost use Rattle.depot_node.specs.Holdings.{standing};
 ghost use Rattle.depot_model.specs.ShownWrites.{shown_of};
 ghost use Rattle.depot_world.specs.Effects.{checkpoint_by};
-ghost use Rattle.depot_world.specs.Run.{Host, own_update};
-ghost use Rattle.depot_world.specs.ScheduleStops.{event_result};
-ghost use Rattle.depot_world.specs.Setups.{Setup, stands_on};
 ghost use Rattle.depot_world.specs.Transcript.{ended};
-ghost use Rattle.depot_simulation.specs.Acting.{CameTo, IsHosted, View};
+ghost use Rattle.depot_simulation.specs.Acting.{Acts, fresh_view};
 ghost use Rattle.depot_replay.specs.Disks.{pending_of};
-ghost use Rattle.depot_replay.specs.PrintedRuns.{EndsAs};
+ghost use Rattle.depot_replay.specs.PrintedRuns.{EndsCall};
 ghost use Rattle.depot_replay.specs.MemHostFacts.{IsKeptOn-prop, is_node-prop, is_roster-prop, same_signs-prop, lawful_there};
-ghost use Rattle.depot_replay.specs.MemHosts.{IsBegunOn, IsCalled, IsKeptOn, IsHostedAgain, WasCalled};
+ghost use Rattle.depot_replay.specs.MemHosts.{FailsToStart, IsHostedAgain, IsKeptOn, IsStartedIn, SparesLawful, WasCalled, WasStopped};
 
 use crate::mem_host_reader::{MemHostReader, trimming};
 use depot_base::{Bytes, Changes, Hash32, Ids, Items, Key, Memory, NodeId, Update, Value};
 use depot_gossip::{bundle, encode_hello, node_hello};
-use depot_model::{Past, Replica, Scheme, Signer};
+use depot_model::{NodeState, Past, Replica, Scheme, Signer};
 use depot_node::{Node, StartError};
 use depot_node_lines::{
     Printed, bundle_printed, checkpoint_printed, counted_line, fed_printed, feed_all, has_receipts,
@@ -57,6 +51,7 @@ struct StartConfig<S: Scheme + Copy, G: Signer<Of = S> + Copy> {
     roster: Roster,
     scheme: S,
     signer: G,
+    ghost keyed: { key_of roster me ≡ Some (G.key_of signer) } by { HasKey-prop roster me (G.key_of signer) },
 }
 
 /// A correct node over a disk in memory. Between two events it isn't stopped, and its disk is at rest and has its journal.
@@ -74,13 +69,10 @@ pub struct MemHost<S: Scheme + Copy, G: Signer<Of = S> + Copy> {
 impl<S: Scheme + Copy, G: Signer<Of = S> + Copy> StartConfig<S, G> {
     /// Starts the node from a disk.
     fn start(&self, disk: MemDisk) -> Result<Node<MemDisk, S, G>, Back<StartError, MemDisk>>
-        ensures me { IfOk result (λ n. n.store.me ≡ self.now.me) }
-        ensures listed { IfOk result (λ n. n.store.listed ≡ self.now.roster) }
-        ensures signs { IfOk result (λ n. G.signature_of n.signer ≡ G.signature_of self.now.signer) }
-        ensures runs { IfOk result (λ n. n.store.stopped ≡ false) }
-        ensures records { IfOk result (λ n. IsStartedFrom (record { verifies = S.verifies; me = self.now.me; listed = self.now.roster }) (state_of disk).file n.store.records) }
-        ensures calls { IfOk result (λ n. (J : List Record) → HasRecords J (state_of disk).file → Leads (state_of disk) (made (calls_to_start_node (record { verifies = S.verifies; me = self.now.me; listed = self.now.roster }) (state_of disk).file J)) (state_of n.store.disk)) }
-        ensures failing { IfErr result (λ b. b.error ≡ start_error.Disk → (J : List Record) → HasRecords J (state_of disk).file → FailsAmong Leads (state_of disk) (state_of b.disk) (calls_to_start_node (record { verifies = S.verifies; me = self.now.me; listed = self.now.roster }) (state_of disk).file J)) }
+        ensures node { IfOk result (IsNodeAt ⟦<Node<MemDisk, S, G> as NodeState>⟧ (placed S.verifies self.now.me self.now.roster) (G.key_of self.now.signer) (G.signature_of self.now.signer)) }
+        ensures started { IfOk result (λ n. IsStartedIn (placed S.verifies self.now.me self.now.roster) (state_of disk) (state_of n.store.disk) (⟦<Node<MemDisk, S, G> as NodeState>⟧.records n)) }
+        ensures failing { IfErr result (λ b. b.error ≡ start_error.Disk → FailsToStart (placed S.verifies self.now.me self.now.roster) (state_of disk) (state_of b.disk)) }
+        ensures spares { IfErr result (λ b. SparesLawful (placed S.verifies self.now.me self.now.roster) (state_of disk) b.error) }
     {
         let Ok(roster) = self.roster.copy() else {
             return Err(Back {
@@ -91,36 +83,80 @@ impl<S: Scheme + Copy, G: Signer<Of = S> + Copy> StartConfig<S, G> {
         Node::start(self.alloc, disk, roster, self.scheme, self.signer, self.me)
     }
 
-    /// Hosts the node that was stopped while its disk has a journal that has begun: it is started again.
+    /// Hosts the node that was stopped: it is started again from its disk.
     fn stopped(self, disk: MemDisk) -> Result<EventOutcome<MemHost<S, G>>, Memory>
-        requires { (J : List Record) × IsBegunOn (record { verifies = S.verifies; me = self.me; listed = self.roster }) (state_of disk) J }
-        ensures { IfOk result (λ t. IsHostedAgain (record { verifies = S.verifies; me = self.me; listed = self.roster }) (G.signature_of self.signer) (state_of disk) (⟦<MemHost<S, G> as Actor>⟧.view t.actor) t.lines t.bytes) }
+        requires { WasStopped (placed S.verifies self.me self.roster) (state_of disk) }
+        ensures { IfOk result (λ t. IsHostedAgain (placed S.verifies self.me self.roster) (G.signature_of self.signer) (state_of disk) (⟦<MemHost<S, G> as Actor>⟧.view t.actor) t.lines t.bytes) }
     {
-        let Ok(node) = self.start(disk) else {
-            return Err(Memory);
-        };
-        let printed = counted_printed(self.alloc, "stopped records", node.record_count());
-        told(
-            MemHost {
-                node,
-                start_config: self,
-            },
-            printed,
-        )
+        match self.start(disk) {
+            Ok(node) => {
+                let printed = counted_printed(self.alloc, "stopped records", node.record_count());
+                told(
+                    MemHost {
+                        node,
+                        start_config: self,
+                    },
+                    printed,
+                )
+            }
+            Err(back) => Err(wanting(back)),
+        }
     }
-}
 
-impl<S: Scheme + Copy, G: Signer<Of = S> + Copy> StartConfig<S, G> {
-    /// Hosts the node of which a start was refused. Where a stop fell into it, it is started again; nothing but memory can be wanting else.
+    /// Hosts the node of which a start was refused, by a stop or for want of memory. Where a stop fell into it, it is started again.
     fn refused(self, back: Back<StartError, MemDisk>) -> Result<EventOutcome<MemHost<S, G>>, Memory>
-        requires { back.error ≡ start_error.Disk → (J : List Record) × IsBegunOn (record { verifies = S.verifies; me = self.me; listed = self.roster }) (state_of back.disk) J }
+        requires spared { LeavesFile back.error → ⊥ }
+        requires stopped { back.error ≡ start_error.Disk → WasStopped (placed S.verifies self.me self.roster) (state_of back.disk) }
         ensures stopped { IfOk result (λ _. back.error ≡ start_error.Disk) }
-        ensures again { IfOk result (λ t. IsHostedAgain (record { verifies = S.verifies; me = self.me; listed = self.roster }) (G.signature_of self.signer) (state_of back.disk) (⟦<MemHost<S, G> as Actor>⟧.view t.actor) t.lines t.bytes) }
+        ensures again { IfOk result (λ t. IsHostedAgain (placed S.verifies self.me self.roster) (G.signature_of self.signer) (state_of back.disk) (⟦<MemHost<S, G> as Actor>⟧.view t.actor) t.lines t.bytes) }
     {
         match back.error {
             StartError::Disk => self.stopped(back.disk),
-            _ => Err(Memory),
+            StartError::Memory => Err(Memory),
+            _ => unreachable!(),
         }
+    }
+
+    /// Hosts a node behind a call, with what is printed of it. Where a stop fell into the call, nothing is printed of that, and the node is
+    /// started again. Where memory is wanting for what is printed, the node is gone.
+    fn hosted(
+        self,
+        node: Node<MemDisk, S, G>,
+        printed: Result<Option<Printed>, Memory>,
+    ) -> Result<EventOutcome<MemHost<S, G>>, Memory>
+        requires stands { ⟦<Node<MemDisk, S, G> as NodeState>⟧.stands node ≡ placed S.verifies self.me self.roster }
+        requires signs { G.signature_of node.signer ≡ G.signature_of self.signer }
+        requires runs { IfOk printed (λ p. p ≢ None → node.store.stopped ≡ false) }
+        requires called { IfOk printed (λ p. WasCalled (placed S.verifies self.me self.roster) (state_of node.store.disk) node.store.records (p ≡ None)) }
+        ensures printed { IfOk result (λ _. IsOk printed) }
+        ensures ends { IfOk result (EndsCall (placed S.verifies self.me self.roster) (G.signature_of self.signer) (state_of node.store.disk) node.store.records printed ⟦<MemHost<S, G> as Actor>⟧.view) }
+    {
+        match printed {
+            Ok(Some(printed)) => Ok(EventOutcome {
+                actor: MemHost {
+                    node,
+                    start_config: self,
+                },
+                lines: printed.lines,
+                bytes: printed.bytes,
+            }),
+            Ok(None) => self.stopped(node.into_disk()),
+            Err(Memory) => {
+                drop(node);
+                drop(self);
+                Err(Memory)
+            }
+        }
+    }
+}
+
+/// The want of memory for which a start was refused.
+fn wanting(back: Back<StartError, MemDisk>) -> Memory
+    requires { back.error ≡ start_error.Memory }
+{
+    match back.error {
+        StartError::Memory => Memory,
+        _ => unreachable!(),
     }
 }
 
@@ -208,36 +244,6 @@ fn hello_printed<S: Scheme, G: Signer<Of = S>>(
     Ok(Printed { lines, bytes })
 }
 
-/// Seats a node behind a call, with what is printed of it. Where a stop fell into the call, nothing is printed of that, and the node is
-/// started again. Where memory is wanting for what is printed, the node is gone.
-fn hosted<S: Scheme + Copy, G: Signer<Of = S> + Copy>(
-    node: Node<MemDisk, S, G>,
-    start_config: StartConfig<S, G>,
-    printed: Result<Option<Printed>, Memory>,
-) -> Result<EventOutcome<MemHost<S, G>>, Memory>
-    requires me { node.store.me ≡ start_config.me }
-    requires listed { node.store.listed ≡ start_config.roster }
-    requires signs { G.signature_of node.signer ≡ G.signature_of start_config.signer }
-    requires runs { IfOk printed (λ p. p ≢ None → node.store.stopped ≡ false) }
-    requires called { IfOk printed (λ p. WasCalled (record { verifies = S.verifies; me = start_config.me; listed = start_config.roster }) (state_of node.store.disk) node.store.records (p ≡ None)) }
-    ensures printed { IfOk result (λ _. IsOk printed) }
-    ensures ends { IfOk result (λ t. IfOk printed (λ p. (v : View) (s : State) (longer : List Record) → v.here ≡ record { verifies = S.verifies; me = start_config.me; listed = start_config.roster } → v.sign ≡ G.signature_of start_config.signer → IsCalled v s (state_of node.store.disk) node.store.records longer (p ≡ None) → EndsAs v longer p (⟦<MemHost<S, G> as Actor>⟧.view t.actor) t.lines t.bytes)) }
-{
-    match printed {
-        Ok(Some(printed)) => Ok(EventOutcome {
-            actor: MemHost { node, start_config },
-            lines: printed.lines,
-            bytes: printed.bytes,
-        }),
-        Ok(None) => start_config.stopped(node.into_disk()),
-        Err(Memory) => {
-            drop(node);
-            drop(start_config);
-            Err(Memory)
-        }
-    }
-}
-
 impl<S: Scheme + Copy, G: Signer<Of = S> + Copy> MemHost<S, G> {
     /// A node that is started on an empty disk.
     pub fn fresh_host(
@@ -248,7 +254,7 @@ impl<S: Scheme + Copy, G: Signer<Of = S> + Copy> MemHost<S, G> {
         node: NodeId,
     ) -> Result<MemHost<S, G>, Memory>
         requires { key_of roster.now node ≡ Some (G.key_of signer) }
-        ensures { IfOk result (λ a. ⟦<MemHost<S, G> as Actor>⟧.view a ≡ record { here = record { verifies = S.verifies; me = node; listed = roster.now }; sign = G.signature_of signer; journal = Birth node (hash_of_roster roster.now) ∷ []; pending = None }) }
+        ensures { IfOk result (λ a. ⟦<MemHost<S, G> as Actor>⟧.view a ≡ fresh_view S.verifies roster.now node (G.signature_of signer)) }
     {
         let start_config = StartConfig {
             alloc,
@@ -260,14 +266,14 @@ impl<S: Scheme + Copy, G: Signer<Of = S> + Copy> MemHost<S, G> {
         let disk = MemDisk::new(Bytes::new(alloc), Items::new(alloc));
         match start_config.start(disk) {
             Ok(node) => Ok(MemHost { node, start_config }),
-            Err(_) => Err(Memory),
+            Err(back) => Err(wanting(back)),
         }
     }
 
     /// Puts the text of the checkpoint that it made under its key.
     fn put_checkpoint(self, text: Bytes) -> Result<EventOutcome<MemHost<S, G>>, Memory>
         requires { make_of (standing S.verifies self.node.store) self.node.store.records ≡ made_text text }
-        ensures { IfOk result (λ t. (setup : Setup) (s : Host) → IsHosted setup s (⟦<MemHost<S, G> as Actor>⟧.view self) → CameTo setup (event_result s (checkpoint_by (stands_on setup s.correct.node) s.correct)) (⟦<MemHost<S, G> as Actor>⟧.view t.actor) t.lines t.bytes) }
+        ensures { IfOk result (λ outcome. Acts ⟦<MemHost<S, G> as Actor>⟧.view self (λ here sign correct. checkpoint_by here correct) outcome) }
     {
         let MemHost {
             mut node,
@@ -277,7 +283,7 @@ impl<S: Scheme + Copy, G: Signer<Of = S> + Copy> MemHost<S, G> {
         let value = Value::from_bytes(text.copy()?);
         let done = node.put(key, value);
         let printed = checkpoint_printed(start_config.alloc, text, done);
-        hosted(node, start_config, printed)
+        start_config.hosted(node, printed)
     }
 }
 
@@ -323,7 +329,7 @@ impl<S: Scheme + Copy, G: Signer<Of = S> + Copy> Actor for MemHost<S, G> {
         } = self;
         let done = node.put_all(changes);
         let printed = put_printed(start_config.alloc, done);
-        hosted(node, start_config, printed)
+        start_config.hosted(node, printed)
     }
 
     fn read(&self, key: &Key) -> Result<ReadTrace, Memory> {
@@ -346,7 +352,7 @@ impl<S: Scheme + Copy, G: Signer<Of = S> + Copy> Actor for MemHost<S, G> {
         } = self;
         let done = give(start_config.alloc, &mut node, ids);
         let printed = receipt_printed(start_config.alloc, done);
-        hosted(node, start_config, printed)
+        start_config.hosted(node, printed)
     }
 
     fn settled(self, id: &Hash32, k: u32) -> Result<EventOutcome<Self>, Memory> {
@@ -371,7 +377,7 @@ impl<S: Scheme + Copy, G: Signer<Of = S> + Copy> Actor for MemHost<S, G> {
         } = self;
         let done = sign_checkpoint(start_config.alloc, &mut node, text);
         let printed = sign_printed(start_config.alloc, done);
-        hosted(node, start_config, printed)
+        start_config.hosted(node, printed)
     }
 
     fn trim(&self, text: &[u8]) -> Result<Trimming<MemHostReader<S>>, Memory> {
@@ -398,7 +404,7 @@ impl<S: Scheme + Copy, G: Signer<Of = S> + Copy> Actor for MemHost<S, G> {
         } = self;
         let made = bundle(start_config.alloc, &mut node, hello);
         let printed = bundle_printed(start_config.alloc, made);
-        hosted(node, start_config, printed)
+        start_config.hosted(node, printed)
     }
 
     fn give(self, stream: &[u8], size: Option<u32>) -> Result<EventOutcome<Self>, Memory> {
@@ -413,7 +419,7 @@ impl<S: Scheme + Copy, G: Signer<Of = S> + Copy> Actor for MemHost<S, G> {
             piece_of(stream, size),
         );
         let printed = fed_printed(start_config.alloc, fed);
-        hosted(node, start_config, printed)
+        start_config.hosted(node, printed)
     }
 
     fn restart(self) -> Result<EventOutcome<Self>, Memory> {
@@ -433,13 +439,13 @@ impl<S: Scheme + Copy, G: Signer<Of = S> + Copy> Actor for MemHost<S, G> {
         disk.stop_at(call + START_CALLS, image);
         match start_config.start(disk) {
             Ok(node) => Ok(MemHost { node, start_config }),
-            Err(_) => Err(Memory),
+            Err(back) => Err(wanting(back)),
         }
     }
 
     ghost named = { λ a. refl };
 
-    ghost lawful = { λ a. lawful_there S.verifies a.node.store.me a.start_config.me a.node.store.listed a.start_config.roster a.node.store.records a.is_me a.is_listed a.node.lawful };
+    ghost lawful = { λ a. lawful_there S.verifies a.node.store.me a.start_config.me a.node.store.listed a.start_config.roster a.node.store.records a.is_me a.is_listed a.node.kept.lawful };
 
     ghost to_come = { λ a. a.kept.to_come };
 }

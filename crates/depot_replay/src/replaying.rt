@@ -3,26 +3,27 @@ ghost use Rattle.std.specs.Prelude.{◌≡◌, ◌++◌, ℕ, take, IsTrue, OnOk
 ghost use Rattle.depot_base.specs.Faults.{HasCause};
 ghost use Rattle.depot_base.specs.Reading.{AddsFrontOf};
 ghost use Rattle.depot_schedule.specs.Schedules.{IsSchedule};
-ghost use Rattle.depot_world.specs.Setups.{suite_of};
+ghost use Rattle.depot_world.specs.Setups.{setup_of, suite_of};
 ghost use Rattle.depot_world.specs.Transcript.{transcript_of};
 ghost use Rattle.depot_scenario.specs.MemberSigners.{AreSigners, member_signers_of};
+ghost use Rattle.depot_replay.specs.BegunSchedules.{with_events};
 
 use crate::mem_host::MemHost;
 use depot_model::{Scheme, Signer};
 use depot_outside::Sink;
 use depot_scenario::{Scenario, plain_signers, roster_of, winter_signers};
-use depot_schedule::Schedule;
-use depot_sign::PlainScheme;
+use depot_schedule::{Events, Schedule};
+use depot_sign::{PlainScheme, Roster};
 use depot_simulation::{ReplayError, begun, play_all};
 use depot_winter::WinterScheme;
 use std::alloc::Global;
 
 /// Plays a schedule, each of its correct nodes over a disk in memory, and writes its transcript, the lines of each event after the
-/// event was done. After an error a front of the transcript went out.
-pub fn replay<K: Sink>(alloc: Global, schedule: &Schedule, out: &mut K) -> Result<(), ReplayError>
-    requires { IsSchedule schedule.now }
-    ensures done { IsTrue (K.tells out.old) → OnOk result (K.written out.new ≡ K.written out.old ++ transcript_of schedule.now) }
-    ensures front { IsTrue (K.tells out.old) → OnErr result ((n : ℕ) × (K.written out.new ≡ K.written out.old ++ take n (transcript_of schedule.now))) }
+/// event was done. After an error a front of the transcript went out. An event is given up once it was played.
+pub fn replay<K: Sink>(alloc: Global, schedule: Schedule, out: &mut K) -> Result<(), ReplayError>
+    requires { IsSchedule schedule }
+    ensures done { IsTrue (K.tells out.old) → OnOk result (K.written out.new ≡ K.written out.old ++ transcript_of schedule) }
+    ensures front { IsTrue (K.tells out.old) → OnErr result ((n : ℕ) × (K.written out.new ≡ K.written out.old ++ take n (transcript_of schedule))) }
     ensures tells { K.tells out.new ≡ K.tells out.old }
     ensures cause { HasCause (K.faults out.old) (K.faults out.new) (IsErrOf result ReplayError.Sink) }
     ensures faultless { K.is_faultless out.old → K.is_faultless out.new × (K.faults out.new ≡ K.faults out.old) }
@@ -39,28 +40,65 @@ pub fn replay<K: Sink>(alloc: Global, schedule: &Schedule, out: &mut K) -> Resul
 /// The same, with the signers of the members.
 fn replay_with<S: Scheme + Copy, G: Signer<Of = S>, K: Sink>(
     alloc: Global,
-    schedule: &Schedule,
+    schedule: Schedule,
     scheme: S,
     signers: &[G],
     out: &mut K,
 ) -> Result<(), ReplayError>
-    requires schedule { IsSchedule schedule.now }
-    requires scheme { (suite_of schedule.now.winter).verifies ≡ S.verifies }
-    requires signers { AreSigners (suite_of schedule.now.winter) schedule.now.height schedule.now.members (member_signers_of G.key_of G.signature_of signers.now) }
-    ensures done { IsTrue (K.tells out.old) → OnOk result (K.written out.new ≡ K.written out.old ++ transcript_of schedule.now) }
-    ensures front { IsTrue (K.tells out.old) → OnErr result (AddsFrontOf (K.written out.old) (transcript_of schedule.now) (K.written out.new)) }
+    requires schedule { IsSchedule schedule }
+    requires scheme { (suite_of schedule.winter).verifies ≡ S.verifies }
+    requires signers { AreSigners (suite_of schedule.winter) schedule.height schedule.members (member_signers_of G.key_of G.signature_of signers.now) }
+    ensures done { IsTrue (K.tells out.old) → OnOk result (K.written out.new ≡ K.written out.old ++ transcript_of schedule) }
+    ensures front { IsTrue (K.tells out.old) → OnErr result (AddsFrontOf (K.written out.old) (transcript_of schedule) (K.written out.new)) }
     ensures tells { K.tells out.new ≡ K.tells out.old }
     ensures cause { HasCause (K.faults out.old) (K.faults out.new) (IsErrOf result ReplayError.Sink) }
     ensures faultless { K.is_faultless out.old → K.is_faultless out.new × (K.faults out.new ≡ K.faults out.old) }
 {
-    let roster = roster_of(alloc, schedule, signers)?;
+    let roster = roster_of(alloc, &schedule, signers)?;
+    // The events are taken apart from the members, which stay, so that each can be given up once it was played.
+    let Schedule {
+        winter,
+        height,
+        members,
+        events,
+    } = schedule;
+    let begin = Schedule {
+        winter,
+        height,
+        members,
+        events: Events::new(alloc),
+    };
+    play_from(alloc, &begin, events, &roster, scheme, signers, out)
+}
+
+/// Plays events from the begin of a schedule on, over nodes of this roster.
+fn play_from<S: Scheme + Copy, G: Signer<Of = S>, K: Sink>(
+    alloc: Global,
+    begin: &Schedule,
+    events: Events,
+    roster: &Roster,
+    scheme: S,
+    signers: &[G],
+    out: &mut K,
+) -> Result<(), ReplayError>
+    requires begin { IsSchedule begin.now }
+    requires schedule { IsSchedule (with_events begin.now events) }
+    requires scheme { (suite_of begin.now.winter).verifies ≡ S.verifies }
+    requires signers { AreSigners (suite_of begin.now.winter) begin.now.height begin.now.members (member_signers_of G.key_of G.signature_of signers.now) }
+    requires roster { roster.now ≡ (setup_of begin.now).listed }
+    ensures done { IsTrue (K.tells out.old) → OnOk result (K.written out.new ≡ K.written out.old ++ transcript_of (with_events begin.now events)) }
+    ensures front { IsTrue (K.tells out.old) → OnErr result (AddsFrontOf (K.written out.old) (transcript_of (with_events begin.now events)) (K.written out.new)) }
+    ensures tells { K.tells out.new ≡ K.tells out.old }
+    ensures cause { HasCause (K.faults out.old) (K.faults out.new) (IsErrOf result ReplayError.Sink) }
+    ensures faultless { K.is_faultless out.old → K.is_faultless out.new × (K.faults out.new ≡ K.faults out.old) }
+{
     let scenario = Scenario {
-        roster: &roster,
+        roster,
         scheme,
-        height: schedule.height,
-        members: schedule.members.as_slice(),
+        height: begin.height,
+        members: begin.members.as_slice(),
         signers,
     };
-    let mut play = begun::<MemHost<S, &G>, S, G>(alloc, schedule, &scenario)?;
-    play_all(&mut play, &scenario, schedule.events.as_slice(), out)
+    let mut play = begun::<MemHost<S, &G>, S, G>(alloc, begin, &scenario)?;
+    play_all(&mut play, &scenario, events, out)
 }

@@ -1,5 +1,5 @@
 -- Labels in a map that keeps them in order, and in a run.
-use Rattle.std.proofs.Common.{◌≡◌, ℕ, List, [], ◌∷◌, ◌++◌, Bool, true, false, cond, Option, Some, None, option_map, option_and_then, is_some, Vec, refl, sym, ap, subst, ◌∙◌}
+use Rattle.std.proofs.Common.{◌≡◌, ℕ, List, [], ◌∷◌, ◌++◌, Bool, true, false, cond, Option, Some, None, option_map, is_some, Vec, refl, sym, ap, subst, ◌∙◌}
 use Rattle.std.specs.BTreeMap.{BTreeMap, Updates, UpdatesBy}
 use Rattle.std.specs.Cmp.{eq_by_cmp_equiv}
 use Rattle.std.specs.Cmp.Lexicographic.{slice_cmp, nat_list_cmp_total}
@@ -13,9 +13,8 @@ use Rattle.std.proofs.lemmas.Map.Lookups.{exact_bytes}
 use Rattle.std.proofs.lemmas.Map.Views.{tells_apart}
 use Rattle.std.proofs.lemmas.Slice.Eq.{bytes_eq-Decides}
 use Rattle.depot_base.proofs.GeneralLaws.{vec_cmp}
-use Rattle.depot_model.specs.Lists.{when}
 use Rattle.depot_world.specs.Run.{Made, made_in}
-use Rattle.depot_scenario.specs.Labels.{AreLabels, bytes_in, given_by, named_in, plain_in}
+use Rattle.depot_scenario.specs.Labels.{AreLabels, bytes_in, given_by, named_in}
 use Rattle.depot_scenario.specs.declared.label_table.Given.{Given}
 
 -- ---- a label that is put in
@@ -93,26 +92,7 @@ labels_more old new ms m name are is absent u label =
 
 -- ---- plain labels
 
--- what is given is plain
-pub plain_given : (ms : List Made) (label : List ℕ) (g : Given) → Some g ≡ option_map given_by (made_in ms label) → when g.plain g.bytes ≡ plain_in ms label
-plain_given ms label g is = by_made (made_in ms label) is where
-  by_made : (o : Option Made) → Some g ≡ option_map given_by o → when g.plain g.bytes ≡ option_and_then (λ (m : Made). when m.plain m.bytes) o
-  by_made None e = absurd cc
-  by_made (Some m) e = let same : g ≡ given_by m = cc in ap (λ (x : Given). when x.plain x.bytes) same
-
-pub nothing_plain : (ms : List Made) (label : List ℕ) → None ≡ option_map given_by (made_in ms label) → None ≡ plain_in ms label
-nothing_plain ms label is = by_made (made_in ms label) is where
-  by_made : (o : Option Made) → None ≡ option_map given_by o → None ≡ option_and_then (λ (m : Made). when m.plain m.bytes) o
-  by_made None e = refl
-  by_made (Some m) e = absurd cc
-
 -- ---- bytes
-
-pub bytes_given : (ms : List Made) (label : List ℕ) (g : Given) → Some g ≡ option_map given_by (made_in ms label) → g.bytes ≡ bytes_in ms label
-bytes_given ms label g is = by_made (made_in ms label) is where
-  by_made : (o : Option Made) → Some g ≡ option_map given_by o → g.bytes ≡ option_map_or (λ (m : Made). m.bytes) o []
-  by_made None e = absurd cc
-  by_made (Some m) e = let same : g ≡ given_by m = cc in ap (λ (x : Given). x.bytes) same
 
 pub no_bytes : (ms : List Made) (label : List ℕ) → None ≡ option_map given_by (made_in ms label) → [] ≡ bytes_in ms label
 no_bytes ms label is = by_made (made_in ms label) is where

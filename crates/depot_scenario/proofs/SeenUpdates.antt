@@ -1,7 +1,6 @@
 -- Updates that are seen one after the other.
 use Rattle.std.proofs.Common.{◌≡◌, ℕ, ◌<◌, true, false, List, [], ◌∷◌, ◌++◌, length, map, get_or, Option, Some, None, is_some, refl, sym, ap, subst, ◌∙◌, inr}
 use Rattle.std.proofs.lemmas.Bool.{false_from_ne_true}
-use Rattle.std.proofs.lemmas.List.{map-append}
 use Rattle.std.proofs.lemmas.Option.{get_or_from_slice_get}
 use Rattle.depot_base.specs.declared.update.Dep.{Dep}
 use Rattle.depot_base.specs.declared.update.Update.{Update}
@@ -69,11 +68,6 @@ entry_seen us u i d seen lt at =
     let p = at_place u.deps i lt in
     let here : p.0 ≡ d = sym (at ∙ get_or_from_slice_get u.deps i p.0 d p.1) in
     all_at (λ (h : List ℕ). has_id us h ≡ true) (parents u) d.id seen (in_right d.id (prevs u) (map (λ x. x.id) u.deps) (subst (λ (x : Dep). IsIn x.id (map (λ y. y.id) u.deps)) here (in_map (λ (x : Dep). x.id) p.0 u.deps (in_at u.deps i p.0 p.1))))
-
--- one item more
-pub one_item : (us : List Update) (ids : List (List ℕ)) (h : List ℕ) (items : List ℕ) (n : ℕ) → AreItemsOf us ids items → place_of_id h us ≡ Some n → AreItemsOf us (ids ++ h ∷ []) (items ++ n ∷ [])
-one_item us ids h items n are is =
-    map-append (λ (x : List ℕ). place_of_id x us) ids (h ∷ []) ∙ (ap (λ (os : List (Option ℕ)). os ++ place_of_id h us ∷ []) are ∙ (ap (λ (o : Option ℕ). map (λ (k : ℕ). Some k) items ++ o ∷ []) is ∙ sym (map-append (λ (k : ℕ). Some k) items (n ∷ []))))
 
 -- what stands at them has these ids
 ids_there : (us : List Update) (ids : List (List ℕ)) (items : List ℕ) → AreItemsOf us ids items → map id_of_update (updates_at us items) ≡ ids

@@ -19,9 +19,6 @@ use Rattle.depot_scenario.specs.ScenarioTexts.{frames_behind}
 
 -- ---- writes
 
-pub no_writes : (cs : List Change) (ws : List Write) → ws ≡ [] → ws ≡ map write_of (take 0 cs)
-no_writes cs ws none = none
-
 -- the write of one change more
 pub write_made : (cs : List Change) (i : ℕ) (c : Change) (w : Write) (old new : List Write) → i < length cs → c ≡ get_or cs i c → w ≡ write_of c → new ≡ old ++ w ∷ [] → old ≡ map write_of (take i cs) → new ≡ map write_of (take (i + 1) cs)
 write_made cs i c w old new lt at is now are =

@@ -24,6 +24,10 @@ given_by m = record { bytes = m.bytes; signed = m.signed; plain = m.plain }
 abbrev pub AreLabels : List (Vec ℕ Global × Given) → List Made → Type 0
 AreLabels entries labels = (label : List ℕ) → named_in label entries ≡ option_map given_by (made_in labels label)
 
+-- Where each label named what it names in a run, it now names what it names with this made too.
+abbrev pub TakesIn : List (Vec ℕ Global × Given) → Made → List (Vec ℕ Global × Given) → Type 0
+TakesIn old m new = (labels : List Made) → AreLabels old labels → AreLabels new (labels ++ m ∷ [])
+
 -- the bytes of a label of a run with these labels
 abbrev pub bytes_in : List Made → List ℕ → List ℕ
 bytes_in labels label = option_map_or (λ m. m.bytes) (made_in labels label) []

@@ -14,10 +14,19 @@ pub record MemberSigner : Type 0 where
 abbrev pub member_signer_of : SignatureSuite → ℕ → ℕ → MemberSigner
 member_signer_of suite height node = record { key = record { root = suite.root (seed_of node) height; height = height }; sign = suite.sign (seed_of node) height }
 
+-- that of a signer
+abbrev pub signer_by : {G : Type 0} → (G → PublicKey) → (G → Signs) → G → MemberSigner
+signer_by key sign g = record { key = key g; sign = sign g }
+
 -- those of signers
 abbrev pub member_signers_of : {G : Type 0} → (G → PublicKey) → (G → Signs) → List G → List MemberSigner
-member_signers_of key sign signers = map (λ g. record { key = key g; sign = sign g }) signers
+member_signers_of key sign signers = map (signer_by key sign) signers
 
 -- they are those of the members, in their order
 abbrev pub AreSigners : SignatureSuite → ℕ → List Member → List MemberSigner → Type 0
 AreSigners suite height members member_signers = member_signers ≡ map (λ m. member_signer_of suite height m.node) members
+
+-- this holds of each suite and height with which they are those of the members
+abbrev pub WhereAreSigners : {G : Type 0} → (G → PublicKey) → (G → Signs) → List Member → List G → (SignatureSuite → ℕ → Type 0) → Type 0
+WhereAreSigners key sign members signers P =
+    (suite : SignatureSuite) (height : ℕ) → AreSigners suite height members (member_signers_of key sign signers) → P suite height

@@ -3,7 +3,7 @@ ghost use Rattle.std.specs.Prelude.{◌≡◌, ◌++◌, ◌∷◌, List, [], If
 ghost use Rattle.depot_answers.specs.AnswerTexts.{spaced};
 ghost use Rattle.depot_model.specs.Journal.{update_in};
 ghost use Rattle.depot_world.specs.Run.{Made, first_update};
-ghost use Rattle.depot_scenario.specs.Labels.{AreLabels, bytes_in, label_by, labels_with, named_in, plain_in, signed_in};
+ghost use Rattle.depot_scenario.specs.Labels.{AreLabels, TakesIn, bytes_in, label_by, labels_with, named_in, plain_in, signed_in};
 
 use crate::drafts::update_of;
 use crate::signed_apart::{Apart, put_apart};
@@ -89,7 +89,7 @@ impl Labels {
     /// with its LF.
     pub fn give(&mut self, label: &Label, text: Text) -> Result<Bytes, Memory>
         ensures lines { IfOk result (λ lines. lines ≡ spaced text.answer ++ 10 ∷ []) }
-        ensures labels { OnOk result ((labels : List Made) → AreLabels self.old.map.entries labels → AreLabels self.new.map.entries (labels ++ record { label = label.now; bytes = text.bytes; signed = text.signed; plain = text.plain } ∷ [])) }
+        ensures labels { OnOk result (TakesIn self.old.map.entries (record { label = label.now; bytes = text.bytes; signed = text.signed; plain = text.plain }) self.new.map.entries) }
     {
         let Text {
             bytes,
@@ -128,7 +128,7 @@ impl Labels {
 
     /// Gives a label what an event made, unless it names something already.
     fn put(&mut self, label: &[u8], given: Given) -> Result<(), Memory>
-        ensures { OnOk result ((labels : List Made) → AreLabels self.old.map.entries labels → AreLabels self.new.map.entries (labels ++ record { label = label.now; bytes = given.bytes; signed = given.signed; plain = given.plain } ∷ [])) }
+        ensures { OnOk result (TakesIn self.old.map.entries (record { label = label.now; bytes = given.bytes; signed = given.signed; plain = given.plain }) self.new.map.entries) }
     {
         if self.map.contains_key(label) {
             return Ok(());

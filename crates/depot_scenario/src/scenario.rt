@@ -2,7 +2,7 @@
 ghost use Rattle.std.specs.Prelude.{◌≡◌, true};
 ghost use Rattle.depot_schedule.specs.EventWords.{is_declared};
 ghost use Rattle.depot_world.specs.Setups.{Setup};
-ghost use Rattle.depot_scenario.specs.MemberSigners.{member_signer_of};
+ghost use Rattle.depot_scenario.specs.MemberSigners.{signer_by, member_signer_of};
 ghost use Rattle.depot_scenario.specs.Scenarios.{IsScenarioOf, IsSomeScenario};
 
 use crate::signers::signer_of;
@@ -27,7 +27,7 @@ impl<'a, S: Scheme, G: Signer> Scenario<'a, S, G> {
         requires declared { is_declared self.now.members.now node ≡ true }
         requires scenario { IsSomeScenario S.verifies G.key_of G.signature_of self.now }
         ensures height { (G.key_of result.now).height ≡ self.now.height }
-        ensures signer { (setup : Setup) → IsScenarioOf S.verifies G.key_of G.signature_of setup self.now → record { key = G.key_of result.now; sign = G.signature_of result.now } ≡ member_signer_of setup.suite setup.height node }
+        ensures signer { (setup : Setup) → IsScenarioOf S.verifies G.key_of G.signature_of setup self.now → signer_by G.key_of G.signature_of result.now ≡ member_signer_of setup.suite setup.height node }
     {
         match signer_of(self.members, self.signers, node) {
             Some(signer) => signer,

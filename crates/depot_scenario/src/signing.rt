@@ -9,7 +9,7 @@ ghost use Rattle.depot_model.specs.Frames.{text_of_frame};
 ghost use Rattle.depot_model.specs.Texts.{IsProof, IsSigned, IsStatement};
 ghost use Rattle.depot_world.specs.FaultySigning.{proof_by};
 
-use depot_base::{Bytes, Kind, Memory, Proof, Signed, Statement};
+use depot_base::{Bytes, FrameTag, Kind, Memory, Proof, Signed, Statement};
 use depot_frames::put_frame;
 use depot_model::Signer;
 use depot_update::{encode_proof, encode_signed, encode_statement};
@@ -39,7 +39,7 @@ pub fn put_signed(alloc: Global, out: &mut Bytes, signed: &Signed) -> Result<(),
     ensures { OnOk result (out.new ≡ out.old ++ text_of_frame (statement_frame signed.now)) }
 {
     let text = encode_signed(alloc, signed)?;
-    put_frame(out, 2, text.as_slice())
+    put_frame(out, FrameTag::Statement, text.as_slice())
 }
 
 /// Writes the frame of a proof. After Memory a front of it may have been written.
@@ -48,7 +48,7 @@ pub fn put_proof(alloc: Global, out: &mut Bytes, proof: &Proof) -> Result<(), Me
     ensures { OnOk result (out.new ≡ out.old ++ text_of_frame (proof_frame proof.now)) }
 {
     let text = encode_proof(alloc, proof)?;
-    put_frame(out, 1, text.as_slice())
+    put_frame(out, FrameTag::Proof, text.as_slice())
 }
 
 /// Two signed statements as the halves of a proof of this kind.

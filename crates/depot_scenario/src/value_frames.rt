@@ -7,7 +7,7 @@ ghost use Rattle.depot_model.specs.Own.{values_of};
 ghost use Rattle.depot_world.specs.FaultySigning.{text_of_values};
 ghost use Rattle.depot_scenario.specs.ScenarioTexts.{frames_behind};
 
-use depot_base::{Bytes, Change, Memory, Value};
+use depot_base::{Bytes, Change, FrameTag, Memory, Value};
 use depot_frames::put_frame;
 
 /// Writes the frames of the values of changes, in their order, each different value once. After Memory a front of them may have been
@@ -39,7 +39,7 @@ fn put_new(out: &mut Bytes, before: &[Change], value: &Value) -> Result<(), Memo
     if has_value(before, value) {
         return Ok(());
     }
-    put_frame(out, 3, value.bytes())
+    put_frame(out, FrameTag::Value, value.bytes())
 }
 
 /// Whether one of these changes has this value.

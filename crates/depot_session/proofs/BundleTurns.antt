@@ -6,9 +6,11 @@ use Rattle.std.proofs.lemmas.List.{append-nil}
 use Rattle.depot_base.specs.declared.record.Record.{Record}
 use Rattle.depot_model.specs.Bundle.{Signs, BundleAnswer, bundled, bundle_answer}
 use Rattle.depot_model.specs.Checks.{Setting}
-use Rattle.depot_model.specs.Stops.{HasFront, Lasts}
+use Rattle.depot_model.specs.JournalCalls.{Lasts}
+use Rattle.depot_model.specs.Stops.{HasFront}
 use Rattle.depot_model.specs.World.{Correct}
-use Rattle.depot_model.specs.declared.replica.Replica.{Ghosts}
+use Rattle.depot_model.specs.declared.node_state.NodeState.{Ghosts}
+use Rattle.depot_model.specs.Replicas.{journal_of}
 use Rattle.depot_gossip.specs.Bundling.{Bundles, finds_disk, journaled_for}
 use Rattle.depot_gossip.specs.declared.bundle_error.BundleError.{BundleError}
 use Rattle.depot_gossip.specs.declared.bundle_error.BundleError.TheVariants as error
@@ -21,13 +23,13 @@ use Rattle.depot_node_lines.specs.Printing.{SettlesBundle, lines_of_effect}
 use Rattle.depot_session.specs.declared.ending.Ending.{Ending}
 use Rattle.depot_session.specs.declared.ending.Ending.TheVariants as ending
 use Rattle.depot_session.specs.SessionRuns.{disk_line}
-use Rattle.depot_session.specs.Sessions.{Session, Step, absent, bundle_step, bundle_to, ending_of_bundle, lines_of_command, step_of, stored}
+use Rattle.depot_session.specs.Sessions.{Session, Step, absent, bundle_step, bundle_to, command_text, ending_of_bundle, lines_of_command, step_of, stored}
 use Rattle.depot_session.specs.ScriptTelling.{IsFaultTold, IsUnchanged, Stores, Tells}
 use Rattle.depot_session.specs.Turns.{IsAt, Turns}
-use Rattle.depot_session.proofs.LeftJournals.{leaves_front}
+use Rattle.depot_session.proofs.LeftJournals.{leaves_after, leaves_front}
 use Rattle.depot_session.proofs.StoredFiles.{stored_alike, stored_told}
 use Rattle.depot_session.proofs.ToldFaults.{EndsCalmly}
-use Rattle.depot_session.proofs.Turning.{command_text, disk_told, told, without_memory}
+use Rattle.depot_session.proofs.Turning.{disk_told, told, without_memory}
 use Rattle.depot_session.proofs.UnwrittenTexts.{nothing_written}
 
 -- ---- the answer
@@ -98,8 +100,8 @@ effect_journal : (here : Setting) (sign : Signs) (c : Correct) (text : List ℕ)
 unfolding bundle_by
 effect_journal here sign c text = answer_journal c (bundle_answer here sign c.journal text)
 
-module _ {N O : Type 0} (g : Ghosts N O) (counts_now : (v : N) (t : ℕ) (image : List ℕ) → t ≤ g.moment v → g.may_leave v image → g.left_since v t image) (old new : N) (s : Session) (hello file text : List ℕ) (shelf : Shelves) (at : IsAt (g.stands old) (g.records old) shelf.file s)
-    (there : shelf.file hello ≡ Some text) (runs : g.stopped old ≡ false) (lasts : Lasts g.tells g.stopped g.records g.moment g.left_since g.may_leave old new (journaled_for (bundle_answer (g.stands old) (g.signature_of old) (g.records old) text))) where
+module _ {N : Type 0} (g : Ghosts N) (counts_now : (v : N) (t : ℕ) (image : List ℕ) → t ≤ g.moment v → g.may_leave v image → g.left_since v t image) (old new : N) (s : Session) (hello file text : List ℕ) (shelf : Shelves) (at : IsAt (g.stands old) (g.records old) shelf.file s)
+    (there : shelf.file hello ≡ Some text) (runs : g.stopped old ≡ false) (lasts : Lasts (journal_of g) old new (journaled_for (bundle_answer (g.stands old) (g.signature_of old) (g.records old) text))) where
   -- the step of the command
   abbrev pub made_step : Step
   made_step = step_of (g.stands old) (g.signature_of old) s (command.Bundle hello file)
@@ -133,7 +135,7 @@ module _ {N O : Type 0} (g : Ghosts N O) (counts_now : (v : N) (t : ℕ) (image 
 
   -- what a stop leaves
   leaves : IsTrue (g.tells old) → (image : List ℕ) → g.may_leave new image → HasFront (g.records old) (journaled_for answer) image
-  leaves = leaves_front counts_now old new (journaled_for answer) runs lasts
+  leaves = leaves_front g counts_now old new (journaled_for answer) runs lasts
 
   -- no memory was found behind the call
   pub made_without_memory : (sink : Sinks) → IsUnchanged shelf → (r : Result (Unit {0}) Ending) → IsErrAnd r (λ e. e ≡ ending.Memory) → sink.after ≡ sink.before → Turns g old new (command.Bundle hello file) made_step shelf sink r
@@ -148,7 +150,7 @@ module _ {N O : Type 0} (g : Ghosts N O) (counts_now : (v : N) (t : ℕ) (image 
       → Tells sink (command_text (command.Bundle hello file) lines) ends r → Turns g old new (command.Bundle hello file) made_step shelf sink r
   refused_told sink ends lines r unchanged goes grown ends_is not lines_is t =
       told g old new (command.Bundle hello file) made_step shelf sink (journaled_for answer) journal leaves (λ name. inl (unchanged name)) goes (grown ∙ sym journal)
-      (λ other. unchanged other ∙ at.same_files other ∙ sym (step_stores_none s hello file effect answer other (λ none. not (ends_is ∙ none))) ∙ ap (λ (x : Step). x.session.files other) (sym is)) lasts.stable ends r
+      (λ other. unchanged other ∙ at.same_files other ∙ sym (step_stores_none s hello file effect answer other (λ none. not (ends_is ∙ none))) ∙ ap (λ (x : Step). x.session.files other) (sym is)) (leaves_after g old new _ lasts) ends r
       (ap (λ (x : Step). x.ending) is ∙ step_ending s hello file effect answer ∙ sym ends_is)
       (subst (λ (x : List ℕ). Tells sink x ends r) (ap (command_text (command.Bundle hello file)) lines_is ∙ sym text_is) t)
 
@@ -157,6 +159,6 @@ module _ {N O : Type 0} (g : Ghosts N O) (counts_now : (v : N) (t : ℕ) (image 
       → Stores shelf sink (command_text (command.Bundle hello file) lines) file bytes r → Turns g old new (command.Bundle hello file) made_step shelf sink r
   bundle_told sink lines bytes r goes grown goes_on lines_is bytes_is tells st =
       stored_told g old new (command.Bundle hello file) made_step shelf sink (journaled_for answer) journal leaves file bytes (λ other same. same)
-      (ap (λ (x : Step). x.ending) is ∙ step_ending s hello file effect answer ∙ goes_on) goes (grown ∙ sym journal) lasts.stable r
+      (ap (λ (x : Step). x.ending) is ∙ step_ending s hello file effect answer ∙ goes_on) goes (grown ∙ sym journal) (leaves_after g old new _ lasts) r
       (λ other. ap (λ (x : Step). x.session.files other) is ∙ step_stores s hello file effect answer other goes_on ∙ stored_alike s.files shelf.file file effect.bytes bytes (λ name. sym (at.same_files name)) (sym bytes_is) other) tells
       (subst (λ (x : List ℕ). Stores shelf sink x file bytes r) (ap (command_text (command.Bundle hello file)) lines_is ∙ sym text_is) st)

@@ -5,8 +5,9 @@ use Rattle.std.specs.Prelude.{IsErrOf, is_err}
 use Rattle.depot_base.specs.Faults.{HasCause}
 use Rattle.std.specs.Result.{IsErrAnd}
 use Rattle.depot_feeds.specs.Lasting.{LastsIn}
-use Rattle.depot_model.specs.Replicas.{IsSameNode, KeepsDisk}
-use Rattle.depot_model.specs.declared.replica.Replica.{Ghosts}
+use Rattle.depot_model.specs.JournalCalls.{KeepsDisk}
+use Rattle.depot_model.specs.Replicas.{IsSameNode, journal_of}
+use Rattle.depot_model.specs.declared.node_state.NodeState.{Ghosts}
 use Rattle.depot_outside.specs.Told.{Sinks}
 use Rattle.depot_session.specs.declared.ending.Ending.{Ending}
 use Rattle.depot_session.specs.declared.ending.Ending.TheVariants as ending
@@ -23,8 +24,8 @@ quiet_unless before now failed cause not = elim (eq-or-lt_of_le cause.never_fall
 ]
 
 -- what it keeps of the node, where it made this call
-pub keeps_called : {N O : Type 0} (g : Ghosts N O) (old new : N) (sink : Sinks) (r : Result (Unit {0}) Ending) (failed : Type 0) → IsSameNode (g.stands old) (g.stands new) (g.key old) (g.key new) (g.signature_of old) (g.signature_of new)
-    → KeepsDisk (g.handle old) (g.handle new) (g.faults old) (g.faults new) (g.is_faultless old) (g.is_faultless new) failed → LastsIn g.tells g.stopped g.records g.moment g.left_since g.may_leave (g.stands old) (is_err r) old new
+pub keeps_called : {N : Type 0} (g : Ghosts N) (old new : N) (sink : Sinks) (r : Result (Unit {0}) Ending) (failed : Type 0) → IsSameNode g old new
+    → KeepsDisk (journal_of g) old new failed → LastsIn g (is_err r) old new
     → (HasNoFault r → g.stopped new ≡ false) → (HasNoFault r → failed → ⊥) → NamesFaults (g.faults old < g.faults new) sink r → Keeps g old new sink r
 keeps_called g old new sink r failed same disk lasts runs_on settles names = record {
   same = same;
@@ -40,23 +41,23 @@ keeps_called g old new sink r failed same disk lasts runs_on settles names = rec
   no_refusal = λ is. subst (HasCome (g.faults old < g.faults new) sink) is names.came;
 }
 
-module _ {N O : Type 0} (g : Ghosts N O) (old new : N) (sink : Sinks) (failed : Type 0) (was : Bool) (same : IsSameNode (g.stands old) (g.stands new) (g.key old) (g.key new) (g.signature_of old) (g.signature_of new))
-    (disk : KeepsDisk (g.handle old) (g.handle new) (g.faults old) (g.faults new) (g.is_faultless old) (g.is_faultless new) failed) (lasts : LastsIn g.tells g.stopped g.records g.moment g.left_since g.may_leave (g.stands old) was old new) where
+module _ {N : Type 0} (g : Ghosts N) (old new : N) (sink : Sinks) (failed : Type 0) (was : Bool) (same : IsSameNode g old new)
+    (disk : KeepsDisk (journal_of g) old new failed) (lasts : LastsIn g was old new) where
   -- where no memory was found behind the call
   pub keeps_without_memory : sink.faults_before ≤ sink.faults_after → (r : Result (Unit {0}) Ending) → IsErrAnd r (λ e. e ≡ ending.Memory) → (sink.faults_before < sink.faults_after → IsErrOf r ending.Sink) → Keeps g old new sink r
   keeps_without_memory later r is only =
       let faulty = memory_is_fault r is in
-      keeps_called g old new sink r failed same disk (lasts_so (g.stands old) was (is_err r) old new (λ ok. absurd (faulty (ok_is_calm r ok))) lasts) (λ calm. absurd (faulty calm)) (λ calm. absurd (faulty calm)) (names_memory (g.faults old < g.faults new) sink later r is only)
+      keeps_called g old new sink r failed same disk (lasts_so g was (is_err r) old new (λ ok. absurd (faulty (ok_is_calm r ok))) lasts) (λ calm. absurd (faulty calm)) (λ calm. absurd (faulty calm)) (names_memory (g.faults old < g.faults new) sink later r is only)
 
   -- where the disk failed in it, and it was told, or not
   pub keeps_to_disk : sink.faults_before ≤ sink.faults_after → (line : List ℕ) (e : Ending) → failed → IsFaultTold sink line ending.Disk e → (sink.faults_before < sink.faults_after → e ≡ ending.Sink) → Keeps g old new sink (Err e)
   keeps_to_disk later line e f told only =
       let faulty = disk_is_fault sink line e told in
-      keeps_called g old new sink (Err e) failed same disk (lasts_so (g.stands old) was true old new (λ ok. absurd cc) lasts) (λ calm. absurd (faulty calm)) (λ calm. absurd (faulty calm)) (names_fault (g.faults old < g.faults new) sink later line ending.Disk e (disk.cause.rose f) told only)
+      keeps_called g old new sink (Err e) failed same disk (lasts_so g was true old new (λ ok. absurd cc) lasts) (λ calm. absurd (faulty calm)) (λ calm. absurd (faulty calm)) (names_fault (g.faults old < g.faults new) sink later line ending.Disk e (disk.cause.rose f) told only)
 
   -- where the node runs on
   pub keeps_running : (r : Result (Unit {0}) Ending) → was ≡ false → g.stopped new ≡ false → (failed → ⊥) → NamesFaults (g.faults old < g.faults new) sink r → Keeps g old new sink r
-  keeps_running r well runs not = keeps_called g old new sink r failed same disk (lasts_so (g.stands old) was (is_err r) old new (λ _. well) lasts) (λ _. runs) (λ _. not)
+  keeps_running r well runs not = keeps_called g old new sink r failed same disk (lasts_so g was (is_err r) old new (λ _. well) lasts) (λ _. runs) (λ _. not)
 
 -- the disk didn't fail where something is printed
 pub not_where_some : {X : Type 0} (o : Option X) (x : X) (failed : Type 0) → o ≡ Some x → (failed → o ≡ None) → failed → ⊥

@@ -1,44 +1,43 @@
 -- How the command of a checkpoint turns out: its text is made, put and stored, or nothing is.
 use Rattle.std.proofs.Common.{◌≡◌, ◌↔◌, ◌≤◌, ◌<◌, ℕ, false, IsTrue, List, [], ◌∷◌, ◌++◌, Option, Some, None, Result, Err, refl, sym, ap, subst, ◌∙◌, arith, inl}
-use Rattle.std.specs.Prelude.{IfErr, IsErrOf}
+use Rattle.std.specs.Prelude.{IsErrOf}
 use Rattle.std.specs.Result.{IsErrAnd}
 use Rattle.depot_base.specs.Sized.{IsValue}
 use Rattle.depot_base.specs.declared.record.Record.{Record}
 use Rattle.depot_base.specs.declared.write.Change.{Change}
-use Rattle.depot_decide.specs.Putting.{Puts, put_records}
-use Rattle.depot_decide.specs.declared.put_answers.PutDone.{PutDone}
-use Rattle.depot_decide.specs.declared.put_answers.PutError.{PutError}
-use Rattle.depot_decide.specs.declared.put_answers.PutError.TheVariants as refused
+use Rattle.depot_model.specs.Putting.{Puts, IsPutCall}
+use Rattle.depot_model.specs.declared.put_answers.PutDone.{PutDone}
+use Rattle.depot_model.specs.declared.put_answers.PutError.{PutError}
+use Rattle.depot_model.specs.declared.put_answers.PutError.TheVariants as refused
 use Rattle.depot_node_lines.specs.CheckpointPrinting.{SettlesMake}
 use Rattle.depot_node_lines.specs.Printing.{IsPrintOf}
 use Rattle.depot_node_lines.specs.PutPrinting.{SettlesPut}
 use Rattle.depot_node_lines.specs.declared.printed.Printed.{Printed}
-use Rattle.depot_node_lines.proofs.FedStreams.{runs_on}
+use Rattle.depot_model.proofs.JournalCallLaws.{runs_on}
 use Rattle.depot_model.specs.Bundle.{Signs}
 use Rattle.depot_model.specs.Changes.{AreChanges}
 use Rattle.depot_model.specs.Checks.{Setting}
 use Rattle.depot_model.specs.Lawful.{IsLawful, is_empty}
 use Rattle.depot_model.specs.Limits.{Limit, limit_of_put}
 use Rattle.depot_model.specs.Opening.{MadeCheckpoint, made_text, make_of}
-use Rattle.depot_model.specs.Replicas.{IsSameNode, KeepsDisk, StopsBy}
-use Rattle.depot_model.specs.Stops.{HasFront, Lasts}
+use Rattle.depot_model.specs.Stops.{HasFront}
 use Rattle.depot_model.specs.World.{Correct}
-use Rattle.depot_model.specs.declared.replica.Replica.{Ghosts}
+use Rattle.depot_model.specs.declared.node_state.NodeState.{Ghosts}
 use Rattle.depot_outside.specs.Told.{Shelves, Sinks}
 use Rattle.depot_script.specs.declared.command.Command.{Command}
 use Rattle.depot_script.specs.declared.command.Command.TheVariants as command
 use Rattle.depot_session.specs.declared.ending.Ending.{Ending}
 use Rattle.depot_session.specs.declared.ending.Ending.TheVariants as ending
 use Rattle.depot_session.specs.SessionRuns.{disk_line}
-use Rattle.depot_session.specs.Sessions.{Session, Step, carried_out, checkpoint_put, checkpoint_step, ending_of_put, lines_of_command, step_of, stored}
+use Rattle.depot_session.specs.Sessions.{Session, Step, carried_out, checkpoint_put, checkpoint_step, command_text, ending_of_put, lines_of_command, step_of, stored}
 use Rattle.depot_session.specs.ScriptTelling.{IsFaultTold, IsUnchanged, Stores, Tells}
 use Rattle.depot_session.specs.Turns.{HasNoFault, IsAt, IsRunning, Keeps, Turns, ends_of_put}
 use Rattle.depot_session.proofs.Called.{not_where_some}
-use Rattle.depot_session.proofs.LeftJournals.{leaves_front}
+use Rattle.depot_session.proofs.LeftJournals.{leaves_after, leaves_front}
 use Rattle.depot_session.proofs.PutTurns.{ends_by, grown_by, lasts_more, put_journal, put_keeps, put_more, puts_at}
 use Rattle.depot_session.proofs.StoredFiles.{stored_alike, stored_told}
 use Rattle.depot_session.proofs.ToldFaults.{NamesFaults}
-use Rattle.depot_session.proofs.Turning.{command_text, disk_told, told, without_memory}
+use Rattle.depot_session.proofs.Turning.{disk_told, told, without_memory}
 use Rattle.depot_session.proofs.Uncalled.{uncalled_told}
 use Rattle.depot_session.proofs.UnwrittenTexts.{nothing_written}
 use Rattle.depot_trim.specs.Making.{Makes}
@@ -71,7 +70,7 @@ pub unmade_stores : (here : Setting) (sign : Signs) (s : Session) (file : List �
 unmade_stores here sign s file J e same settled is = ap (λ (x : Step). x.stores) (unmade_step here sign s file J e same settled is)
 
 -- its line was told, or not
-pub unmade_told : {N O : Type 0} (g : Ghosts N O) (v : N) (s : Session) (file : List ℕ) (e : MakeError) (p : Printed) (shelf : Shelves) (sink : Sinks) (r : Result (Unit {0}) Ending) → IsRunning g v → IsAt (g.stands v) (g.records v) shelf.file s → IsUnchanged shelf → SettlesMake e
+pub unmade_told : {N : Type 0} (g : Ghosts N) (v : N) (s : Session) (file : List ℕ) (e : MakeError) (p : Printed) (shelf : Shelves) (sink : Sinks) (r : Result (Unit {0}) Ending) → IsRunning g v → IsAt (g.stands v) (g.records v) shelf.file s → IsUnchanged shelf → SettlesMake e
     → Makes (g.stands v) (g.records v) (Err e) → ((here : Setting) (c : Correct) → Makes here c.journal (Err e) → IsPrintOf (Some p) (checkpoint_by here c)) → Tells sink (command_text (command.Checkpoint file) p.lines) None r
     → Turns g v v (command.Checkpoint file) (step_of (g.stands v) (g.signature_of v) s (command.Checkpoint file)) shelf sink r
 unmade_told g v s file e p shelf sink r running at unchanged settled makes prints tells =
@@ -136,9 +135,8 @@ unfolding checkpoint_by
 made_journal here c text made =
     ap (λ (m : MadeCheckpoint). (checkpoint_with here c m).journal) made ∙ giving_journal (limit_of_put here c.journal (checkpoint_changes text)) text (put_by here c (checkpoint_changes text))
 
-module _ {N O : Type 0} (g : Ghosts N O) (old new : N) (file text : List ℕ) (asked : List Change) (one : asked ≡ checkpoint_changes text) (done : Result PutDone PutError) (running : IsRunning g old) (made : make_of (g.stands old) (g.records old) ≡ made_text text)
-    (answers : Puts (g.stands old) (g.records old) asked done (g.records new)) (leaving : Lasts g.tells g.stopped g.records g.moment g.left_since g.may_leave old new (put_records (g.stands old) (g.records old) asked))
-    (without : IfErr done (λ e. (e ≡ refused.Disk → ⊥) → Lasts g.tells g.stopped g.records g.moment g.left_since g.may_leave old new [])) where
+module _ {N : Type 0} (g : Ghosts N) (old new : N) (file text : List ℕ) (asked : List Change) (one : asked ≡ checkpoint_changes text) (done : Result PutDone PutError) (running : IsRunning g old) (made : make_of (g.stands old) (g.records old) ≡ made_text text)
+    (answers : Puts (g.stands old) (g.records old) asked done (g.records new)) (called : IsPutCall g old new asked done) where
   -- where the node stands
   abbrev here : Setting
   here = g.stands old
@@ -155,16 +153,15 @@ module _ {N O : Type 0} (g : Ghosts N O) (old new : N) (file text : List ℕ) (a
   puts : Puts here J changes done (g.records new)
   puts = subst (λ (cs : List Change). Puts here J cs done (g.records new)) one answers
 
-  lasts : Lasts g.tells g.stopped g.records g.moment g.left_since g.may_leave old new (put_records here J changes)
-  lasts = subst (λ (cs : List Change). Lasts g.tells g.stopped g.records g.moment g.left_since g.may_leave old new (put_records here J cs)) one leaving
+  call : IsPutCall g old new changes done
+  call = subst (λ (cs : List Change). IsPutCall g old new cs done) one called
 
   -- ---- the node, whatever came of it
 
-  pub checkpoint_keeps : IsLawful here J → is_empty J ≡ false → (sink : Sinks) (r : Result (Unit {0}) Ending) → IsSameNode (g.stands old) (g.stands new) (g.key old) (g.key new) (g.signature_of old) (g.signature_of new)
-      → StopsBy (g.stopped old) (g.stopped new) (IsErrOf done refused.Stopped) (IsErrOf done refused.Disk) → KeepsDisk (g.handle old) (g.handle new) (g.faults old) (g.faults new) (g.is_faultless old) (g.is_faultless new) (IsErrOf done refused.Disk)
+  pub checkpoint_keeps : IsLawful here J → is_empty J ≡ false → (sink : Sinks) (r : Result (Unit {0}) Ending)
       → (HasNoFault r → IsErrOf done refused.Disk → ⊥) → NamesFaults (g.faults old < g.faults new) sink r → Keeps g old new sink r
   checkpoint_keeps lawful some =
-      put_keeps g old new changes done running puts lasts without lawful some (checkpoint_is_change text (made_is_good here J text made).short) (put_stays_true here.me J changes (checkpoint_gives_none text))
+      put_keeps g old new changes done running puts call lawful some (checkpoint_is_change text (made_is_good here J text made).short) (put_stays_true here.me J changes (checkpoint_gives_none text))
 
   -- ---- what it came to
 
@@ -209,7 +206,7 @@ module _ {N O : Type 0} (g : Ghosts N O) (old new : N) (file text : List ℕ) (a
 
     -- a stop leaves a front of them
     leaves : IsTrue (g.tells old) → (image : List ℕ) → g.may_leave new image → HasFront J more image
-    leaves = leaves_front counts_now old new more running.runs (lasts_more g old new changes done running puts lasts without)
+    leaves = leaves_front g counts_now old new more running.runs (lasts_more g old new changes done running puts call)
 
     -- no memory was found behind the put
     pub checkpoint_without_memory : IsUnchanged shelf → (r : Result (Unit {0}) Ending) → IsErrAnd r (λ e. e ≡ ending.Memory) → sink.after ≡ sink.before → Turns g old new c step shelf sink r
@@ -221,7 +218,7 @@ module _ {N O : Type 0} (g : Ghosts N O) (old new : N) (file text : List ℕ) (a
 
     module _ (o : Option Printed) (p : Printed) (some : o ≡ Some p) (stopped : (o ≡ None) ↔ IsErrOf done refused.Disk) (settled : SettlesPut done)
         (prints : (there : Setting) (k : Correct) (then : List Record) → there.me ≡ k.node → make_of there k.journal ≡ made_text text → Puts there k.journal changes done then → IsPrintOf o (checkpoint_by there k))
-        (ends : Option Ending) (ends_so : ends ≡ ends_of_put done) (stops : StopsBy (g.stopped old) (g.stopped new) (IsErrOf done refused.Stopped) (IsErrOf done refused.Disk)) where
+        (ends : Option Ending) (ends_so : ends ≡ ends_of_put done) where
       -- the disk didn't fail
       well : IsErrOf done refused.Disk → ⊥
       well = not_where_some o p (IsErrOf done refused.Disk) some stopped.1
@@ -235,29 +232,29 @@ module _ {N O : Type 0} (g : Ghosts N O) (old new : N) (file text : List ℕ) (a
 
       -- the put's limit ends the run as its answer does
       ends_alike : ending_of_put limit ≡ ends
-      ends_alike = ends_by g old new changes done running puts lasts without settled well ∙ sym ends_so
+      ends_alike = ends_by g old new changes done running puts call settled well ∙ sym ends_so
 
       same_ending : step.ending ≡ ends
       same_ending = ap (λ (x : Step). x.ending) is ∙ put_step_ending s file effect limit ∙ ends_alike
 
       -- the node runs on, and has those records
       goes : g.stopped new ≡ false
-      goes = runs_on _ _ _ _ stops running.runs well
+      goes = runs_on (g.stopped old) running.runs call.journal.stops well
 
       same_journal : g.records new ≡ step.session.correct.journal
-      same_journal = grown_by g old new changes done running puts lasts without settled well ∙ sym brings
+      same_journal = grown_by g old new changes done running puts call settled well ∙ sym brings
 
       -- the put met a limit, and it was told, or not
       pub limit_told : IsUnchanged shelf → (ends ≡ None → ⊥) → (r : Result (Unit {0}) Ending) → Tells sink (command_text c p.lines) ends r → Turns g old new c step shelf sink r
       limit_told unchanged not r t =
           told g old new c step shelf sink more brings leaves (λ name. inl (unchanged name)) goes same_journal
-          (λ other. unchanged other ∙ at.same_files other ∙ sym (ap (λ (x : Step). x.session.files other) is ∙ put_step_no_files s file effect limit other (λ none. not (sym ends_alike ∙ none)))) lasts.stable ends r same_ending
+          (λ other. unchanged other ∙ at.same_files other ∙ sym (ap (λ (x : Step). x.session.files other) is ∙ put_step_no_files s file effect limit other (λ none. not (sym ends_alike ∙ none)))) (leaves_after g old new _ call.journal.lasts) ends r same_ending
           (subst (λ (x : List ℕ). Tells sink x ends r) same_text t)
 
       -- the text was stored, and it was told, or not
       pub checkpoint_stored : ends ≡ None → IsTrue shelf.tells → (r : Result (Unit {0}) Ending) → Stores shelf sink (command_text c p.lines) file p.bytes r → Turns g old new c step shelf sink r
       checkpoint_stored none tells r st =
-          stored_told g old new c step shelf sink more brings leaves file p.bytes (λ other same. same) (same_ending ∙ none) goes same_journal lasts.stable r
+          stored_told g old new c step shelf sink more brings leaves file p.bytes (λ other same. same) (same_ending ∙ none) goes same_journal (leaves_after g old new _ call.journal.lasts) r
           (λ other. ap (λ (x : Step). x.session.files other) is ∙ put_step_files s file effect limit other (ends_alike ∙ none) ∙ stored_alike s.files shelf.file file effect.bytes p.bytes (λ name. sym (at.same_files name)) (sym printed.1) other) tells
           (subst (λ (x : List ℕ). Stores shelf sink x file p.bytes r) same_text st)
 

@@ -3,9 +3,11 @@ use Rattle.std.proofs.Common.{◌≡◌, ◌≤◌, ℕ, Bool, false, IsTrue, Li
 use Rattle.std.proofs.lemmas.List.{append-nil}
 use Rattle.depot_base.specs.File.{IsFileOf}
 use Rattle.depot_base.specs.declared.record.Record.{Record}
-use Rattle.depot_model.specs.Checks.{Setting}
 use Rattle.depot_model.specs.Records.{text_of_record}
-use Rattle.depot_model.specs.Stops.{HasAll, HasFront, HasRecords, Lasts}
+use Rattle.depot_model.specs.JournalCalls.{Lasts}
+use Rattle.depot_model.specs.Replicas.{journal_of}
+use Rattle.depot_model.specs.Stops.{HasAll, HasFront, HasRecords, LeavesAll}
+use Rattle.depot_model.specs.declared.node_state.NodeState.{Ghosts}
 use Rattle.depot_feeds.specs.Lasting.{LastsIn}
 
 -- all records of a node that runs
@@ -16,15 +18,17 @@ all_there J file all = subst (λ (x : List (List ℕ)). IsFileOf file x) (ap (λ
 pub front_of_none : (J more : List Record) (file : List ℕ) → HasRecords J file → HasFront J more file
 front_of_none J more file has = record { count = 0; has = subst (λ (K : List Record). HasRecords K file) (sym (append-nil J)) has }
 
-module _ {N : Type 0} {tells stopped : N → Bool} {records : N → List Record} {moment : N → ℕ} {left_since : N → ℕ → List ℕ → Type 0} {may_leave : N → List ℕ → Type 0}
-    (counts_now : (v : N) (t : ℕ) (file : List ℕ) → t ≤ moment v → may_leave v file → left_since v t file) where
-  -- after a call on a running node a stop leaves a front of what the call appends
-  pub leaves_front : (old new : N) (appends : List Record) → stopped old ≡ false → Lasts tells stopped records moment left_since may_leave old new appends → IsTrue (tells old) → (file : List ℕ) → may_leave new file → HasFront (records old) appends file
-  leaves_front old new appends runs lasts t file left =
-      let only = lasts.any_moment t runs in
-      only.each file (counts_now new (moment old) file only.later left)
+-- after a call on a running node a stop leaves a front of what the call appends
+pub leaves_front : {N : Type 0} (g : Ghosts N) → ((v : N) (t : ℕ) (file : List ℕ) → t ≤ g.moment v → g.may_leave v file → g.left_since v t file) → (old new : N) (appends : List Record) → g.stopped old ≡ false → Lasts (journal_of g) old new appends
+    → IsTrue (g.tells old) → (file : List ℕ) → g.may_leave new file → HasFront (g.records old) appends file
+leaves_front g counts_now old new appends runs lasts t file left =
+    let only = lasts.any_moment t runs in
+    only.each file (counts_now new (g.moment old) file only.later left)
+
+-- it leaves all its records
+pub leaves_after : {N : Type 0} (g : Ghosts N) (old new : N) (appends : List Record) → Lasts (journal_of g) old new appends → IsTrue (g.tells old) → LeavesAll (g.records new) (g.stopped new) (g.may_leave new)
+leaves_after g old new appends lasts t = lasts.stable (subst (λ (b : Bool). IsTrue b) (sym lasts.told) t)
 
 -- what a call was to append it was to append, where more failed than the call
-pub lasts_so : {N : Type 0} {tells stopped : N → Bool} {records : N → List Record} {moment : N → ℕ} {left_since : N → ℕ → List ℕ → Type 0} {may_leave : N → List ℕ → Type 0}
-    → (here : Setting) (was failed : Bool) (old new : N) → (failed ≡ false → was ≡ false) → LastsIn tells stopped records moment left_since may_leave here was old new → LastsIn tells stopped records moment left_since may_leave here failed old new
-lasts_so here was failed old new so l = record { appends = l.appends; is = record { lawful = l.is.lawful; receipts = l.is.receipts; count = l.is.count; front = l.is.front; all = λ well. l.is.all (so well) }; lasts = l.lasts }
+pub lasts_so : {N : Type 0} (g : Ghosts N) (was failed : Bool) (old new : N) → (failed ≡ false → was ≡ false) → LastsIn g was old new → LastsIn g failed old new
+lasts_so g was failed old new so l = record { appends = l.appends; is = record { lawful = l.is.lawful; receipts = l.is.receipts; count = l.is.count; front = l.is.front; all = λ well. l.is.all (so well) }; lasts = l.lasts }

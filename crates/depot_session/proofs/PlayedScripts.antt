@@ -5,14 +5,15 @@ use Rattle.std.specs.Prelude.{IfSome, is_err}
 use Rattle.std.proofs.lemmas.List.{append-nil, take_all}
 use Rattle.depot_base.specs.declared.record.Record.{Record}
 use Rattle.depot_feeds.specs.Lasting.{LastsIn}
-use Rattle.depot_feeds.proofs.LastingStreams.{front_longer, joined_in, nothing_in}
+use Rattle.depot_feeds.proofs.LastingStreams.{joined_in, nothing_in}
+use Rattle.depot_model.proofs.StopLaws.{front_longer}
 use Rattle.depot_model.specs.Bundle.{Signs}
 use Rattle.depot_model.specs.Checks.{Setting}
 use Rattle.depot_model.specs.Lawful.{IsLawful}
 use Rattle.depot_model.specs.Replicas.{IsSameNode}
 use Rattle.depot_model.specs.Stops.{HasFront, HasRecords, LeavesAll}
 use Rattle.depot_model.specs.World.{IsCorrect}
-use Rattle.depot_model.specs.declared.replica.Replica.{Ghosts}
+use Rattle.depot_model.specs.declared.node_state.NodeState.{Ghosts}
 use Rattle.depot_outside.specs.Told.{Shelves, Sinks, Wrote, shelves, sinks}
 use Rattle.depot_outside.specs.declared.shelf.Shelf as shelf_of
 use Rattle.depot_outside.specs.declared.sink.Sink as sink_of
@@ -35,11 +36,11 @@ use Rattle.depot_base.proofs.GeneralLaws.{take_next}
 -- ---- what holds between two commands
 
 -- The node is who it was and runs, a stop leaves what it was to leave, nothing has failed, and what the shelf and the sink tell they tell.
-pub record IsKeptOn {N O F K : Type 0} (g : Ghosts N O) (f : shelf_of.Ghosts F) (k : sink_of.Ghosts K) (first now : N) (shelf_first shelf_now : F) (out_first out_now : K) : Type 0 where
-  pub same : IsSameNode (g.stands first) (g.stands now) (g.key first) (g.key now) (g.signature_of first) (g.signature_of now)
+pub record IsKeptOn {N F K : Type 0} (g : Ghosts N) (f : shelf_of.Ghosts F) (k : sink_of.Ghosts K) (first now : N) (shelf_first shelf_now : F) (out_first out_now : K) : Type 0 where
+  pub same : IsSameNode g first now
   pub handle : g.handle now ≡ g.handle first
   pub running : IsRunning g now
-  pub lasts : LastsIn g.tells g.stopped g.records g.moment g.left_since g.may_leave (g.stands first) false first now
+  pub lasts : LastsIn g false first now
   pub disk_quiet : g.faults now ≡ g.faults first
   pub sink_quiet : k.faults out_now ≡ k.faults out_first
   pub same_sink : k.tells out_now ≡ k.tells out_first
@@ -48,7 +49,7 @@ pub record IsKeptOn {N O F K : Type 0} (g : Ghosts N O) (f : shelf_of.Ghosts F) 
   pub calm : f.failed shelf_now ≡ f.failed shelf_first
 
 -- These commands were carried out and went on, and the session after them is where the node and the shelf stand.
-pub record AreDone {N O : Type 0} (g : Ghosts N O) (now : N) (here : Setting) (sign : Signs) (s : Session) (done : List Command) (shelf : Shelves) (sink : Sinks) : Type 0 where
+pub record AreDone {N : Type 0} (g : Ghosts N) (now : N) (here : Setting) (sign : Signs) (s : Session) (done : List Command) (shelf : Shelves) (sink : Sinks) : Type 0 where
   pub go_on : GoOn here sign s done
   pub at : IsAt here (g.records now) shelf.file_after (answers_of here sign s done).session
   pub wrote : Wrote sink (answers_of here sign s done).text
@@ -90,13 +91,13 @@ text_behind told told_now old mid new a b same one two t = two (subst (λ (x : B
 
 -- ---- one more command
 
-module _ {N O F K : Type 0} (g : Ghosts N O) (f : shelf_of.Ghosts F) (k : sink_of.Ghosts K) (lawful : (v : N) → IsLawful (g.stands v) (g.records v)) (first mid new : N) (shelf_first shelf_mid shelf_new : F) (out_first out_mid out_new : K) where
+module _ {N F K : Type 0} (g : Ghosts N) (f : shelf_of.Ghosts F) (k : sink_of.Ghosts K) (lawful : (v : N) → IsLawful (g.stands v) (g.records v)) (first mid new : N) (shelf_first shelf_mid shelf_new : F) (out_first out_mid out_new : K) where
   -- what a command keeps is kept of all of them
   pub keeps_all : (r : Result (Unit {0}) Ending) → IsRunning g first → IsKeptOn g f k first mid shelf_first shelf_mid out_first out_mid → Keeps g mid new (sinks k out_mid out_new) r → Keeps g first new (sinks k out_first out_new) r
   keeps_all r ran kept keeps = record {
     same = record { stands = keeps.same.stands ∙ kept.same.stands; key = keeps.same.key ∙ kept.same.key; signs = keeps.same.signs ∙ kept.same.signs };
     handle = keeps.handle ∙ kept.handle;
-    lasts = joined_in (g.stands first) (g.stands mid) (is_err r) first mid new kept.same.stands ran.runs kept.running.runs kept.lasts keeps.lasts;
+    lasts = joined_in g (is_err r) first mid new kept.same.stands ran.runs kept.running.runs kept.lasts keeps.lasts;
     runs_on = keeps.runs_on;
     disk_later = omega (arith, kept.disk_quiet, keeps.disk_later);
     disk_quiet = λ calm. keeps.disk_quiet calm ∙ kept.disk_quiet;
@@ -115,7 +116,7 @@ module _ {N O F K : Type 0} (g : Ghosts N O) (f : shelf_of.Ghosts F) (k : sink_o
       record {
         same = all.same;
         handle = all.handle;
-        running = record { runs = all.runs_on tt; stable = λ t. subst (λ (x : Bool). LeavesAll (g.records new) x (g.may_leave new)) (all.runs_on tt) (all.lasts.lasts.stable (subst (λ (x : Bool). IsTrue x) all.lasts.lasts.told t)) };
+        running = record { runs = all.runs_on tt; stable = λ t. subst (λ (x : Bool). LeavesAll (g.records new) x (g.may_leave new)) (all.runs_on tt) (all.lasts.lasts.stable t) };
         lasts = all.lasts;
         disk_quiet = all.disk_quiet tt;
         sink_quiet = elim (eq-or-lt_of_le all.sink_later) [
@@ -332,14 +333,14 @@ module _ {N O F K : Type 0} (g : Ghosts N O) (f : shelf_of.Ghosts F) (k : sink_o
 
 -- ---- before the first command, and behind the last
 
-module _ {N O F K : Type 0} (g : Ghosts N O) (f : shelf_of.Ghosts F) (k : sink_of.Ghosts K) where
+module _ {N F K : Type 0} (g : Ghosts N) (f : shelf_of.Ghosts F) (k : sink_of.Ghosts K) where
   -- before the first command
   pub kept_on_first : ((v : N) (file : List ℕ) → g.left_since v (g.moment v) file → g.may_leave v file) → (v : N) (shelf : F) (out : K) → IsLawful (g.stands v) (g.records v) → IsRunning g v → IsKeptOn g f k v v shelf shelf out out
   kept_on_first only_now v shelf out lawful running = record {
     same = record { stands = refl; key = refl; signs = refl };
     handle = refl;
     running = running;
-    lasts = nothing_in only_now (g.stands v) false v lawful (leaves_all g v running);
+    lasts = nothing_in g only_now false v lawful (leaves_all g v running);
     disk_quiet = refl;
     sink_quiet = refl;
     same_sink = refl;

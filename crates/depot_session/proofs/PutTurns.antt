@@ -1,6 +1,6 @@
 -- What a put makes of a node, of the shelf and of the sink.
 use Rattle.std.proofs.Common.{◌≡◌, ◌<◌, ◌≤◌, ◌⊎◌, ℕ, Bool, true, false, IsTrue, List, [], ◌∷◌, ◌++◌, Option, Some, None, Result, Ok, Err, refl, sym, ap, subst, ◌∙◌, ◌↔◌, inl}
-use Rattle.std.specs.Prelude.{IfErr, IsErrOf, is_err}
+use Rattle.std.specs.Prelude.{◌≢◌, IsErrOf, is_err}
 use Rattle.std.specs.Result.{IsErrAnd}
 use Rattle.std.proofs.lemmas.List.{append-nil}
 use Rattle.depot_base.specs.declared.write.Change.{Change}
@@ -9,10 +9,11 @@ use Rattle.depot_base.specs.declared.record.Record.TheVariants.{OwnPut}
 use Rattle.depot_node_lines.specs.declared.printed.Printed.{Printed}
 use Rattle.depot_node_lines.specs.Printing.{IsPrintOf, lines_of_effect}
 use Rattle.depot_node_lines.specs.PutPrinting.{SettlesPut}
-use Rattle.depot_node_lines.proofs.FedStreams.{runs_on}
+use Rattle.depot_model.proofs.JournalCallLaws.{runs_on}
 use Rattle.depot_node_lines.proofs.PutTexts.{effect_within, put_lawful}
 use Rattle.depot_feeds.specs.Lasting.{LastsIn}
-use Rattle.depot_feeds.proofs.LastingStreams.{all_of, cut_of, lasts_alike, lasts_longer, none_in, to_append, IsPart}
+use Rattle.depot_feeds.proofs.LastingStreams.{all_of, cut_of, none_in, to_append, IsPart}
+use Rattle.depot_model.proofs.StopLaws.{lasts_alike, lasts_longer}
 use Rattle.depot_model.specs.Bundle.{Signs}
 use Rattle.depot_model.specs.Changes.{AreChanges}
 use Rattle.depot_model.specs.Checks.{Setting}
@@ -20,26 +21,27 @@ use Rattle.depot_model.specs.Lawful.{IsLawful, is_empty}
 use Rattle.depot_model.specs.Limits.{Limit, limit_of_put}
 use Rattle.depot_model.specs.Own.{next_own, values_of}
 use Rattle.depot_model.specs.Receipts.{AreReceiptsTrue}
-use Rattle.depot_model.specs.Replicas.{IsSameNode, KeepsDisk, StopsBy}
-use Rattle.depot_model.specs.Stops.{HasFront, Lasts}
-use Rattle.depot_model.specs.declared.replica.Replica.{Ghosts}
-use Rattle.depot_decide.specs.Putting.{Puts, put_records}
-use Rattle.depot_decide.specs.declared.put_answers.PutDone.{PutDone}
-use Rattle.depot_decide.specs.declared.put_answers.PutError.{PutError}
-use Rattle.depot_decide.specs.declared.put_answers.PutError.TheVariants as refused
+use Rattle.depot_model.specs.JournalCalls.{Lasts}
+use Rattle.depot_model.specs.Replicas.{journal_of}
+use Rattle.depot_model.specs.Stops.{HasFront}
+use Rattle.depot_model.specs.declared.node_state.NodeState.{Ghosts}
+use Rattle.depot_model.specs.Putting.{Puts, IsPutCall, put_records}
+use Rattle.depot_model.specs.declared.put_answers.PutDone.{PutDone}
+use Rattle.depot_model.specs.declared.put_answers.PutError.{PutError}
+use Rattle.depot_model.specs.declared.put_answers.PutError.TheVariants as refused
 use Rattle.depot_outside.specs.Told.{Shelves, Sinks}
 use Rattle.depot_script.specs.declared.command.Command.{Command}
 use Rattle.depot_script.specs.declared.command.Command.TheVariants as command
 use Rattle.depot_session.specs.declared.ending.Ending.{Ending}
 use Rattle.depot_session.specs.declared.ending.Ending.TheVariants as ending
 use Rattle.depot_session.specs.SessionRuns.{IsHandedOut, disk_line}
-use Rattle.depot_session.specs.Sessions.{Session, IsPut, Step, ending_of_put, put_step, step_of}
+use Rattle.depot_session.specs.Sessions.{Session, IsPut, Step, command_text, ending_of_put, put_step, step_of}
 use Rattle.depot_session.specs.ScriptTelling.{IsFaultTold, IsUnchanged, Tells}
 use Rattle.depot_session.specs.Turns.{HasNoFault, IsAt, IsRunning, Keeps, LeftBy, Turns, ends_of_put}
 use Rattle.depot_session.proofs.Called.{keeps_called, not_where_some}
-use Rattle.depot_session.proofs.LeftJournals.{leaves_front}
+use Rattle.depot_session.proofs.LeftJournals.{leaves_after, leaves_front}
 use Rattle.depot_session.proofs.ToldFaults.{EndsCalmly, NamesFaults}
-use Rattle.depot_session.proofs.Turning.{command_text, disk_told, told, without_memory}
+use Rattle.depot_session.proofs.Turning.{disk_told, told, without_memory}
 use Rattle.depot_session.proofs.UnwrittenTexts.{nothing_written}
 use Rattle.depot_world.specs.Effects.{idle, put_by}
 use Rattle.depot_world.specs.ScheduleStops.{Effect}
@@ -96,9 +98,8 @@ put_journal here s c changes (Some limit) same is = ap (λ (x : Effect). x.journ
 pub puts_at : (here : Setting) (J K : List Record) (changes : List Change) (done : Result PutDone PutError) (then : List Record) → K ≡ J → Puts here J changes done then → Puts here K changes done then
 puts_at here J K changes done then same = subst (λ (L : List Record). Puts here L changes done then) (sym same)
 
-module _ {N O : Type 0} (g : Ghosts N O) (old new : N) (changes : List Change) (done : Result PutDone PutError) (running : IsRunning g old) (puts : Puts (g.stands old) (g.records old) changes done (g.records new))
-    (lasts : Lasts g.tells g.stopped g.records g.moment g.left_since g.may_leave old new (put_records (g.stands old) (g.records old) changes))
-    (without : IfErr done (λ e. (e ≡ refused.Disk → ⊥) → Lasts g.tells g.stopped g.records g.moment g.left_since g.may_leave old new [])) where
+module _ {N : Type 0} (g : Ghosts N) (old new : N) (changes : List Change) (done : Result PutDone PutError) (running : IsRunning g old) (puts : Puts (g.stands old) (g.records old) changes done (g.records new))
+    (call : IsPutCall g old new changes done) where
   -- where the node stands
   abbrev here : Setting
   here = g.stands old
@@ -112,28 +113,27 @@ module _ {N O : Type 0} (g : Ghosts N O) (old new : N) (changes : List Change) (
   module _ (lawful : IsLawful (g.stands old) (g.records old)) (some : is_empty (g.records old) ≡ false) (are : AreChanges changes)
       (receipts : AreReceiptsTrue (g.records old) → AreReceiptsTrue (g.records old ++ put_records (g.stands old) (g.records old) changes)) where
     -- the put was to append its records, and did, or a front of them
-    put_appends : (failed : Bool) → limit_of_put here J changes ≡ None → IsPart J (put_records here J changes) (g.records new) failed → LastsIn g.tells g.stopped g.records g.moment g.left_since g.may_leave here failed old new
+    put_appends : (failed : Bool) → limit_of_put here J changes ≡ None → IsPart J (put_records here J changes) (g.records new) failed → LastsIn g failed old new
     put_appends failed none part = record {
       appends = put_records here J changes;
       is = to_append here J (put_records here J changes) (g.records new) failed (put_lawful here J changes lawful some are none) receipts part;
-      lasts = lasts;
+      lasts = call.journal.lasts;
     }
 
     -- what a stop leaves, whatever the node answered
-    put_lasts : (failed : Bool) → (IsErrOf done refused.Disk → failed ≡ true) → LastsIn g.tells g.stopped g.records g.moment g.left_since g.may_leave here failed old new
-    put_lasts failed fails = by_answer done refl puts without where
-      by_answer : (r : Result PutDone PutError) → done ≡ r → Puts here J changes r (g.records new) → IfErr r (λ e. (e ≡ refused.Disk → ⊥) → Lasts g.tells g.stopped g.records g.moment g.left_since g.may_leave old new [])
-          → LastsIn g.tells g.stopped g.records g.moment g.left_since g.may_leave here failed old new
+    put_lasts : (failed : Bool) → (IsErrOf done refused.Disk → failed ≡ true) → LastsIn g failed old new
+    put_lasts failed fails = by_answer done refl puts call.journal.idle where
+      by_answer : (r : Result PutDone PutError) → done ≡ r → Puts here J changes r (g.records new) → (IsErrAnd r (λ e. e ≢ refused.Disk) → Lasts (journal_of g) old new [])
+          → LastsIn g failed old new
       by_answer (Ok d) is p idle = put_appends failed p.0 (all_of J (put_records here J changes) (g.records new) failed p.1.1)
       by_answer (Err refused.Disk) is p idle = put_appends failed p.0 (subst (λ (b : Bool). IsPart J (put_records here J changes) (g.records new) b) (sym (fails is)) (cut_of J (put_records here J changes) (g.records new) p.1))
-      by_answer (Err refused.Memory) is p idle = none_in here failed old new lawful p (idle (λ e. cc))
-      by_answer (Err refused.Stopped) is p idle = none_in here failed old new lawful p (idle (λ e. cc))
-      by_answer (Err other) is p idle = none_in here failed old new lawful p.1 (idle (λ e. cc))
+      by_answer (Err refused.Memory) is p idle = none_in g failed old new lawful p (idle (λ e. cc))
+      by_answer (Err refused.Stopped) is p idle = none_in g failed old new lawful p (idle (λ e. cc))
+      by_answer (Err other) is p idle = none_in g failed old new lawful p.1 (idle (λ e. cc))
 
     -- what the put leaves of the node
-    pub put_keeps : (sink : Sinks) (r : Result (Unit {0}) Ending) → IsSameNode (g.stands old) (g.stands new) (g.key old) (g.key new) (g.signature_of old) (g.signature_of new) → StopsBy (g.stopped old) (g.stopped new) (IsErrOf done refused.Stopped) (IsErrOf done refused.Disk)
-        → KeepsDisk (g.handle old) (g.handle new) (g.faults old) (g.faults new) (g.is_faultless old) (g.is_faultless new) (IsErrOf done refused.Disk) → (HasNoFault r → IsErrOf done refused.Disk → ⊥) → NamesFaults (g.faults old < g.faults new) sink r → Keeps g old new sink r
-    put_keeps sink r stays stops disk settles = keeps_called g old new sink r (IsErrOf done refused.Disk) stays disk (put_lasts (is_err r) (ends_failed r (IsErrOf done refused.Disk) settles)) (λ calm. runs_on _ _ _ _ stops running.runs (settles calm)) settles
+    pub put_keeps : (sink : Sinks) (r : Result (Unit {0}) Ending) → (HasNoFault r → IsErrOf done refused.Disk → ⊥) → NamesFaults (g.faults old < g.faults new) sink r → Keeps g old new sink r
+    put_keeps sink r settles = keeps_called g old new sink r (IsErrOf done refused.Disk) call.same call.journal.disk (put_lasts (is_err r) (ends_failed r (IsErrOf done refused.Disk) settles)) (λ calm. runs_on (g.stopped old) running.runs call.journal.stops (settles calm)) settles
 
   -- ---- what it came to
 
@@ -150,12 +150,12 @@ module _ {N O : Type 0} (g : Ghosts N O) (old new : N) (changes : List Change) (
   limited limit is = ap (λ (o : Option Limit). put_more here J changes o) is
 
   -- a stop leaves a front of them
-  pub lasts_more : Lasts g.tells g.stopped g.records g.moment g.left_since g.may_leave old new more
-  lasts_more = by_answer done puts without where
-    by_answer : (r : Result PutDone PutError) → Puts here J changes r (g.records new) → IfErr r (λ e. (e ≡ refused.Disk → ⊥) → Lasts g.tells g.stopped g.records g.moment g.left_since g.may_leave old new []) → Lasts g.tells g.stopped g.records g.moment g.left_since g.may_leave old new more
-    by_answer (Ok d) p idle = lasts_alike old new (put_records here J changes) more (sym (whole p.0)) lasts
-    by_answer (Err refused.Disk) p idle = lasts_alike old new (put_records here J changes) more (sym (whole p.0)) lasts
-    by_answer (Err other) p idle = lasts_longer old new [] more (idle (λ e. cc))
+  pub lasts_more : Lasts (journal_of g) old new more
+  lasts_more = by_answer done puts call.journal.idle where
+    by_answer : (r : Result PutDone PutError) → Puts here J changes r (g.records new) → (IsErrAnd r (λ e. e ≢ refused.Disk) → Lasts (journal_of g) old new []) → Lasts (journal_of g) old new more
+    by_answer (Ok d) p idle = lasts_alike {v = journal_of g} old new (put_records here J changes) more (sym (whole p.0)) call.journal.lasts
+    by_answer (Err refused.Disk) p idle = lasts_alike {v = journal_of g} old new (put_records here J changes) more (sym (whole p.0)) call.journal.lasts
+    by_answer (Err other) p idle = lasts_longer {v = journal_of g} old new [] more (idle (λ e. cc))
 
   -- where neither the disk failed nor memory was wanting, the journal has grown by what the put brings
   pub grown_by : SettlesPut done → (IsErrOf done refused.Disk → ⊥) → g.records new ≡ J ++ more
@@ -199,7 +199,7 @@ module _ {N O : Type 0} (g : Ghosts N O) (old new : N) (changes : List Change) (
 
     -- after it a stop leaves a front of them
     leaves : IsTrue (g.tells old) → (image : List ℕ) → g.may_leave new image → HasFront J more image
-    leaves = leaves_front counts_now old new more running.runs lasts_more
+    leaves = leaves_front g counts_now old new more running.runs lasts_more
 
     -- no file has changed
     others : (name : List ℕ) → (shelf.file_after name ≡ shelf.file name) ⊎ IsHandedOut (LeftBy g old new) c step name
@@ -219,8 +219,8 @@ module _ {N O : Type 0} (g : Ghosts N O) (old new : N) (changes : List Change) (
 
     -- its lines were written, or not
     pub put_told : (ends : Option Ending) (r : Result (Unit {0}) Ending) (o : Option Printed) (p : Printed) → o ≡ Some p → (o ≡ None) ↔ IsErrOf done refused.Disk → SettlesPut done → IsPrintOf o (put_by here s.correct changes) → ends ≡ ends_of_put done
-        → StopsBy (g.stopped old) (g.stopped new) (IsErrOf done refused.Stopped) (IsErrOf done refused.Disk) → Tells sink (command_text c p.lines) ends r → Turns g old new c (step_of here sign s c) shelf sink r
-    put_told ends r o p is stopped settled printed ends_so stops tells = as_put r so where
+        → Tells sink (command_text c p.lines) ends r → Turns g old new c (step_of here sign s c) shelf sink r
+    put_told ends r o p is stopped settled printed ends_so tells = as_put r so where
       well : IsErrOf done refused.Disk → ⊥
       well = not_where_some o p (IsErrOf done refused.Disk) is stopped.1
 
@@ -234,5 +234,5 @@ module _ {N O : Type 0} (g : Ghosts N O) (old new : N) (changes : List Change) (
       ends_as = ap ending_of_put same_limit ∙ ends_by settled well ∙ sym ends_so
 
       so : Turns g old new c step shelf sink r
-      so = told g old new c step shelf sink more brings leaves others (runs_on _ _ _ _ stops running.runs well) (grown_by settled well ∙ sym brings)
-          (λ name. unchanged name ∙ at.same_files name) lasts.stable ends r ends_as tells_so
+      so = told g old new c step shelf sink more brings leaves others (runs_on (g.stopped old) running.runs call.journal.stops well) (grown_by settled well ∙ sym brings)
+          (λ name. unchanged name ∙ at.same_files name) (leaves_after g old new _ call.journal.lasts) ends r ends_as tells_so

@@ -15,16 +15,15 @@ use Rattle.depot_model.specs.Opening.{ill_at, of_roster, with_unknown, opened}
 use Rattle.depot_model.specs.Readers.{Reader, TrimAnswer, trim_of, unopened, unsigned, reading}
 use Rattle.depot_model.specs.Roster.{Verifies}
 use Rattle.depot_model.specs.World.{Correct}
-use Rattle.depot_model.specs.declared.replica.Replica.{Ghosts}
+use Rattle.depot_model.specs.declared.node_state.NodeState.{Ghosts}
 use Rattle.depot_outside.specs.Told.{Shelves, Sinks}
 use Rattle.depot_script.specs.declared.command.Command.TheVariants as command
 use Rattle.depot_session.specs.declared.ending.Ending.{Ending}
 use Rattle.depot_session.specs.declared.ending.Ending.TheVariants as ending
-use Rattle.depot_session.specs.Sessions.{Session, Step, absent, carried_out, ending_of_tgive, ending_of_trim, reader_after, shown_by_last, silent, step_of, tgive_from, tgive_to, trim_from, trim_step}
+use Rattle.depot_session.specs.Sessions.{Session, Step, absent, carried_out, command_text, ending_of_tgive, ending_of_trim, reader_after, shown_by_last, silent, step_of, tgive_from, tgive_to, trim_from, trim_step}
 use Rattle.depot_session.specs.ScriptTelling.{IsUnchanged, Tells}
 use Rattle.depot_session.specs.Turns.{IsAt, IsRunning, IsSomebodys, KeepsReader, Turns, ends_of_trim}
 use Rattle.depot_session.proofs.ToldFaults.{EndsCalmly}
-use Rattle.depot_session.proofs.Turning.{command_text}
 use Rattle.depot_session.proofs.Uncalled.{uncalled_told}
 use Rattle.depot_trim.specs.ReaderAnswers.{Trims}
 use Rattle.depot_trim.specs.ReaderView.{IsReaderOf}
@@ -113,7 +112,7 @@ trims_text here sign s J file text some same = ap (trim_from here s file) some �
 one_line : (line text : List ℕ) → line ≡ ended text → line ≡ ended text ++ []
 one_line line text is = is ∙ sym (append-nil (ended text))
 
-module _ {N O : Type 0} (g : Ghosts N O) (v : N) (running : IsRunning g v) (s : Session) (file : List ℕ) (shelf : Shelves) (sink : Sinks) (at : IsAt (g.stands v) (g.records v) shelf.file s) (unchanged : IsUnchanged shelf) where
+module _ {N : Type 0} (g : Ghosts N) (v : N) (running : IsRunning g v) (s : Session) (file : List ℕ) (shelf : Shelves) (sink : Sinks) (at : IsAt (g.stands v) (g.records v) shelf.file s) (unchanged : IsUnchanged shelf) where
   module _ (text : List ℕ) (there : shelf.file file ≡ Some text) where
     -- what the definition answers
     abbrev answer : TrimAnswer
@@ -205,7 +204,7 @@ unfolding step_of
 shown_is here sign s key = refl
 
 -- its line was told, or not
-pub tget_turns : {N O : Type 0} (g : Ghosts N O) (v : N) (s : Session) (key line : List ℕ) (shelf : Shelves) (sink : Sinks) (r : Result (Unit {0}) Ending) → IsRunning g v → IsAt (g.stands v) (g.records v) shelf.file s → IsUnchanged shelf → line ≡ lines_of_effect (shown_by_last s.correct key s.reader)
+pub tget_turns : {N : Type 0} (g : Ghosts N) (v : N) (s : Session) (key line : List ℕ) (shelf : Shelves) (sink : Sinks) (r : Result (Unit {0}) Ending) → IsRunning g v → IsAt (g.stands v) (g.records v) shelf.file s → IsUnchanged shelf → line ≡ lines_of_effect (shown_by_last s.correct key s.reader)
     → Tells sink (command_text (command.Tget key) line) None r → Turns g v v (command.Tget key) (step_of (g.stands v) (g.signature_of v) s (command.Tget key)) shelf sink r
 tget_turns g v s key line shelf sink r running at unchanged line_is tells =
     let is = shown_is (g.stands v) (g.signature_of v) s key in

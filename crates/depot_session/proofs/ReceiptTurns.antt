@@ -1,51 +1,50 @@
 -- What receipts make of a node, of the shelf and of the sink: what their put makes, or nothing.
 use Rattle.std.proofs.Common.{◌≡◌, ◌<◌, ◌≤◌, ◌⊎◌, ◌+◌, ℕ, false, IsTrue, List, [], ◌∷◌, codes, length, Option, Some, None, Result, Ok, Err, refl, sym, ap, subst, ◌∙◌, ◌↔◌, arith, inl, inr, length-append}
-use Rattle.std.specs.Prelude.{IfErr, IsErrOf, is_err}
+use Rattle.std.specs.Prelude.{◌≢◌, IsErrOf, is_err}
 use Rattle.std.specs.Result.{IsErrAnd}
 use Rattle.depot_answers.specs.AnswerTexts.{text_of_no_receipt}
 use Rattle.depot_base.specs.declared.record.Record.{Record}
 use Rattle.depot_base.specs.declared.write.Change.{Change}
-use Rattle.depot_decide.specs.Putting.{Puts}
-use Rattle.depot_decide.specs.declared.put_answers.PutDone.{PutDone}
-use Rattle.depot_decide.specs.declared.put_answers.PutError.{PutError}
-use Rattle.depot_decide.specs.declared.put_answers.PutError.TheVariants as put
+use Rattle.depot_model.specs.Putting.{Puts, IsPutCall}
+use Rattle.depot_model.specs.declared.put_answers.PutDone.{PutDone}
+use Rattle.depot_model.specs.declared.put_answers.PutError.{PutError}
+use Rattle.depot_model.specs.declared.put_answers.PutError.TheVariants as put
 use Rattle.depot_node_lines.specs.declared.printed.Printed.{Printed}
 use Rattle.depot_node_lines.specs.Printing.{IsPrintOf, lines_of_effect}
 use Rattle.depot_node_lines.specs.PutPrinting.{SettlesPut}
-use Rattle.depot_node_lines.specs.ReceiptPrinting.{SettlesGive}
-use Rattle.depot_node_lines.proofs.FedStreams.{runs_on}
+use Rattle.depot_node_lines.specs.ReceiptPrinting.{PrintsReceipts, SettlesGive}
+use Rattle.depot_model.proofs.JournalCallLaws.{renamed_call, runs_on}
 use Rattle.depot_node_lines.proofs.ReceiptTexts.{receipt_is}
-use Rattle.depot_feeds.proofs.LastingStreams.{lasts_longer, none_in}
-use Rattle.depot_gossip.proofs.StreamLaws.{keeps_alike, stops_alike}
+use Rattle.depot_feeds.proofs.LastingStreams.{none_in}
+use Rattle.depot_model.proofs.StopLaws.{lasts_longer}
 use Rattle.depot_model.specs.Bundle.{Signs}
 use Rattle.depot_model.specs.Changes.{AreChanges}
 use Rattle.depot_model.specs.Checks.{Setting}
 use Rattle.depot_model.specs.Lawful.{IsLawful, is_empty}
 use Rattle.depot_model.specs.Limits.{limit_of_put}
 use Rattle.depot_model.specs.Receipts.{NoReceipt, lacks_value, no_receipt, receipt_changes, receipt_key, unknown}
-use Rattle.depot_model.specs.Replicas.{IsSameNode, KeepsDisk, StopsBy}
-use Rattle.depot_model.specs.Stops.{HasFront, Lasts}
-use Rattle.depot_model.specs.World.{Correct}
-use Rattle.depot_model.specs.declared.replica.Replica.{Ghosts}
+use Rattle.depot_model.specs.Replicas.{journal_of}
+use Rattle.depot_model.specs.Stops.{HasFront}
+use Rattle.depot_model.specs.declared.node_state.NodeState.{Ghosts}
 use Rattle.depot_model.proofs.FeedGrowth.{IsGrown}
 use Rattle.depot_outside.specs.Told.{Shelves, Sinks}
-use Rattle.depot_receipts.specs.Giving.{Gives, receipt_records}
+use Rattle.depot_receipts.specs.Giving.{Gives, IsReceiptCall}
 use Rattle.depot_receipts.specs.declared.give_error.GiveError.{GiveError}
 use Rattle.depot_receipts.specs.declared.give_error.GiveError.TheVariants as give
 use Rattle.depot_script.specs.declared.command.Command.{Command}
 use Rattle.depot_script.specs.declared.command.Command.TheVariants as command
 use Rattle.depot_session.specs.declared.ending.Ending.{Ending}
 use Rattle.depot_session.specs.declared.ending.Ending.TheVariants as ending
-use Rattle.depot_session.specs.Sessions.{Session, Step, carried_out, ending_of_receipt, put_step, step_of}
+use Rattle.depot_session.specs.Sessions.{Session, Step, carried_out, command_text, ending_of_receipt, put_step, step_of}
 use Rattle.depot_session.specs.SessionRuns.{IsHandedOut, disk_line}
 use Rattle.depot_session.specs.ScriptTelling.{IsFaultTold, IsUnchanged, Tells}
 use Rattle.depot_session.specs.Turns.{HasNoFault, IsAt, IsRunning, Keeps, LeftBy, Turns, ends_of_put, ends_of_receipt}
 use Rattle.depot_session.proofs.Called.{keeps_called}
-use Rattle.depot_session.proofs.LeftJournals.{leaves_front}
+use Rattle.depot_session.proofs.LeftJournals.{leaves_after, leaves_front}
 use Rattle.depot_session.proofs.PutTurns.{put_keeps, put_to_disk, put_told, put_without_memory}
 use Rattle.depot_session.proofs.StepGrowth.{step_grows}
 use Rattle.depot_session.proofs.ToldFaults.{EndsCalmly, NamesFaults}
-use Rattle.depot_session.proofs.Turning.{command_text, told, without_memory}
+use Rattle.depot_session.proofs.Turning.{told, without_memory}
 use Rattle.depot_session.proofs.UnwrittenTexts.{nothing_written}
 use Rattle.depot_world.specs.Effects.{idle, receipt_by, receipt_with}
 use Rattle.depot_world.proofs.TrueReceipts.{receipts_put_stays_true}
@@ -74,7 +73,7 @@ receipt_ends_calmly (Err other) = tt
 
 -- The node put the receipts, against which nothing speaks, and this is what their put answered. What holds where it answered a refusal that isn't
 -- the disk's holds of both answers.
-pub record IsPutOf (X : Type 0) (here : Setting) (J : List Record) (ids : List (List ℕ)) (done : Result PutDone GiveError) (then : List Record) : Type 0 where
+pub record IsPutOf (here : Setting) (J : List Record) (ids : List (List ℕ)) (done : Result PutDone GiveError) (then : List Record) : Type 0 where
   pub due : no_receipt J ids ≡ None
   pub answer : Result PutDone PutError
   pub puts : Puts here J (receipt_changes ids) answer then
@@ -82,27 +81,27 @@ pub record IsPutOf (X : Type 0) (here : Setting) (J : List Record) (ids : List (
   pub stopped : IsErrOf done give.Stopped ↔ IsErrOf answer put.Stopped
   pub settles : SettlesGive done → SettlesPut answer
   pub ends : ends_of_receipt done ≡ ends_of_put answer
-  pub idle : IfErr done (λ e. (e ≡ give.Disk → ⊥) → X) → IfErr answer (λ e. (e ≡ put.Disk → ⊥) → X)
+  pub idle : IsErrAnd answer (λ e. e ≢ put.Disk) → IsErrAnd done (λ e. e ≢ give.Disk)
 
 -- The node put nothing. Where memory was found and it wasn't stopped before, something speaks against the receipts, and the run goes on.
-pub record PutsNothing (X : Type 0) (J : List Record) (ids : List (List ℕ)) (done : Result PutDone GiveError) (then : List Record) : Type 0 where
+pub record PutsNothing (J : List Record) (ids : List (List ℕ)) (done : Result PutDone GiveError) (then : List Record) : Type 0 where
   pub same : then ≡ J
   pub well : IsErrOf done give.Disk → ⊥
   pub speaks : SettlesGive done → ((why : NoReceipt) × (no_receipt J ids ≡ Some why)) × (ends_of_receipt done ≡ None)
-  pub idle : IfErr done (λ e. (e ≡ give.Disk → ⊥) → X) → X
+  pub idle : IsErrAnd done (λ e. e ≢ give.Disk)
 
 -- one of the two
-pub put_or_nothing : (X : Type 0) (here : Setting) (J : List Record) (ids : List (List ℕ)) (done : Result PutDone GiveError) (then : List Record) → Gives here J ids done then → IsPutOf X here J ids done then ⊎ PutsNothing X J ids done then
-put_or_nothing X here J ids (Ok d) then p = inl (record { due = p.0; answer = Ok d; puts = p.1; disk = (λ e. absurd cc, λ e. absurd cc); stopped = (λ e. absurd cc, λ e. absurd cc); settles = λ s. s; ends = refl; idle = λ w. w })
-put_or_nothing X here J ids (Err give.Disk) then p = inl (record { due = p.0; answer = Err put.Disk; puts = p.1; disk = (λ e. refl, λ e. refl); stopped = (λ e. absurd cc, λ e. absurd cc); settles = λ s. s; ends = refl; idle = λ w fails. absurd (fails refl) })
-put_or_nothing X here J ids (Err (give.Spent n)) then p = inl (record { due = p.0; answer = Err (put.Spent n); puts = p.1; disk = (λ e. absurd cc, λ e. absurd cc); stopped = (λ e. absurd cc, λ e. absurd cc); settles = λ s. s; ends = refl; idle = λ w fails. w (λ e. cc) })
-put_or_nothing X here J ids (Err (give.Tips n)) then p = inl (record { due = p.0; answer = Err (put.Tips n); puts = p.1; disk = (λ e. absurd cc, λ e. absurd cc); stopped = (λ e. absurd cc, λ e. absurd cc); settles = λ s. s; ends = refl; idle = λ w fails. w (λ e. cc) })
-put_or_nothing X here J ids (Err (give.Collides h)) then p = inl (record { due = p.0; answer = Err (put.Collides h); puts = p.1; disk = (λ e. absurd cc, λ e. absurd cc); stopped = (λ e. absurd cc, λ e. absurd cc); settles = λ s. s; ends = refl; idle = λ w fails. w (λ e. cc) })
-put_or_nothing X here J ids (Err (give.Full what)) then p = inl (record { due = p.0; answer = Err (put.Full what); puts = p.1; disk = (λ e. absurd cc, λ e. absurd cc); stopped = (λ e. absurd cc, λ e. absurd cc); settles = λ s. s; ends = refl; idle = λ w fails. w (λ e. cc) })
-put_or_nothing X here J ids (Err give.Memory) then p = inr (record { same = p; well = λ e. cc; speaks = λ never. absurd never; idle = λ w. w (λ e. cc) })
-put_or_nothing X here J ids (Err give.Stopped) then p = inr (record { same = p; well = λ e. cc; speaks = λ never. absurd never; idle = λ w. w (λ e. cc) })
-put_or_nothing X here J ids (Err (give.Unknown h)) then p = inr (record { same = p.1; well = λ e. cc; speaks = λ s. ((unknown h, p.0), refl); idle = λ w. w (λ e. cc) })
-put_or_nothing X here J ids (Err (give.NoValue h)) then p = inr (record { same = p.1; well = λ e. cc; speaks = λ s. ((lacks_value h, p.0), refl); idle = λ w. w (λ e. cc) })
+pub put_or_nothing : (here : Setting) (J : List Record) (ids : List (List ℕ)) (done : Result PutDone GiveError) (then : List Record) → Gives here J ids done then → IsPutOf here J ids done then ⊎ PutsNothing J ids done then
+put_or_nothing here J ids (Ok d) then p = inl (record { due = p.0; answer = Ok d; puts = p.1; disk = (λ e. absurd cc, λ e. absurd cc); stopped = (λ e. absurd cc, λ e. absurd cc); settles = λ s. s; ends = refl; idle = λ never. never })
+put_or_nothing here J ids (Err give.Disk) then p = inl (record { due = p.0; answer = Err put.Disk; puts = p.1; disk = (λ e. refl, λ e. refl); stopped = (λ e. absurd cc, λ e. absurd cc); settles = λ s. s; ends = refl; idle = λ differs. absurd (differs refl) })
+put_or_nothing here J ids (Err (give.Spent n)) then p = inl (record { due = p.0; answer = Err (put.Spent n); puts = p.1; disk = (λ e. absurd cc, λ e. absurd cc); stopped = (λ e. absurd cc, λ e. absurd cc); settles = λ s. s; ends = refl; idle = λ _ is. absurd cc })
+put_or_nothing here J ids (Err (give.Tips n)) then p = inl (record { due = p.0; answer = Err (put.Tips n); puts = p.1; disk = (λ e. absurd cc, λ e. absurd cc); stopped = (λ e. absurd cc, λ e. absurd cc); settles = λ s. s; ends = refl; idle = λ _ is. absurd cc })
+put_or_nothing here J ids (Err (give.Collides h)) then p = inl (record { due = p.0; answer = Err (put.Collides h); puts = p.1; disk = (λ e. absurd cc, λ e. absurd cc); stopped = (λ e. absurd cc, λ e. absurd cc); settles = λ s. s; ends = refl; idle = λ _ is. absurd cc })
+put_or_nothing here J ids (Err (give.Full what)) then p = inl (record { due = p.0; answer = Err (put.Full what); puts = p.1; disk = (λ e. absurd cc, λ e. absurd cc); stopped = (λ e. absurd cc, λ e. absurd cc); settles = λ s. s; ends = refl; idle = λ _ is. absurd cc })
+put_or_nothing here J ids (Err give.Memory) then p = inr (record { same = p; well = λ e. cc; speaks = λ never. absurd never; idle = λ is. absurd cc })
+put_or_nothing here J ids (Err give.Stopped) then p = inr (record { same = p; well = λ e. cc; speaks = λ never. absurd never; idle = λ is. absurd cc })
+put_or_nothing here J ids (Err (give.Unknown h)) then p = inr (record { same = p.1; well = λ e. cc; speaks = λ s. ((unknown h, p.0), refl); idle = λ is. absurd cc })
+put_or_nothing here J ids (Err (give.NoValue h)) then p = inr (record { same = p.1; well = λ e. cc; speaks = λ s. ((lacks_value h, p.0), refl); idle = λ is. absurd cc })
 
 -- ---- the step of a receipt
 
@@ -129,9 +128,8 @@ receipt_text here sign s id = refl
 gives_at : (here : Setting) (J K : List Record) (ids : List (List ℕ)) (done : Result PutDone GiveError) (then : List Record) → K ≡ J → Gives here J ids done then → Gives here K ids done then
 gives_at here J K ids done then same = subst (λ (L : List Record). Gives here L ids done then) (sym same)
 
-module _ {N O : Type 0} (g : Ghosts N O) (old new : N) (id : List ℕ) (asked : List (List ℕ)) (one : asked ≡ id ∷ []) (done : Result PutDone GiveError) (running : IsRunning g old) (answers : Gives (g.stands old) (g.records old) asked done (g.records new))
-    (leaving : Lasts g.tells g.stopped g.records g.moment g.left_since g.may_leave old new (receipt_records (g.stands old) (g.records old) asked))
-    (without : IfErr done (λ e. (e ≡ give.Disk → ⊥) → Lasts g.tells g.stopped g.records g.moment g.left_since g.may_leave old new [])) where
+module _ {N : Type 0} (g : Ghosts N) (old new : N) (id : List ℕ) (asked : List (List ℕ)) (one : asked ≡ id ∷ []) (done : Result PutDone GiveError) (running : IsRunning g old) (answers : Gives (g.stands old) (g.records old) asked done (g.records new))
+    (called : IsReceiptCall g old new asked done) where
   -- where the node stands
   abbrev here : Setting
   here = g.stands old
@@ -147,30 +145,28 @@ module _ {N O : Type 0} (g : Ghosts N O) (old new : N) (id : List ℕ) (asked : 
   abbrev changes : List Change
   changes = receipt_changes ids
 
-  -- a stop leaves its records where it puts nothing
-  abbrev Stays : Type 0
-  Stays = Lasts g.tells g.stopped g.records g.moment g.left_since g.may_leave old new []
-
   -- what it answered for this one
   gives : Gives here J ids done (g.records new)
   gives = subst (λ (hs : List (List ℕ)). Gives here J hs done (g.records new)) one answers
 
-  lasts : Lasts g.tells g.stopped g.records g.moment g.left_since g.may_leave old new (receipt_records here J ids)
-  lasts = subst (λ (hs : List (List ℕ)). Lasts g.tells g.stopped g.records g.moment g.left_since g.may_leave old new (receipt_records here J hs)) one leaving
+  call : IsReceiptCall g old new ids done
+  call = subst (λ (hs : List (List ℕ)). IsReceiptCall g old new hs done) one called
 
   -- the put of the receipt, or nothing
-  came : IsPutOf Stays here J ids done (g.records new) ⊎ PutsNothing Stays J ids done (g.records new)
-  came = put_or_nothing Stays here J ids done (g.records new) gives
+  came : IsPutOf here J ids done (g.records new) ⊎ PutsNothing J ids done (g.records new)
+  came = put_or_nothing here J ids done (g.records new) gives
+
+  -- as the call on the node that the put is
+  as_put : (p : IsPutOf here J ids done (g.records new)) → IsPutCall g old new changes p.answer
+  as_put p = record { same = call.same; journal = renamed_call p.stopped p.disk p.idle call.journal }
 
   -- ---- the node, whatever came of it
 
-  pub receipt_keeps : IsLawful here J → is_empty J ≡ false → AreChanges changes → (sink : Sinks) (r : Result (Unit {0}) Ending) → IsSameNode (g.stands old) (g.stands new) (g.key old) (g.key new) (g.signature_of old) (g.signature_of new)
-      → StopsBy (g.stopped old) (g.stopped new) (IsErrOf done give.Stopped) (IsErrOf done give.Disk) → KeepsDisk (g.handle old) (g.handle new) (g.faults old) (g.faults new) (g.is_faultless old) (g.is_faultless new) (IsErrOf done give.Disk)
+  pub receipt_keeps : IsLawful here J → is_empty J ≡ false → AreChanges changes → (sink : Sinks) (r : Result (Unit {0}) Ending)
       → (HasNoFault r → IsErrOf done give.Disk → ⊥) → NamesFaults (g.faults old < g.faults new) sink r → Keeps g old new sink r
-  receipt_keeps lawful some are sink r stays stops disk settles names = elim came [
-    | inl p ↦ put_keeps g old new changes p.answer running p.puts lasts (p.idle without) lawful some are (receipts_put_stays_true here.me J ids p.due) sink r stays
-        (stops_alike _ _ _ _ _ _ p.stopped.0 p.stopped.1 p.disk.0 p.disk.1 stops) (keeps_alike _ _ _ _ _ _ _ _ p.disk.0 p.disk.1 disk) (λ calm failed. settles calm (p.disk.1 failed)) names
-    | inr n ↦ keeps_called g old new sink r (IsErrOf done give.Disk) stays disk (none_in here (is_err r) old new lawful n.same (n.idle without)) (λ calm. runs_on _ _ _ _ stops running.runs (settles calm)) settles names
+  receipt_keeps lawful some are sink r settles names = elim came [
+    | inl p ↦ put_keeps g old new changes p.answer running p.puts (as_put p) lawful some are (receipts_put_stays_true here.me J ids p.due) sink r (λ calm failed. settles calm (p.disk.1 failed)) names
+    | inr n ↦ keeps_called g old new sink r (IsErrOf done give.Disk) call.same call.journal.disk (none_in g (is_err r) old new lawful n.same (call.journal.idle n.idle)) (λ calm. runs_on (g.stopped old) running.runs call.journal.stops (settles calm)) settles names
   ]
 
   -- ---- what it came to
@@ -199,8 +195,8 @@ module _ {N O : Type 0} (g : Ghosts N O) (old new : N) (id : List ℕ) (asked : 
     brings = subst (λ (K : List Record). IsGrown K step.session.correct.journal) at.journal (step_grows here sign s c)
 
     -- where the node put nothing, a stop leaves none of them
-    leaves : PutsNothing Stays J ids done (g.records new) → IsTrue (g.tells old) → (image : List ℕ) → g.may_leave new image → HasFront J brings.more image
-    leaves n = leaves_front counts_now old new brings.more running.runs (lasts_longer old new [] brings.more (n.idle without))
+    leaves : PutsNothing J ids done (g.records new) → IsTrue (g.tells old) → (image : List ℕ) → g.may_leave new image → HasFront J brings.more image
+    leaves n = leaves_front g counts_now old new brings.more running.runs (lasts_longer {v = journal_of g} old new [] brings.more (call.journal.idle n.idle))
 
     -- no file has changed
     others : (name : List ℕ) → (shelf.file_after name ≡ shelf.file name) ⊎ IsHandedOut (LeftBy g old new) c step name
@@ -209,36 +205,36 @@ module _ {N O : Type 0} (g : Ghosts N O) (old new : N) (id : List ℕ) (asked : 
     -- no memory was found for what is printed of it
     pub receipt_without_memory : (r : Result (Unit {0}) Ending) → IsErrAnd r (λ e. e ≡ ending.Memory) → sink.after ≡ sink.before → Turns g old new c step shelf sink r
     receipt_without_memory r is same = elim came [
-      | inl p ↦ put_without_memory g old new changes p.answer running p.puts lasts (p.idle without) counts_now c shelf sink s unchanged at (is_put p.due) r is same
+      | inl p ↦ put_without_memory g old new changes p.answer running p.puts (as_put p) counts_now c shelf sink s unchanged at (is_put p.due) r is same
       | inr n ↦ without_memory g old new c step shelf sink brings.more brings.is (leaves n) others r is (nothing_written sink same)
     ]
 
     -- the disk failed, and it was told, or not
     pub receipt_to_disk : (e : Ending) → IsErrOf done give.Disk → g.faults old < g.faults new → IsFaultTold sink disk_line ending.Disk e → Turns g old new c step shelf sink (Err e)
     receipt_to_disk e failed rose fault = elim came [
-      | inl p ↦ put_to_disk g old new changes p.answer running p.puts lasts (p.idle without) counts_now c shelf sink s unchanged at (is_put p.due) e rose fault
+      | inl p ↦ put_to_disk g old new changes p.answer running p.puts (as_put p) counts_now c shelf sink s unchanged at (is_put p.due) e rose fault
       | inr n ↦ absurd (n.well failed)
     ]
 
     module _ (ends : Option Ending) (r : Result (Unit {0}) Ending) (o : Option Printed) (p : Printed) (is : o ≡ Some p) (stopped : (o ≡ None) ↔ IsErrOf done give.Disk) (settled : SettlesGive done)
-        (prints : (there : Setting) (k : Correct) (hs : List (List ℕ)) (then : List Record) → there.me ≡ k.node → Gives there k.journal hs done then → IsPrintOf o (receipt_by there k hs)) (ends_so : ends ≡ ends_of_receipt done) (stops : StopsBy (g.stopped old) (g.stopped new) (IsErrOf done give.Stopped) (IsErrOf done give.Disk)) (tells : Tells sink (command_text c p.lines) ends r) where
+        (prints : PrintsReceipts done o) (ends_so : ends ≡ ends_of_receipt done) (tells : Tells sink (command_text c p.lines) ends r) where
       -- what is printed are the lines of the receipt
       printed : IsPrintOf o (receipt_by here s.correct ids)
       printed = prints here s.correct ids (g.records new) (sym at.node) (gives_at here J s.correct.journal ids done (g.records new) at.journal gives)
 
       -- the lines of a receipt that isn't given were written, or not
-      refused_told : PutsNothing Stays J ids done (g.records new) → (why : NoReceipt) → no_receipt J ids ≡ Some why → ends_of_receipt done ≡ None → Turns g old new c step shelf sink r
+      refused_told : PutsNothing J ids done (g.records new) → (why : NoReceipt) → no_receipt J ids ≡ Some why → ends_of_receipt done ≡ None → Turns g old new c step shelf sink r
       refused_told n why speaks goes_on =
           let same : step ≡ carried_out s c (idle s.correct (text_of_no_receipt why)) None = receipt_is_idle here sign s id why (same_reasons ∙ speaks) in
           let lines : p.lines ≡ lines_of_effect (receipt_by here s.correct ids) = (subst (λ (x : Option Printed). IsPrintOf x (receipt_by here s.correct ids)) is printed).0 in
-          told g old new c step shelf sink brings.more brings.is (leaves n) others (runs_on _ _ _ _ stops running.runs n.well)
-          (n.same ∙ sym at.journal ∙ ap (λ (x : Step). x.session.correct.journal) (sym same)) (λ name. unchanged name ∙ at.same_files name ∙ ap (λ (x : Step). x.session.files name) (sym same)) (n.idle without).stable ends r
+          told g old new c step shelf sink brings.more brings.is (leaves n) others (runs_on (g.stopped old) running.runs call.journal.stops n.well)
+          (n.same ∙ sym at.journal ∙ ap (λ (x : Step). x.session.correct.journal) (sym same)) (λ name. unchanged name ∙ at.same_files name ∙ ap (λ (x : Step). x.session.files name) (sym same)) (leaves_after g old new _ (call.journal.idle n.idle)) ends r
           (ap (λ (x : Step). x.ending) same ∙ sym goes_on ∙ sym ends_so) (subst (λ (text : List ℕ). Tells sink text ends r) (ap (command_text c) lines ∙ receipt_text here sign s id) tells)
 
       -- its lines were written, or not
       pub receipt_told : Turns g old new c step shelf sink r
       receipt_told = elim came [
-        | inl q ↦ put_told g old new changes q.answer running q.puts lasts (q.idle without) counts_now c shelf sink s unchanged at (is_put q.due) ends r o p is ((λ none. q.disk.0 (stopped.0 none)), (λ failed. stopped.1 (q.disk.1 failed))) (q.settles settled)
-            (subst (IsPrintOf o) (receipt_is here s.correct ids None (same_reasons ∙ q.due)) printed) (ends_so ∙ q.ends) (stops_alike _ _ _ _ _ _ q.stopped.0 q.stopped.1 q.disk.0 q.disk.1 stops) tells
+        | inl q ↦ put_told g old new changes q.answer running q.puts (as_put q) counts_now c shelf sink s unchanged at (is_put q.due) ends r o p is ((λ none. q.disk.0 (stopped.0 none)), (λ failed. stopped.1 (q.disk.1 failed))) (q.settles settled)
+            (subst (IsPrintOf o) (receipt_is here s.correct ids None (same_reasons ∙ q.due)) printed) (ends_so ∙ q.ends) tells
         | inr n ↦ (let t = n.speaks settled in refused_told n t.0.0 t.0.1 t.1)
       ]

@@ -10,7 +10,7 @@ use Rattle.depot_model.specs.Roster.{has_node}
 use Rattle.depot_model.specs.Stops.{HasAll, HasFront, HasRecords, LeavesAll}
 use Rattle.depot_model.specs.Texts.{IsRoster}
 use Rattle.depot_model.specs.World.{IsCorrect, Read}
-use Rattle.depot_model.specs.declared.replica.Replica.{Ghosts}
+use Rattle.depot_model.specs.declared.node_state.NodeState.{Ghosts}
 use Rattle.depot_node.specs.Starting.{LeavesFile, birth_after, started}
 use Rattle.depot_node.specs.declared.start_error.StartError.{StartError}
 use Rattle.depot_node.specs.declared.start_error.StartError.TheVariants as refused
@@ -124,7 +124,7 @@ front_left : (done : List Command) (before : List ℕ → Type 0) (kept more : L
 front_left [] before kept more image front = inr front
 front_left (c ∷ cs) before kept more image front = front
 
-module _ {N O : Type 0} (g : Ghosts N O) (old new : N) (here : Setting) (sign : Signs) (J : List Record) (s : Session) (commands : List Command) (disk : Disks) (shelf : Shelves) (sink : Sinks) (told : IsTrue (g.tells old))
+module _ {N : Type 0} (g : Ghosts N) (old new : N) (here : Setting) (sign : Signs) (J : List Record) (s : Session) (commands : List Command) (disk : Disks) (shelf : Shelves) (sink : Sinks) (told : IsTrue (g.tells old))
     (leaves : (image : List ℕ) → disk.may_leave_after image → g.may_leave new image) (reads_as : disk.may_leave_after disk.file_after) (e : Ending) where
   pub played_whole : IsCorrect (world_at here) s.correct → LeavesAll (g.records new) (g.stopped new) (g.may_leave new) → IsPlayed g new here s (answers_of here sign s commands) shelf sink e → GoesWhole here (answers_of here sign s commands) disk shelf sink e
   played_whole correct all p =
@@ -182,7 +182,7 @@ module _ {N O : Type 0} (g : Ghosts N O) (old new : N) (here : Setting) (sign : 
       )
 
 -- what a script came to is what the run answers
-pub answered : {N O : Type 0} (g : Ghosts N O) (old new : N) (there here : Setting) (by sign : Signs) (J : List Record) (s : Session) (commands : List Command) (disk : Disks) (shelf : Shelves) (calls : Asked) (sink : Sinks) (r : Result (Unit {0}) Ending) (e : Ending)
+pub answered : {N : Type 0} (g : Ghosts N) (old new : N) (there here : Setting) (by sign : Signs) (J : List Record) (s : Session) (commands : List Command) (disk : Disks) (shelf : Shelves) (calls : Asked) (sink : Sinks) (r : Result (Unit {0}) Ending) (e : Ending)
     → there ≡ here → by ≡ sign → e ≡ ending_by r → IsTrue (g.tells old) → ((image : List ℕ) → disk.may_leave_after image → g.may_leave new image) → disk.may_leave_after disk.file_after → IsCorrect (world_at here) s.correct → LeavesAll (g.records new) (g.stopped new) (g.may_leave new)
     → (g.faults old < g.faults new → HasFailed disk) → Plays g old new there by s commands shelf calls sink r → Answered here sign J s commands [] disk shelf calls sink e
 answered g old new there here by sign J s commands disk shelf calls sink r e stands signs ends told leaves reads_as correct all rose plays =

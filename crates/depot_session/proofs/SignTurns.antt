@@ -1,30 +1,30 @@
 -- How the command that signs a checkpoint turns out: as the put of its text, or nothing is put.
 use Rattle.std.proofs.Common.{◌≡◌, ◌↔◌, ◌⊎◌, ◌≤◌, ◌<◌, ℕ, false, IsTrue, List, [], Option, Some, None, Result, Ok, Err, refl, sym, ap, subst, ◌∙◌, inl, inr}
-use Rattle.std.specs.Prelude.{IfErr, IsErrOf, is_err}
+use Rattle.std.specs.Prelude.{◌≢◌, IsErrOf, is_err}
 use Rattle.std.specs.Result.{IsErrAnd}
 use Rattle.depot_base.specs.declared.record.Record.{Record}
 use Rattle.depot_base.specs.declared.write.Change.{Change}
-use Rattle.depot_decide.specs.Putting.{Puts}
-use Rattle.depot_decide.specs.declared.put_answers.PutDone.{PutDone}
-use Rattle.depot_decide.specs.declared.put_answers.PutError.{PutError}
-use Rattle.depot_decide.specs.declared.put_answers.PutError.TheVariants as refused
-use Rattle.depot_node_lines.specs.CheckpointPrinting.{SettlesSign}
+use Rattle.depot_model.specs.Putting.{Puts, IsPutCall}
+use Rattle.depot_model.specs.declared.put_answers.PutDone.{PutDone}
+use Rattle.depot_model.specs.declared.put_answers.PutError.{PutError}
+use Rattle.depot_model.specs.declared.put_answers.PutError.TheVariants as refused
+use Rattle.depot_node_lines.specs.CheckpointPrinting.{PrintsSigning, SettlesSign}
 use Rattle.depot_node_lines.specs.Printing.{IsPrintOf, lines_of_effect}
 use Rattle.depot_node_lines.specs.PutPrinting.{SettlesPut}
 use Rattle.depot_node_lines.specs.declared.printed.Printed.{Printed}
 use Rattle.depot_node_lines.proofs.CheckpointTexts.{sign_is}
-use Rattle.depot_node_lines.proofs.FedStreams.{runs_on}
-use Rattle.depot_feeds.proofs.LastingStreams.{lasts_longer, none_in}
-use Rattle.depot_gossip.proofs.StreamLaws.{keeps_alike, stops_alike}
+use Rattle.depot_model.proofs.JournalCallLaws.{renamed_call, runs_on}
+use Rattle.depot_feeds.proofs.LastingStreams.{none_in}
+use Rattle.depot_model.proofs.StopLaws.{lasts_longer}
 use Rattle.depot_model.specs.Bundle as bundle
 use Rattle.depot_model.specs.Checks.{Setting}
 use Rattle.depot_model.specs.Lawful.{IsLawful, is_empty}
 use Rattle.depot_model.specs.Limits.{Limit, limit_of_put}
 use Rattle.depot_model.specs.Opening.{Opened, ill_at, of_roster, with_unknown, opened, opened_text}
-use Rattle.depot_model.specs.Replicas.{IsSameNode, KeepsDisk, StopsBy}
-use Rattle.depot_model.specs.Stops.{HasFront, Lasts}
+use Rattle.depot_model.specs.Replicas.{journal_of}
+use Rattle.depot_model.specs.Stops.{HasFront}
 use Rattle.depot_model.specs.World.{Correct}
-use Rattle.depot_model.specs.declared.replica.Replica.{Ghosts}
+use Rattle.depot_model.specs.declared.node_state.NodeState.{Ghosts}
 use Rattle.depot_model.proofs.FeedGrowth.{IsGrown}
 use Rattle.depot_outside.specs.Told.{Shelves, Sinks}
 use Rattle.depot_script.specs.declared.command.Command.{Command}
@@ -32,17 +32,17 @@ use Rattle.depot_script.specs.declared.command.Command.TheVariants as command
 use Rattle.depot_session.specs.declared.ending.Ending.{Ending}
 use Rattle.depot_session.specs.declared.ending.Ending.TheVariants as ending
 use Rattle.depot_session.specs.SessionRuns.{IsHandedOut, disk_line}
-use Rattle.depot_session.specs.Sessions.{Session, Step, absent, carried_out, ending_of_sign, put_step, sign_from, step_of}
+use Rattle.depot_session.specs.Sessions.{Session, Step, absent, carried_out, command_text, ending_of_sign, put_step, sign_from, step_of}
 use Rattle.depot_session.specs.ScriptTelling.{IsFaultTold, IsUnchanged, Tells}
 use Rattle.depot_session.specs.Turns.{HasNoFault, IsAt, IsRunning, Keeps, LeftBy, Turns, ends_of_put, ends_of_sign}
 use Rattle.depot_session.proofs.Called.{keeps_called}
-use Rattle.depot_session.proofs.LeftJournals.{leaves_front}
+use Rattle.depot_session.proofs.LeftJournals.{leaves_after, leaves_front}
 use Rattle.depot_session.proofs.PutTurns.{put_keeps, put_to_disk, put_told, put_without_memory}
 use Rattle.depot_session.proofs.StepGrowth.{step_grows}
 use Rattle.depot_session.proofs.ToldFaults.{EndsCalmly, NamesFaults}
-use Rattle.depot_session.proofs.Turning.{command_text, told, without_memory}
+use Rattle.depot_session.proofs.Turning.{told, without_memory}
 use Rattle.depot_session.proofs.UnwrittenTexts.{nothing_written}
-use Rattle.depot_trim.specs.Signing.{Signs, signing_records}
+use Rattle.depot_trim.specs.Signing.{IsSigningCall, Signs}
 use Rattle.depot_trim.specs.declared.sign_error.CheckpointError.{CheckpointError}
 use Rattle.depot_trim.specs.declared.sign_error.CheckpointError.TheVariants as unsigned
 use Rattle.depot_world.specs.Effects.{checkpoint_changes, sign_by, sign_with}
@@ -63,7 +63,7 @@ sign_ends_calmly (Err other) = tt
 
 -- The node put the text, which it opened, and this is what the put answered. What holds where signing answered a refusal that isn't the disk's
 -- holds of both answers.
-pub record IsPutOf (X : Type 0) (here : Setting) (J : List Record) (text : List ℕ) (done : Result PutDone CheckpointError) (then : List Record) : Type 0 where
+pub record IsPutOf (here : Setting) (J : List Record) (text : List ℕ) (done : Result PutDone CheckpointError) (then : List Record) : Type 0 where
   pub ids : List (List ℕ)
   pub due : opened_text here J text ≡ opened ids
   pub answer : Result PutDone PutError
@@ -72,7 +72,7 @@ pub record IsPutOf (X : Type 0) (here : Setting) (J : List Record) (text : List 
   pub stopped : IsErrOf done unsigned.Stopped ↔ IsErrOf answer refused.Stopped
   pub settles : SettlesSign done → SettlesPut answer
   pub ends : ends_of_sign done ≡ ends_of_put answer
-  pub idle : IfErr done (λ e. (e ≡ unsigned.Disk → ⊥) → X) → IfErr answer (λ e. (e ≡ refused.Disk → ⊥) → X)
+  pub idle : IsErrAnd answer (λ e. e ≢ refused.Disk) → IsErrAnd done (λ e. e ≢ unsigned.Disk)
 
 -- The text isn't opened, and the run ends as that says.
 pub record IsUnopened (here : Setting) (J : List Record) (text : List ℕ) (done : Result PutDone CheckpointError) : Type 0 where
@@ -82,25 +82,25 @@ pub record IsUnopened (here : Setting) (J : List Record) (text : List ℕ) (done
   pub ends : (limit : Option Limit) → ending_of_sign limit found ≡ ends_of_sign done
 
 -- The node put nothing. Where memory was found and it wasn't stopped before, the text isn't opened.
-pub record PutsNothing (X : Type 0) (here : Setting) (J : List Record) (text : List ℕ) (done : Result PutDone CheckpointError) (then : List Record) : Type 0 where
+pub record PutsNothing (here : Setting) (J : List Record) (text : List ℕ) (done : Result PutDone CheckpointError) (then : List Record) : Type 0 where
   pub same : then ≡ J
   pub well : IsErrOf done unsigned.Disk → ⊥
   pub unopened : SettlesSign done → IsUnopened here J text done
-  pub idle : IfErr done (λ e. (e ≡ unsigned.Disk → ⊥) → X) → X
+  pub idle : IsErrAnd done (λ e. e ≢ unsigned.Disk)
 
 -- one of the two
-pub put_or_nothing : (X : Type 0) (here : Setting) (J : List Record) (text : List ℕ) (done : Result PutDone CheckpointError) (then : List Record) → Signs here J text done then → IsPutOf X here J text done then ⊎ PutsNothing X here J text done then
-put_or_nothing X here J text (Ok d) then p = inl (record { ids = p.0.0; due = p.0.1; answer = Ok d; puts = p.1; disk = (λ e. absurd cc, λ e. absurd cc); stopped = (λ e. absurd cc, λ e. absurd cc); settles = λ s. s; ends = refl; idle = λ w. w })
-put_or_nothing X here J text (Err unsigned.Disk) then p = inl (record { ids = p.0.0; due = p.0.1; answer = Err refused.Disk; puts = p.1; disk = (λ e. refl, λ e. refl); stopped = (λ e. absurd cc, λ e. absurd cc); settles = λ s. s; ends = refl; idle = λ w fails. absurd (fails refl) })
-put_or_nothing X here J text (Err (unsigned.Spent n)) then p = inl (record { ids = p.0.0; due = p.0.1; answer = Err (refused.Spent n); puts = p.1; disk = (λ e. absurd cc, λ e. absurd cc); stopped = (λ e. absurd cc, λ e. absurd cc); settles = λ s. s; ends = refl; idle = λ w fails. w (λ e. cc) })
-put_or_nothing X here J text (Err (unsigned.Tips n)) then p = inl (record { ids = p.0.0; due = p.0.1; answer = Err (refused.Tips n); puts = p.1; disk = (λ e. absurd cc, λ e. absurd cc); stopped = (λ e. absurd cc, λ e. absurd cc); settles = λ s. s; ends = refl; idle = λ w fails. w (λ e. cc) })
-put_or_nothing X here J text (Err (unsigned.Collides h)) then p = inl (record { ids = p.0.0; due = p.0.1; answer = Err (refused.Collides h); puts = p.1; disk = (λ e. absurd cc, λ e. absurd cc); stopped = (λ e. absurd cc, λ e. absurd cc); settles = λ s. s; ends = refl; idle = λ w fails. w (λ e. cc) })
-put_or_nothing X here J text (Err (unsigned.Full what)) then p = inl (record { ids = p.0.0; due = p.0.1; answer = Err (refused.Full what); puts = p.1; disk = (λ e. absurd cc, λ e. absurd cc); stopped = (λ e. absurd cc, λ e. absurd cc); settles = λ s. s; ends = refl; idle = λ w fails. w (λ e. cc) })
-put_or_nothing X here J text (Err unsigned.Memory) then p = inr (record { same = p; well = λ e. cc; unopened = λ never. absurd never; idle = λ w. w (λ e. cc) })
-put_or_nothing X here J text (Err unsigned.Stopped) then p = inr (record { same = p; well = λ e. cc; unopened = λ never. absurd never; idle = λ w. w (λ e. cc) })
-put_or_nothing X here J text (Err (unsigned.IllFormed at)) then p = inr (record { same = p.1; well = λ e. cc; unopened = λ s. record { found = ill_at at; is = p.0; stays = λ c. refl; ends = λ limit. refl }; idle = λ w. w (λ e. cc) })
-put_or_nothing X here J text (Err (unsigned.OtherRoster given mine)) then p = inr (record { same = p.1; well = λ e. cc; unopened = λ s. record { found = of_roster given; is = p.0.0; stays = λ c. refl; ends = λ limit. refl }; idle = λ w. w (λ e. cc) })
-put_or_nothing X here J text (Err (unsigned.Unknown h)) then p = inr (record { same = p.1; well = λ e. cc; unopened = λ s. record { found = with_unknown h; is = p.0; stays = λ c. refl; ends = λ limit. refl }; idle = λ w. w (λ e. cc) })
+pub put_or_nothing : (here : Setting) (J : List Record) (text : List ℕ) (done : Result PutDone CheckpointError) (then : List Record) → Signs here J text done then → IsPutOf here J text done then ⊎ PutsNothing here J text done then
+put_or_nothing here J text (Ok d) then p = inl (record { ids = p.0.0; due = p.0.1; answer = Ok d; puts = p.1; disk = (λ e. absurd cc, λ e. absurd cc); stopped = (λ e. absurd cc, λ e. absurd cc); settles = λ s. s; ends = refl; idle = λ never. never })
+put_or_nothing here J text (Err unsigned.Disk) then p = inl (record { ids = p.0.0; due = p.0.1; answer = Err refused.Disk; puts = p.1; disk = (λ e. refl, λ e. refl); stopped = (λ e. absurd cc, λ e. absurd cc); settles = λ s. s; ends = refl; idle = λ differs. absurd (differs refl) })
+put_or_nothing here J text (Err (unsigned.Spent n)) then p = inl (record { ids = p.0.0; due = p.0.1; answer = Err (refused.Spent n); puts = p.1; disk = (λ e. absurd cc, λ e. absurd cc); stopped = (λ e. absurd cc, λ e. absurd cc); settles = λ s. s; ends = refl; idle = λ _ is. absurd cc })
+put_or_nothing here J text (Err (unsigned.Tips n)) then p = inl (record { ids = p.0.0; due = p.0.1; answer = Err (refused.Tips n); puts = p.1; disk = (λ e. absurd cc, λ e. absurd cc); stopped = (λ e. absurd cc, λ e. absurd cc); settles = λ s. s; ends = refl; idle = λ _ is. absurd cc })
+put_or_nothing here J text (Err (unsigned.Collides h)) then p = inl (record { ids = p.0.0; due = p.0.1; answer = Err (refused.Collides h); puts = p.1; disk = (λ e. absurd cc, λ e. absurd cc); stopped = (λ e. absurd cc, λ e. absurd cc); settles = λ s. s; ends = refl; idle = λ _ is. absurd cc })
+put_or_nothing here J text (Err (unsigned.Full what)) then p = inl (record { ids = p.0.0; due = p.0.1; answer = Err (refused.Full what); puts = p.1; disk = (λ e. absurd cc, λ e. absurd cc); stopped = (λ e. absurd cc, λ e. absurd cc); settles = λ s. s; ends = refl; idle = λ _ is. absurd cc })
+put_or_nothing here J text (Err unsigned.Memory) then p = inr (record { same = p; well = λ e. cc; unopened = λ never. absurd never; idle = λ is. absurd cc })
+put_or_nothing here J text (Err unsigned.Stopped) then p = inr (record { same = p; well = λ e. cc; unopened = λ never. absurd never; idle = λ is. absurd cc })
+put_or_nothing here J text (Err (unsigned.IllFormed at)) then p = inr (record { same = p.1; well = λ e. cc; unopened = λ s. record { found = ill_at at; is = p.0; stays = λ c. refl; ends = λ limit. refl }; idle = λ is. absurd cc })
+put_or_nothing here J text (Err (unsigned.OtherRoster given mine)) then p = inr (record { same = p.1; well = λ e. cc; unopened = λ s. record { found = of_roster given; is = p.0.0; stays = λ c. refl; ends = λ limit. refl }; idle = λ is. absurd cc })
+put_or_nothing here J text (Err (unsigned.Unknown h)) then p = inr (record { same = p.1; well = λ e. cc; unopened = λ s. record { found = with_unknown h; is = p.0; stays = λ c. refl; ends = λ limit. refl }; idle = λ is. absurd cc })
 
 -- ---- the step
 
@@ -125,9 +125,8 @@ sign_is_put here s file text ids due =
 signs_at : (here : Setting) (J K : List Record) (text : List ℕ) (done : Result PutDone CheckpointError) (then : List Record) → K ≡ J → Signs here J text done then → Signs here K text done then
 signs_at here J K text done then same = subst (λ (L : List Record). Signs here L text done then) (sym same)
 
-module _ {N O : Type 0} (g : Ghosts N O) (old new : N) (file text : List ℕ) (done : Result PutDone CheckpointError) (running : IsRunning g old) (signs : Signs (g.stands old) (g.records old) text done (g.records new))
-    (lasts : Lasts g.tells g.stopped g.records g.moment g.left_since g.may_leave old new (signing_records (g.stands old) (g.records old) text))
-    (without : IfErr done (λ e. (e ≡ unsigned.Disk → ⊥) → Lasts g.tells g.stopped g.records g.moment g.left_since g.may_leave old new [])) where
+module _ {N : Type 0} (g : Ghosts N) (old new : N) (file text : List ℕ) (done : Result PutDone CheckpointError) (running : IsRunning g old) (signs : Signs (g.stands old) (g.records old) text done (g.records new))
+    (call : IsSigningCall g old new text done) where
   -- where the node stands
   abbrev here : Setting
   here = g.stands old
@@ -140,23 +139,21 @@ module _ {N O : Type 0} (g : Ghosts N O) (old new : N) (file text : List ℕ) (d
   abbrev changes : List Change
   changes = checkpoint_changes text
 
-  -- a stop leaves its records where it puts nothing
-  abbrev Stays : Type 0
-  Stays = Lasts g.tells g.stopped g.records g.moment g.left_since g.may_leave old new []
-
   -- the put of the text, or nothing
-  came : IsPutOf Stays here J text done (g.records new) ⊎ PutsNothing Stays here J text done (g.records new)
-  came = put_or_nothing Stays here J text done (g.records new) signs
+  came : IsPutOf here J text done (g.records new) ⊎ PutsNothing here J text done (g.records new)
+  came = put_or_nothing here J text done (g.records new) signs
+
+  -- as the call on the node that the put is
+  as_put : (p : IsPutOf here J text done (g.records new)) → IsPutCall g old new changes p.answer
+  as_put p = record { same = call.same; journal = renamed_call p.stopped p.disk p.idle call.journal }
 
   -- ---- the node, whatever came of it
 
-  pub sign_keeps : IsLawful here J → is_empty J ≡ false → OnlyBytes text → (sink : Sinks) (r : Result (Unit {0}) Ending) → IsSameNode (g.stands old) (g.stands new) (g.key old) (g.key new) (g.signature_of old) (g.signature_of new)
-      → StopsBy (g.stopped old) (g.stopped new) (IsErrOf done unsigned.Stopped) (IsErrOf done unsigned.Disk) → KeepsDisk (g.handle old) (g.handle new) (g.faults old) (g.faults new) (g.is_faultless old) (g.is_faultless new) (IsErrOf done unsigned.Disk)
+  pub sign_keeps : IsLawful here J → is_empty J ≡ false → OnlyBytes text → (sink : Sinks) (r : Result (Unit {0}) Ending)
       → (HasNoFault r → IsErrOf done unsigned.Disk → ⊥) → NamesFaults (g.faults old < g.faults new) sink r → Keeps g old new sink r
-  sign_keeps lawful some bytes sink r stays stops disk settles names = elim came [
-    | inl p ↦ put_keeps g old new changes p.answer running p.puts lasts (p.idle without) lawful some (checkpoint_is_change text (opened_is_good here J text p.ids bytes p.due).short) (put_stays_true here.me J changes (checkpoint_gives_none text)) sink r stays
-        (stops_alike _ _ _ _ _ _ p.stopped.0 p.stopped.1 p.disk.0 p.disk.1 stops) (keeps_alike _ _ _ _ _ _ _ _ p.disk.0 p.disk.1 disk) (λ calm failed. settles calm (p.disk.1 failed)) names
-    | inr n ↦ keeps_called g old new sink r (IsErrOf done unsigned.Disk) stays disk (none_in here (is_err r) old new lawful n.same (n.idle without)) (λ calm. runs_on _ _ _ _ stops running.runs (settles calm)) settles names
+  sign_keeps lawful some bytes sink r settles names = elim came [
+    | inl p ↦ put_keeps g old new changes p.answer running p.puts (as_put p) lawful some (checkpoint_is_change text (opened_is_good here J text p.ids bytes p.due).short) (put_stays_true here.me J changes (checkpoint_gives_none text)) sink r (λ calm failed. settles calm (p.disk.1 failed)) names
+    | inr n ↦ keeps_called g old new sink r (IsErrOf done unsigned.Disk) call.same call.journal.disk (none_in g (is_err r) old new lawful n.same (call.journal.idle n.idle)) (λ calm. runs_on (g.stopped old) running.runs call.journal.stops (settles calm)) settles names
   ]
 
   -- ---- what it came to
@@ -187,8 +184,8 @@ module _ {N O : Type 0} (g : Ghosts N O) (old new : N) (file text : List ℕ) (d
     brings = subst (λ (K : List Record). IsGrown K step.session.correct.journal) at.journal (step_grows here (g.signature_of old) s c)
 
     -- where the node put nothing, a stop leaves none of them
-    leaves : PutsNothing Stays here J text done (g.records new) → IsTrue (g.tells old) → (image : List ℕ) → g.may_leave new image → HasFront J brings.more image
-    leaves n = leaves_front counts_now old new brings.more running.runs (lasts_longer old new [] brings.more (n.idle without))
+    leaves : PutsNothing here J text done (g.records new) → IsTrue (g.tells old) → (image : List ℕ) → g.may_leave new image → HasFront J brings.more image
+    leaves n = leaves_front g counts_now old new brings.more running.runs (lasts_longer {v = journal_of g} old new [] brings.more (call.journal.idle n.idle))
 
     -- no file has changed
     others : (name : List ℕ) → (shelf.file_after name ≡ shelf.file name) ⊎ IsHandedOut (LeftBy g old new) c step name
@@ -197,38 +194,37 @@ module _ {N O : Type 0} (g : Ghosts N O) (old new : N) (file text : List ℕ) (d
     -- no memory was found for what is printed of it
     pub sign_without_memory : (r : Result (Unit {0}) Ending) → IsErrAnd r (λ e. e ≡ ending.Memory) → sink.after ≡ sink.before → Turns g old new c step shelf sink r
     sign_without_memory r none same = elim came [
-      | inl p ↦ put_without_memory g old new changes p.answer running p.puts lasts (p.idle without) counts_now c shelf sink s unchanged at (is_put p.ids p.due) r none same
+      | inl p ↦ put_without_memory g old new changes p.answer running p.puts (as_put p) counts_now c shelf sink s unchanged at (is_put p.ids p.due) r none same
       | inr n ↦ without_memory g old new c step shelf sink brings.more brings.is (leaves n) others r none (nothing_written sink same)
     ]
 
     -- the disk failed, and it was told, or not
     pub sign_to_disk : (e : Ending) → IsErrOf done unsigned.Disk → g.faults old < g.faults new → IsFaultTold sink disk_line ending.Disk e → Turns g old new c step shelf sink (Err e)
     sign_to_disk e failed rose fault = elim came [
-      | inl p ↦ put_to_disk g old new changes p.answer running p.puts lasts (p.idle without) counts_now c shelf sink s unchanged at (is_put p.ids p.due) e rose fault
+      | inl p ↦ put_to_disk g old new changes p.answer running p.puts (as_put p) counts_now c shelf sink s unchanged at (is_put p.ids p.due) e rose fault
       | inr n ↦ absurd (n.well failed)
     ]
 
     module _ (ends : Option Ending) (r : Result (Unit {0}) Ending) (o : Option Printed) (p : Printed) (some : o ≡ Some p) (stopped : (o ≡ None) ↔ IsErrOf done unsigned.Disk) (settled : SettlesSign done)
-        (prints : (there : Setting) (k : Correct) (x : List ℕ) (then : List Record) → there.me ≡ k.node → Signs there k.journal x done then → IsPrintOf o (sign_by there k x)) (ends_so : ends ≡ ends_of_sign done)
-        (stops : StopsBy (g.stopped old) (g.stopped new) (IsErrOf done unsigned.Stopped) (IsErrOf done unsigned.Disk)) (tells : Tells sink (command_text c p.lines) ends r) where
+        (prints : PrintsSigning done o) (ends_so : ends ≡ ends_of_sign done) (tells : Tells sink (command_text c p.lines) ends r) where
       -- what is printed are the lines of signing it
       printed : IsPrintOf o (sign_by here s.correct text)
       printed = prints here s.correct text (g.records new) (sym at.node) (signs_at here J s.correct.journal text done (g.records new) at.journal signs)
 
       -- the lines where the text isn't opened were written, or not
-      refused_told : PutsNothing Stays here J text done (g.records new) → IsUnopened here J text done → Turns g old new c step shelf sink r
+      refused_told : PutsNothing here J text done (g.records new) → IsUnopened here J text done → Turns g old new c step shelf sink r
       refused_told n u =
           let found : opened_text here s.correct.journal text ≡ u.found = same_opened ∙ u.is in
           let lines : p.lines ≡ lines_of_effect (sign_by here s.correct text) = (subst (λ (x : Option Printed). IsPrintOf x (sign_by here s.correct text)) some printed).0 in
           let journal : step.session.correct.journal ≡ J = ap (λ (x : Step). x.session.correct.journal) is ∙ ap (λ (d : Effect). d.journal) (sign_is here s.correct text u.found found) ∙ u.stays s.correct ∙ at.journal in
-          told g old new c step shelf sink brings.more brings.is (leaves n) others (runs_on _ _ _ _ stops running.runs n.well) (n.same ∙ sym journal) (λ name. unchanged name ∙ at.same_files name ∙ ap (λ (x : Step). x.session.files name) (sym is)) (n.idle without).stable ends r
+          told g old new c step shelf sink brings.more brings.is (leaves n) others (runs_on (g.stopped old) running.runs call.journal.stops n.well) (n.same ∙ sym journal) (λ name. unchanged name ∙ at.same_files name ∙ ap (λ (x : Step). x.session.files name) (sym is)) (leaves_after g old new _ (call.journal.idle n.idle)) ends r
           (ap (λ (x : Step). x.ending) is ∙ ap (ending_of_sign (limit_of_put here s.correct.journal changes)) found ∙ u.ends (limit_of_put here s.correct.journal changes) ∙ sym ends_so)
           (subst (λ (x : List ℕ). Tells sink x ends r) (ap (command_text c) lines ∙ ap (λ (x : Step). x.text) (sym is)) tells)
 
       -- its lines were written, or not
       pub sign_told : Turns g old new c step shelf sink r
       sign_told = elim came [
-        | inl q ↦ put_told g old new changes q.answer running q.puts lasts (q.idle without) counts_now c shelf sink s unchanged at (is_put q.ids q.due) ends r o p some ((λ none. q.disk.0 (stopped.0 none)), (λ failed. stopped.1 (q.disk.1 failed))) (q.settles settled)
-            (subst (IsPrintOf o) (sign_is here s.correct text (opened q.ids) (same_opened ∙ q.due)) printed) (ends_so ∙ q.ends) (stops_alike _ _ _ _ _ _ q.stopped.0 q.stopped.1 q.disk.0 q.disk.1 stops) tells
+        | inl q ↦ put_told g old new changes q.answer running q.puts (as_put q) counts_now c shelf sink s unchanged at (is_put q.ids q.due) ends r o p some ((λ none. q.disk.0 (stopped.0 none)), (λ failed. stopped.1 (q.disk.1 failed))) (q.settles settled)
+            (subst (IsPrintOf o) (sign_is here s.correct text (opened q.ids) (same_opened ∙ q.due)) printed) (ends_so ∙ q.ends) tells
         | inr n ↦ refused_told n (n.unopened settled)
       ]

@@ -5,7 +5,7 @@ use Rattle.std.specs.Str.{bytes_eq}
 use Rattle.depot_base.specs.declared.record.Record.{Record}
 use Rattle.std.proofs.lemmas.Slice.Eq.{bytes_eq-Decides}
 use Rattle.depot_model.specs.Stops.{HasFront, LeavesAll}
-use Rattle.depot_model.specs.declared.replica.Replica.{Ghosts}
+use Rattle.depot_model.specs.declared.node_state.NodeState.{Ghosts}
 use Rattle.depot_outside.specs.Told.{Shelves, Sinks, shelves}
 use Rattle.depot_outside.specs.declared.shelf.Shelf as shelf_of
 use Rattle.depot_script.specs.declared.command.Command.{Command}
@@ -34,7 +34,7 @@ stored_is_named (command.Export file) name is = is
 stored_is_named (command.Checkpoint file) name is = is
 stored_is_named other name is = absurd is
 
-module _ {N O : Type 0} (g : Ghosts N O) (old new : N) (c : Command) (step : Step) (shelf : Shelves) (sink : Sinks) (more : List Record) (brings : step.session.correct.journal ≡ g.records old ++ more)
+module _ {N : Type 0} (g : Ghosts N) (old new : N) (c : Command) (step : Step) (shelf : Shelves) (sink : Sinks) (more : List Record) (brings : step.session.correct.journal ≡ g.records old ++ more)
     (leaves : IsTrue (g.tells old) → (image : List ℕ) → g.may_leave new image → HasFront (g.records old) more image) (name bytes : List ℕ) (own : (other : List ℕ) → name ≡ other → StoresAs c other)
     (goes : step.ending ≡ None) (runs : g.stopped new ≡ false) (journal : g.records new ≡ step.session.correct.journal) (stable : IsTrue (g.tells old) → LeavesAll (g.records new) (g.stopped new) (g.may_leave new)) where
   -- no other file has changed

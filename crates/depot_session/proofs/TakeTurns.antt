@@ -7,8 +7,8 @@ use Rattle.depot_model.specs.Bundle.{Signs}
 use Rattle.depot_model.specs.Checks.{Setting}
 use Rattle.depot_model.specs.Feeding.{Closing, Feeding, feed_of, feeding_from, ill_formed, out_of_room}
 use Rattle.depot_model.specs.Stops.{HasFront}
-use Rattle.depot_model.specs.declared.replica.Replica.{Ghosts}
-use Rattle.depot_feeds.specs.Lasting.{LastsFed}
+use Rattle.depot_model.specs.declared.node_state.NodeState.{Ghosts}
+use Rattle.depot_feeds.specs.NodeCalls.{IsFeedCall}
 use Rattle.depot_feeds.specs.declared.feed_error.FeedError.{FeedError}
 use Rattle.depot_feeds.specs.declared.feed_error.FeedError.TheVariants as error
 use Rattle.depot_outside.specs.Told.{Shelves, Sinks}
@@ -19,12 +19,12 @@ use Rattle.depot_node_lines.specs.declared.feeds.FeedResult.{FeedResult}
 use Rattle.depot_session.specs.declared.ending.Ending.{Ending}
 use Rattle.depot_session.specs.declared.ending.Ending.TheVariants as ending
 use Rattle.depot_session.specs.SessionRuns.{disk_line}
-use Rattle.depot_session.specs.Sessions.{Session, Step, absent, ending_of_take, lines_of_command, step_of, take_from}
+use Rattle.depot_session.specs.Sessions.{Session, Step, absent, command_text, ending_of_take, lines_of_command, step_of, take_from}
 use Rattle.depot_session.specs.ScriptTelling.{IsFaultTold, IsUnchanged, Tells}
 use Rattle.depot_session.specs.Turns.{IsAt, Turns}
-use Rattle.depot_session.proofs.LeftJournals.{leaves_front}
+use Rattle.depot_session.proofs.LeftJournals.{leaves_after, leaves_front}
 use Rattle.depot_session.proofs.ToldFaults.{EndsCalmly}
-use Rattle.depot_session.proofs.Turning.{command_text, disk_told, told, without_memory}
+use Rattle.depot_session.proofs.Turning.{disk_told, told, without_memory}
 use Rattle.depot_session.proofs.UnwrittenTexts.{nothing_written}
 
 -- ---- the answer
@@ -73,8 +73,8 @@ take_text : (here : Setting) (s : Session) (J : List Record) (file stream : List
 unfolding give_by
 take_text here s J file stream same = ap (λ (K : List Record). lines_of_command (command.Take file) (fed_by s.correct (feed_of here K stream))) same
 
-module _ {N O : Type 0} (g : Ghosts N O) (counts_now : (v : N) (t : ℕ) (image : List ℕ) → t ≤ g.moment v → g.may_leave v image → g.left_since v t image) (old new : N) (s : Session) (file stream : List ℕ) (shelf : Shelves) (at : IsAt (g.stands old) (g.records old) shelf.file s)
-    (unchanged : IsUnchanged shelf) (there : shelf.file file ≡ Some stream) (runs : g.stopped old ≡ false) (fed : LastsFed g.tells g.stopped g.records g.moment g.left_since g.may_leave (g.stands old) (feeding_from (g.records old)) stream old new) where
+module _ {N : Type 0} (g : Ghosts N) (counts_now : (v : N) (t : ℕ) (image : List ℕ) → t ≤ g.moment v → g.may_leave v image → g.left_since v t image) (old new : N) (s : Session) (file stream : List ℕ) (shelf : Shelves) (at : IsAt (g.stands old) (g.records old) shelf.file s)
+    (unchanged : IsUnchanged shelf) (there : shelf.file file ≡ Some stream) (runs : g.stopped old ≡ false) (done : Result FeedResult FeedError) (fed : IsFeedCall g (feeding_from (g.records old)) stream old new done) where
   -- the step of the command
   abbrev pub taken_step : Step
   taken_step = step_of (g.stands old) (g.signature_of old) s (command.Take file)
@@ -89,7 +89,7 @@ module _ {N O : Type 0} (g : Ghosts N O) (counts_now : (v : N) (t : ℕ) (image 
 
   -- what a stop leaves
   leaves : IsTrue (g.tells old) → (image : List ℕ) → g.may_leave new image → HasFront (g.records old) fed.appends image
-  leaves = leaves_front counts_now old new fed.appends runs fed.lasts
+  leaves = leaves_front g counts_now old new fed.appends runs fed.left.node.journal.lasts
 
   -- no memory was found behind the call
   pub taken_without_memory : (sink : Sinks) (r : Result (Unit {0}) Ending) → IsErrAnd r (λ e. e ≡ ending.Memory) → sink.after ≡ sink.before → Turns g old new (command.Take file) taken_step shelf sink r
@@ -105,6 +105,6 @@ module _ {N O : Type 0} (g : Ghosts N O) (counts_now : (v : N) (t : ℕ) (image 
   taken_told sink ends lines r goes grown ends_is lines_is t =
       let here = g.stands old in
       let text_is : taken_step.text ≡ lines_of_command (command.Take file) (fed_by s.correct (feed_of here (g.records old) stream)) = ap (λ (x : Step). x.text) is ∙ take_text here s (g.records old) file stream at.journal in
-      told g old new (command.Take file) taken_step shelf sink fed.appends (journal ∙ fed.brings) leaves (λ name. inl (unchanged name)) goes (grown ∙ sym journal) (λ other. unchanged other ∙ at.same_files other ∙ ap (λ (x : Step). x.session.files other) (sym is)) fed.lasts.stable ends r
+      told g old new (command.Take file) taken_step shelf sink fed.appends (journal ∙ fed.brings) leaves (λ name. inl (unchanged name)) goes (grown ∙ sym journal) (λ other. unchanged other ∙ at.same_files other ∙ ap (λ (x : Step). x.session.files other) (sym is)) (leaves_after g old new _ fed.left.node.journal.lasts) ends r
       (ap (λ (x : Step). x.ending) is ∙ ap (λ (K : List Record). ending_of_take (feed_of here K stream).closed) at.journal ∙ sym ends_is)
       (subst (λ (x : List ℕ). Tells sink x ends r) (ap (command_text (command.Take file)) lines_is ∙ sym text_is) t)

@@ -1,32 +1,26 @@
 -- What a command came to, from what was told of it.
-use Rattle.std.proofs.Common.{◌≡◌, ◌<◌, ◌⊎◌, ℕ, Bool, false, IsTrue, List, [], ◌++◌, take, codes, Option, Some, Result, Ok, Err, refl, sym, ap, subst, ◌∙◌, inl, inr}
+use Rattle.std.proofs.Common.{◌≡◌, ◌<◌, ◌⊎◌, ℕ, Bool, false, IsTrue, List, [], ◌++◌, take, Option, Some, Result, Ok, Err, refl, sym, ap, subst, ◌∙◌, inl, inr}
 use Rattle.std.specs.Result.{IsErrAnd}
 use Rattle.depot_base.specs.declared.record.Record.{Record}
 use Rattle.depot_model.specs.Stops.{HasAll, HasFront, HasRecords, LeavesAll}
-use Rattle.depot_model.specs.declared.replica.Replica.{Ghosts}
+use Rattle.depot_model.specs.declared.node_state.NodeState.{Ghosts}
 use Rattle.depot_outside.specs.Told.{HasFailedOn, Shelves, Sinks, Wrote, WroteFront}
-use Rattle.depot_lines.specs.Language.{join}
-use Rattle.depot_script.specs.Scripts.{command_words}
 use Rattle.depot_script.specs.declared.command.Command.{Command}
 use Rattle.depot_session.specs.declared.ending.Ending.{Ending}
 use Rattle.depot_session.specs.declared.ending.Ending.TheVariants as ending
-use Rattle.depot_session.specs.Sessions.{Names, Step, printed_count, shelf_line}
+use Rattle.depot_session.specs.Sessions.{Names, Step, shelf_line}
 use Rattle.depot_session.specs.SessionRuns.{IsCutBy, IsHandedOut, IsLast, IsToBeWritten, Stands, disk_line, pending_for}
 use Rattle.depot_session.specs.ScriptTelling.{IsFaultTold, IsUnwritten, Tells}
 use Rattle.depot_session.specs.Turns.{IsBroken, LeftBy, Steps, Turns}
 use Rattle.depot_session.proofs.LeftJournals.{all_there}
 use Rattle.depot_session.proofs.UnwrittenTexts.{front_written, of_unwritten}
 
--- what is printed of a command: its words but for a value, and these lines behind the arrow
-abbrev pub command_text : Command → List ℕ → List ℕ
-command_text c lines = join 32 (take (printed_count c) (command_words c)) ++ codes " ->" ++ lines
-
 -- a stop leaves the journal of a node that runs
-pub leaves_journal : {N O : Type 0} (g : Ghosts N O) (old new : N) (J : List Record) → g.stopped new ≡ false → g.records new ≡ J → (IsTrue (g.tells old) → LeavesAll (g.records new) (g.stopped new) (g.may_leave new)) → (image : List ℕ) → LeftBy g old new image → HasRecords J image
+pub leaves_journal : {N : Type 0} (g : Ghosts N) (old new : N) (J : List Record) → g.stopped new ≡ false → g.records new ≡ J → (IsTrue (g.tells old) → LeavesAll (g.records new) (g.stopped new) (g.may_leave new)) → (image : List ℕ) → LeftBy g old new image → HasRecords J image
 leaves_journal g old new J runs journal stable image left =
     subst (λ (K : List Record). HasRecords K image) journal (all_there (g.records new) image (subst (λ (b : Bool). HasAll (g.records new) b image) runs (stable left.0 image left.1)))
 
-module _ {N O : Type 0} (g : Ghosts N O) (old new : N) (c : Command) (step : Step) (shelf : Shelves) (sink : Sinks) (more : List Record) (brings : step.session.correct.journal ≡ g.records old ++ more)
+module _ {N : Type 0} (g : Ghosts N) (old new : N) (c : Command) (step : Step) (shelf : Shelves) (sink : Sinks) (more : List Record) (brings : step.session.correct.journal ≡ g.records old ++ more)
     (leaves : IsTrue (g.tells old) → (image : List ℕ) → g.may_leave new image → HasFront (g.records old) more image) (others : (name : List ℕ) → (shelf.file_after name ≡ shelf.file name) ⊎ IsHandedOut (LeftBy g old new) c step name) where
   -- no memory was found before anything was written
   idle : Wrote sink [] → IsBroken g old new c step shelf sink ending.Memory

@@ -6,7 +6,7 @@ use Rattle.depot_base.specs.declared.record.Record.{Record}
 use Rattle.depot_feeds.proofs.LastingStreams.{nothing_in}
 use Rattle.depot_model.specs.Lawful.{IsLawful}
 use Rattle.depot_model.specs.Stops.{HasFront, LeavesAll}
-use Rattle.depot_model.specs.declared.replica.Replica.{Ghosts}
+use Rattle.depot_model.specs.declared.node_state.NodeState.{Ghosts}
 use Rattle.depot_model.proofs.FeedGrowth.{IsGrown}
 use Rattle.depot_outside.specs.Told.{Shelves, Sinks}
 use Rattle.depot_script.specs.declared.command.Command.{Command}
@@ -22,7 +22,7 @@ use Rattle.depot_session.proofs.ToldFaults.{HasCome, NamesFaults}
 use Rattle.depot_session.proofs.Turning.{absent_told, shelf_told, told, without_memory}
 use Rattle.depot_session.proofs.UnwrittenTexts.{nothing_written}
 
-module _ {N O : Type 0} (g : Ghosts N O) (v : N) (running : IsRunning g v) where
+module _ {N : Type 0} (g : Ghosts N) (v : N) (running : IsRunning g v) where
   -- a stop leaves all its records
   pub leaves_all : IsTrue (g.tells v) → LeavesAll (g.records v) (g.stopped v) (g.may_leave v)
   leaves_all t = subst (λ (b : Bool). LeavesAll (g.records v) b (g.may_leave v)) (sym running.runs) (running.stable t)
@@ -32,7 +32,7 @@ module _ {N O : Type 0} (g : Ghosts N O) (v : N) (running : IsRunning g v) where
   keeps_uncalled only_now lawful sink r names = record {
     same = record { stands = refl; key = refl; signs = refl };
     handle = refl;
-    lasts = nothing_in only_now (g.stands v) (is_err r) v lawful leaves_all;
+    lasts = nothing_in g only_now (is_err r) v lawful leaves_all;
     runs_on = λ _. running.runs;
     disk_later = omega arith;
     disk_quiet = λ _. refl;

@@ -62,7 +62,8 @@ IsIdle shelf sink ends = IsUnchanged shelf × ((ends ≡ ending.Memory) × Wrote
 -- Bytes were stored under a name, and then the text was written; or not.
 abbrev pub Stores : Shelves → Sinks → List ℕ → List ℕ → List ℕ → Result (Unit {0}) Ending → Type 0
 Stores shelf sink text name bytes (Ok done) = WhereTold shelf (HasStored shelf name bytes) × Wrote sink text
-Stores shelf sink text name bytes (Err e) = LeavesOthers shelf name × (IsStoredUntold shelf sink text name bytes e ⊎ (IsIdle shelf sink e ⊎ HasNotStored shelf sink name e))
+Stores shelf sink text name bytes (Err e) =
+    LeavesOthers shelf name × (IsStoredUntold shelf sink text name bytes e ⊎ (IsIdle shelf sink e ⊎ HasNotStored shelf sink name e))
 
 -- Where a command goes on it was asked to store under these names; where it ends the run it was, or it wasn't.
 abbrev pub StoresUnder : List (List ℕ) → List (List ℕ) → List (List ℕ) → Result (Unit {0}) Ending → Type 0

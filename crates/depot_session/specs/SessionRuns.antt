@@ -1,25 +1,29 @@
 -- How the run of a script over a disk, a shelf and a sink ends.
-use Rattle.std.specs.Prelude.{◌≡◌, ◌≢◌, ◌<◌, ◌⊎◌, ℕ, List, [], ◌∷◌, ◌++◌, take, Bool, IsTrue, Some, None, codes}
+use Rattle.std.specs.Prelude.{◌≡◌, ◌≢◌, ◌<◌, ◌⊎◌, ℕ, List, [], ◌∷◌, ◌++◌, length, take, Bool, true, IsTrue, Some, None, codes}
 use Rattle.depot_answers.specs.AnswerTexts.{text_of_number, spaced, text_of_record_fault}
 use Rattle.depot_base.specs.declared.key.PublicKey.{PublicKey}
 use Rattle.depot_base.specs.declared.record.Record.{Record}
+use Rattle.depot_base.specs.declared.update.Update.{Update}
 use Rattle.depot_model.specs.Bundle.{Signs}
+use Rattle.depot_model.specs.Causality.{puts_of}
 use Rattle.depot_model.specs.Checks.{Setting}
 use Rattle.depot_model.specs.Lawful.{IsLawful}
 use Rattle.depot_model.specs.Lists.{IsIn}
-use Rattle.depot_model.specs.Receipts.{AreReceiptsTrue}
+use Rattle.depot_model.specs.Receipts.{AreReceiptsTrue, HoldsAllOf, gives_receipt}
 use Rattle.depot_model.specs.Roster.{key_of}
 use Rattle.depot_model.specs.Stops.{HasRecords, HasFront}
 use Rattle.depot_model.specs.World.{World, Read, IsRead, IsCorrect, NeverFall}
+use Rattle.depot_model.specs.declared.signature.Signer as signer_of
 use Rattle.depot_node.specs.Starting.{IsNotStarted, LeavesFile}
 use Rattle.depot_node.specs.declared.start_error.StartError.{StartError}
 use Rattle.depot_node.specs.declared.start_error.StartError.TheVariants as refused
-use Rattle.depot_outside.specs.Told.{Disks, HasFailedOn, HasLoaded, Loads, Shelves, Sinks, Wrote}
+use Rattle.depot_outside.specs.Told.{Disks, HasFailedOn, HasLoaded, Loads, Shelves, Sinks, Wrote, shelves}
+use Rattle.depot_outside.specs.declared.shelf.Shelf as shelf_of
 use Rattle.depot_script.specs.declared.command.Command.{Command}
 use Rattle.depot_session.specs.declared.ending.Ending.{Ending}
 use Rattle.depot_session.specs.declared.ending.Ending.TheVariants as ending
 use Rattle.depot_session.specs.Sessions.{Answers, Names, Session, Step, StoresAs, answers_of, loads_given, loads_through, session_from, shelf_line, step_of, stores_through}
-use Rattle.depot_session.specs.ScriptTelling.{Asked, IsFaultTold, IsUnchanged}
+use Rattle.depot_session.specs.ScriptTelling.{Asked, IsFaultTold, IsUnchanged, asked}
 
 -- ---- what a stop leaves
 
@@ -32,6 +36,12 @@ pub record GoesOn (here : Setting) (file image : List ℕ) : Type 0 where
   pub lawful : IsLawful here (journal ++ more)
   pub receipts : AreReceiptsTrue journal → AreReceiptsTrue (journal ++ more)
   pub has : HasRecords (journal ++ more) image
+
+-- Where the receipts of the file are true, whatever a receipt of the node in the image speaks of stands in it: the update is accepted, and all its
+-- values are held.
+abbrev pub HoldsReceipted : {here : Setting} {file image : List ℕ} → GoesOn here file image → Type 0
+HoldsReceipted run = (u : Update) (h : List ℕ) → AreReceiptsTrue run.journal → IsIn u (puts_of (run.journal ++ run.more)) → length h ≡ 32
+    → gives_receipt h u ≡ true → HoldsAllOf (run.journal ++ run.more) h
 
 -- What a stop might have left at some moment of the run it might have left before, or it goes on from the file. As it reads afterwards,
 -- the file is such an image.
@@ -85,11 +95,23 @@ FailsFor c shelf name = Names c name × HasFailedOn shelf name
 
 -- this command was
 abbrev pub pending_for : Command → Step → (List ℕ → Type 0) → Type 0 → Shelves → Pending
-pending_for c step left disk_failed shelf = record { names = FailsFor c shelf; text = step.text; stands = Stands left shelf step; disk_failed = disk_failed; shelf_failed = shelf.faults_before < shelf.faults_after }
+pending_for c step left disk_failed shelf = record {
+  names = FailsFor c shelf;
+  text = step.text;
+  stands = Stands left shelf step;
+  disk_failed = disk_failed;
+  shelf_failed = shelf.faults_before < shelf.faults_after;
+}
 
 -- the first of these commands was, if there is one
 abbrev pub pending_in : Setting → Signs → Session → List Command → (List ℕ → Type 0) → Type 0 → Shelves → Pending
-pending_in here sign s [] left disk_failed shelf = record { names = λ name. ⊥; text = []; stands = ⊥; disk_failed = disk_failed; shelf_failed = shelf.faults_before < shelf.faults_after }
+pending_in here sign s [] left disk_failed shelf = record {
+  names = λ name. ⊥;
+  text = [];
+  stands = ⊥;
+  disk_failed = disk_failed;
+  shelf_failed = shelf.faults_before < shelf.faults_after;
+}
 pending_in here sign s (c ∷ cs) left disk_failed shelf = pending_for c (step_of here sign s c) left disk_failed shelf
 
 -- what the first of these commands hands out may stand under this name
@@ -147,7 +169,8 @@ first_of (c ∷ cs) = c ∷ []
 -- The run of a script from a journal and a session was cut short. Some commands were carried out, and their lines stand whole; and behind
 -- them what stands at last. A stop leaves all records of these commands, and a front of those that the next one brings. The files are those after
 -- these commands, but that what the next one hands out may stand under its name. The node is a correct one with the reads that were told whole.
-pub record GoesShort (here : Setting) (sign : Signs) (J : List Record) (s : Session) (commands : List Command) (disk : Disks) (shelf : Shelves) (sink : Sinks) (ends : Ending) : Type 0 where
+pub record GoesShort (here : Setting) (sign : Signs) (J : List Record) (s : Session) (commands : List Command)
+    (disk : Disks) (shelf : Shelves) (sink : Sinks) (ends : Ending) : Type 0 where
   pub cut : IsCutBy (HasFailed disk) shelf sink ends
   pub done : List Command
   pub rest : List Command
@@ -163,7 +186,8 @@ pub record GoesShort (here : Setting) (sign : Signs) (J : List Record) (s : Sess
   pub brings : (answers_of here sign s (done ++ first_of rest)).session.correct.journal ≡ kept ++ more
   pub leaves : (image : List ℕ) → disk.may_leave_after image → LeavesFront done disk.may_leave kept more image
   pub reads : LeavesFront done disk.may_leave kept more disk.file_after
-  pub files : (name : List ℕ) → (shelf.file_after name ≡ (answers_of here sign s done).session.files name) ⊎ IsNextHandedOut here sign (answers_of here sign s done).session rest disk.may_leave_after name
+  pub files : (name : List ℕ) → (shelf.file_after name ≡ (answers_of here sign s done).session.files name)
+      ⊎ IsNextHandedOut here sign (answers_of here sign s done).session rest disk.may_leave_after name
 
 -- ---- what a run asks of the shelf
 
@@ -191,8 +215,10 @@ pub record AsksWhole (here : Setting) (sign : Signs) (s : Session) (commands : L
 -- Behind the files that were loaded first the shelf was asked for what the commands that are done load and store, each once and in their order, and
 -- for no more than what the next one does. So nothing is asked of it once the run is over.
 pub record AsksShort (here : Setting) (sign : Signs) (s : Session) (done rest : List Command) (first : List (List ℕ)) (calls : Asked) : Type 0 where
-  pub loads : (calls.loads_after ≡ calls.loads_before ++ (first ++ loads_through here sign s done)) ⊎ (calls.loads_after ≡ calls.loads_before ++ (first ++ loads_through here sign s (done ++ first_of rest)))
-  pub stores : (calls.stores_after ≡ calls.stores_before ++ stores_through here sign s done) ⊎ (calls.stores_after ≡ calls.stores_before ++ stores_through here sign s (done ++ first_of rest))
+  pub loads : (calls.loads_after ≡ calls.loads_before ++ (first ++ loads_through here sign s done))
+      ⊎ (calls.loads_after ≡ calls.loads_before ++ (first ++ loads_through here sign s (done ++ first_of rest)))
+  pub stores : (calls.stores_after ≡ calls.stores_before ++ stores_through here sign s done)
+      ⊎ (calls.stores_after ≡ calls.stores_before ++ stores_through here sign s (done ++ first_of rest))
 
 -- ---- what a run answers
 
@@ -204,8 +230,10 @@ Answered here sign J s commands first disk shelf calls sink ends =
 
 -- Over a lawful journal of this node, or none, under its key: lines, files, journal and ending are those of the definition, and so is what the
 -- shelf was asked for behind the files that were loaded first, or the run is cut short. The reads of earlier sessions go on.
-pub record AnswersScript (here : Setting) (key : PublicKey) (sign : Signs) (commands : List Command) (first : List (List ℕ)) (disk : Disks) (shelf : Shelves) (calls : Asked) (sink : Sinks) (ends : Ending) : Type 0 where
-  pub over : IsTrue disk.tells → IsTrue shelf.tells → key_of here.listed here.me ≡ Some key → (J : List Record) (reads : List Read) → IsLawful here J → HasRecords J disk.file → AreReadsOf J reads
+pub record AnswersScript (here : Setting) (key : PublicKey) (sign : Signs) (commands : List Command) (first : List (List ℕ))
+    (disk : Disks) (shelf : Shelves) (calls : Asked) (sink : Sinks) (ends : Ending) : Type 0 where
+  pub over : IsTrue disk.tells → IsTrue shelf.tells → key_of here.listed here.me ≡ Some key → (J : List Record) (reads : List Read)
+      → IsLawful here J → HasRecords J disk.file → AreReadsOf J reads
       → Answered here sign J (session_from here J reads shelf.file) commands first disk shelf calls sink ends
 
 -- ---- a run of a node that doesn't start
@@ -248,6 +276,15 @@ pub record IsStarted (here : Setting) (key : PublicKey) (disk : Disks) (ends : E
 -- A run begins: the node is refused, and the shelf is asked for no file but those that were loaded first, or it starts.
 abbrev pub Begins : Setting → PublicKey → (first : List (List ℕ)) → Disks → Shelves → Asked → Sinks → Ending → Type 0
 Begins here key first disk shelf calls sink ends = (IsRefused here key disk shelf sink ends × AsksFirst first calls) ⊎ IsStarted here key disk ends
+
+-- ---- a run by a signer, over a shelf as it is before it and after it, of which no file was loaded first
+
+abbrev pub BeginsBy : {G S F : Type 0} → signer_of.Ghosts G S → G → Setting → Disks → shelf_of.Ghosts F → F → F → Sinks → Ending → Type 0
+BeginsBy g signer here disk f before after sink ends = Begins here (g.key_of signer) [] disk (shelves f before after) (asked f before after) sink ends
+
+abbrev pub AnswersBy : {G S F : Type 0} → signer_of.Ghosts G S → G → Setting → List Command → Disks → shelf_of.Ghosts F → F → F → Sinks → Ending → Type 0
+AnswersBy g signer here commands disk f before after sink ends =
+    AnswersScript here (g.key_of signer) (g.signature_of signer) commands [] disk (shelves f before after) (asked f before after) sink ends
 
 -- ---- what is left, and what is loaded
 

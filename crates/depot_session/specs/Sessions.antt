@@ -49,7 +49,12 @@ pub record Session : Type 0 where
 
 -- A node as it is started from a journal, which gets a birth where it has no records. Its reads of earlier runs go on.
 abbrev pub session_from : Setting → List Record → List Read → Files → Session
-session_from here J reads files = record { correct = record { node = here.me; journal = started here J; reads = reads }; earlier = length reads; files = files; reader = None }
+session_from here J reads files = record {
+  correct = record { node = here.me; journal = started here J; reads = reads };
+  earlier = length reads;
+  files = files;
+  reader = None;
+}
 
 -- the reads of this run
 abbrev pub reads_of_run : Session → List Read
@@ -75,9 +80,13 @@ printed_count (command.Puts changes) = 1
 printed_count (command.Settled id k) = 3
 printed_count other = 2
 
+-- what is printed of a command: its words but for a value, and these lines behind the arrow
+abbrev pub command_text : Command → List ℕ → List ℕ
+command_text c lines = join 32 (take (printed_count c) (command_words c)) ++ codes " ->" ++ lines
+
 -- the lines of a command that a node carries out
 abbrev pub lines_of_command : Command → Effect → List ℕ
-lines_of_command c d = join 32 (take (printed_count c) (command_words c)) ++ codes " ->" ++ lines_of_effect d
+lines_of_command c d = command_text c (lines_of_effect d)
 
 -- a command that a node carries out
 abbrev pub carried_out : Session → Command → Effect → Option Ending → Step
@@ -196,7 +205,8 @@ bundle_to here sign s hello file (Some bytes) = bundle_step s hello file (bundle
 -- the stream in a file, which may be absent, is taken
 abbrev pub take_from : Setting → Session → List ℕ → Option (List ℕ) → Step
 take_from here s file None = absent s file
-take_from here s file (Some bytes) = carried_out s (command.Take file) (give_by here s.correct bytes) (ending_of_take (feed_of here s.correct.journal bytes).closed)
+take_from here s file (Some bytes) =
+    carried_out s (command.Take file) (give_by here s.correct bytes) (ending_of_take (feed_of here s.correct.journal bytes).closed)
 
 -- the command asks for these changes
 abbrev pub IsPut : Command → List Change → Type 0
@@ -210,7 +220,9 @@ put_step here s c changes = carried_out s c (put_by here s.correct changes) (end
 
 -- receipts for these ids, for which the command asks
 abbrev pub receipt_step : Setting → Session → Command → List (List ℕ) → Step
-receipt_step here s c ids = carried_out s c (receipt_by here s.correct ids) (ending_of_receipt (no_receipt s.correct.journal ids) (limit_of_put here s.correct.journal (receipt_changes ids)))
+receipt_step here s c ids =
+    carried_out s c (receipt_by here s.correct ids)
+    (ending_of_receipt (no_receipt s.correct.journal ids) (limit_of_put here s.correct.journal (receipt_changes ids)))
 
 -- a checkpoint whose text is put becomes a file; where it is refused nothing is stored
 abbrev pub checkpoint_put : Session → List ℕ → Effect → Option Limit → Step
@@ -224,7 +236,9 @@ checkpoint_step here s file d other = carried_out s (command.Checkpoint file) d 
 -- the text in a file, which may be absent, is signed
 abbrev pub sign_from : Setting → Session → List ℕ → Option (List ℕ) → Step
 sign_from here s file None = absent s file
-sign_from here s file (Some text) = carried_out s (command.Sign file) (sign_by here s.correct text) (ending_of_sign (limit_of_put here s.correct.journal (checkpoint_changes text)) (opened_text here s.correct.journal text))
+sign_from here s file (Some text) =
+    carried_out s (command.Sign file) (sign_by here s.correct text)
+    (ending_of_sign (limit_of_put here s.correct.journal (checkpoint_changes text)) (opened_text here s.correct.journal text))
 
 -- the last reader made, after a trim that was answered so
 abbrev pub reader_after : Option Reader → TrimAnswer → Option Reader
@@ -236,7 +250,8 @@ abbrev pub with_reader : Option Reader → Step → Step
 with_reader reader step = record step { session = record step.session { reader = reader } }
 
 abbrev pub trim_step : Session → List ℕ → TrimAnswer → Step
-trim_step s file answer = with_reader (reader_after s.reader answer) (carried_out s (command.Trim file) (idle s.correct (text_of_trim answer)) (ending_of_trim answer))
+trim_step s file answer =
+    with_reader (reader_after s.reader answer) (carried_out s (command.Trim file) (idle s.correct (text_of_trim answer)) (ending_of_trim answer))
 
 -- a reader is made by the text in a file, which may be absent
 abbrev pub trim_from : Setting → Session → List ℕ → Option (List ℕ) → Step

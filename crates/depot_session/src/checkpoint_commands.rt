@@ -1,34 +1,35 @@
 //! The commands of checkpoints and readers.
-ghost use Rattle.std.specs.Prelude.{◌≡◌, ◌++◌, ◌∷◌, [], IfOk, OnOk, Option, IsTrue, is_some};
+ghost use Rattle.std.specs.Prelude.{◌≡◌, ◌++◌, ◌∷◌, [], IfOk, OnOk, Option, is_some};
 ghost use Rattle.depot_base.specs.Sized.{IsValue};
 ghost use Rattle.depot_node_lines.specs.Printing.{lines_of_effect};
 ghost use Rattle.depot_laws.specs.Streams.{AreBytes};
 ghost use Rattle.depot_model.specs.Opening.{made_text, make_of};
 ghost use Rattle.depot_model.specs.Readers.{Reader};
 ghost use Rattle.depot_model.specs.World.{Correct};
-ghost use Rattle.depot_outside.specs.Told.{Shelves, shelves, sinks};
+ghost use Rattle.depot_outside.specs.Told.{shelves, sinks};
 ghost use Rattle.depot_world.specs.Effects.{checkpoint_changes};
 ghost use Rattle.depot_world.specs.Transcript.{ended};
-ghost use Rattle.depot_session.specs.Sessions.{Session, loads_of, shown_by_last, step_of};
+ghost use Rattle.depot_session.specs.Sessions.{loads_of, shown_by_last};
 ghost use Rattle.depot_session.specs.Sessions as sessions;
-ghost use Rattle.depot_session.specs.ScriptTelling.{IsUnchanged, StoresUnder, TellsShelf};
-ghost use Rattle.depot_session.specs.Turns.{IsAt, IsRunning, IsSomebodys, Keeps, KeepsReader, Turns, ends_of_put, ends_of_sign, ends_of_trim};
+ghost use Rattle.depot_session.specs.ScriptTelling.{TellsShelf};
+ghost use Rattle.depot_session.specs.Turns.{IsRunning, IsSomebodys, Keeps, KeepsLast, KeepsReader, StoresAt, TurnsOn, TurnsReading, TurnsReadingAnywhere, ends_of_put, ends_of_sign, ends_of_trim};
 
 use crate::ending::Ending;
 use crate::last_reader::LastReader;
-use crate::session_node::SessionNode;
 use crate::telling::{disk_failed, load, no_file, store_and_tell, tell};
 use depot_base::{Bytes, Changes, Key, Memory, Value};
 use depot_lines::FileName;
-use depot_model::Scheme;
-use depot_node::{PutDone, PutError};
+use depot_local::LocalNode;
+use depot_model::{PutDone, PutError, Scheme};
 use depot_node_lines::{
     ReaderFeedResult, checkpoint_printed, feed_reader, reader_feed_line, reader_shown_line,
     sign_printed, trim_line, unmade_printed,
 };
 use depot_outside::{Shelf, Sink};
 use depot_script::Command;
-use depot_trim::{CheckpointError, TrimError, Trimmed, checkpoint_key, make_checkpoint};
+use depot_trim::{
+    CheckpointError, TrimError, Trimmed, checkpoint_key, make_checkpoint, sign_checkpoint,
+};
 use std::alloc::Global;
 
 // ---- checkpoints
@@ -54,7 +55,7 @@ fn ending_of_put(done: &Result<PutDone, PutError>) -> Option<Ending>
 }
 
 /// Makes a checkpoint and signs it, stores its text, and tells of it. Where none is made or put nothing is stored.
-pub fn checkpoint<R: SessionNode, F: Shelf, K: Sink>(
+pub fn checkpoint<R: LocalNode, F: Shelf, K: Sink>(
     alloc: Global,
     node: &mut R,
     command: &Command,
@@ -63,12 +64,12 @@ pub fn checkpoint<R: SessionNode, F: Shelf, K: Sink>(
     out: &mut K,
 ) -> Result<(), Ending>
     requires command { command.now ≡ Command.Checkpoint file.now }
-    requires running { IsRunning R.Replica node.old }
-    ensures keeps { Keeps R.Replica node.old node.new (sinks K.Sink out.old out.new) result }
-    ensures turns { (s : Session) → IsTrue (F.tells shelf.old) → IsAt (R.stands node.old) (R.records node.old) (F.file shelf.old) s → Turns R.Replica node.old node.new command.now (step_of (R.stands node.old) (R.signature_of node.old) s command.now) (shelves F.Shelf shelf.old shelf.new) (sinks K.Sink out.old out.new) result }
+    requires running { IsRunning R.NodeState node.old }
+    ensures keeps { Keeps R.NodeState node.old node.new (sinks K.Sink out.old out.new) result }
+    ensures turns { TurnsOn R.NodeState node.old node.new command.now (shelves F.Shelf shelf.old shelf.new) (sinks K.Sink out.old out.new) result }
     ensures same { K.tells out.new ≡ K.tells out.old }
     ensures loads { F.loads shelf.new ≡ F.loads shelf.old ++ [] }
-    ensures stores { (s : Session) → IsTrue (F.tells shelf.old) → IsAt (R.stands node.old) (R.records node.old) (F.file shelf.old) s → StoresUnder (F.stores shelf.old) (F.stores shelf.new) (step_of (R.stands node.old) (R.signature_of node.old) s command.now).stores result }
+    ensures stores { StoresAt R.NodeState node.old command.now (shelves F.Shelf shelf.old shelf.new) (F.stores shelf.old) (F.stores shelf.new) result }
     ensures same_shelf { F.tells shelf.new ≡ F.tells shelf.old }
     ensures shelf { TellsShelf (F.faults shelf.old) (F.faults shelf.new) (F.failed shelf.old) (F.failed shelf.new) result }
 {
@@ -82,7 +83,7 @@ pub fn checkpoint<R: SessionNode, F: Shelf, K: Sink>(
 }
 
 /// Puts the text of a checkpoint that was made, stores it, and tells of it.
-fn put_checkpoint<R: SessionNode, F: Shelf, K: Sink>(
+fn put_checkpoint<R: LocalNode, F: Shelf, K: Sink>(
     alloc: Global,
     node: &mut R,
     command: &Command,
@@ -93,17 +94,17 @@ fn put_checkpoint<R: SessionNode, F: Shelf, K: Sink>(
 ) -> Result<(), Ending>
     requires made { make_of (R.stands node.old) (R.records node.old) ≡ made_text text }
     requires command { command.now ≡ Command.Checkpoint file.now }
-    requires running { IsRunning R.Replica node.old }
-    ensures keeps { Keeps R.Replica node.old node.new (sinks K.Sink out.old out.new) result }
-    ensures turns { (s : Session) → IsTrue (F.tells shelf.old) → IsAt (R.stands node.old) (R.records node.old) (F.file shelf.old) s → Turns R.Replica node.old node.new command.now (step_of (R.stands node.old) (R.signature_of node.old) s command.now) (shelves F.Shelf shelf.old shelf.new) (sinks K.Sink out.old out.new) result }
+    requires running { IsRunning R.NodeState node.old }
+    ensures keeps { Keeps R.NodeState node.old node.new (sinks K.Sink out.old out.new) result }
+    ensures turns { TurnsOn R.NodeState node.old node.new command.now (shelves F.Shelf shelf.old shelf.new) (sinks K.Sink out.old out.new) result }
     ensures same { K.tells out.new ≡ K.tells out.old }
     ensures loads { F.loads shelf.new ≡ F.loads shelf.old ++ [] }
-    ensures stores { (s : Session) → IsTrue (F.tells shelf.old) → IsAt (R.stands node.old) (R.records node.old) (F.file shelf.old) s → StoresUnder (F.stores shelf.old) (F.stores shelf.new) (step_of (R.stands node.old) (R.signature_of node.old) s command.now).stores result }
+    ensures stores { StoresAt R.NodeState node.old command.now (shelves F.Shelf shelf.old shelf.new) (F.stores shelf.old) (F.stores shelf.new) result }
     ensures same_shelf { F.tells shelf.new ≡ F.tells shelf.old }
     ensures shelf { TellsShelf (F.faults shelf.old) (F.faults shelf.new) (F.failed shelf.old) (F.failed shelf.new) result }
 {
     let changes = checkpoint_changes(alloc, &text)?;
-    let done = node.write(changes);
+    let done = node.put_all(changes);
     let ends = ending_of_put(&done);
     match checkpoint_printed(alloc, text, done)? {
         None => Err(disk_failed(out)),
@@ -142,7 +143,7 @@ fn are_bytes(text: &[u8])
 }
 
 /// Signs the checkpoint whose text a file has, and tells of it.
-pub fn sign<R: SessionNode, F: Shelf, K: Sink>(
+pub fn sign<R: LocalNode, F: Shelf, K: Sink>(
     alloc: Global,
     node: &mut R,
     command: &Command,
@@ -151,9 +152,9 @@ pub fn sign<R: SessionNode, F: Shelf, K: Sink>(
     out: &mut K,
 ) -> Result<(), Ending>
     requires command { command.now ≡ Command.Sign file.now }
-    requires running { IsRunning R.Replica node.old }
-    ensures keeps { Keeps R.Replica node.old node.new (sinks K.Sink out.old out.new) result }
-    ensures turns { (s : Session) → IsTrue (F.tells shelf.old) → IsAt (R.stands node.old) (R.records node.old) (F.file shelf.old) s → Turns R.Replica node.old node.new command.now (step_of (R.stands node.old) (R.signature_of node.old) s command.now) (shelves F.Shelf shelf.old shelf.new) (sinks K.Sink out.old out.new) result }
+    requires running { IsRunning R.NodeState node.old }
+    ensures keeps { Keeps R.NodeState node.old node.new (sinks K.Sink out.old out.new) result }
+    ensures turns { TurnsOn R.NodeState node.old node.new command.now (shelves F.Shelf shelf.old shelf.new) (sinks K.Sink out.old out.new) result }
     ensures same { K.tells out.new ≡ K.tells out.old }
     ensures loads { F.loads shelf.new ≡ F.loads shelf.old ++ file.now ∷ [] }
     ensures stores { F.stores shelf.new ≡ F.stores shelf.old }
@@ -165,7 +166,7 @@ pub fn sign<R: SessionNode, F: Shelf, K: Sink>(
     };
     let bytes = text.as_slice();
     are_bytes(bytes);
-    let done = node.sign(alloc, bytes);
+    let done = sign_checkpoint(alloc, node, bytes);
     let ends = ending_of_sign(&done);
     match sign_printed(alloc, done)? {
         Some(printed) => tell(alloc, command, &printed.lines, ends, out),
@@ -187,24 +188,24 @@ fn ending_of_trim<S: Scheme>(made: &Result<Trimmed<S>, TrimError>) -> Option<End
 }
 
 /// Makes a reader of the node, below the checkpoint whose text a file has, and tells of it. A refused one leaves the last reader in place.
-pub fn trim<R: SessionNode, F: Shelf, K: Sink>(
+pub fn trim<S: Scheme + Copy, R: LocalNode<Of = S>, F: Shelf, K: Sink>(
     alloc: Global,
     node: &R,
     command: &Command,
     file: &FileName,
-    last: &mut LastReader<'_, R::Checks>,
+    last: &mut LastReader<'_, S>,
     shelf: &mut F,
     out: &mut K,
 ) -> Result<(), Ending>
     requires command { command.now ≡ Command.Trim file.now }
-    requires running { IsRunning R.Replica node.now }
-    requires reader { IsSomebodys R.Checks.verifies last.old.made }
+    requires running { IsRunning R.NodeState node.now }
+    requires reader { IsSomebodys S.verifies last.old.made }
     requires roster { last.old.roster.now ≡ (R.stands node.now).listed }
-    ensures keeps { Keeps R.Replica node.now node.now (sinks K.Sink out.old out.new) result }
-    ensures turns { (s : Session) → IsTrue (F.tells shelf.old) → IsAt (R.stands node.now) (R.records node.now) (F.file shelf.old) s → KeepsReader R.Checks.verifies last.old.made s.reader → Turns R.Replica node.now node.now command.now (step_of (R.stands node.now) (R.signature_of node.now) s command.now) (shelves F.Shelf shelf.old shelf.new) (sinks K.Sink out.old out.new) result }
+    ensures keeps { Keeps R.NodeState node.now node.now (sinks K.Sink out.old out.new) result }
+    ensures turns { TurnsReading S.verifies last.old.made R.NodeState node.now node.now command.now (shelves F.Shelf shelf.old shelf.new) (sinks K.Sink out.old out.new) result }
     ensures same { K.tells out.new ≡ K.tells out.old }
-    ensures reader { OnOk result ((s : Session) → IsTrue (F.tells shelf.old) → IsAt (R.stands node.now) (R.records node.now) (F.file shelf.old) s → KeepsReader R.Checks.verifies last.old.made s.reader → KeepsReader R.Checks.verifies last.new.made (step_of (R.stands node.now) (R.signature_of node.now) s command.now).session.reader) }
-    ensures somebodys { OnOk result (IsSomebodys R.Checks.verifies last.new.made) }
+    ensures reader { OnOk result (KeepsLast S.verifies R.NodeState node.now command.now (shelves F.Shelf shelf.old shelf.new) last.old.made last.new.made) }
+    ensures somebodys { OnOk result (IsSomebodys S.verifies last.new.made) }
     ensures means { (last.new.roster.now ≡ last.old.roster.now) × (last.new.scheme ≡ last.old.scheme) }
     ensures loads { F.loads shelf.new ≡ F.loads shelf.old ++ file.now ∷ [] }
     ensures stores { F.stores shelf.new ≡ F.stores shelf.old }
@@ -214,7 +215,13 @@ pub fn trim<R: SessionNode, F: Shelf, K: Sink>(
     let Some(text) = load(shelf, file)? else {
         return Err(no_file(alloc, file, out));
     };
-    let made = node.trim(alloc, last.roster.copy()?, last.scheme, text.as_slice());
+    let made = depot_trim::trim(
+        alloc,
+        node,
+        last.roster.copy()?,
+        last.scheme,
+        text.as_slice(),
+    );
     let line = trim_line(alloc, &made)?;
     let ends = ending_of_trim(&made);
     last.keep(made);
@@ -239,23 +246,23 @@ fn ending_of_tgive(told: &ReaderFeedResult) -> Option<Ending>
 }
 
 /// Gives the last reader the stream in a file, and tells of it. Before one is made no file is loaded.
-pub fn tgive<R: SessionNode, F: Shelf, K: Sink>(
+pub fn tgive<S: Scheme + Copy, R: LocalNode<Of = S>, F: Shelf, K: Sink>(
     alloc: Global,
     node: &R,
     command: &Command,
     file: &FileName,
-    last: &mut LastReader<'_, R::Checks>,
+    last: &mut LastReader<'_, S>,
     shelf: &mut F,
     out: &mut K,
 ) -> Result<(), Ending>
     requires command { command.now ≡ Command.Tgive file.now }
-    requires running { IsRunning R.Replica node.now }
-    requires reader { IsSomebodys R.Checks.verifies last.old.made }
-    ensures keeps { Keeps R.Replica node.now node.now (sinks K.Sink out.old out.new) result }
-    ensures turns { (s : Session) → IsTrue (F.tells shelf.old) → IsAt (R.stands node.now) (R.records node.now) (F.file shelf.old) s → KeepsReader R.Checks.verifies last.old.made s.reader → Turns R.Replica node.now node.now command.now (step_of (R.stands node.now) (R.signature_of node.now) s command.now) (shelves F.Shelf shelf.old shelf.new) (sinks K.Sink out.old out.new) result }
+    requires running { IsRunning R.NodeState node.now }
+    requires reader { IsSomebodys S.verifies last.old.made }
+    ensures keeps { Keeps R.NodeState node.now node.now (sinks K.Sink out.old out.new) result }
+    ensures turns { TurnsReading S.verifies last.old.made R.NodeState node.now node.now command.now (shelves F.Shelf shelf.old shelf.new) (sinks K.Sink out.old out.new) result }
     ensures same { K.tells out.new ≡ K.tells out.old }
-    ensures reader { OnOk result ((s : Session) → IsTrue (F.tells shelf.old) → IsAt (R.stands node.now) (R.records node.now) (F.file shelf.old) s → KeepsReader R.Checks.verifies last.old.made s.reader → KeepsReader R.Checks.verifies last.new.made (step_of (R.stands node.now) (R.signature_of node.now) s command.now).session.reader) }
-    ensures somebodys { OnOk result (IsSomebodys R.Checks.verifies last.new.made) }
+    ensures reader { OnOk result (KeepsLast S.verifies R.NodeState node.now command.now (shelves F.Shelf shelf.old shelf.new) last.old.made last.new.made) }
+    ensures somebodys { OnOk result (IsSomebodys S.verifies last.new.made) }
     ensures means { (last.new.roster.now ≡ last.old.roster.now) × (last.new.scheme ≡ last.old.scheme) }
     ensures loads { F.loads shelf.new ≡ F.loads shelf.old ++ loads_of (is_some last.old.made) command.now }
     ensures stores { F.stores shelf.new ≡ F.stores shelf.old }
@@ -290,19 +297,19 @@ fn last_shown_line<S: Scheme + Copy>(
 }
 
 /// Tells what the last reader shows of a key.
-pub fn tget<R: SessionNode, K: Sink>(
+pub fn tget<S: Scheme + Copy, R: LocalNode<Of = S>, K: Sink>(
     alloc: Global,
     node: &R,
     command: &Command,
     key: &Key,
-    last: &LastReader<'_, R::Checks>,
+    last: &LastReader<'_, S>,
     out: &mut K,
 ) -> Result<(), Ending>
     requires command { command.now ≡ Command.Tget key.now }
-    requires running { IsRunning R.Replica node.now }
-    requires reader { IsSomebodys R.Checks.verifies last.now.made }
-    ensures keeps { Keeps R.Replica node.now node.now (sinks K.Sink out.old out.new) result }
-    ensures turns { (shelf : Shelves) (s : Session) → IsUnchanged shelf → IsAt (R.stands node.now) (R.records node.now) shelf.file s → KeepsReader R.Checks.verifies last.now.made s.reader → Turns R.Replica node.now node.now command.now (step_of (R.stands node.now) (R.signature_of node.now) s command.now) shelf (sinks K.Sink out.old out.new) result }
+    requires running { IsRunning R.NodeState node.now }
+    requires reader { IsSomebodys S.verifies last.now.made }
+    ensures keeps { Keeps R.NodeState node.now node.now (sinks K.Sink out.old out.new) result }
+    ensures turns { TurnsReadingAnywhere S.verifies last.now.made R.NodeState node.now node.now command.now (sinks K.Sink out.old out.new) result }
     ensures same { K.tells out.new ≡ K.tells out.old }
 {
     let line = last_shown_line(alloc, last, key)?;

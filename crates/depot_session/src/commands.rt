@@ -1,53 +1,48 @@
 //! The commands of a script.
-ghost use Rattle.std.specs.Prelude.{◌≡◌, ◌≤◌, ◌↔◌, ◌++◌, ◌∷◌, [], ℕ, List, false, None, length, map, IfOk, IfErr, IfSome, IsErrOf, IsSome, IsTrue, OnOk, is_ok, is_some};
+ghost use Rattle.std.specs.Prelude.{◌≡◌, ◌≤◌, ◌↔◌, ◌++◌, ◌∷◌, [], None, length, map, IfOk, IfErr, IsSome, IsTrue, OnOk, is_ok, is_some};
 ghost use Rattle.std.specs.List.{AllByRecursion};
 ghost use Rattle.depot_base.specs.Writes.{one_change};
 ghost use Rattle.depot_base.specs.declared.limits.TheConstants.{MOST_LINES};
-ghost use Rattle.depot_base.specs.declared.record.Record.{Record};
-ghost use Rattle.depot_model.specs.Bundle.{Signs, bundle_answer};
 ghost use Rattle.depot_model.specs.Changes.{AreChanges};
-ghost use Rattle.depot_model.specs.Checks.{Setting};
 ghost use Rattle.depot_model.specs.Feeding.{Feeding};
 ghost use Rattle.depot_model.specs.Records.{text_of_record};
-ghost use Rattle.depot_outside.specs.Told.{Shelves, shelves, sinks};
-ghost use Rattle.depot_gossip.specs.Bundling.{Bundles};
-ghost use Rattle.depot_node_lines.specs.Printing.{IsToldOf, SettlesBundle};
+ghost use Rattle.depot_outside.specs.Told.{shelves, sinks};
+ghost use Rattle.depot_node_lines.specs.Printing.{IsToldOf};
 ghost use Rattle.depot_lines.specs.PutKeys.{WriteNoReceipts};
 ghost use Rattle.depot_script.specs.Scripts.{FitsCommand};
 ghost use Rattle.depot_traces.specs.SeenTraces as seen;
 ghost use Rattle.depot_traces.specs.ToldTraces.{file_of_trace};
 ghost use Rattle.depot_traces.specs.TraceTexts.{read_text};
 ghost use Rattle.depot_traces.specs.declared.trace.TheConstants.{MOST_READS};
-ghost use Rattle.depot_world.specs.Audits.{traced_read};
-ghost use Rattle.depot_session.specs.KeptReads.{AreOfRun, FitWithin, KeepsReads, is_export};
-ghost use Rattle.depot_session.specs.Sessions.{Session, IsPut, loads_of, reads_of_run, step_of};
+ghost use Rattle.depot_session.specs.KeptReads.{FitWithin, KeepsReads, is_export};
+ghost use Rattle.depot_session.specs.Sessions.{IsPut, loads_of};
 ghost use Rattle.depot_session.specs.Sessions as sessions;
-ghost use Rattle.depot_session.specs.ScriptTelling.{IsUnchanged, StoresUnder, TellsShelf};
-ghost use Rattle.depot_session.specs.Turns.{IsAt, IsRunning, IsSomebodys, Keeps, KeepsReader, Turns, ends_of_receipt};
+ghost use Rattle.depot_session.specs.ScriptTelling.{StoresUnder, TellsShelf};
+ghost use Rattle.depot_session.specs.Turns.{EndsByBundle, EndsUnstored, IsRunning, IsSomebodys, Keeps, KeepsLast, StoresAt, TurnsAnywhere, TurnsInRun, TurnsOn, TurnsTracing, ends_of_receipt};
 
 use crate::checkpoint_commands::{checkpoint, sign, tget, tgive, trim};
 use crate::ending::Ending;
 use crate::kept_reads::{keep, kept};
 use crate::last_reader::LastReader;
-use crate::session_node::SessionNode;
 use crate::telling::{disk_failed, load, no_file, store_and_tell, tell};
 use depot_answers::Closing;
 use depot_base::{Bytes, Changes, Hash32, Ids, Key, Memory, Value};
 use depot_gossip::{BundleError, Bundled, FeedError, bundle, encode_hello, node_hello};
 use depot_lines::FileName;
-use depot_node::PutDone;
+use depot_local::LocalNode;
+use depot_model::{PutDone, Scheme};
 use depot_node_lines::{
-    FeedResult, bundle_printed, fed_printed, feed_whole, hello_line, node_trace, put_printed,
-    receipt_printed, settled_line, traced_line,
+    FeedResult, bundle_printed, fed_printed, feed_whole, has_receipts, hello_line, node_trace,
+    put_printed, receipt_printed, settled_line, shown_line, traced_line,
 };
 use depot_outside::{Shelf, Sink};
-use depot_receipts::GiveError;
+use depot_receipts::{GiveError, give};
 use depot_script::Command;
 use depot_traces::{ReadTrace, Reads, encode_trace};
 use std::alloc::Global;
 
 /// Puts these changes, for which the command asks, and tells of it.
-fn put<R: SessionNode, K: Sink>(
+fn put<R: LocalNode, K: Sink>(
     alloc: Global,
     node: &mut R,
     command: &Command,
@@ -57,12 +52,12 @@ fn put<R: SessionNode, K: Sink>(
     requires command { IsPut command.now changes }
     requires changes { AreChanges changes }
     requires plain { WriteNoReceipts changes }
-    requires running { IsRunning R.Replica node.old }
-    ensures keeps { Keeps R.Replica node.old node.new (sinks K.Sink out.old out.new) result }
-    ensures turns { (shelf : Shelves) (s : Session) → IsUnchanged shelf → IsAt (R.stands node.old) (R.records node.old) shelf.file s → Turns R.Replica node.old node.new command.now (step_of (R.stands node.old) (R.signature_of node.old) s command.now) shelf (sinks K.Sink out.old out.new) result }
+    requires running { IsRunning R.NodeState node.old }
+    ensures keeps { Keeps R.NodeState node.old node.new (sinks K.Sink out.old out.new) result }
+    ensures turns { TurnsAnywhere R.NodeState node.old node.new command.now (sinks K.Sink out.old out.new) result }
     ensures same { K.tells out.new ≡ K.tells out.old }
 {
-    let done = node.write(changes);
+    let done = node.put_all(changes);
     let ends = match &done {
         Ok(_) => None,
         Err(_) => Some(Ending::Limit),
@@ -81,7 +76,7 @@ fn one_change(alloc: Global, key: &Key, value: &Value) -> Result<Changes, Memory
 }
 
 /// Puts a value under a key, and tells of it.
-fn put_value<R: SessionNode, K: Sink>(
+fn put_value<R: LocalNode, K: Sink>(
     alloc: Global,
     node: &mut R,
     command: &Command,
@@ -91,9 +86,9 @@ fn put_value<R: SessionNode, K: Sink>(
 ) -> Result<(), Ending>
     requires command { command.now ≡ Command.Put key.now value.now }
     requires fits { FitsCommand command.now }
-    requires running { IsRunning R.Replica node.old }
-    ensures keeps { Keeps R.Replica node.old node.new (sinks K.Sink out.old out.new) result }
-    ensures turns { (shelf : Shelves) (s : Session) → IsUnchanged shelf → IsAt (R.stands node.old) (R.records node.old) shelf.file s → Turns R.Replica node.old node.new command.now (step_of (R.stands node.old) (R.signature_of node.old) s command.now) shelf (sinks K.Sink out.old out.new) result }
+    requires running { IsRunning R.NodeState node.old }
+    ensures keeps { Keeps R.NodeState node.old node.new (sinks K.Sink out.old out.new) result }
+    ensures turns { TurnsAnywhere R.NodeState node.old node.new command.now (sinks K.Sink out.old out.new) result }
     ensures same { K.tells out.new ≡ K.tells out.old }
 {
     let changes = one_change(alloc, key, value)?;
@@ -101,7 +96,7 @@ fn put_value<R: SessionNode, K: Sink>(
 }
 
 /// Makes several changes at once, and tells of it.
-fn put_changes<R: SessionNode, K: Sink>(
+fn put_changes<R: LocalNode, K: Sink>(
     alloc: Global,
     node: &mut R,
     command: &Command,
@@ -110,9 +105,9 @@ fn put_changes<R: SessionNode, K: Sink>(
 ) -> Result<(), Ending>
     requires command { command.now ≡ Command.Puts changes.now }
     requires fits { FitsCommand command.now }
-    requires running { IsRunning R.Replica node.old }
-    ensures keeps { Keeps R.Replica node.old node.new (sinks K.Sink out.old out.new) result }
-    ensures turns { (shelf : Shelves) (s : Session) → IsUnchanged shelf → IsAt (R.stands node.old) (R.records node.old) shelf.file s → Turns R.Replica node.old node.new command.now (step_of (R.stands node.old) (R.signature_of node.old) s command.now) shelf (sinks K.Sink out.old out.new) result }
+    requires running { IsRunning R.NodeState node.old }
+    ensures keeps { Keeps R.NodeState node.old node.new (sinks K.Sink out.old out.new) result }
+    ensures turns { TurnsAnywhere R.NodeState node.old node.new command.now (sinks K.Sink out.old out.new) result }
     ensures same { K.tells out.new ≡ K.tells out.old }
 {
     let changes = changes.copy()?;
@@ -120,7 +115,7 @@ fn put_changes<R: SessionNode, K: Sink>(
 }
 
 /// Reads a key, keeps the read if reads are kept, and tells what it reads.
-fn get<R: SessionNode, K: Sink>(
+fn get<R: LocalNode, K: Sink>(
     alloc: Global,
     node: &R,
     command: &Command,
@@ -129,13 +124,13 @@ fn get<R: SessionNode, K: Sink>(
     out: &mut K,
 ) -> Result<(), Ending>
     requires command { command.now ≡ Command.Get key.now }
-    requires running { IsRunning R.Replica node.now }
-    ensures keeps { Keeps R.Replica node.now node.now (sinks K.Sink out.old out.new) result }
-    ensures turns { (shelf : Shelves) (s : Session) → IsUnchanged shelf → IsAt (R.stands node.now) (R.records node.now) shelf.file s → Turns R.Replica node.now node.now command.now (step_of (R.stands node.now) (R.signature_of node.now) s command.now) shelf (sinks K.Sink out.old out.new) result }
+    requires running { IsRunning R.NodeState node.now }
+    ensures keeps { Keeps R.NodeState node.now node.now (sinks K.Sink out.old out.new) result }
+    ensures turns { TurnsAnywhere R.NodeState node.now node.now command.now (sinks K.Sink out.old out.new) result }
     ensures same { K.tells out.new ≡ K.tells out.old }
     ensures reads { OnOk result (KeepsReads (R.stands node.now) (R.signature_of node.now) (R.records node.now) command.now reads.old reads.new) }
 {
-    let lines = node.read(alloc, key)?;
+    let lines = shown_line(alloc, node, key)?;
     keep(alloc, node, key, reads)?;
     tell(alloc, command, &lines, None, out)
 }
@@ -160,7 +155,7 @@ fn ending_of_receipt(done: &Result<PutDone, GiveError>) -> Option<Ending>
 }
 
 /// Gives a receipt for an update, and tells of it.
-fn give_receipt<R: SessionNode, K: Sink>(
+fn give_receipt<R: LocalNode, K: Sink>(
     alloc: Global,
     node: &mut R,
     command: &Command,
@@ -169,13 +164,13 @@ fn give_receipt<R: SessionNode, K: Sink>(
 ) -> Result<(), Ending>
     requires command { command.now ≡ Command.Receipt id.now }
     requires fits { FitsCommand command.now }
-    requires running { IsRunning R.Replica node.old }
-    ensures keeps { Keeps R.Replica node.old node.new (sinks K.Sink out.old out.new) result }
-    ensures turns { (shelf : Shelves) (s : Session) → IsUnchanged shelf → IsAt (R.stands node.old) (R.records node.old) shelf.file s → Turns R.Replica node.old node.new command.now (step_of (R.stands node.old) (R.signature_of node.old) s command.now) shelf (sinks K.Sink out.old out.new) result }
+    requires running { IsRunning R.NodeState node.old }
+    ensures keeps { Keeps R.NodeState node.old node.new (sinks K.Sink out.old out.new) result }
+    ensures turns { TurnsAnywhere R.NodeState node.old node.new command.now (sinks K.Sink out.old out.new) result }
     ensures same { K.tells out.new ≡ K.tells out.old }
 {
     let ids = one_id(alloc, id)?;
-    let done = node.receipt(alloc, &ids);
+    let done = give(alloc, node, &ids);
     let ends = ending_of_receipt(&done);
     match receipt_printed(alloc, done)? {
         Some(printed) => tell(alloc, command, &printed.lines, ends, out),
@@ -184,7 +179,7 @@ fn give_receipt<R: SessionNode, K: Sink>(
 }
 
 /// Tells whether so many nodes gave receipts for an update.
-fn tell_settled<R: SessionNode, K: Sink>(
+fn tell_settled<R: LocalNode, K: Sink>(
     alloc: Global,
     node: &R,
     command: &Command,
@@ -193,18 +188,18 @@ fn tell_settled<R: SessionNode, K: Sink>(
     out: &mut K,
 ) -> Result<(), Ending>
     requires command { command.now ≡ Command.Settled id.now k }
-    requires running { IsRunning R.Replica node.now }
-    ensures keeps { Keeps R.Replica node.now node.now (sinks K.Sink out.old out.new) result }
-    ensures turns { (shelf : Shelves) (s : Session) → IsUnchanged shelf → IsAt (R.stands node.now) (R.records node.now) shelf.file s → Turns R.Replica node.now node.now command.now (step_of (R.stands node.now) (R.signature_of node.now) s command.now) shelf (sinks K.Sink out.old out.new) result }
+    requires running { IsRunning R.NodeState node.now }
+    ensures keeps { Keeps R.NodeState node.now node.now (sinks K.Sink out.old out.new) result }
+    ensures turns { TurnsAnywhere R.NodeState node.now node.now command.now (sinks K.Sink out.old out.new) result }
     ensures same { K.tells out.new ≡ K.tells out.old }
 {
-    let enough = node.settled(alloc, id, k)?;
+    let enough = has_receipts(alloc, node, id, k)?;
     let line = settled_line(alloc, enough)?;
     tell(alloc, command, &line, None, out)
 }
 
 /// Stores the node's hello, and tells of it.
-fn say_hello<R: SessionNode, F: Shelf, K: Sink>(
+fn say_hello<R: LocalNode, F: Shelf, K: Sink>(
     alloc: Global,
     node: &R,
     command: &Command,
@@ -213,9 +208,9 @@ fn say_hello<R: SessionNode, F: Shelf, K: Sink>(
     out: &mut K,
 ) -> Result<(), Ending>
     requires command { command.now ≡ Command.Hello file.now }
-    requires running { IsRunning R.Replica node.now }
-    ensures keeps { Keeps R.Replica node.now node.now (sinks K.Sink out.old out.new) result }
-    ensures turns { (s : Session) → IsTrue (F.tells shelf.old) → IsAt (R.stands node.now) (R.records node.now) (F.file shelf.old) s → Turns R.Replica node.now node.now command.now (step_of (R.stands node.now) (R.signature_of node.now) s command.now) (shelves F.Shelf shelf.old shelf.new) (sinks K.Sink out.old out.new) result }
+    requires running { IsRunning R.NodeState node.now }
+    ensures keeps { Keeps R.NodeState node.now node.now (sinks K.Sink out.old out.new) result }
+    ensures turns { TurnsOn R.NodeState node.now node.now command.now (shelves F.Shelf shelf.old shelf.new) (sinks K.Sink out.old out.new) result }
     ensures same { K.tells out.new ≡ K.tells out.old }
     ensures loads { F.loads shelf.new ≡ F.loads shelf.old }
     ensures stores { StoresUnder (F.stores shelf.old) (F.stores shelf.new) (file.now ∷ []) result }
@@ -231,7 +226,7 @@ fn say_hello<R: SessionNode, F: Shelf, K: Sink>(
 /// How a bundle ends the run, where the node answers neither for want of memory nor for its disk.
 fn ending_of_bundle(made: &Result<Bundled, BundleError>) -> Option<Ending>
     ensures goes_on { (result ≡ None) ↔ IsTrue (is_ok made.now) }
-    ensures ends { (here : Setting) (sign : Signs) (J : List Record) (text : List ℕ) (then : List Record) → SettlesBundle made.now → (IsErrOf made.now BundleError.Disk → ⊥) → Bundles here sign J false text made.now then → result ≡ sessions.ending_of_bundle (bundle_answer here sign J text) }
+    ensures ends { EndsByBundle made.now result }
 {
     match made {
         Ok(_) => None,
@@ -242,7 +237,7 @@ fn ending_of_bundle(made: &Result<Bundled, BundleError>) -> Option<Ending>
 }
 
 /// Stores the node's bundle for the hello in a file, and tells of it. Where none is made nothing is stored.
-fn make_bundle<R: SessionNode, F: Shelf, K: Sink>(
+fn make_bundle<R: LocalNode, F: Shelf, K: Sink>(
     alloc: Global,
     node: &mut R,
     command: &Command,
@@ -252,13 +247,13 @@ fn make_bundle<R: SessionNode, F: Shelf, K: Sink>(
     out: &mut K,
 ) -> Result<(), Ending>
     requires command { command.now ≡ Command.Bundle hello.now file.now }
-    requires running { IsRunning R.Replica node.old }
-    ensures keeps { Keeps R.Replica node.old node.new (sinks K.Sink out.old out.new) result }
-    ensures turns { (s : Session) → IsTrue (F.tells shelf.old) → IsAt (R.stands node.old) (R.records node.old) (F.file shelf.old) s → Turns R.Replica node.old node.new command.now (step_of (R.stands node.old) (R.signature_of node.old) s command.now) (shelves F.Shelf shelf.old shelf.new) (sinks K.Sink out.old out.new) result }
+    requires running { IsRunning R.NodeState node.old }
+    ensures keeps { Keeps R.NodeState node.old node.new (sinks K.Sink out.old out.new) result }
+    ensures turns { TurnsOn R.NodeState node.old node.new command.now (shelves F.Shelf shelf.old shelf.new) (sinks K.Sink out.old out.new) result }
     ensures same { K.tells out.new ≡ K.tells out.old }
     ensures loads { F.loads shelf.new ≡ F.loads shelf.old ++ hello.now ∷ [] }
     ensures stores { StoresUnder (F.stores shelf.old) (F.stores shelf.new) (file.now ∷ []) result }
-    ensures unstored { (s : Session) → IsTrue (F.tells shelf.old) → IsAt (R.stands node.old) (R.records node.old) (F.file shelf.old) s → IfSome (step_of (R.stands node.old) (R.signature_of node.old) s command.now).ending (λ _. F.stores shelf.new ≡ F.stores shelf.old) }
+    ensures unstored { EndsUnstored R.NodeState node.old command.now (shelves F.Shelf shelf.old shelf.new) (F.stores shelf.old) (F.stores shelf.new) }
     ensures same_shelf { F.tells shelf.new ≡ F.tells shelf.old }
     ensures shelf { TellsShelf (F.faults shelf.old) (F.faults shelf.new) (F.failed shelf.old) (F.failed shelf.new) result }
 {
@@ -307,7 +302,7 @@ fn ending_of_take(fed: &Result<FeedResult, FeedError>) -> Option<Ending>
 }
 
 /// Takes the stream in a file, and tells of it.
-fn take<R: SessionNode, F: Shelf, K: Sink>(
+fn take<R: LocalNode, F: Shelf, K: Sink>(
     alloc: Global,
     node: &mut R,
     command: &Command,
@@ -316,9 +311,9 @@ fn take<R: SessionNode, F: Shelf, K: Sink>(
     out: &mut K,
 ) -> Result<(), Ending>
     requires command { command.now ≡ Command.Take file.now }
-    requires running { IsRunning R.Replica node.old }
-    ensures keeps { Keeps R.Replica node.old node.new (sinks K.Sink out.old out.new) result }
-    ensures turns { (s : Session) → IsTrue (F.tells shelf.old) → IsAt (R.stands node.old) (R.records node.old) (F.file shelf.old) s → Turns R.Replica node.old node.new command.now (step_of (R.stands node.old) (R.signature_of node.old) s command.now) (shelves F.Shelf shelf.old shelf.new) (sinks K.Sink out.old out.new) result }
+    requires running { IsRunning R.NodeState node.old }
+    ensures keeps { Keeps R.NodeState node.old node.new (sinks K.Sink out.old out.new) result }
+    ensures turns { TurnsOn R.NodeState node.old node.new command.now (shelves F.Shelf shelf.old shelf.new) (sinks K.Sink out.old out.new) result }
     ensures same { K.tells out.new ≡ K.tells out.old }
     ensures loads { F.loads shelf.new ≡ F.loads shelf.old ++ file.now ∷ [] }
     ensures stores { F.stores shelf.new ≡ F.stores shelf.old }
@@ -337,7 +332,7 @@ fn take<R: SessionNode, F: Shelf, K: Sink>(
 }
 
 /// The text of a node's trace with these reads.
-fn trace_text<R: SessionNode>(alloc: Global, node: &R, reads: &[ReadTrace]) -> Result<Bytes, Memory>
+fn trace_text<R: LocalNode>(alloc: Global, node: &R, reads: &[ReadTrace]) -> Result<Bytes, Memory>
     requires few { length reads.now ≤ MOST_READS }
     requires fit { AllByRecursion read_text.fits reads.now }
     ensures { IfOk result (λ text. text ≡ file_of_trace (record { node = (R.stands node.now).me; texts = map text_of_record (R.records node.now); reads = map seen.read_of reads.now })) }
@@ -347,7 +342,7 @@ fn trace_text<R: SessionNode>(alloc: Global, node: &R, reads: &[ReadTrace]) -> R
 }
 
 /// Stores the node's trace with these reads, and tells of it.
-fn export<R: SessionNode, F: Shelf, K: Sink>(
+fn export<R: LocalNode, F: Shelf, K: Sink>(
     alloc: Global,
     node: &R,
     command: &Command,
@@ -357,11 +352,11 @@ fn export<R: SessionNode, F: Shelf, K: Sink>(
     out: &mut K,
 ) -> Result<(), Ending>
     requires command { command.now ≡ Command.Export file.now }
-    requires running { IsRunning R.Replica node.now }
+    requires running { IsRunning R.NodeState node.now }
     requires few { length reads.now ≤ MOST_READS }
     requires fit { AllByRecursion read_text.fits reads.now }
-    ensures keeps { Keeps R.Replica node.now node.now (sinks K.Sink out.old out.new) result }
-    ensures turns { (s : Session) → IsTrue (F.tells shelf.old) → IsAt (R.stands node.now) (R.records node.now) (F.file shelf.old) s → map seen.read_of reads.now ≡ map traced_read (reads_of_run s) → Turns R.Replica node.now node.now command.now (step_of (R.stands node.now) (R.signature_of node.now) s command.now) (shelves F.Shelf shelf.old shelf.new) (sinks K.Sink out.old out.new) result }
+    ensures keeps { Keeps R.NodeState node.now node.now (sinks K.Sink out.old out.new) result }
+    ensures turns { TurnsTracing reads.now R.NodeState node.now node.now command.now (shelves F.Shelf shelf.old shelf.new) (sinks K.Sink out.old out.new) result }
     ensures same { K.tells out.new ≡ K.tells out.old }
     ensures loads { F.loads shelf.new ≡ F.loads shelf.old }
     ensures stores { StoresUnder (F.stores shelf.old) (F.stores shelf.new) (file.now ∷ []) result }
@@ -375,31 +370,31 @@ fn export<R: SessionNode, F: Shelf, K: Sink>(
 
 /// Carries out a command of a script. Ok where the run goes on, and else how it ends. The reads of the run are kept if they were before; one that
 /// hands in a trace wants them.
-pub fn carry_out<R: SessionNode, F: Shelf, K: Sink>(
+pub fn carry_out<S: Scheme + Copy, R: LocalNode<Of = S>, F: Shelf, K: Sink>(
     alloc: Global,
     node: &mut R,
     command: &Command,
     reads: &mut Option<Reads>,
-    last: &mut LastReader<'_, R::Checks>,
+    last: &mut LastReader<'_, S>,
     shelf: &mut F,
     out: &mut K,
 ) -> Result<(), Ending>
     requires fits { FitsCommand command.now }
-    requires running { IsRunning R.Replica node.old }
-    requires reader { IsSomebodys R.Checks.verifies last.old.made }
+    requires running { IsRunning R.NodeState node.old }
+    requires reader { IsSomebodys S.verifies last.old.made }
     requires roster { last.old.roster.now ≡ (R.stands node.old).listed }
     requires kept { IsTrue (is_export command.now) → IsSome reads.old }
     requires few { FitWithin MOST_LINES reads.old }
-    ensures keeps { Keeps R.Replica node.old node.new (sinks K.Sink out.old out.new) result }
-    ensures turns { (s : Session) → IsTrue (F.tells shelf.old) → IsAt (R.stands node.old) (R.records node.old) (F.file shelf.old) s → AreOfRun s reads.old → KeepsReader R.Checks.verifies last.old.made s.reader → Turns R.Replica node.old node.new command.now (step_of (R.stands node.old) (R.signature_of node.old) s command.now) (shelves F.Shelf shelf.old shelf.new) (sinks K.Sink out.old out.new) result }
+    ensures keeps { Keeps R.NodeState node.old node.new (sinks K.Sink out.old out.new) result }
+    ensures turns { TurnsInRun S.verifies last.old.made reads.old R.NodeState node.old node.new command.now (shelves F.Shelf shelf.old shelf.new) (sinks K.Sink out.old out.new) result }
     ensures reads { OnOk result (KeepsReads (R.stands node.old) (R.signature_of node.old) (R.records node.old) command.now reads.old reads.new) }
-    ensures reader { OnOk result ((s : Session) → IsTrue (F.tells shelf.old) → IsAt (R.stands node.old) (R.records node.old) (F.file shelf.old) s → KeepsReader R.Checks.verifies last.old.made s.reader → KeepsReader R.Checks.verifies last.new.made (step_of (R.stands node.old) (R.signature_of node.old) s command.now).session.reader) }
-    ensures somebodys { OnOk result (IsSomebodys R.Checks.verifies last.new.made) }
+    ensures reader { OnOk result (KeepsLast S.verifies R.NodeState node.old command.now (shelves F.Shelf shelf.old shelf.new) last.old.made last.new.made) }
+    ensures somebodys { OnOk result (IsSomebodys S.verifies last.new.made) }
     ensures means { (last.new.roster.now ≡ last.old.roster.now) × (last.new.scheme ≡ last.old.scheme) }
     ensures same { K.tells out.new ≡ K.tells out.old }
     ensures loads { F.loads shelf.new ≡ F.loads shelf.old ++ loads_of (is_some last.old.made) command.now }
-    ensures stores { (s : Session) → IsTrue (F.tells shelf.old) → IsAt (R.stands node.old) (R.records node.old) (F.file shelf.old) s → StoresUnder (F.stores shelf.old) (F.stores shelf.new) (step_of (R.stands node.old) (R.signature_of node.old) s command.now).stores result }
-    ensures unstored { (s : Session) → IsTrue (F.tells shelf.old) → IsAt (R.stands node.old) (R.records node.old) (F.file shelf.old) s → IfSome (step_of (R.stands node.old) (R.signature_of node.old) s command.now).ending (λ _. F.stores shelf.new ≡ F.stores shelf.old) }
+    ensures stores { StoresAt R.NodeState node.old command.now (shelves F.Shelf shelf.old shelf.new) (F.stores shelf.old) (F.stores shelf.new) result }
+    ensures unstored { EndsUnstored R.NodeState node.old command.now (shelves F.Shelf shelf.old shelf.new) (F.stores shelf.old) (F.stores shelf.new) }
     ensures same_shelf { F.tells shelf.new ≡ F.tells shelf.old }
     ensures shelf { TellsShelf (F.faults shelf.old) (F.faults shelf.new) (F.failed shelf.old) (F.failed shelf.new) result }
 {

@@ -1,11 +1,9 @@
 //! The last reader that was made in a run.
-ghost use Rattle.std.specs.Prelude.{◌≡◌, ℕ, List, Option};
+ghost use Rattle.std.specs.Prelude.{◌≡◌, ℕ, List};
 ghost use Rattle.depot_base.specs.declared.record.Record.{Record};
 ghost use Rattle.depot_node_lines.specs.CheckpointPrinting.{SettlesTrim};
 ghost use Rattle.depot_model.specs.Checks.{Setting};
-ghost use Rattle.depot_model.specs.Readers.{Reader, trim_of};
-ghost use Rattle.depot_session.specs.Sessions.{reader_after};
-ghost use Rattle.depot_session.specs.Turns.{IsSomebodys, KeepsReader};
+ghost use Rattle.depot_session.specs.Turns.{IsSomebodys, KeepsMade};
 ghost use Rattle.depot_trim.specs.ReaderAnswers.{Trims};
 
 use depot_model::Scheme;
@@ -27,7 +25,7 @@ impl<S: Scheme + Copy> LastReader<'_, S> {
     /// Keeps the reader that was made in place of the last one, which stays where none was.
     pub fn keep(&mut self, made: Result<Trimmed<S>, TrimError>)
         requires { SettlesTrim made }
-        ensures kept { (here : Setting) (J : List Record) (text : List ℕ) (last : Option Reader) → Trims S.verifies here J text made → KeepsReader S.verifies self.old.made last → KeepsReader S.verifies self.new.made (reader_after last (trim_of here J text)) }
+        ensures kept { KeepsMade S.verifies made self.old.made self.new.made }
         ensures somebodys { (here : Setting) (J : List Record) (text : List ℕ) → Trims S.verifies here J text made → IsSomebodys S.verifies self.old.made → IsSomebodys S.verifies self.new.made }
         ensures roster { self.new.roster.now ≡ self.old.roster.now }
         ensures scheme { self.new.scheme ≡ self.old.scheme }

@@ -11,9 +11,9 @@
 //!
 //! The last reader that a script made is kept in memory, beside the node (`last_reader`).
 //!
-//! The node is known as a `SessionNode`, a `Peer` that writes and reads, gives receipts and signs checkpoints. `commands` has the commands, each of which changes
-//! the node, then the shelf, and tells of it last, and `checkpoint_commands` those of checkpoints and readers; `telling` writes lines, `command_heads` the words of a command, `whole_script` a whole script, and `running` the run with
-//! its start.
+//! The node is known as a `LocalNode`; `running` alone starts one from its disk. `commands` has the commands, each of which changes the
+//! node, then the shelf, and tells of it last, and `checkpoint_commands` those of checkpoints and readers; `telling` writes lines,
+//! `command_heads` the words of a command, and `whole_script` a whole script.
 #![tactic(auto)]
 
 mod checkpoint_commands;
@@ -24,7 +24,6 @@ mod kept_reads;
 mod last_reader;
 mod running;
 mod session_laws;
-mod session_node;
 mod telling;
 mod whole_script;
 

@@ -1,12 +1,13 @@
 //! The run of a script.
-ghost use Rattle.std.specs.Prelude.{◌≡◌, ◌≤◌, ◌<◌, ◌⊎◌, ◌++◌, [], IsTrue, Some, Err, IfOk, codes};
+ghost use Rattle.std.specs.Prelude.{◌≡◌, ◌≤◌, ◌<◌, ◌⊎◌, ◌++◌, IsTrue, Some, Err, IfOk, codes};
 ghost use Rattle.depot_answers.specs.AnswerTexts.{text_of_number, spaced, text_of_record_fault};
 ghost use Rattle.depot_model.specs.Roster.{key_of};
 ghost use Rattle.depot_model.specs.Texts.{IsRoster};
-ghost use Rattle.depot_outside.specs.Told.{disks, loads, shelves, sinks};
+ghost use Rattle.depot_node.specs.Starting.{placed};
+ghost use Rattle.depot_outside.specs.Told.{disks, loads, sinks};
 ghost use Rattle.depot_script.specs.Scripts.{IsScript};
-ghost use Rattle.depot_session.specs.SessionRuns.{AnswersScript, Begins, KeepsFile, LoadsFiles, Settles, ending_of_refusal, line_of_refusal};
-ghost use Rattle.depot_session.specs.ScriptTelling.{IsFaultTold, TellsShelf, asked};
+ghost use Rattle.depot_session.specs.SessionRuns.{AnswersBy, BeginsBy, KeepsFile, LoadsFiles, Settles, ending_of_refusal, line_of_refusal};
+ghost use Rattle.depot_session.specs.ScriptTelling.{IsFaultTold, TellsShelf};
 ghost use Rattle.depot_session.specs.Turns.{ending_by};
 
 use crate::ending::Ending;
@@ -129,11 +130,11 @@ fn run_over<D: Disk, F: Shelf, K: Sink, S: Scheme + Copy, G: Signer<Of = S>>(
     out: &mut K,
 ) -> Ran<D>
     requires script { IsScript script.now }
-    ensures file { IsTrue (D.tells disk) → KeepsFile (record { verifies = S.verifies; me = me; listed = roster }) (disks D.Disk disk result.disk) }
-    ensures stable { IsTrue (D.tells disk) → (result.ending ≡ Ending.Done) ⊎ (result.ending ≡ Ending.Limit) → Settles (record { verifies = S.verifies; me = me; listed = roster }) (disks D.Disk disk result.disk) }
+    ensures file { IsTrue (D.tells disk) → KeepsFile (placed S.verifies me roster) (disks D.Disk disk result.disk) }
+    ensures stable { IsTrue (D.tells disk) → (result.ending ≡ Ending.Done) ⊎ (result.ending ≡ Ending.Limit) → Settles (placed S.verifies me roster) (disks D.Disk disk result.disk) }
     ensures untouched { (key_of roster me ≡ Some (G.key_of signer) → ⊥) → result.disk ≡ disk }
-    ensures begins { Begins (record { verifies = S.verifies; me = me; listed = roster }) (G.key_of signer) [] (disks D.Disk disk result.disk) (shelves F.Shelf shelf.old shelf.new) (asked F.Shelf shelf.old shelf.new) (sinks K.Sink out.old out.new) result.ending }
-    ensures answers { AnswersScript (record { verifies = S.verifies; me = me; listed = roster }) (G.key_of signer) (G.signature_of signer) script.now [] (disks D.Disk disk result.disk) (shelves F.Shelf shelf.old shelf.new) (asked F.Shelf shelf.old shelf.new) (sinks K.Sink out.old out.new) result.ending }
+    ensures begins { BeginsBy G.Signer signer (placed S.verifies me roster) (disks D.Disk disk result.disk) F.Shelf shelf.old shelf.new (sinks K.Sink out.old out.new) result.ending }
+    ensures answers { AnswersBy G.Signer signer (placed S.verifies me roster) script.now (disks D.Disk disk result.disk) F.Shelf shelf.old shelf.new (sinks K.Sink out.old out.new) result.ending }
     ensures disk_failed { result.ending ≡ Ending.Disk → D.faults disk < D.faults result.disk }
     ensures disk_later { D.faults disk ≤ D.faults result.disk }
     ensures disk_fault { D.faults disk < D.faults result.disk → (result.ending ≡ Ending.Disk) ⊎ ((result.ending ≡ Ending.Sink) ⊎ (result.ending ≡ Ending.Memory)) }
@@ -191,17 +192,17 @@ pub fn run<D: Disk, F: Shelf, K: Sink, S: Scheme + Copy, G: Signer<Of = S>>(
     requires script { IsScript script.now }
     // What a stop at any moment of the run leaves on the disk it left before, or it is a lawful journal that begins with the one that was
     // there; where the script ended or met a limit, all that it leaves afterwards is one such journal.
-    ensures file { IsTrue (D.tells disk.old) → KeepsFile (record { verifies = S.verifies; me = me; listed = roster }) (disks D.Disk disk.old disk.new) }
-    ensures stable { IsTrue (D.tells disk.old) → (result ≡ Ending.Done) ⊎ (result ≡ Ending.Limit) → Settles (record { verifies = S.verifies; me = me; listed = roster }) (disks D.Disk disk.old disk.new) }
+    ensures file { IsTrue (D.tells disk.old) → KeepsFile (placed S.verifies me roster) (disks D.Disk disk.old disk.new) }
+    ensures stable { IsTrue (D.tells disk.old) → (result ≡ Ending.Done) ⊎ (result ≡ Ending.Limit) → Settles (placed S.verifies me roster) (disks D.Disk disk.old disk.new) }
 
     // The node is refused, for its key, its roster or its journal, and then the shelf is asked for nothing, or it starts. The disk isn't touched
     // where the roster hasn't its key.
     ensures untouched { (key_of roster me ≡ Some (G.key_of signer) → ⊥) → disk.new ≡ disk.old }
-    ensures begins { Begins (record { verifies = S.verifies; me = me; listed = roster }) (G.key_of signer) [] (disks D.Disk disk.old disk.new) (shelves F.Shelf shelf.old shelf.new) (asked F.Shelf shelf.old shelf.new) (sinks K.Sink out.old out.new) result }
+    ensures begins { BeginsBy G.Signer signer (placed S.verifies me roster) (disks D.Disk disk.old disk.new) F.Shelf shelf.old shelf.new (sinks K.Sink out.old out.new) result }
 
     // Over a lawful journal of this node, or none, lines, files, journal and ending are those of the definition, or the run is cut short. What the
     // shelf is asked to load and to store is what the commands name that were carried out, each once and in their order, and nothing of a later one.
-    ensures answers { AnswersScript (record { verifies = S.verifies; me = me; listed = roster }) (G.key_of signer) (G.signature_of signer) script.now [] (disks D.Disk disk.old disk.new) (shelves F.Shelf shelf.old shelf.new) (asked F.Shelf shelf.old shelf.new) (sinks K.Sink out.old out.new) result }
+    ensures answers { AnswersBy G.Signer signer (placed S.verifies me roster) script.now (disks D.Disk disk.old disk.new) F.Shelf shelf.old shelf.new (sinks K.Sink out.old out.new) result }
 
     // The files that are loaded are those that its first commands load, each once and in their order.
     ensures loads { LoadsFiles script.now (loads F.Shelf shelf.old shelf.new) }

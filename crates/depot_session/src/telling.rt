@@ -1,9 +1,7 @@
 //! What a session writes and stores.
-ghost use Rattle.std.specs.Prelude.{◌≡◌, ◌<◌, ◌≤◌, ◌⊎◌, ◌++◌, ◌∷◌, [], ℕ, List, Some, None, IfOk, IfSome, IfErr, IsErrOf, IsTrue, codes, take};
-ghost use Rattle.depot_outside.specs.Told.{HasFailedOn, WhereTold, Wrote, shelves, sinks};
-ghost use Rattle.depot_lines.specs.Language.{join};
-ghost use Rattle.depot_script.specs.Scripts.{command_words};
-ghost use Rattle.depot_session.specs.Sessions.{printed_count, shelf_line, stored};
+ghost use Rattle.std.specs.Prelude.{◌≡◌, ◌<◌, ◌≤◌, ◌++◌, ◌∷◌, [], Some, None, IfOk, IfSome, IsErrOf};
+ghost use Rattle.depot_outside.specs.Told.{shelves, sinks};
+ghost use Rattle.depot_session.specs.Sessions.{command_text, shelf_line};
 ghost use Rattle.depot_session.specs.SessionRuns.{disk_line};
 ghost use Rattle.depot_session.specs.ScriptTelling.{IsFaultTold, IsLoaded, Stores, Tells, TellsShelf};
 
@@ -38,7 +36,7 @@ pub fn tell<K: Sink>(
     ends: Option<Ending>,
     out: &mut K,
 ) -> Result<(), Ending>
-    ensures tells { Tells (sinks K.Sink out.old out.new) (join 32 (take (printed_count command.now) (command_words command.now)) ++ codes " ->" ++ lines.now) ends result }
+    ensures tells { Tells (sinks K.Sink out.old out.new) (command_text command.now lines.now) ends result }
     ensures same { K.tells out.new ≡ K.tells out.old }
     ensures later { K.faults out.old ≤ K.faults out.new }
     ensures only { K.faults out.old < K.faults out.new → IsErrOf result Ending.Sink }
@@ -111,7 +109,7 @@ pub fn store_and_tell<F: Shelf, K: Sink>(
     shelf: &mut F,
     out: &mut K,
 ) -> Result<(), Ending>
-    ensures stores { Stores (shelves F.Shelf shelf.old shelf.new) (sinks K.Sink out.old out.new) (join 32 (take (printed_count command.now) (command_words command.now)) ++ codes " ->" ++ lines.now) file.now bytes.now result }
+    ensures stores { Stores (shelves F.Shelf shelf.old shelf.new) (sinks K.Sink out.old out.new) (command_text command.now lines.now) file.now bytes.now result }
     ensures loads { F.loads shelf.new ≡ F.loads shelf.old }
     ensures once { F.stores shelf.new ≡ F.stores shelf.old ++ file.now ∷ [] }
     ensures same_shelf { F.tells shelf.new ≡ F.tells shelf.old }

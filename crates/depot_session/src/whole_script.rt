@@ -1,20 +1,20 @@
 //! A script, command by command.
-ghost use Rattle.std.specs.Prelude.{◌≡◌, ◌≤◌, None, length, IfOk, IsTrue};
+ghost use Rattle.std.specs.Prelude.{◌≡◌, ◌≤◌, None, length, IfOk};
 ghost use Rattle.depot_base.specs.declared.limits.TheConstants.{MOST_LINES};
 ghost use Rattle.depot_outside.specs.Told.{loads, shelves, sinks};
 ghost use Rattle.depot_lines.specs.Language.{FitAll};
 ghost use Rattle.depot_script.specs.Scripts.{FitsCommand};
 ghost use Rattle.depot_session.specs.SessionRuns.{LoadsFiles};
-ghost use Rattle.depot_session.specs.Sessions.{Session};
 ghost use Rattle.depot_session.specs.ScriptTelling.{TellsShelf, asked};
-ghost use Rattle.depot_session.specs.Turns.{IsAt, IsRunning, Keeps, Plays};
+ghost use Rattle.depot_session.specs.Turns.{IsRunning, Keeps, PlaysAnew};
 
 use crate::commands::carry_out;
 use crate::ending::Ending;
 use crate::kept_reads::place_for;
 use crate::last_reader::LastReader;
-use crate::session_node::SessionNode;
 use depot_base::Memory;
+use depot_local::LocalNode;
+use depot_model::Scheme;
 use depot_outside::{Shelf, Sink};
 use depot_script::Command;
 use depot_sign::Roster;
@@ -23,21 +23,21 @@ use std::alloc::Global;
 /// Carries out the commands of a script, each of which has a line, one after the other, up to the first that ends the run. Ok where none does. The
 /// reads of the run are kept where one of the commands hands in a trace. Readers are made with a copy of the node's roster, which may have found no
 /// memory, and with its scheme.
-pub fn play<R: SessionNode, F: Shelf, K: Sink>(
+pub fn play<S: Scheme + Copy, R: LocalNode<Of = S>, F: Shelf, K: Sink>(
     alloc: Global,
     node: &mut R,
     commands: &[Command],
     roster: Result<Roster, Memory>,
-    scheme: R::Checks,
+    scheme: S,
     shelf: &mut F,
     out: &mut K,
 ) -> Result<(), Ending>
     requires fit { FitAll FitsCommand commands.now }
     requires few { length commands.now ≤ MOST_LINES }
-    requires running { IsRunning R.Replica node.old }
+    requires running { IsRunning R.NodeState node.old }
     requires roster { IfOk roster (λ listed. listed ≡ (R.stands node.old).listed) }
-    ensures keeps { Keeps R.Replica node.old node.new (sinks K.Sink out.old out.new) result }
-    ensures plays { (s : Session) → IsTrue (F.tells shelf.old) → IsAt (R.stands node.old) (R.records node.old) (F.file shelf.old) s → s.earlier ≡ length s.correct.reads → s.reader ≡ None → Plays R.Replica node.old node.new (R.stands node.old) (R.signature_of node.old) s commands.now (shelves F.Shelf shelf.old shelf.new) (asked F.Shelf shelf.old shelf.new) (sinks K.Sink out.old out.new) result }
+    ensures keeps { Keeps R.NodeState node.old node.new (sinks K.Sink out.old out.new) result }
+    ensures plays { PlaysAnew R.NodeState node.old node.new commands.now (shelves F.Shelf shelf.old shelf.new) (asked F.Shelf shelf.old shelf.new) (sinks K.Sink out.old out.new) result }
     ensures loads { LoadsFiles commands.now (loads F.Shelf shelf.old shelf.new) }
     ensures same { K.tells out.new ≡ K.tells out.old }
     ensures same_shelf { F.tells shelf.new ≡ F.tells shelf.old }

@@ -9,7 +9,7 @@ use Rattle.depot_schedule.specs.EventLines.{proof_line, stop_line, update_line, 
 use Rattle.depot_lines.specs.Language.{or_empty}
 use Rattle.depot_schedule.specs.Schedules.{FitsEvent}
 use Rattle.depot_schedule.specs.EventWords as word
-use Rattle.depot_schedule.specs.EventWords.{FitsHistory, is_faulty}
+use Rattle.depot_schedule.specs.EventWords.{is_faulty}
 use Rattle.depot_schedule.specs.declared.event.Event.{Event}
 use Rattle.depot_schedule.specs.declared.event.Event.TheVariants as event
 use Rattle.depot_schedule.specs.declared.event.HistoryWord.{HistoryWord}

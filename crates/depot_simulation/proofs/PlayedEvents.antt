@@ -1,17 +1,20 @@
 -- What is printed of events, one after the other.
-use Rattle.std.proofs.Common.{◌≡◌, ℕ, suc, ◌+◌, ◌<◌, List, [], ◌∷◌, ◌++◌, length, get_or, take, drop, Some, refl, sym, ap, subst, ◌∙◌, append_assoc, take-append-drop, drop-cons, arith}
+use Rattle.std.proofs.Common.{◌≡◌, ℕ, suc, ◌+◌, ◌-◌, ◌<◌, ◌≤◌, List, [], ◌∷◌, ◌++◌, length, get_or, take, drop, IsTrue, Some, Result, Ok, Err, OnOk, OnErr, inr, refl, sym, ap, subst, ◌∙◌, append_assoc, length-append, take-append-drop, drop-cons, arith}
 use Rattle.std.proofs.lemmas.Option.{slice_get-get_or}
-use Rattle.std.proofs.lemmas.List.{append-nil}
+use Rattle.std.specs.Prelude.{reverse}
+use Rattle.std.proofs.lemmas.List.{append-nil, length-reverse, reverse-append, reverse-reverse, take_all}
 use Rattle.depot_base.specs.Faults.{HasCause}
 use Rattle.depot_base.specs.Reading.{AddsFrontOf}
 use Rattle.depot_base.proofs.Writing.{begins_with, begins_further}
 use Rattle.depot_base.proofs.GeneralLaws.{take_next}
 use Rattle.depot_model.specs.Lists.{IsIn}
 use Rattle.depot_model.proofs.Elements.{in_at}
+use Rattle.depot_outside.specs.Told.{Sinks}
 use Rattle.depot_schedule.specs.declared.event.Event.{Event}
 use Rattle.depot_world.specs.Run.{Run}
 use Rattle.depot_world.specs.Setups.{Setup}
 use Rattle.depot_world.specs.Transcript.{done, lines_of, printed, run_after}
+use Rattle.depot_simulation.specs.EachRun.{WritesFront, WritesLines}
 
 -- ---- places
 
@@ -72,8 +75,70 @@ front_within setup run es i e old before lines new within is so_far told front =
     subst (λ (t : List ℕ). AddsFrontOf old t new) (sym whole)
     (begins_further old (printed setup run (take i es)) lines (printed setup d.run (drop (suc i) es)) new (subst (λ (b : List ℕ). AddsFrontOf b lines new) so_far front))
 
+-- ---- a list that is played from the end of its reverse on
+
+-- these are the last events of a list, the last one first
+pub record AreToCome (es rest : List Event) : Type 0 where
+  pub few : length rest ≤ length es
+  pub are : reverse rest ≡ drop (length es - length rest) es
+
+-- those before them
+abbrev pub so_far : List Event → List Event → List Event
+so_far es rest = take (length es - length rest) es
+
+pub all_to_come : (es : List Event) → AreToCome es (reverse es)
+all_to_come es =
+    let none : length es - length (reverse es) ≡ 0 = omega (arith, length-reverse es) in
+    record {
+      few = omega (arith, length-reverse es);
+      are = reverse-reverse es ∙ ap (λ (n : ℕ). drop n es) (sym none);
+    }
+
+pub none_so_far : (es : List Event) → so_far es (reverse es) ≡ []
+none_so_far es = let none : length es - length (reverse es) ≡ 0 = omega (arith, length-reverse es) in ap (λ (n : ℕ). take n es) none
+
+pub all_so_far : (es rest : List Event) → length rest ≡ 0 → so_far es rest ≡ es
+all_so_far es rest none = take_all (length es - length rest) es (omega (arith, none))
+
+-- an event is the next one of a list, and these are to come behind it
+pub record IsNext (es all rest : List Event) (e : Event) : Type 0 where
+  pub within : length es - length all < length es
+  pub is : e ≡ get_or es (length es - length all) e
+  pub then : so_far es rest ≡ take (length es - length all + 1) es
+  pub left : AreToCome es rest
+
+pub next_is : (es all rest : List Event) (e : Event) → all ≡ rest ++ e ∷ [] → AreToCome es all → IsNext es all rest e
+next_is es all rest e more left =
+    let i = length es - length all in
+    let long : length all ≡ length rest + 1 = ap (λ (xs : List Event). length xs) more ∙ length-append rest (e ∷ []) in
+    let within : i < length es = omega (arith, long, left.few) in
+    let turned : reverse all ≡ e ∷ reverse rest = ap (λ (xs : List Event). reverse xs) more ∙ reverse-append rest (e ∷ []) in
+    let both : e ∷ reverse rest ≡ get_or es i e ∷ drop (suc i) es = sym turned ∙ left.are ∙ drop-cons es i e within in
+    let next : length es - length rest ≡ suc i = omega (arith, long, left.few) in
+    let tail : reverse rest ≡ drop (suc i) es = cc in
+    record {
+      within = within;
+      is = cc;
+      then = ap (λ (n : ℕ). take n es) (omega (arith, long, left.few));
+      left = record { few = omega (arith, long, left.few); are = tail ∙ ap (λ (n : ℕ). drop n es) (sym next) };
+    }
+
 -- ---- faults
 
 -- a call that didn't fail left the count as it was
 pub no_fault : (before now : ℕ) (failed : Type 0) → HasCause before now failed → (failed → ⊥) → now ≡ before
 no_fault before now failed cause none = let not_less : before < now → ⊥ = λ less. none (cause.only less) in omega (arith, cause.never_falls, not_less)
+
+-- ---- one event
+
+-- the lines that an event came to were written
+pub lines_written : {X E P : Type 0} (result : Result X E) (Plays : List ℕ → P → Type 0) (sink : Sinks) (new : P) (text lines : List ℕ) → lines ≡ text → Plays lines new → (IsTrue sink.tells → OnOk result (sink.after ≡ sink.before ++ text))
+    → OnOk result (WritesLines Plays sink new)
+lines_written (Ok done) Plays sink new text lines is plays wrote = (text, (subst (λ (ls : List ℕ). Plays ls new) is plays, wrote))
+lines_written (Err e) Plays sink new text lines is plays wrote = tt
+
+-- or a front of them
+pub front_written : {X E P : Type 0} (result : Result X E) (Plays : List ℕ → P → Type 0) (sink : Sinks) (new : P) (text lines : List ℕ) → lines ≡ text → Plays lines new → (IsTrue sink.tells → OnErr result (AddsFrontOf sink.before text sink.after))
+    → OnErr result (WritesFront Plays sink new)
+front_written (Ok done) Plays sink new text lines is plays wrote = tt
+front_written (Err e) Plays sink new text lines is plays wrote = inr (text, (subst (λ (ls : List ℕ). Plays ls new) is plays, wrote))

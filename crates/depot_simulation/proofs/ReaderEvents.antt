@@ -1,5 +1,5 @@
 -- What the events of readers leave of a simulation.
-use Rattle.std.proofs.Common.{◌≡◌, ℕ, eqb, List, [], ◌∷◌, ◌++◌, map, get_or, Option, Some, None, Result, Ok, Err, refl, sym, ap, subst, ◌∙◌}
+use Rattle.std.proofs.Common.{◌≡◌, ℕ, eqb, List, [], ◌∷◌, ◌++◌, get_or, Option, Some, None, Result, Ok, Err, refl, sym, ap, subst, ◌∙◌}
 use Rattle.std.specs.Prelude.{position, IfOk, OnOk}
 use Rattle.std.specs.Option.{option_map_or}
 use Rattle.std.proofs.lemmas.List.{append-nil}
@@ -8,7 +8,7 @@ use Rattle.depot_answers.specs.AnswerTexts.{spaced, text_of_reader_feed, text_of
 use Rattle.depot_base.specs.declared.record.Record.{Record}
 use Rattle.depot_model.specs.Checks.{Setting}
 use Rattle.depot_model.specs.ReaderFeeds.{reader_feed_of}
-use Rattle.depot_model.specs.Readers.{Reader, TrimAnswer, trim_of}
+use Rattle.depot_model.specs.Readers.{Reader, trim_of}
 use Rattle.depot_world.specs.Run.{NamedReader, Run, Host, reader_in, host_in}
 use Rattle.depot_world.specs.Setups.{Setup, stands_on}
 use Rattle.depot_world.specs.Transcript.{Done, answer_of_reader, ended, reader_made, reader_told, tget_by, tgive_by, trim_at, trimmed_with}

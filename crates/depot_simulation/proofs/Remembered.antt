@@ -67,19 +67,11 @@ unfolding seen_with
 seen_with-append seen [] vs = refl
 seen_with-append seen (u ∷ us) vs = seen_with-append (with_one seen u) us vs
 
--- the first, and then those behind it
-pub seen_with-cons : (seen : List Update) (u : Update) (us : List Update) → seen_with seen (u ∷ us) ≡ seen_with (seen_with seen (u ∷ [])) us
-seen_with-cons seen u us = seen_with-append seen (u ∷ []) us
-
 -- updates that were seen add nothing
 pub seen_add_nothing : (seen us : List Update) → WereSeen seen us → seen_with seen us ≡ seen
 unfolding seen_with
 seen_add_nothing seen [] were = refl
 seen_add_nothing seen (u ∷ us) were = ap (λ (b : Bool). seen_with (cond b seen (seen ++ u ∷ [])) us) were.0 ∙ seen_add_nothing seen us were.1
-
--- where those in front were seen, those behind them add what all add
-pub only_new_add : (seen us more : List Update) → WereSeen seen us → seen_with seen (us ++ more) ≡ seen_with seen more
-only_new_add seen us more were = seen_with-append seen us more ∙ ap (λ (s : List Update). seen_with s more) (seen_add_nothing seen us were)
 
 -- ---- parents
 

@@ -2,7 +2,6 @@
 use Rattle.std.proofs.Common.{◌≡◌, ℕ, List, [], ◌∷◌, ◌++◌, Vec, true, codes, map, Option, Some, None, option_map, option_and_then, Result, Ok, Err, refl, sym, ap, subst, ◌∙◌, append_assoc}
 use Rattle.std.specs.declared.alloc.Global.{Global}
 use Rattle.std.specs.List.{flat_map}
-use Rattle.std.specs.Prelude.{OnOk}
 use Rattle.std.proofs.lemmas.List.{append-nil}
 use Rattle.depot_answers.specs.AnswerTexts.{spaced}
 use Rattle.depot_base.specs.declared.proof.Proof.{Proof}
@@ -58,11 +57,6 @@ is_numbered sign run writer seq clock prev changes deps history u is = by_parts 
 -- what the label is given where it was made
 pub signed_is : (setup : Setup) (writer seq : ℕ) (changes : List Change) (u : Update) → IsNumbered writer seq u → update_text (signs_on setup u.writer) u (values_of changes) ≡ signed_text (signs_on setup writer) changes (Some u)
 signed_is setup writer seq changes u n = ap (λ (k : ℕ). update_text (signs_on setup k) u (values_of changes)) n.writer_is
-
--- what follows where a call gave Ok
-pub on_ok : {T E P Q : Type 0} (r : Result T E) → OnOk r P → (P → Q) → OnOk r Q
-on_ok (Ok x) p more = more p
-on_ok (Err e) p more = tt
 
 -- an update was seen
 pub sees_update : (A : Type 0) {R : Type 0} (view : A → View) (reads : Reader → R → Type 0) (setup : Setup) (run : Run) (u : Update) (old new : Simulation A R) → IsSimulationAt view reads setup run old → HasSeenParents (updates_in old.seen.graph.items.entries) u → new.participants ≡ old.participants → new.labels ≡ old.labels → new.readers ≡ old.readers

@@ -1,18 +1,23 @@
 -- A correct node at work, and what an event makes of it.
-use Rattle.std.specs.Prelude.{◌≡◌, ℕ, List, [], ◌∷◌, map, Option}
+use Rattle.std.specs.Prelude.{◌≡◌, ℕ, List, [], ◌∷◌, map, Option, None}
 use Rattle.std.specs.List.{AllByRecursion}
+use Rattle.depot_base.specs.declared.key.RosterEntry.{RosterEntry}
 use Rattle.depot_base.specs.declared.record.Record.{Record}
+use Rattle.depot_base.specs.declared.record.Record.TheVariants.{Birth}
 use Rattle.depot_model.specs.Bundle.{Signs}
 use Rattle.depot_model.specs.Checks.{Setting}
-use Rattle.depot_model.specs.World.{Read}
+use Rattle.depot_model.specs.Roster.{Verifies}
+use Rattle.depot_model.specs.Texts.{hash_of_roster}
+use Rattle.depot_model.specs.World.{Correct, Read}
 use Rattle.depot_traces.specs.SeenTraces.{read_of}
 use Rattle.depot_traces.specs.TraceTexts.{read_text}
 use Rattle.depot_traces.specs.declared.trace.ReadTrace.{ReadTrace}
 use Rattle.depot_world.specs.Audits.{traced_read}
 use Rattle.depot_world.specs.Run.{PendingStop, Host}
-use Rattle.depot_world.specs.ScheduleStops.{EventResult}
+use Rattle.depot_world.specs.ScheduleStops.{Effect, EventResult, event_result}
 use Rattle.depot_world.specs.Transcript.{lines_after_arrow}
 use Rattle.depot_world.specs.Setups.{Setup, stands_on, signs_on}
+use Rattle.depot_simulation.specs.declared.actor.EventOutcome.{EventOutcome}
 
 -- where a node stands, how it signs, its journal, and the stop that waits on its disk
 pub record View : Type 0 where
@@ -20,6 +25,15 @@ pub record View : Type 0 where
   pub sign : Signs
   pub journal : List Record
   pub pending : Option PendingStop
+
+-- a node of this number that was just started on an empty disk
+abbrev pub fresh_view : Verifies → List RosterEntry → ℕ → Signs → View
+fresh_view verifies listed node sign = record {
+  here = record { verifies = verifies; me = node; listed = listed };
+  sign = sign;
+  journal = Birth node (hash_of_roster listed) ∷ [];
+  pending = None;
+}
 
 -- it is the node of this host
 pub record IsHosted (setup : Setup) (s : Host) (v : View) : Type 0 where
@@ -59,3 +73,8 @@ pub record CameTo (setup : Setup) (w : EventResult) (v : View) (lines bytes : Li
   pub hosted : IsHosted setup w.host v
   pub lines_are : lines ≡ lines_after_arrow w.answer w.behind
   pub bytes_are : bytes ≡ w.bytes
+
+-- Of whatever host this was the node, an event came to what it lets a correct node do, by where it stands and how it signs.
+abbrev pub Acts : {A : Type 0} → (A → View) → A → (Setting → Signs → Correct → Effect) → EventOutcome A → Type 0
+Acts view actor effect outcome = (setup : Setup) (s : Host) → IsHosted setup s (view actor)
+    → CameTo setup (event_result s (effect (stands_on setup s.correct.node) (signs_on setup s.correct.node) s.correct)) (view outcome.actor) outcome.lines outcome.bytes

@@ -12,16 +12,19 @@ use Rattle.depot_model.specs.Readers.{Reader}
 use Rattle.depot_model.specs.Traces.{ReadTrace}
 use Rattle.depot_schedule.specs.declared.event.Event.{Event}
 use Rattle.depot_schedule.specs.declared.event.Event.TheVariants as event
+use Rattle.depot_schedule.specs.declared.event.Ref.{Ref}
+use Rattle.depot_schedule.specs.EventLines.{event_changes, event_node}
 use Rattle.depot_world.specs.Audits.{traced_read}
-use Rattle.depot_world.specs.Effects.{read_of, put_by, get_by, hello_by, bundle_by, give_by, restart_by, checkpoint_by, sign_by}
+use Rattle.depot_world.specs.Effects.{read_of, put_by, get_by, hello_by, bundle_by, give_by, restart_by, receipt_by, settled_by, checkpoint_by, sign_by}
 use Rattle.depot_world.specs.Run.{Run, Host, bytes_of, seen_with}
-use Rattle.depot_world.specs.FaultySigning.{Text, no_reference, counted_bytes, updated, update_text, vouched_text, proof_text, hollow_text, flip_at}
+use Rattle.depot_world.specs.FaultySigning.{Text, no_reference, counted_bytes, updated, update_text, vouched_text, proof_text, hollow_text, proof_in, flip_at}
 use Rattle.depot_world.specs.ScheduleStops.{Effect}
 use Rattle.depot_world.specs.Setups.{Setup, stands_on, signs_on}
-use Rattle.depot_world.specs.Transcript.{Done, lines_after_arrow, lines_of}
+use Rattle.depot_world.specs.Transcript.{Done, by_node, judged_with, lines_after_arrow, lines_of}
 use Rattle.depot_simulation.specs.Acting.{View}
 use Rattle.depot_simulation.specs.Playing.{IsSimulationAt, IsPlayed}
 use Rattle.depot_simulation.specs.declared.acting.ActingNode.{ActingNode}
+use Rattle.depot_simulation.specs.declared.participant.Participant.{Participant}
 use Rattle.depot_simulation.specs.declared.simulation.Simulation.{Simulation}
 
 -- ---- all events
@@ -74,9 +77,21 @@ abbrev pub reads_by : List Record → Event → List ReadTrace
 reads_by J (event.Get node key) = traced_read (read_of J key) ∷ []
 reads_by J e = []
 
+-- a node gives receipts for these ids
+abbrev pub receipts_by : Setup → Run → ℕ → List (List ℕ) → Done
+receipts_by setup run node ids = by_node run node None (λ s. receipt_by (stands_on setup node) s.correct ids)
+
+-- a node tells whether an id is settled at so many nodes
+abbrev pub settling_by : Run → ℕ → List ℕ → ℕ → Done
+settling_by run node id k = by_node run node None (λ s. settled_by s.correct id k)
+
+-- the place of the first node of this number, from 0
+abbrev pub place_in : {A : Type 0} → (A → View) → ℕ → List (Participant A) → Option ℕ
+place_in view node participants = position (λ p. (view p.actor).here.me == node) participants
+
 -- The first node of this number left its place.
 pub record HasLeft (A : Type 0) {R : Type 0} (view : A → View) (node : ℕ) (old new : Simulation A R) (acting : ActingNode A) : Type 0 where
-  pub place_is : position (λ p. (view p.actor).here.me == node) old.participants.items ≡ Some acting.place
+  pub place_is : place_in view node old.participants.items ≡ Some acting.place
   pub part_is : slice_get old.participants.items acting.place ≡ Some acting.participant
   pub count_is : acting.count ≡ length (accepted (view acting.participant.actor).journal)
   pub others : new.participants.items ≡ remove old.participants.items acting.place
@@ -92,9 +107,13 @@ pub record HasLeftSimulation (A : Type 0) {R : Type 0} (view : A → View) (read
 
 -- ---- events that only make a label
 
+-- a faulty node vouches for what references name
+abbrev pub vouched_by : Setup → Run → ℕ → ℕ → List Ref → Text
+vouched_by setup run writer seq refs = vouched_text (signs_on setup writer) run writer seq refs
+
 -- what it gives the label
 abbrev pub text_by : Setup → Run → Event → Text
-text_by setup run (event.Voucher label writer seq refs) = vouched_text (signs_on setup writer) run writer seq refs
+text_by setup run (event.Voucher label writer seq refs) = vouched_by setup run writer seq refs
 text_by setup run (event.Proof label kind first second) = proof_text run kind first second
 text_by setup run (event.Hollow label voucher plain) = hollow_text run voucher plain
 text_by setup run (event.Raw label bytes) = counted_bytes bytes
@@ -112,6 +131,10 @@ is_text (event.Cut label source start count) = true
 is_text (event.Flip label source place) = true
 is_text (event.Join label first second) = true
 is_text e = false
+
+-- the bytes of a label are judged as a proof
+abbrev pub judged_by : Setup → Run → List ℕ → Done
+judged_by setup run label = judged_with setup run (proof_in (bytes_of run label))
 
 -- ---- updates that faulty nodes sign
 
@@ -136,3 +159,7 @@ with_update run (Some u) = record run { seen = seen_with run.seen (u ∷ []) }
 abbrev pub signed_text : Signs → List Change → Option Update → Text
 signed_text sign changes None = no_reference
 signed_text sign changes (Some u) = update_text sign u (values_of changes)
+
+-- what the label of such an event is given
+abbrev pub signing_by : Setup → Run → Event → Text
+signing_by setup run e = signed_text (signs_on setup (event_node e)) (event_changes e) (update_by setup run e)

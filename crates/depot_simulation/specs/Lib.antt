@@ -2,5 +2,6 @@ pub mod Acting
 pub mod Auditing
 pub mod Doing
 pub mod Drafts
+pub mod EachRun
 pub mod Playing
 pub mod Readers

@@ -1,11 +1,11 @@
 -- Readers of a simulation, and what is told of them.
-use Rattle.std.specs.Prelude.{◌≡◌, ℕ, List, [], ◌∷◌, Option, Some, None, Vec, if◌then◌else◌}
+use Rattle.std.specs.Prelude.{◌≡◌, ℕ, List, [], ◌∷◌, ◌++◌, Option, Some, None, Vec, if◌then◌else◌}
 use Rattle.std.specs.Str.{bytes_eq}
 use Rattle.std.specs.declared.alloc.Global.{Global}
 use Rattle.depot_answers.specs.AnswerTexts.{spaced, text_of_reader_feed, text_of_trim}
 use Rattle.depot_model.specs.ReaderFeeds.{reader_feed_of}
 use Rattle.depot_model.specs.Readers.{Reader, TrimAnswer}
-use Rattle.depot_world.specs.Run.{NamedReader, put_reader}
+use Rattle.depot_world.specs.Run.{NamedReader, put_reader, reader_in}
 use Rattle.depot_world.specs.Transcript.{answer_of_reader, ended, reader_made}
 use Rattle.depot_scenario.specs.Labels.{named_in}
 use Rattle.depot_simulation.specs.declared.reading.Trimming.{Trimming}
@@ -61,3 +61,15 @@ AreReaders reads entries readers = (name : List ℕ) → IsNamed reads (named_in
 abbrev pub readers_with : List ℕ → Option Reader → List NamedReader → List NamedReader
 readers_with name None readers = readers
 readers_with name (Some r) readers = put_reader name r readers
+
+-- ---- what calls leave of them
+
+-- Of whatever readers these were kept, and whatever one was made: they are kept of the same with that one behind, under its name.
+abbrev pub KeepsMade : {R : Type 0} → (Reader → R → Type 0) → List (Vec ℕ Global × Option R) → List ℕ → Option R → List (Vec ℕ Global × Option R) → Type 0
+KeepsMade reads old name reader new = (readers : List NamedReader) (made : Option Reader) → AreReaders reads old readers → IsMade reads reader made
+    → AreReaders reads new (readers ++ record { name = name; reader = made } ∷ [])
+
+-- Of whatever readers these were kept: they are kept of the same, of which that of this name has taken a stream.
+abbrev pub TakesStream : {R : Type 0} → (Reader → R → Type 0) → List (Vec ℕ Global × Option R) → List ℕ → List ℕ → List (Vec ℕ Global × Option R) → Type 0
+TakesStream reads old name stream new = (readers : List NamedReader) → AreReaders reads old readers
+    → AreReaders reads new (readers_with name (gone_on (reader_in readers name) stream) readers)

@@ -4,14 +4,10 @@ ghost use Rattle.std.specs.List.{AllByRecursion};
 ghost use Rattle.depot_answers.specs.AnswerTexts.{spaced, text_of_finding};
 ghost use Rattle.depot_traces.specs.SeenTraces.{finding_of, trace_of};
 ghost use Rattle.depot_traces.specs.TraceTexts.{IsTrace};
-ghost use Rattle.depot_world.specs.Audits.{IsSound};
-ghost use Rattle.depot_world.specs.Run.{Run};
-ghost use Rattle.depot_world.specs.Setups.{Setup};
 ghost use Rattle.depot_world.specs.Transcript.{audit_by, ended};
-ghost use Rattle.depot_scenario.specs.Scenarios.{IsScenarioOf};
 ghost use Rattle.depot_simulation.specs.Auditing.{MayHandIn, handed_in};
-ghost use Rattle.depot_simulation.specs.Doing.{HasDone};
-ghost use Rattle.depot_simulation.specs.Playing.{IsSimulationAt, IsPlayedOn, participant_by};
+ghost use Rattle.depot_simulation.specs.Playing.{IsPlayedOn, participant_by};
+ghost use Rattle.depot_simulation.specs.EachRun.{SimulatesSoundOn};
 
 use crate::actor::Actor;
 use crate::simulation::Simulation;
@@ -30,7 +26,7 @@ impl<A: Actor> Simulation<A> {
         scenario: &Scenario<'_, S, G>,
     ) -> Result<Bytes, Memory>
         requires { IsPlayedOn S.verifies G.key_of G.signature_of scenario.now A.view A.Reader.reads self.now }
-        ensures { IfOk result (λ lines. (setup : Setup) (run : Run) → IsScenarioOf S.verifies G.key_of G.signature_of setup scenario.now → IsSound setup run → IsSimulationAt A.view A.Reader.reads setup run self.now → HasDone A A.view A.Reader.reads setup (audit_by setup run) lines self.now) }
+        ensures { IfOk result (λ lines. SimulatesSoundOn S.verifies G.key_of G.signature_of scenario.now A.view A.Reader.reads self.now (λ setup run. audit_by setup run) lines self.now) }
     {
         let traces = self.traces()?;
         let found = audit(self.alloc, scenario.roster, &scenario.scheme, &traces)?;

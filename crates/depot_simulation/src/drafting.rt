@@ -1,17 +1,16 @@
 //! The updates that faulty nodes sign, and what they vouch for.
 ghost use Rattle.std.specs.Prelude.{◌≡◌, ℕ, map, option_map, IfOk, IfSome};
 ghost use Rattle.depot_base.specs.declared.statement.Statement.TheVariants as statement;
-ghost use Rattle.depot_base.specs.declared.update.Update.{Update};
 ghost use Rattle.depot_model.specs.Bundle.{Signs};
 ghost use Rattle.depot_model.specs.Own.{entry_of};
 ghost use Rattle.depot_model.specs.Texts.{IsStatement, IsUpdate, id_of_update};
 ghost use Rattle.depot_model.specs.Vouching.{rising};
-ghost use Rattle.depot_world.specs.Run.{Run, id_referred, referred};
+ghost use Rattle.depot_world.specs.Run.{id_referred, referred};
 ghost use Rattle.depot_world.specs.FaultySigning.{all_of, all_referred, entries_of, prev_of, updated};
-ghost use Rattle.depot_world.specs.Setups.{Setup};
 ghost use Rattle.depot_simulation.specs.Drafts.{IsNumbered, MaySign, MayVouchFor};
-ghost use Rattle.depot_simulation.specs.Playing.{IsSimulationAt, IsPlayed};
+ghost use Rattle.depot_simulation.specs.Playing.{IsPlayed};
 ghost use Rattle.depot_scenario.specs.KnownUpdates.{HasSeenParents};
+ghost use Rattle.depot_simulation.specs.EachRun.{OfEachRun};
 
 use crate::actor::Actor;
 use crate::simulation::Simulation;
@@ -38,7 +37,7 @@ impl<A: Actor> Simulation<A> {
     ) -> Result<Option<Update>, Memory>
         requires played { IsPlayed A.view A.Reader.reads self.now }
         requires fits { MaySign writer seq clock changes.now deps.now history }
-        ensures is { IfOk result (λ made. (setup : Setup) (run : Run) (sign : Signs) → IsSimulationAt A.view A.Reader.reads setup run self.now → made ≡ updated sign run writer seq clock prev.now changes.now deps.now history) }
+        ensures is { IfOk result (λ made. OfEachRun A.view A.Reader.reads self.now (λ setup run. (sign : Signs) → made ≡ updated sign run writer seq clock prev.now changes.now deps.now history)) }
         ensures text { IfOk result (λ made. IfSome made (λ u. IsUpdate u)) }
         ensures numbered { IfOk result (λ made. IfSome made (λ u. IsNumbered writer seq u)) }
         ensures parents { IfOk result (λ made. IfSome made (λ u. HasSeenParents (⟦<Graph as Past>⟧.updates self.now.seen.graph) u)) }
@@ -57,7 +56,7 @@ impl<A: Actor> Simulation<A> {
     /// The ids that references name for a voucher, in rising order, each once. None exactly where one names nothing.
     pub fn vouched_ids(&self, refs: &[Ref]) -> Result<Option<Ids>, Memory>
         requires { IsPlayed A.view A.Reader.reads self.now }
-        ensures is { IfOk result (λ made. (setup : Setup) (run : Run) → IsSimulationAt A.view A.Reader.reads setup run self.now → made ≡ option_map rising (all_of (map (id_referred run) refs.now))) }
+        ensures is { IfOk result (λ made. OfEachRun A.view A.Reader.reads self.now (λ setup run. made ≡ option_map rising (all_of (map (id_referred run) refs.now)))) }
         ensures text { IfOk result (λ made. IfSome made (λ ids. (node seq : ℕ) → MayVouchFor node seq refs.now → IsStatement (statement.Voucher (record { node = node; seq = seq; ids = ids })))) }
     {
         let Some(ids) = self.ids_of(refs)? else {
@@ -69,7 +68,7 @@ impl<A: Actor> Simulation<A> {
     /// The ids that references name for a voucher, in their order. None exactly where one names nothing.
     fn ids_of(&self, refs: &[Ref]) -> Result<Option<Ids>, Memory>
         requires { IsPlayed A.view A.Reader.reads self.now }
-        ensures { IfOk result (λ ids. (setup : Setup) (run : Run) → IsSimulationAt A.view A.Reader.reads setup run self.now → ids ≡ all_of (map (id_referred run) refs.now)) }
+        ensures { IfOk result (λ ids. OfEachRun A.view A.Reader.reads self.now (λ setup run. ids ≡ all_of (map (id_referred run) refs.now))) }
     {
         let mut ids = Ids::new(self.alloc);
         for r in refs {
@@ -84,7 +83,7 @@ impl<A: Actor> Simulation<A> {
     /// The ids of the updates that references name, in rising order, each once. None exactly where one names nothing.
     pub fn receipt_ids(&self, refs: &[Ref]) -> Result<Option<Ids>, Memory>
         requires { IsPlayed A.view A.Reader.reads self.now }
-        ensures { IfOk result (λ made. (setup : Setup) (run : Run) → IsSimulationAt A.view A.Reader.reads setup run self.now → made ≡ option_map (λ us. rising (map id_of_update us)) (all_referred run refs.now)) }
+        ensures { IfOk result (λ made. OfEachRun A.view A.Reader.reads self.now (λ setup run. made ≡ option_map (λ us. rising (map id_of_update us)) (all_referred run refs.now))) }
     {
         let Some(named) = self.named(refs)? else {
             return Ok(None);
@@ -97,7 +96,7 @@ impl<A: Actor> Simulation<A> {
     /// nothing.
     fn id_referred(&self, r: &Ref) -> Result<Option<Hash32>, Memory>
         requires { IsPlayed A.view A.Reader.reads self.now }
-        ensures { IfOk result (λ id. (setup : Setup) (run : Run) → IsSimulationAt A.view A.Reader.reads setup run self.now → id ≡ id_referred run r.now) }
+        ensures { IfOk result (λ id. OfEachRun A.view A.Reader.reads self.now (λ setup run. id ≡ id_referred run r.now)) }
     {
         match self.plain_referred(r) {
             Some(bytes) => Ok(Some(hash_of(bytes))),
@@ -108,7 +107,7 @@ impl<A: Actor> Simulation<A> {
     /// The id of the update that a reference names. None exactly where it names nothing.
     pub fn update_id(&self, r: &Ref) -> Result<Option<Hash32>, Memory>
         requires { IsPlayed A.view A.Reader.reads self.now }
-        ensures { IfOk result (λ id. (setup : Setup) (run : Run) → IsSimulationAt A.view A.Reader.reads setup run self.now → id ≡ option_map id_of_update (referred run r.now)) }
+        ensures { IfOk result (λ id. OfEachRun A.view A.Reader.reads self.now (λ setup run. id ≡ option_map id_of_update (referred run r.now))) }
     {
         let Some(update) = self.referred(r) else {
             return Ok(None);
@@ -119,7 +118,7 @@ impl<A: Actor> Simulation<A> {
     /// The id that a prev names: zeros where there is none. None exactly where its reference names nothing.
     fn prev_of(&self, prev: &Option<Ref>) -> Result<Option<Hash32>, Memory>
         requires { IsPlayed A.view A.Reader.reads self.now }
-        ensures { IfOk result (λ id. (setup : Setup) (run : Run) → IsSimulationAt A.view A.Reader.reads setup run self.now → id ≡ prev_of run prev.now) }
+        ensures { IfOk result (λ id. OfEachRun A.view A.Reader.reads self.now (λ setup run. id ≡ prev_of run prev.now)) }
     {
         match prev {
             Some(r) => self.update_id(r),
@@ -131,7 +130,7 @@ impl<A: Actor> Simulation<A> {
     /// writer.
     fn entries_of(&self, writer: NodeId, refs: &[Ref]) -> Result<Option<Deps>, Memory>
         requires { IsPlayed A.view A.Reader.reads self.now }
-        ensures { IfOk result (λ deps. (setup : Setup) (run : Run) → IsSimulationAt A.view A.Reader.reads setup run self.now → deps ≡ option_map (λ us. map entry_of us) (entries_of run writer refs.now)) }
+        ensures { IfOk result (λ deps. OfEachRun A.view A.Reader.reads self.now (λ setup run. deps ≡ option_map (λ us. map entry_of us) (entries_of run writer refs.now))) }
     {
         let Some(named) = self.named(refs)? else {
             return Ok(None);
@@ -142,7 +141,7 @@ impl<A: Actor> Simulation<A> {
     /// The entries of the updates that references name, in their order. None exactly where one names nothing.
     fn named(&self, refs: &[Ref]) -> Result<Option<Deps>, Memory>
         requires { IsPlayed A.view A.Reader.reads self.now }
-        ensures { IfOk result (λ named. (setup : Setup) (run : Run) → IsSimulationAt A.view A.Reader.reads setup run self.now → named ≡ option_map (λ us. map entry_of us) (all_referred run refs.now)) }
+        ensures { IfOk result (λ named. OfEachRun A.view A.Reader.reads self.now (λ setup run. named ≡ option_map (λ us. map entry_of us) (all_referred run refs.now))) }
     {
         let mut named = Deps::new(self.alloc);
         for r in refs {

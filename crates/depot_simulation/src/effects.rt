@@ -2,15 +2,11 @@
 ghost use Rattle.std.specs.Prelude.{◌≡◌, ◌++◌, map, true, IfOk, OnOk};
 ghost use Rattle.depot_schedule.specs.EventLines.{event_node};
 ghost use Rattle.depot_traces.specs.SeenTraces.{read_of};
-ghost use Rattle.depot_world.specs.Run.{Run, Host};
-ghost use Rattle.depot_world.specs.ScheduleStops.{event_result};
-ghost use Rattle.depot_world.specs.Setups.{Setup};
 ghost use Rattle.depot_world.specs.Transcript.{done};
-ghost use Rattle.depot_simulation.specs.Acting.{CameTo, HaveTexts, IsHosted};
-ghost use Rattle.depot_simulation.specs.declared.simulation.Simulation.{Simulation};
-ghost use Rattle.depot_simulation.specs.Doing.{HasDone, HasLeft, HasLeftSimulation, PutsChanges, effect_of, is_effect, reads_by};
-ghost use Rattle.depot_scenario.specs.Labels.{AreLabels};
-ghost use Rattle.depot_simulation.specs.Playing.{IsSimulationAt, IsPlayed};
+ghost use Rattle.depot_simulation.specs.Acting.{HaveTexts};
+ghost use Rattle.depot_simulation.specs.Doing.{HasLeftSimulation, PutsChanges, is_effect, reads_by};
+ghost use Rattle.depot_simulation.specs.Playing.{IsPlayed};
+ghost use Rattle.depot_simulation.specs.EachRun.{ActsIn, Completes, Simulates};
 
 use crate::acting::ActingNode;
 use crate::actor::{Actor, EventOutcome};
@@ -27,7 +23,7 @@ impl<A: Actor> Simulation<A> {
         requires changes { PutsChanges event.now }
         requires node { event_node event.now ≡ node }
         requires played { IsPlayed A.view A.Reader.reads self.old }
-        ensures { IfOk result (λ lines. (setup : Setup) (run : Run) → IsSimulationAt A.view A.Reader.reads setup run self.old → HasDone A A.view A.Reader.reads setup (done setup run event.now) lines self.new) }
+        ensures { IfOk result (λ lines. Simulates A.view A.Reader.reads self.old (λ setup run. done setup run event.now) lines self.new) }
     {
         match self.leave(node) {
             Some(acting) => self.act(acting, event),
@@ -40,7 +36,7 @@ impl<A: Actor> Simulation<A> {
         requires effect { is_effect event.now ≡ true }
         requires changes { PutsChanges event.now }
         requires left { HasLeftSimulation A A.view A.Reader.reads (event_node event.now) self.old acting }
-        ensures { IfOk result (λ lines. (before : Simulation A A.Reader) → HasLeft A A.view (event_node event.now) before self.old acting → (setup : Setup) (run : Run) → IsSimulationAt A.view A.Reader.reads setup run before → HasDone A A.view A.Reader.reads setup (done setup run event.now) lines self.new) }
+        ensures { IfOk result (λ lines. Completes A.view A.Reader.reads (event_node event.now) self.old acting (λ setup run. done setup run event.now) lines self.new) }
     {
         let ActingNode {
             place,
@@ -63,7 +59,7 @@ impl<A: Actor> Simulation<A> {
     fn acted(&self, actor: A, event: &Event) -> Result<EventOutcome<A>, Memory>
         requires effect { is_effect event.now ≡ true }
         requires changes { PutsChanges event.now }
-        ensures { IfOk result (λ told. (setup : Setup) (run : Run) (s : Host) → AreLabels self.now.labels.map.entries run.labels → IsHosted setup s (A.view actor) → CameTo setup (event_result s (effect_of setup run event.now s)) (A.view told.actor) told.lines told.bytes) }
+        ensures { IfOk result (λ outcome. ActsIn A.view self.now.labels.map.entries actor event.now outcome) }
     {
         match event {
             Event::Put { key, value, .. } => {

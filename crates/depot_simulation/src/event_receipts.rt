@@ -1,18 +1,16 @@
 //! Receipts that a node gives, and whether enough nodes gave some, for what references name.
-ghost use Rattle.std.specs.Prelude.{◌≡◌, ◌≤◌, ℕ, length, true, None, IfOk};
+ghost use Rattle.std.specs.Prelude.{◌≡◌, ◌≤◌, ℕ, length, true, IfOk};
 ghost use Rattle.depot_base.specs.Pairs.{AllPairsByRecursion};
 ghost use Rattle.depot_base.specs.Parts.{is_below};
 ghost use Rattle.depot_base.specs.declared.limits.TheConstants.{MOST_WRITES};
 ghost use Rattle.depot_model.specs.Changes.{AreChanges};
 ghost use Rattle.depot_model.specs.Receipts.{receipt_changes};
-ghost use Rattle.depot_world.specs.Effects.{receipt_by, settled_by};
 ghost use Rattle.depot_world.specs.FaultySigning.{all_referred};
-ghost use Rattle.depot_world.specs.Run.{Run, referred};
-ghost use Rattle.depot_world.specs.Setups.{Setup, stands_on};
-ghost use Rattle.depot_world.specs.Transcript.{by_node, receipt_for, settled_for};
-ghost use Rattle.depot_simulation.specs.Doing.{HasDone, HasLeft, HasLeftSimulation};
-ghost use Rattle.depot_simulation.specs.Playing.{IsSimulationAt, IsPlayed};
-ghost use Rattle.depot_simulation.specs.declared.simulation.Simulation.{Simulation};
+ghost use Rattle.depot_world.specs.Run.{referred};
+ghost use Rattle.depot_world.specs.Transcript.{receipt_for, settled_for};
+ghost use Rattle.depot_simulation.specs.Doing.{HasLeftSimulation, receipts_by, settling_by};
+ghost use Rattle.depot_simulation.specs.Playing.{IsPlayed};
+ghost use Rattle.depot_simulation.specs.EachRun.{Completes, Simulates};
 
 use crate::acting::ActingNode;
 use crate::actor::{Actor, EventOutcome};
@@ -27,7 +25,7 @@ impl<A: Actor> Simulation<A> {
     pub fn receipt(&mut self, node: NodeId, refs: &[Ref]) -> Result<Bytes, Memory>
         requires few { (1 ≤ length refs.now) × (length refs.now ≤ MOST_WRITES) }
         requires played { IsPlayed A.view A.Reader.reads self.old }
-        ensures { IfOk result (λ lines. (setup : Setup) (run : Run) → IsSimulationAt A.view A.Reader.reads setup run self.old → HasDone A A.view A.Reader.reads setup (receipt_for setup run node (all_referred run refs.now)) lines self.new) }
+        ensures { IfOk result (λ lines. Simulates A.view A.Reader.reads self.old (λ setup run. receipt_for setup run node (all_referred run refs.now)) lines self.new) }
     {
         let Some(ids) = self.receipt_ids(refs)? else {
             return Ok(Bytes::from_slice(self.alloc, b" NoRef\n")?);
@@ -43,7 +41,7 @@ impl<A: Actor> Simulation<A> {
         requires changes { AreChanges (receipt_changes ids.now) }
         requires rising { AllPairsByRecursion (λ g h. is_below g h ≡ true) ids.now }
         requires left { (node : ℕ) × HasLeftSimulation A A.view A.Reader.reads node self.old acting }
-        ensures { (node : ℕ) (before : Simulation A A.Reader) → HasLeft A A.view node before self.old acting → IfOk result (λ lines. (setup : Setup) (run : Run) → IsSimulationAt A.view A.Reader.reads setup run before → HasDone A A.view A.Reader.reads setup (by_node run node None (λ s. receipt_by (stands_on setup node) s.correct ids.now)) lines self.new) }
+        ensures { IfOk result (λ lines. (node : ℕ) → Completes A.view A.Reader.reads node self.old acting (λ setup run. receipts_by setup run node ids.now) lines self.new) }
     {
         let ActingNode {
             place,
@@ -59,7 +57,7 @@ impl<A: Actor> Simulation<A> {
     /// Whether so many nodes gave receipts for what a reference names, as a node knows. The lines are those from the arrow on.
     pub fn settled(&mut self, node: NodeId, update: &Ref, k: u32) -> Result<Bytes, Memory>
         requires played { IsPlayed A.view A.Reader.reads self.old }
-        ensures { IfOk result (λ lines. (setup : Setup) (run : Run) → IsSimulationAt A.view A.Reader.reads setup run self.old → HasDone A A.view A.Reader.reads setup (settled_for run node k (referred run update.now)) lines self.new) }
+        ensures { IfOk result (λ lines. Simulates A.view A.Reader.reads self.old (λ setup run. settled_for run node k (referred run update.now)) lines self.new) }
     {
         let Some(id) = self.update_id(update)? else {
             return Ok(Bytes::from_slice(self.alloc, b" NoRef\n")?);
@@ -78,7 +76,7 @@ impl<A: Actor> Simulation<A> {
         k: u32,
     ) -> Result<Bytes, Memory>
         requires left { (node : ℕ) × HasLeftSimulation A A.view A.Reader.reads node self.old acting }
-        ensures { (node : ℕ) (before : Simulation A A.Reader) → HasLeft A A.view node before self.old acting → IfOk result (λ lines. (setup : Setup) (run : Run) → IsSimulationAt A.view A.Reader.reads setup run before → HasDone A A.view A.Reader.reads setup (by_node run node None (λ s. settled_by s.correct id.now k)) lines self.new) }
+        ensures { IfOk result (λ lines. (node : ℕ) → Completes A.view A.Reader.reads node self.old acting (λ setup run. settling_by run node id.now k) lines self.new) }
     {
         let ActingNode {
             place,

@@ -1,12 +1,10 @@
 //! Stops that are set on the disk of a node.
 ghost use Rattle.std.specs.Prelude.{◌≤◌, ℕ, IfOk};
 ghost use Rattle.depot_base.specs.declared.limits.TheConstants.{MOST_STOP_CALL};
-ghost use Rattle.depot_world.specs.Run.{Run};
-ghost use Rattle.depot_world.specs.Setups.{Setup};
 ghost use Rattle.depot_world.specs.Transcript.{pending_at};
-ghost use Rattle.depot_simulation.specs.Doing.{HasDone, HasLeft, HasLeftSimulation};
-ghost use Rattle.depot_simulation.specs.Playing.{IsSimulationAt, IsPlayed};
-ghost use Rattle.depot_simulation.specs.declared.simulation.Simulation.{Simulation};
+ghost use Rattle.depot_simulation.specs.Doing.{HasLeftSimulation};
+ghost use Rattle.depot_simulation.specs.Playing.{IsPlayed};
+ghost use Rattle.depot_simulation.specs.EachRun.{Completes, Simulates};
 
 use crate::acting::ActingNode;
 use crate::actor::Actor;
@@ -21,7 +19,7 @@ impl<A: Actor> Simulation<A> {
         requires most { call ≤ MOST_STOP_CALL }
         requires image { image ≤ 2 }
         requires played { IsPlayed A.view A.Reader.reads self.old }
-        ensures { IfOk result (λ lines. (setup : Setup) (run : Run) → IsSimulationAt A.view A.Reader.reads setup run self.old → HasDone A A.view A.Reader.reads setup (pending_at run node call image) lines self.new) }
+        ensures { IfOk result (λ lines. Simulates A.view A.Reader.reads self.old (λ setup run. pending_at run node call image) lines self.new) }
     {
         match self.leave(node) {
             Some(acting) => self.arm(acting, call, image),
@@ -35,7 +33,7 @@ impl<A: Actor> Simulation<A> {
         requires most { call ≤ MOST_STOP_CALL }
         requires image { image ≤ 2 }
         requires left { (node : ℕ) × HasLeftSimulation A A.view A.Reader.reads node self.old acting }
-        ensures { (node : ℕ) (before : Simulation A A.Reader) → HasLeft A A.view node before self.old acting → IfOk result (λ lines. (setup : Setup) (run : Run) → IsSimulationAt A.view A.Reader.reads setup run before → HasDone A A.view A.Reader.reads setup (pending_at run node call image) lines self.new) }
+        ensures { IfOk result (λ lines. (node : ℕ) → Completes A.view A.Reader.reads node self.old acting (λ setup run. pending_at run node call image) lines self.new) }
     {
         let ActingNode {
             place,

@@ -1,13 +1,10 @@
 //! One event of a schedule.
 ghost use Rattle.std.specs.Prelude.{IfOk};
-ghost use Rattle.depot_world.specs.Audits.{IsSound};
-ghost use Rattle.depot_world.specs.Run.{Run, bytes_of};
-ghost use Rattle.depot_world.specs.FaultySigning.{proof_in};
-ghost use Rattle.depot_world.specs.Setups.{Setup};
-ghost use Rattle.depot_world.specs.Transcript.{done, judged_with};
-ghost use Rattle.depot_scenario.specs.Scenarios.{IsScenarioOf, MayHappen};
-ghost use Rattle.depot_simulation.specs.Doing.{HasDone, HasTold};
-ghost use Rattle.depot_simulation.specs.Playing.{IsSimulationAt, IsPlayedOn};
+ghost use Rattle.depot_world.specs.Transcript.{done};
+ghost use Rattle.depot_scenario.specs.Scenarios.{MayHappen};
+ghost use Rattle.depot_simulation.specs.Playing.{IsPlayedOn};
+ghost use Rattle.depot_simulation.specs.EachRun.{PlaysEvent, SimulatesOn, SimulatesSoundOn};
+ghost use Rattle.depot_simulation.specs.Doing.{judged_by};
 
 use crate::actor::Actor;
 use crate::simulation::Simulation;
@@ -26,7 +23,7 @@ impl<A: Actor> Simulation<A> {
     ) -> Result<Bytes, Memory>
         requires may { MayHappen scenario.now.height scenario.now.members.now event.now }
         requires played { IsPlayedOn S.verifies G.key_of G.signature_of scenario.now A.view A.Reader.reads self.old }
-        ensures { IfOk result (λ lines. (setup : Setup) (run : Run) → IsScenarioOf S.verifies G.key_of G.signature_of setup scenario.now → IsSound setup run → IsSimulationAt A.view A.Reader.reads setup run self.old → HasTold A A.view A.Reader.reads setup event.now (done setup run event.now) lines self.new) }
+        ensures { IfOk result (λ lines. PlaysEvent S.verifies G.key_of G.signature_of scenario.now A.view A.Reader.reads self.old event.now lines self.new) }
     {
         let mut lines = Bytes::new(self.alloc);
         event_head(self.alloc, &mut lines, event)?;
@@ -43,7 +40,7 @@ impl<A: Actor> Simulation<A> {
     ) -> Result<Bytes, Memory>
         requires may { MayHappen scenario.now.height scenario.now.members.now event.now }
         requires played { IsPlayedOn S.verifies G.key_of G.signature_of scenario.now A.view A.Reader.reads self.old }
-        ensures { IfOk result (λ lines. (setup : Setup) (run : Run) → IsScenarioOf S.verifies G.key_of G.signature_of setup scenario.now → IsSound setup run → IsSimulationAt A.view A.Reader.reads setup run self.old → HasDone A A.view A.Reader.reads setup (done setup run event.now) lines self.new) }
+        ensures { IfOk result (λ lines. SimulatesSoundOn S.verifies G.key_of G.signature_of scenario.now A.view A.Reader.reads self.old (λ setup run. done setup run event.now) lines self.new) }
     {
         match event {
             Event::Put { node, .. } => self.effect(*node, event),
@@ -81,7 +78,7 @@ impl<A: Actor> Simulation<A> {
         scenario: &Scenario<'_, S, G>,
         label: &Label,
     ) -> Result<Bytes, Memory>
-        ensures { IfOk result (λ lines. (setup : Setup) (run : Run) → IsScenarioOf S.verifies G.key_of G.signature_of setup scenario.now → IsSimulationAt A.view A.Reader.reads setup run self.now → HasDone A A.view A.Reader.reads setup (judged_with setup run (proof_in (bytes_of run label.now))) lines self.now) }
+        ensures { IfOk result (λ lines. SimulatesOn S.verifies G.key_of G.signature_of scenario.now A.view A.Reader.reads self.now (λ setup run. judged_by setup run label.now) lines self.now) }
     {
         let mut lines = judged(
             self.alloc,

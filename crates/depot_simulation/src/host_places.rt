@@ -1,8 +1,8 @@
 //! How a node leaves its place for an event, and comes back.
-ghost use Rattle.std.specs.Prelude.{◌≡◌, ◌≤◌, ◌==◌, insert, position, take, vec_len, None, MatchOption, OnOk};
+ghost use Rattle.std.specs.Prelude.{◌≡◌, ◌≤◌, insert, take, vec_len, None, MatchOption, OnOk};
 ghost use Rattle.depot_model.specs.Journal.{accepted};
 ghost use Rattle.depot_world.specs.Run.{seen_with};
-ghost use Rattle.depot_simulation.specs.Doing.{HasLeft};
+ghost use Rattle.depot_simulation.specs.Doing.{HasLeft, place_in};
 ghost use Rattle.depot_simulation.specs.Playing.{WereSeen};
 
 use crate::acting::ActingNode;
@@ -16,7 +16,7 @@ use depot_model::Past;
 impl<A: Actor> Simulation<A> {
     /// Takes the first node of this number from its place. None exactly where there is none. It takes no memory.
     pub fn leave(&mut self, node: NodeId) -> Option<ActingNode<A>>
-        ensures { MatchOption result ((self.new ≡ self.old) × (position (λ p. (A.view p.actor).here.me == node) self.old.participants.items ≡ None)) (λ acting. HasLeft A A.view node self.old self.new acting) }
+        ensures { MatchOption result ((self.new ≡ self.old) × (place_in A.view node self.old.participants.items ≡ None)) (λ acting. HasLeft A A.view node self.old self.new acting) }
     {
         let place = self.place_of(node)?;
         let participant = self.participants.remove(place);

@@ -5,14 +5,13 @@ ghost use Rattle.depot_model.specs.Journal.{update_in};
 ghost use Rattle.depot_model.specs.Texts.{IsSigned};
 ghost use Rattle.depot_schedule.specs.EventLines.{event_label};
 ghost use Rattle.depot_schedule.specs.declared.event.Event.TheVariants as event;
-ghost use Rattle.depot_world.specs.Run.{Run};
-ghost use Rattle.depot_world.specs.FaultySigning.{hollow_text, proof_text, vouched_text};
-ghost use Rattle.depot_world.specs.Setups.{Setup, signs_on};
+ghost use Rattle.depot_world.specs.FaultySigning.{hollow_text, proof_text};
 ghost use Rattle.depot_world.specs.Transcript.{done};
-ghost use Rattle.depot_scenario.specs.Scenarios.{IsScenarioOf, IsSomeScenario, MayHappen};
-ghost use Rattle.depot_simulation.specs.Doing.{HasDone, is_text, text_by};
-ghost use Rattle.depot_simulation.specs.Playing.{IsSimulationAt, IsPlayed};
+ghost use Rattle.depot_scenario.specs.Scenarios.{IsSomeScenario, MayHappen};
+ghost use Rattle.depot_simulation.specs.Doing.{is_text, text_by, vouched_by};
+ghost use Rattle.depot_simulation.specs.Playing.{IsPlayed};
 ghost use Rattle.depot_scenario.specs.ScenarioTexts.{IsText};
+ghost use Rattle.depot_simulation.specs.EachRun.{MakesOn, OfEachRun, SimulatesOn};
 
 use crate::actor::Actor;
 use crate::simulation::Simulation;
@@ -37,7 +36,7 @@ impl<A: Actor> Simulation<A> {
         requires scenario { IsSomeScenario S.verifies G.key_of G.signature_of scenario.now }
         requires may { MayHappen scenario.now.height scenario.now.members.now event.now }
         requires played { IsPlayed A.view A.Reader.reads self.old }
-        ensures { IfOk result (λ lines. (setup : Setup) (run : Run) → IsScenarioOf S.verifies G.key_of G.signature_of setup scenario.now → IsSimulationAt A.view A.Reader.reads setup run self.old → HasDone A A.view A.Reader.reads setup (done setup run event.now) lines self.new) }
+        ensures { IfOk result (λ lines. SimulatesOn S.verifies G.key_of G.signature_of scenario.now A.view A.Reader.reads self.old (λ setup run. done setup run event.now) lines self.new) }
     {
         let text = self.text(scenario, event)?;
         let lines = self.labels.give(label, text)?;
@@ -54,7 +53,7 @@ impl<A: Actor> Simulation<A> {
         requires scenario { IsSomeScenario S.verifies G.key_of G.signature_of scenario.now }
         requires may { MayHappen scenario.now.height scenario.now.members.now event.now }
         requires played { IsPlayed A.view A.Reader.reads self.now }
-        ensures is { IfOk result (λ text. (setup : Setup) (run : Run) → IsScenarioOf S.verifies G.key_of G.signature_of setup scenario.now → IsSimulationAt A.view A.Reader.reads setup run self.now → IsText text (text_by setup run event.now)) }
+        ensures is { IfOk result (λ text. MakesOn S.verifies G.key_of G.signature_of scenario.now A.view A.Reader.reads self.now (λ setup run. text_by setup run event.now) text) }
         ensures fits { IfOk result (λ text. IfSome text.signed IsSigned) }
         ensures none { IfOk result (λ text. IfSome text.signed (λ s. update_in s.statement ≡ [])) }
     {
@@ -100,7 +99,7 @@ impl<A: Actor> Simulation<A> {
         requires scenario { IsSomeScenario S.verifies G.key_of G.signature_of scenario.now }
         requires may { (label : List ℕ) × MayHappen scenario.now.height scenario.now.members.now (event.Voucher label writer seq refs.now) }
         requires played { IsPlayed A.view A.Reader.reads self.now }
-        ensures is { IfOk result (λ text. (setup : Setup) (run : Run) → IsScenarioOf S.verifies G.key_of G.signature_of setup scenario.now → IsSimulationAt A.view A.Reader.reads setup run self.now → IsText text (vouched_text (signs_on setup writer) run writer seq refs.now)) }
+        ensures is { IfOk result (λ text. MakesOn S.verifies G.key_of G.signature_of scenario.now A.view A.Reader.reads self.now (λ setup run. vouched_by setup run writer seq refs.now) text) }
         ensures fits { IfOk result (λ text. IfSome text.signed IsSigned) }
         ensures none { IfOk result (λ text. IfSome text.signed (λ s. update_in s.statement ≡ [])) }
     {
@@ -114,7 +113,7 @@ impl<A: Actor> Simulation<A> {
     fn proof(&self, kind: Kind, first: &Label, second: &Label) -> Result<Text, Memory>
         requires kind { IsPairKind kind }
         requires played { IsPlayed A.view A.Reader.reads self.now }
-        ensures is { IfOk result (λ text. (setup : Setup) (run : Run) → IsSimulationAt A.view A.Reader.reads setup run self.now → IsText text (proof_text run kind first.now second.now)) }
+        ensures is { IfOk result (λ text. OfEachRun A.view A.Reader.reads self.now (λ setup run. IsText text (proof_text run kind first.now second.now))) }
         ensures none { IfOk result (λ text. text.signed ≡ None) }
     {
         let Some(one) = self.signed_of(first) else {
@@ -129,7 +128,7 @@ impl<A: Actor> Simulation<A> {
     /// A voucher and the bytes of a plain label as a hollow proof, if the label of the voucher names one and the bytes aren't too many.
     fn hollow(&self, voucher: &Label, text: &Label) -> Result<Text, Memory>
         requires { IsPlayed A.view A.Reader.reads self.now }
-        ensures is { IfOk result (λ made. (setup : Setup) (run : Run) → IsSimulationAt A.view A.Reader.reads setup run self.now → IsText made (hollow_text run voucher.now text.now)) }
+        ensures is { IfOk result (λ made. OfEachRun A.view A.Reader.reads self.now (λ setup run. IsText made (hollow_text run voucher.now text.now))) }
         ensures none { IfOk result (λ made. made.signed ≡ None) }
     {
         let Some(signed) = self.signed_of(voucher) else {

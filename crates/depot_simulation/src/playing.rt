@@ -5,11 +5,12 @@ ghost use Rattle.depot_base.specs.Reading.{AddsFrontOf};
 ghost use Rattle.depot_model.specs.Lists.{IsIn};
 ghost use Rattle.depot_schedule.specs.Schedules.{IsSchedule};
 ghost use Rattle.depot_schedule.specs.declared.event.Event.{Event};
-ghost use Rattle.depot_world.specs.Run.{Run, run_of};
-ghost use Rattle.depot_world.specs.Setups.{Setup, setup_of};
-ghost use Rattle.depot_world.specs.Transcript.{printed};
+ghost use Rattle.depot_world.specs.Run.{run_of};
+ghost use Rattle.depot_world.specs.Setups.{setup_of};
 ghost use Rattle.depot_scenario.specs.Scenarios.{IsScenarioOf, MayHappen};
-ghost use Rattle.depot_simulation.specs.Playing.{IsSimulationAt, MayPlay, StaysSound};
+ghost use Rattle.depot_simulation.specs.Playing.{IsPlayedOn, IsSimulationAt, MayPlay};
+ghost use Rattle.depot_simulation.specs.EachRun.{OfEachPrinted, PlaysEvent, WritesFront, WritesLines};
+ghost use Rattle.depot_outside.specs.Told.{Wrote, WroteFront, sinks};
 
 use crate::actor::Actor;
 use crate::participant::Participant;
@@ -21,7 +22,7 @@ use depot_base::Memory;
 use depot_model::{Scheme, Signer};
 use depot_outside::{OutError, Sink};
 use depot_scenario::{KnownUpdates, Labels, Scenario};
-use depot_schedule::{Event, Schedule};
+use depot_schedule::{Event, Events, Schedule};
 use depot_traces::Reads;
 use std::alloc::Global;
 
@@ -59,25 +60,58 @@ pub fn begun<'a, A: StartsFresh<S, &'a G>, S: Scheme + Copy, G: Signer<Of = S>>(
 }
 
 /// Plays events, one after the other, and writes the lines of each after it was done. After an error a front of them all went out.
+/// An event that was played is given up, so the memory of a schedule goes while its run grows.
 pub fn play_all<A: Actor, S: Scheme, G: Signer, K: Sink>(
     simulation: &mut Simulation<A>,
     scenario: &Scenario<'_, S, G>,
-    events: &[Event],
+    events: Events,
     out: &mut K,
 ) -> Result<(), ReplayError>
-    requires may { (e : Event) → IsIn e events.now → MayHappen scenario.now.height scenario.now.members.now e }
-    requires played { MayPlay S.verifies G.key_of G.signature_of scenario.now events.now A.view A.Reader.reads simulation.old }
-    ensures done { (setup : Setup) (run : Run) → IsScenarioOf S.verifies G.key_of G.signature_of setup scenario.now → StaysSound setup run events.now → IsSimulationAt A.view A.Reader.reads setup run simulation.old → IsTrue (K.tells out.old) → OnOk result (K.written out.new ≡ K.written out.old ++ printed setup run events.now) }
-    ensures front { (setup : Setup) (run : Run) → IsScenarioOf S.verifies G.key_of G.signature_of setup scenario.now → StaysSound setup run events.now → IsSimulationAt A.view A.Reader.reads setup run simulation.old → IsTrue (K.tells out.old) → OnErr result (AddsFrontOf (K.written out.old) (printed setup run events.now) (K.written out.new)) }
+    requires may { (e : Event) → IsIn e events → MayHappen scenario.now.height scenario.now.members.now e }
+    requires played { MayPlay S.verifies G.key_of G.signature_of scenario.now events A.view A.Reader.reads simulation.old }
+    ensures done { OfEachPrinted S.verifies G.key_of G.signature_of scenario.now events A.view A.Reader.reads simulation.old (λ text. OnOk result (Wrote (sinks K.Sink out.old out.new) text)) }
+    ensures front { OfEachPrinted S.verifies G.key_of G.signature_of scenario.now events A.view A.Reader.reads simulation.old (λ text. OnErr result (WroteFront (sinks K.Sink out.old out.new) text)) }
     ensures tells { K.tells out.new ≡ K.tells out.old }
     ensures cause { HasCause (K.faults out.old) (K.faults out.new) (IsErrOf result ReplayError.Sink) }
     ensures faultless { K.is_faultless out.old → K.is_faultless out.new × (K.faults out.new ≡ K.faults out.old) }
 {
-    for event in events {
-        let lines = simulation.event(scenario, event)?;
-        write(out, lines.as_slice())?;
+    let mut to_come = events.into_vec();
+    to_come.reverse();
+    while let Some(event) = to_come.pop() {
+        give_back(&mut to_come);
+        let played = play_one(simulation, scenario, &event, out);
+        drop(event);
+        played?;
     }
     Ok(())
+}
+
+/// Plays an event, and writes its lines. After an error a front of them went out, and none where no memory was found for them.
+fn play_one<A: Actor, S: Scheme, G: Signer, K: Sink>(
+    simulation: &mut Simulation<A>,
+    scenario: &Scenario<'_, S, G>,
+    event: &Event,
+    out: &mut K,
+) -> Result<(), ReplayError>
+    requires may { MayHappen scenario.now.height scenario.now.members.now event.now }
+    requires played { IsPlayedOn S.verifies G.key_of G.signature_of scenario.now A.view A.Reader.reads simulation.old }
+    ensures done { OnOk result (WritesLines (PlaysEvent S.verifies G.key_of G.signature_of scenario.now A.view A.Reader.reads simulation.old event.now) (sinks K.Sink out.old out.new) simulation.new) }
+    ensures front { OnErr result (WritesFront (PlaysEvent S.verifies G.key_of G.signature_of scenario.now A.view A.Reader.reads simulation.old event.now) (sinks K.Sink out.old out.new) simulation.new) }
+    ensures tells { K.tells out.new ≡ K.tells out.old }
+    ensures cause { HasCause (K.faults out.old) (K.faults out.new) (IsErrOf result ReplayError.Sink) }
+    ensures faultless { K.is_faultless out.old → K.is_faultless out.new × (K.faults out.new ≡ K.faults out.old) }
+{
+    let lines = simulation.event(scenario, event)?;
+    write(out, lines.as_slice())
+}
+
+/// Gives back the memory of events that are gone, as soon as they are half of those that it was found for.
+fn give_back(events: &mut Vec<Event>)
+    ensures { events.new.items ≡ events.old.items }
+{
+    if events.len() <= events.capacity() / 2 {
+        events.shrink_to_fit();
+    }
 }
 
 /// Writes bytes to a sink. After an error a front of them went out; `Sink` has its cause in a call that failed.

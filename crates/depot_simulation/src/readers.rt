@@ -1,8 +1,8 @@
 //! Readers by their names.
-ghost use Rattle.std.specs.Prelude.{◌≡◌, ◌++◌, ◌∷◌, List, Option, [], IfOk, OnOk};
+ghost use Rattle.std.specs.Prelude.{◌≡◌, List, Option, [], IfOk, OnOk};
 ghost use Rattle.depot_model.specs.Readers.{Reader};
 ghost use Rattle.depot_world.specs.Run.{NamedReader, reader_in};
-ghost use Rattle.depot_simulation.specs.Readers.{AreReaders, IsMade, gone_on, readers_with, shown_of, told_of};
+ghost use Rattle.depot_simulation.specs.Readers.{AreReaders, IsMade, KeepsMade, TakesStream, gone_on, shown_of, told_of};
 
 use crate::reading::Reading;
 use depot_base::{Bytes, Key, Memory};
@@ -32,7 +32,7 @@ impl<R: Reading> Readers<R> {
 
     /// Keeps what was made under a name, unless something was before.
     pub fn put(&mut self, name: &Label, reader: Option<R>) -> Result<(), Memory>
-        ensures { OnOk result ((readers : List NamedReader) (made : Option Reader) → AreReaders R.reads self.old.map.entries readers → IsMade R.reads reader made → AreReaders R.reads self.new.map.entries (readers ++ record { name = name.now; reader = made } ∷ [])) }
+        ensures { OnOk result (KeepsMade R.reads self.old.map.entries name.now reader self.new.map.entries) }
     {
         if self.map.contains_key(name.bytes()) {
             return Ok(());
@@ -46,7 +46,7 @@ impl<R: Reading> Readers<R> {
     pub fn tgive(&mut self, name: &Label, stream: &[u8]) -> Result<Bytes, Memory>
         requires { (readers : List NamedReader) × AreReaders R.reads self.old.map.entries readers }
         ensures lines { IfOk result (λ lines. (readers : List NamedReader) → AreReaders R.reads self.old.map.entries readers → lines ≡ told_of (reader_in readers name.now) stream.now) }
-        ensures readers { OnOk result ((readers : List NamedReader) → AreReaders R.reads self.old.map.entries readers → AreReaders R.reads self.new.map.entries (readers_with name.now (gone_on (reader_in readers name.now) stream.now) readers)) }
+        ensures readers { OnOk result (TakesStream R.reads self.old.map.entries name.now stream.now self.new.map.entries) }
     {
         match self.map.get_mut(name.bytes()) {
             Some(kept) => tgive_to(self.alloc, kept, stream),

@@ -1,8 +1,8 @@
 //! A run of a schedule at work.
-ghost use Rattle.std.specs.Prelude.{◌≡◌, ◌==◌, option_copied, position, option_and_then};
-ghost use Rattle.depot_world.specs.Run.{Run, bytes_of, own_update, plain_referred, referred, signed_of, host_in};
-ghost use Rattle.depot_world.specs.Setups.{Setup};
-ghost use Rattle.depot_simulation.specs.Playing.{IsSimulationAt};
+ghost use Rattle.std.specs.Prelude.{◌≡◌, option_copied, option_and_then};
+ghost use Rattle.depot_world.specs.Run.{bytes_of, own_update, plain_referred, referred, signed_of, host_in};
+ghost use Rattle.depot_simulation.specs.EachRun.{OfEachRun};
+ghost use Rattle.depot_simulation.specs.Doing.{place_in};
 
 use crate::actor::Actor;
 use crate::participant::Participant;
@@ -27,28 +27,28 @@ pub struct Simulation<A: Actor> {
 impl<A: Actor> Simulation<A> {
     /// The place of the first node with this number, from 0. It takes no memory.
     pub fn place_of(&self, node: NodeId) -> Option<usize>
-        ensures { result ≡ position (λ p. (A.view p.actor).here.me == node) self.now.participants.items }
+        ensures { result ≡ place_in A.view node self.now.participants.items }
     {
         place_of(self.participants.as_slice(), node)
     }
 
     /// The bytes of a label. It takes no memory.
     pub fn bytes_of(&self, label: &Label) -> &[u8]
-        ensures { (setup : Setup) (run : Run) → IsSimulationAt A.view A.Reader.reads setup run self.now → result.now ≡ bytes_of run label.now }
+        ensures { OfEachRun A.view A.Reader.reads self.now (λ setup run. result.now ≡ bytes_of run label.now) }
     {
         self.labels.bytes(label)
     }
 
     /// The signed statement of a label, if it names one. It takes no memory.
     pub fn signed_of(&self, label: &Label) -> Option<&Signed>
-        ensures { (setup : Setup) (run : Run) → IsSimulationAt A.view A.Reader.reads setup run self.now → option_copied result ≡ signed_of run label.now }
+        ensures { OfEachRun A.view A.Reader.reads self.now (λ setup run. option_copied result ≡ signed_of run label.now) }
     {
         self.labels.signed(label)
     }
 
     /// The bytes that a reference names by a plain label, if it does. It takes no memory.
     pub fn plain_referred(&self, r: &Ref) -> Option<&[u8]>
-        ensures { (setup : Setup) (run : Run) → IsSimulationAt A.view A.Reader.reads setup run self.now → option_copied result ≡ plain_referred run r.now }
+        ensures { OfEachRun A.view A.Reader.reads self.now (λ setup run. option_copied result ≡ plain_referred run r.now) }
     {
         match r {
             Ref::Label(label) => self.labels.plain(label),
@@ -58,7 +58,7 @@ impl<A: Actor> Simulation<A> {
 
     /// The update that a reference names, if it names one. It takes no memory.
     pub fn referred(&self, r: &Ref) -> Option<&Update>
-        ensures { (setup : Setup) (run : Run) → IsSimulationAt A.view A.Reader.reads setup run self.now → option_copied result ≡ referred run r.now }
+        ensures { OfEachRun A.view A.Reader.reads self.now (λ setup run. option_copied result ≡ referred run r.now) }
     {
         match r {
             Ref::Label(label) => self.labels.update(label),
@@ -68,7 +68,7 @@ impl<A: Actor> Simulation<A> {
 
     /// A node's own update with this number, if it has one.
     fn own_update(&self, node: NodeId, seq: u32) -> Option<&Update>
-        ensures { (setup : Setup) (run : Run) → IsSimulationAt A.view A.Reader.reads setup run self.now → option_copied result ≡ option_and_then (λ s. own_update s.correct.journal seq) (host_in run.hosts node) }
+        ensures { OfEachRun A.view A.Reader.reads self.now (λ setup run. option_copied result ≡ option_and_then (λ s. own_update s.correct.journal seq) (host_in run.hosts node)) }
     {
         let place = self.place_of(node)?;
         self.participants[place].actor.own_update(seq)

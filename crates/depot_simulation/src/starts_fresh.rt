@@ -1,8 +1,7 @@
 //! How a correct node begins.
-ghost use Rattle.std.specs.Prelude.{◌≡◌, [], ◌∷◌, Some, None, IfOk};
-ghost use Rattle.depot_base.specs.declared.record.Record.TheVariants.{Birth};
+ghost use Rattle.std.specs.Prelude.{◌≡◌, Some, IfOk};
 ghost use Rattle.depot_model.specs.Roster.{key_of};
-ghost use Rattle.depot_model.specs.Texts.{hash_of_roster};
+ghost use Rattle.depot_simulation.specs.Acting.{fresh_view};
 
 use crate::actor::Actor;
 use depot_base::{Memory, NodeId};
@@ -21,5 +20,5 @@ pub trait StartsFresh<S: Scheme, G: Signer>: Actor {
         node: NodeId,
     ) -> Result<Self, Memory>
         requires { key_of roster.now node ≡ Some (G.key_of signer) }
-        ensures { IfOk result (λ a. Self.view a ≡ record { here = record { verifies = S.verifies; me = node; listed = roster.now }; sign = G.signature_of signer; journal = Birth node (hash_of_roster roster.now) ∷ []; pending = None }) };
+        ensures { IfOk result (λ a. Self.view a ≡ fresh_view S.verifies roster.now node (G.signature_of signer)) };
 }

@@ -3,18 +3,19 @@ ghost use Rattle.std.specs.Prelude.{◌≡◌, ◌<◌, ◌^◌, ◌∷◌, [], 
 ghost use Rattle.depot_model.specs.Journal.{update_in};
 ghost use Rattle.depot_model.specs.Own.{values_of};
 ghost use Rattle.depot_model.specs.Texts.{IsSigned, IsUpdate};
-ghost use Rattle.depot_schedule.specs.EventLines.{event_changes, event_label, event_node};
+ghost use Rattle.depot_schedule.specs.EventLines.{event_label};
 ghost use Rattle.depot_schedule.specs.EventWords.{is_declared};
-ghost use Rattle.depot_world.specs.Run.{Run, seen_with};
+ghost use Rattle.depot_world.specs.Run.{seen_with};
 ghost use Rattle.depot_world.specs.FaultySigning.{update_text};
-ghost use Rattle.depot_world.specs.Setups.{Setup, signs_on};
+ghost use Rattle.depot_world.specs.Setups.{signs_on};
 ghost use Rattle.depot_world.specs.Transcript.{done};
-ghost use Rattle.depot_scenario.specs.Scenarios.{IsScenarioOf, IsSomeScenario, MayHappen};
-ghost use Rattle.depot_simulation.specs.Doing.{HasDone, is_signing, signed_text, update_by, with_update};
+ghost use Rattle.depot_scenario.specs.Scenarios.{IsSomeScenario, MayHappen};
+ghost use Rattle.depot_simulation.specs.Doing.{is_signing, signed_text, signing_by, update_by, with_update};
 ghost use Rattle.depot_simulation.specs.Drafts.{HasLeaf, IsNumbered};
-ghost use Rattle.depot_simulation.specs.Playing.{IsSimulationAt, IsPlayed, WereSeen};
+ghost use Rattle.depot_simulation.specs.Playing.{IsPlayed, WereSeen};
 ghost use Rattle.depot_scenario.specs.KnownUpdates.{HasSeenParents};
 ghost use Rattle.depot_scenario.specs.ScenarioTexts.{IsText};
+ghost use Rattle.depot_simulation.specs.EachRun.{GoesTo, MakesOn, OfEachSetupOn, SimulatesOn};
 
 use crate::actor::Actor;
 use crate::simulation::Simulation;
@@ -40,7 +41,7 @@ impl<A: Actor> Simulation<A> {
         requires scenario { IsSomeScenario S.verifies G.key_of G.signature_of scenario.now }
         requires may { MayHappen scenario.now.height scenario.now.members.now event.now }
         requires played { IsPlayed A.view A.Reader.reads self.old }
-        ensures { IfOk result (λ lines. (setup : Setup) (run : Run) → IsScenarioOf S.verifies G.key_of G.signature_of setup scenario.now → IsSimulationAt A.view A.Reader.reads setup run self.old → HasDone A A.view A.Reader.reads setup (done setup run event.now) lines self.new) }
+        ensures { IfOk result (λ lines. SimulatesOn S.verifies G.key_of G.signature_of scenario.now A.view A.Reader.reads self.old (λ setup run. done setup run event.now) lines self.new) }
     {
         let text = self.signed(scenario, event)?;
         let lines = self.labels.give(label, text)?;
@@ -57,8 +58,8 @@ impl<A: Actor> Simulation<A> {
         requires scenario { IsSomeScenario S.verifies G.key_of G.signature_of scenario.now }
         requires may { MayHappen scenario.now.height scenario.now.members.now event.now }
         requires played { IsPlayed A.view A.Reader.reads self.old }
-        ensures is { IfOk result (λ text. (setup : Setup) (run : Run) → IsScenarioOf S.verifies G.key_of G.signature_of setup scenario.now → IsSimulationAt A.view A.Reader.reads setup run self.old → IsText text (signed_text (signs_on setup (event_node event.now)) (event_changes event.now) (update_by setup run event.now))) }
-        ensures at { OnOk result ((setup : Setup) (run : Run) → IsSimulationAt A.view A.Reader.reads setup run self.old → IsSimulationAt A.view A.Reader.reads setup (with_update run (update_by setup run event.now)) self.new) }
+        ensures is { IfOk result (λ text. MakesOn S.verifies G.key_of G.signature_of scenario.now A.view A.Reader.reads self.old (λ setup run. signing_by setup run event.now) text) }
+        ensures at { OnOk result (GoesTo A.view A.Reader.reads self.old (λ setup run. with_update run (update_by setup run event.now)) self.new) }
         ensures fits { IfOk result (λ text. IfSome text.signed IsSigned) }
         ensures were { IfOk result (λ text. IfSome text.signed (λ s. WereSeen (⟦<Graph as Past>⟧.updates self.new.seen.graph) (update_in s.statement))) }
     {
@@ -125,8 +126,8 @@ impl<A: Actor> Simulation<A> {
         requires numbered { IfSome made (λ u. IsNumbered writer seq u) }
         requires leaf { HasLeaf scenario.now.height scenario.now.members.now writer seq }
         requires scenario { IsSomeScenario S.verifies G.key_of G.signature_of scenario.now }
-        ensures is { IfOk result (λ text. (setup : Setup) → IsScenarioOf S.verifies G.key_of G.signature_of setup scenario.now → IsText text (signed_text (signs_on setup writer) changes.now made)) }
-        ensures at { OnOk result ((setup : Setup) (run : Run) → IsSimulationAt A.view A.Reader.reads setup run self.old → IsSimulationAt A.view A.Reader.reads setup (with_update run made) self.new) }
+        ensures is { IfOk result (λ text. OfEachSetupOn S.verifies G.key_of G.signature_of scenario.now (λ setup. IsText text (signed_text (signs_on setup writer) changes.now made))) }
+        ensures at { OnOk result (GoesTo A.view A.Reader.reads self.old (λ setup run. with_update run made) self.new) }
         ensures fits { IfOk result (λ text. IfSome text.signed IsSigned) }
         ensures were { IfOk result (λ text. IfSome text.signed (λ s. WereSeen (⟦<Graph as Past>⟧.updates self.new.seen.graph) (update_in s.statement))) }
     {
@@ -148,7 +149,7 @@ impl<A: Actor> Simulation<A> {
         requires declared { is_declared scenario.now.members.now update.writer ≡ true }
         requires leaf { update.seq < 2 ^ scenario.now.height }
         requires scenario { IsSomeScenario S.verifies G.key_of G.signature_of scenario.now }
-        ensures is { IfOk result (λ text. (setup : Setup) → IsScenarioOf S.verifies G.key_of G.signature_of setup scenario.now → IsText text (update_text (signs_on setup update.writer) update (values_of changes.now))) }
+        ensures is { IfOk result (λ text. OfEachSetupOn S.verifies G.key_of G.signature_of scenario.now (λ setup. IsText text (update_text (signs_on setup update.writer) update (values_of changes.now)))) }
         ensures participants { self.new.participants ≡ self.old.participants }
         ensures labels { self.new.labels ≡ self.old.labels }
         ensures readers { self.new.readers ≡ self.old.readers }

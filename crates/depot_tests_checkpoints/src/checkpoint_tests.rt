@@ -6,8 +6,7 @@ use crate::messages::{
     text,
 };
 use depot_base::{Bytes, Hash32, Key, Value};
-use depot_decide::PutDone;
-use depot_model::{HelloLeaf, Replica};
+use depot_model::{HelloLeaf, PutDone, Replica};
 use depot_trim::{
     CheckpointError, MakeError, checkpoint_key, decode_checkpoint, encode_checkpoint,
     make_checkpoint, sign_checkpoint,

@@ -1,15 +1,34 @@
 //! What stands at a place of a stream.
 
 use crate::messages::{SENT, text};
+use depot_base::FrameTag;
 use depot_gossip::{FrameAt, frame_at};
 use std::test::Fail;
 
 /// Places of what node 1 sends, and what stands there: the first statement, its value, End, the end of the stream, the length of the
 /// first statement.
 static PLACES: [(usize, FrameAt); 5] = [
-    (0, FrameAt::Frame { tag: 2, end: 165 }),
-    (165, FrameAt::Frame { tag: 3, end: 171 }),
-    (624, FrameAt::Frame { tag: 4, end: 630 }),
+    (
+        0,
+        FrameAt::Frame {
+            tag: FrameTag::Statement,
+            end: 165,
+        },
+    ),
+    (
+        165,
+        FrameAt::Frame {
+            tag: FrameTag::Value,
+            end: 171,
+        },
+    ),
+    (
+        624,
+        FrameAt::Frame {
+            tag: FrameTag::End,
+            end: 630,
+        },
+    ),
     (630, FrameAt::Open),
     (1, FrameAt::Ill),
 ];

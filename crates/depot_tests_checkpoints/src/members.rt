@@ -3,7 +3,7 @@ ghost use Rattle.std.specs.Prelude.{◌≡◌, IfOk};
 
 use crate::messages::node;
 use depot_base::{Bytes, Hash32, Items};
-use depot_model::Replica;
+use depot_model::NodeState;
 use depot_node::Node;
 use depot_outside::MemDisk;
 use depot_sign::{PlainScheme, PlainSigner, Roster};
@@ -15,7 +15,7 @@ pub type Plain = Node<MemDisk, PlainScheme, PlainSigner>;
 
 /// The node of this number, started on a new disk.
 pub fn started(alloc: Global, roster: &Roster, number: u8) -> Result<Plain, Fail>
-    ensures { IfOk result (λ n. (⟦<Plain as Replica>⟧.stands n).listed ≡ roster.now) }
+    ensures { IfOk result (λ n. (⟦<Plain as NodeState>⟧.stands n).listed ≡ roster.now) }
 {
     let disk = MemDisk::new(Bytes::new(alloc), Items::new(alloc));
     let signer = PlainSigner::from_seed(alloc, &Hash32::new([number; 32]), 4);

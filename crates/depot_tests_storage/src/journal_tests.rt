@@ -1,6 +1,6 @@
 //! A journal on a disk in memory, whose calls fail one by one; files that are good, cut and damaged.
 
-use depot_base::{Bytes, Full, FullOf, Items, Memory};
+use depot_base::{Bytes, Items, Memory};
 use depot_journal::*;
 use depot_outside::MemDisk;
 use std::alloc::Global;
@@ -93,11 +93,11 @@ fn texts_of(alloc: Global, texts: &[&[u8]]) -> Result<Vec<Bytes>, Memory> {
     Ok(made)
 }
 
-/// Appends the three records, for which memory is found before.
+/// Appends the three records, the last in two parts; memory is found for them before.
 fn fill(alloc: Global, journal: &mut Journal<MemDisk>) -> Result<(), Fail> {
     journal.reserve(3, 4)?;
-    let texts = texts_of(alloc, &TEXTS)?;
-    Ok(journal.append_all(&texts)?)
+    let texts = texts_of(alloc, &[b"a", b"", b"bc"])?;
+    Ok(journal.append_all(&texts, b"d")?)
 }
 
 /// The text of the record at a place.
@@ -118,9 +118,9 @@ fn has_three(journal: &Journal<MemDisk>) -> bool {
         && journal.count() == 3
 }
 
-/// Whether an append of no records leaves a journal as it is.
+/// Whether an append of no records, but for a rest, leaves a journal as it is.
 fn takes_nothing(journal: &mut Journal<MemDisk>) -> bool {
-    journal.append_all(&[]) == Ok(()) && has_three(journal) && !journal.is_stopped()
+    journal.append_all(&[], b"a") == Ok(()) && has_three(journal) && !journal.is_stopped()
 }
 
 /// Whether the disk has the file of the three records, and a start finds them.
@@ -134,22 +134,12 @@ fn is_read_again(alloc: Global, disk: MemDisk) -> bool {
     }
 }
 
-/// Whether a journal has room for 131,072 records, and no more.
-fn has_room(journal: &Journal<MemDisk>) -> bool {
-    let full = Full {
-        what: FullOf::Records,
-        number: 0,
-    };
-    journal.room(131_072, 0) == Ok(()) && journal.room(131_073, 0) == Err(full)
-}
-
-/// Appends the three records to a journal that has room for them, and then none.
+/// Appends the three records to a journal, and then none.
 fn fill_and_add_none(
     rt: &impl Abort,
     alloc: Global,
     journal: &mut Journal<MemDisk>,
 ) -> Result<(), Fail> {
-    assert!(rt; has_room(journal));
     fill(alloc, journal)?;
     assert!(rt; takes_nothing(journal));
     Ok(())
@@ -166,12 +156,12 @@ fn records_are_written_and_read_again(rt: HostRuntime) -> Result<(), Fail> {
 
 /// Whether an append fails on the disk, and stops the journal.
 fn stops(journal: &mut Journal<MemDisk>, texts: &[Bytes]) -> bool {
-    journal.append_all(texts) == Err(AppendError::Disk) && journal.is_stopped()
+    journal.append_all(texts, b"") == Err(AppendError::Disk) && journal.is_stopped()
 }
 
 /// Whether the journal is stopped, and answers so.
 fn is_stopped(journal: &mut Journal<MemDisk>, texts: &[Bytes]) -> bool {
-    journal.append_all(texts) == Err(AppendError::Stopped) && journal.is_stopped()
+    journal.append_all(texts, b"") == Err(AppendError::Stopped) && journal.is_stopped()
 }
 
 /// Whether an append stops the journal, and the next one is answered so.

@@ -1,8 +1,9 @@
 -- What the commands of a script ask for: the keys that they read, and which of them are carried out.
-use Rattle.std.specs.Prelude.{ℕ, List, [], ◌∷◌, Option, Some, None}
+use Rattle.std.specs.Prelude.{◌≡◌, ℕ, List, [], ◌∷◌, ◌++◌, map, Option, Some, None}
 use Rattle.std.specs.List.{flat_map}
 use Rattle.depot_model.specs.Bundle.{Signs}
 use Rattle.depot_model.specs.Checks.{Setting}
+use Rattle.depot_model.specs.World.{Read}
 use Rattle.depot_script.specs.declared.command.Command.{Command}
 use Rattle.depot_script.specs.declared.command.Command.TheVariants as command
 use Rattle.depot_session.specs.declared.ending.Ending.{Ending}
@@ -16,6 +17,10 @@ key_got other = []
 -- the keys that commands read, in their order
 abbrev pub keys_got : List Command → List (List ℕ)
 keys_got cs = flat_map key_got cs
+
+-- Behind the reads that the node had made in the one session it has made those of these keys in the other.
+abbrev pub ReadsMore : Session → Session → List (List ℕ) → Type 0
+ReadsMore before after keys = map (λ (r : Read). r.key) after.correct.reads ≡ map (λ (r : Read). r.key) before.correct.reads ++ keys
 
 -- what is carried out behind a command that ends the run, or doesn't
 abbrev pub going_on : Option Ending → List Command → List Command

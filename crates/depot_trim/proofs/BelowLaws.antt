@@ -3,7 +3,7 @@ use Rattle.std.proofs.Common.{◌≡◌, ◌∙◌, ℕ, ◌+◌, ◌<◌, ◌^�
 use Rattle.std.specs.Prelude.{slice_get}
 use Rattle.std.specs.List.{filter, list_any}
 use Rattle.std.specs.Option.{option_to_list}
-use Rattle.std.proofs.lemmas.Bool.{eq-eqb, and_parts, false_from_ne_true}
+use Rattle.std.proofs.lemmas.Bool.{eq-eqb, false_from_ne_true}
 use Rattle.std.proofs.lemmas.Bool.Decides.{nat_tests}
 use Rattle.std.proofs.lemmas.List.{append-nil, length-append, length-map}
 use Rattle.depot_base.specs.declared.record.Record.{Record}
@@ -17,7 +17,7 @@ use Rattle.depot_model.specs.Items.{place_of_id, updates_at}
 use Rattle.depot_model.specs.Journal.{accepted, has_id}
 use Rattle.depot_model.specs.LatestList.{latest_in}
 use Rattle.depot_model.specs.Lawful.{IsLawful}
-use Rattle.depot_model.specs.Lists.{IsIn, is_one_of}
+use Rattle.depot_model.specs.Lists.{IsIn}
 use Rattle.depot_model.specs.Order.{IsCausal, Precedes, AreLatestIn, parents}
 use Rattle.depot_model.specs.Texts.{id_of_update}
 use Rattle.depot_model.specs.Trimming.{below, is_latest_below, is_trimmed, trimmed}
@@ -27,6 +27,7 @@ use Rattle.depot_model.proofs.LatestWrites.{latest_are_listed}
 use Rattle.depot_model.proofs.Members.{in_left, in_last, from_map, in_map, from_filter, in_filter, any_from, any_to}
 use Rattle.depot_model.proofs.NamedIds.{has_id_from, has_id_to}
 use Rattle.depot_model.proofs.Orders.{one_of_id, parent_precedes, causal_front, causal_push, parents_of_last}
+use Rattle.depot_graph.proofs.Front.{apart}
 use Rattle.depot_graph.proofs.ItemPlaces.{has_place, has_no_place, own_place}
 use Rattle.depot_laws.proofs.Causes.{lawful_is_causal}
 use Rattle.depot_laws.proofs.PrunedReadings.{filter_both}
@@ -34,7 +35,7 @@ use Rattle.depot_laws.proofs.Splits.{from_end, flat_gives, given_by}
 use Rattle.depot_laws.proofs.Superseded.{below_closed}
 use Rattle.depot_laws.proofs.Worlds.{giver_in}
 use Rattle.depot_trim.specs.Trimmings.{is_given_up_below, given_up}
-use Rattle.depot_trim.proofs.ReaderReads.{has_id_filter, twice}
+use Rattle.depot_trim.proofs.ReaderReads.{has_id_filter}
 use Rattle.depot_trim.proofs.SoFar.{filter_next, halves, take_next}
 
 -- ---- what is below fits
@@ -60,7 +61,7 @@ causal_left test = from_end (λ (us : List Update). IsCausal [] us → IsClosedT
               inr (subst (λ (k : List ℕ). IsIn k (map id_of_update (filter test us))) t.1.1 (in_map id_of_update t.0 (filter test us) (in_filter test t.0 us t.1.0 passes)))
         ])
         (λ never. never)
-        (λ on. let t = from_map id_of_update (id_of_update u) (filter test us) on in twice [] us (u ∷ []) t.0 u c (from_filter test t.0 us t.1.0).0 (inl refl) t.1.1)
+        (λ on. let t = from_map id_of_update (id_of_update u) (filter test us) on in apart [] us (u ∷ []) t.0 u c (from_filter test t.0 us t.1.0).0 (inl refl) t.1.1)
 
 -- what is below fits behind one another
 pub below_fits : (here : Setting) (J : List Record) (ids : List (List ℕ)) (us : List Update) → IsLawful here J → accepted J ≡ us → IsCausal [] (filter (is_covered us ids) us)

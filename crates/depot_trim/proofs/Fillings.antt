@@ -1,7 +1,6 @@
 -- A reader's state is filled with one record more.
-use Rattle.std.proofs.Common.{◌≡◌, ◌∙◌, ℕ, ◌+◌, ◌<◌, Bool, true, false, cond, List, [], ◌∷◌, ◌++◌, length, map, take, drop, Some, refl, sym, ap, subst, arith, inl}
+use Rattle.std.proofs.Common.{◌≡◌, ◌∙◌, ℕ, ◌+◌, ◌<◌, Bool, cond, List, [], ◌∷◌, ◌++◌, length, map, take, drop, Some, refl, sym, ap, subst, arith, inl}
 use Rattle.std.specs.Prelude.{slice_get}
-use Rattle.std.specs.List.{flat_map}
 use Rattle.std.proofs.lemmas.Grind.{flat_map-append}
 use Rattle.std.proofs.lemmas.List.{length-map, map-append}
 use Rattle.std.proofs.lemmas.Option.{slice_get_within}
@@ -9,7 +8,6 @@ use Rattle.depot_base.specs.declared.key.RosterEntry.{RosterEntry}
 use Rattle.depot_base.specs.declared.record.Record.{Record}
 use Rattle.depot_base.specs.declared.record.Record.TheVariants.{OwnPut, Foreign}
 use Rattle.depot_base.specs.declared.statement.Signed.{Signed}
-use Rattle.depot_base.specs.declared.statement.Statement.{Statement}
 use Rattle.depot_base.specs.declared.statement.Statement.TheVariants as statements
 use Rattle.depot_base.specs.declared.update.Update.{Update}
 use Rattle.depot_base.specs.declared.voucher.Voucher.{Voucher}
@@ -20,7 +18,7 @@ use Rattle.depot_model.specs.Lawful.{IsLawful}
 use Rattle.depot_model.specs.Lists.{IsIn}
 use Rattle.depot_model.specs.Order.{IsCausal}
 use Rattle.depot_model.specs.Pruning.{pruned_statement, pruned_by, pruned}
-use Rattle.depot_model.specs.Records.{IsRecord, text_of_record}
+use Rattle.depot_model.specs.Records.{text_of_record}
 use Rattle.depot_model.specs.Roster.{Verifies}
 use Rattle.depot_model.specs.Texts.{IsUpdate, id_of_update}
 use Rattle.depot_base.proofs.MembershipLaws.{in_right}
@@ -28,8 +26,8 @@ use Rattle.depot_laws.proofs.OwnTexts.{accepted_fit}
 use Rattle.depot_laws.proofs.PrunedReadings.{accepted_same, foreign_left, is_left}
 use Rattle.depot_laws.proofs.Splits.{accepted_push, lawful_front}
 use Rattle.depot_accept.specs.StateView.{View, IsStateOf, setting}
-use Rattle.depot_store.proofs.BoundLaws.{few_updates, few_statements}
-use Rattle.depot_store.proofs.StateGrowth.{fits_behind}
+use Rattle.depot_readings.proofs.BoundLaws.{few_updates, few_statements}
+use Rattle.depot_readings.proofs.StateGrowth.{fits_behind}
 use Rattle.depot_trim.specs.Trimmings.{given_up, IsFilling}
 use Rattle.depot_trim.proofs.SoFar.{halves, map_at, take_next}
 

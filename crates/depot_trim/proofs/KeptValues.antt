@@ -1,9 +1,9 @@
 -- The values that are kept: those that are held and wanted, by their hash and length.
-use Rattle.std.proofs.Common.{◌≡◌, ◌∙◌, ℕ, Bool, true, false, cond, eqb, ◌||◌, ◌&&◌, List, [], ◌∷◌, ◌++◌, length, Option, Some, None, Result, Ok, Err, arith, refl, sym, ap, subst, inl, inr, ◌⊎◌}
+use Rattle.std.proofs.Common.{◌≡◌, ◌∙◌, ℕ, Bool, true, false, cond, eqb, ◌||◌, List, [], ◌∷◌, ◌++◌, length, Option, Some, None, Result, Ok, Err, arith, refl, sym, ap, subst, inl, inr}
 use Rattle.std.specs.Prelude.{◌≢◌, IsSome, OnOk, option_and_then}
 use Rattle.std.specs.List.{filter, flat_map, list_any}
 use Rattle.std.specs.Str.{bytes_eq}
-use Rattle.std.proofs.lemmas.Bool.{and_parts, and_from, both_ways, or_left, or_right, or_cases, eq-eqb, false_from_ne_true}
+use Rattle.std.proofs.lemmas.Bool.{and_parts, and_from, both_ways, or_left, or_right, eq-eqb, false_from_ne_true}
 use Rattle.std.proofs.lemmas.Bool.Decides.{nat_tests}
 use Rattle.std.proofs.lemmas.List.Folds.{list_any-append}
 use Rattle.std.proofs.lemmas.Slice.Eq.{bytes_eq-Decides}
@@ -23,7 +23,7 @@ use Rattle.depot_model.specs.Lists.{IsIn, is_among, when}
 use Rattle.depot_model.specs.Readers.{is_named_by}
 use Rattle.depot_model.proofs.Members.{among-append}
 use Rattle.depot_laws.proofs.WantedValues.{value_fits}
-use Rattle.depot_store.specs.Named.{is_named}
+use Rattle.depot_readings.specs.Named.{is_named}
 use Rattle.depot_trim.specs.Trimmings.{held_of, kept_of}
 
 -- ---- one name more
@@ -198,10 +198,6 @@ none_wanted held h = by_value (value_with h held) where
   by_value : (o : Option (List ℕ)) → None ≡ option_and_then (λ v. when false v) o
   by_value None = refl
   by_value (Some v) = refl
-
-pub or_assoc : (a b c : Bool) → ((a || b) || c) ≡ (a || (b || c))
-or_assoc true b c = refl
-or_assoc false b c = refl
 
 -- ---- the wants of one update more
 

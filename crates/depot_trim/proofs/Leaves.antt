@@ -24,6 +24,7 @@ use Rattle.depot_laws.proofs.FewLeaves.{few_leaves}
 use Rattle.depot_laws.proofs.HelloTexts.{byte_fits, hello_fits}
 use Rattle.depot_laws.proofs.LeafCounts.{leaves_push}
 use Rattle.depot_laws.proofs.Splits.{lawful_from_end}
+use Rattle.depot_readings.proofs.VoucherRecords.{none_left}
 
 -- ---- there are some
 
@@ -78,12 +79,8 @@ named_long J leaves told = ap length told ∙ length-map (by_id (leaves_of (acce
 pub named_few : (here : Setting) (J : List Record) (leaves : List HelloLeaf) → IsLawful here J → leaves ≡ leaves_named J → length leaves ≤ 4097
 named_few here J leaves l told = omega (arith, named_long J leaves told, few_leaves here J l)
 
-none_long : {X : Type 0} (xs : List X) → length xs ≡ 0 → xs ≡ []
-none_long [] e = refl
-none_long (x ∷ xs) e = absurd (omega (arith, e))
-
 none_named : (here : Setting) (J : List Record) (leaves : List HelloLeaf) → IsLawful here J → leaves ≡ leaves_named J → length leaves ≡ 0 → accepted J ≡ []
-none_named here J leaves l told none = some_leaf here J l (none_long _ (sym (named_long J leaves told) ∙ none))
+none_named here J leaves l told none = some_leaf here J l (none_left _ (sym (named_long J leaves told) ∙ none))
 
 -- where there is a leaf, something was accepted
 some_accepted : (us : List Update) → 1 ≤ length (leaves_of us) → eqb (length us) 0 ≡ false

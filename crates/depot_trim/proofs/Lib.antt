@@ -6,7 +6,6 @@ mod SoFar
 mod ReaderReads
 mod ReaderValues
 mod Signers
-mod BelowRows
 mod BelowLaws
 mod Fillings
 mod MadeReaders

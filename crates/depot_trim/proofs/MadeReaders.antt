@@ -1,7 +1,6 @@
 -- A reader is made, or why it isn't.
-use Rattle.std.proofs.Common.{◌≡◌, ◌∙◌, ℕ, Bool, false, not, List, [], ◌++◌, map, Option, Some, None, Result, Ok, Err, refl, sym, ap, subst}
-use Rattle.std.specs.Prelude.{find, option_map}
-use Rattle.std.specs.List.{filter, list_any}
+use Rattle.std.proofs.Common.{◌≡◌, ◌∙◌, ℕ, false, List, [], map, Option, Some, None, Err, refl, sym, ap}
+use Rattle.std.specs.List.{filter}
 use Rattle.std.proofs.lemmas.List.{append-nil}
 use Rattle.depot_base.specs.declared.key.RosterEntry.{RosterEntry}
 use Rattle.depot_base.specs.declared.record.Record.{Record}
@@ -11,20 +10,19 @@ use Rattle.depot_model.specs.Journal.{accepted, held, value_with}
 use Rattle.depot_model.specs.Lawful.{IsLawful, is_empty}
 use Rattle.depot_model.specs.Opening.{Opened, opened, opened_text}
 use Rattle.depot_model.specs.Pruning.{pruned}
-use Rattle.depot_model.specs.Readers.{TrimAnswer, unsigned, reading, reader_of, left_of, is_named_by, kept, unsigned_node, trimmed_unless, trimmed_as, trim_of}
+use Rattle.depot_model.specs.Readers.{unsigned, reading, reader_of, left_of, is_named_by, kept, unsigned_node, trimmed_unless, trimmed_as, trim_of}
 use Rattle.depot_model.specs.Roster.{Verifies}
 use Rattle.depot_model.specs.Trimming.{is_signed_by, trimmed}
 use Rattle.depot_accept.specs.StateView.{IsStateOf, setting}
-use Rattle.depot_store.specs.Counts.{AreCountsOf}
-use Rattle.depot_store.specs.Named.{AreNamed}
+use Rattle.depot_readings.specs.Counts.{AreCountsOf}
+use Rattle.depot_readings.specs.Named.{AreNamed}
 use Rattle.depot_values.specs.Values as values
 use Rattle.depot_trim.specs.Opens.{Opens}
 use Rattle.depot_trim.specs.ReaderAnswers.{Trims}
 use Rattle.depot_trim.specs.ReaderView.{mark_of, IsReaderOf}
-use Rattle.depot_trim.specs.Trimmings.{signs_as, as_untrimmed}
+use Rattle.depot_trim.specs.Trimmings.{first_unsigned, as_untrimmed}
 use Rattle.depot_trim.specs.declared.opening.OpenError.{OpenError}
 use Rattle.depot_trim.specs.declared.opening.OpenError.TheVariants as open_error
-use Rattle.depot_trim.specs.declared.trim_error.TrimError.TheVariants as refused
 use Rattle.depot_trim.specs.declared.trimmed.Trimmed.{Trimmed}
 
 -- ---- why it isn't
@@ -42,11 +40,10 @@ untrimmed S verifies here J text (open_error.Unknown id) o = trim_from here J te
 
 -- the first that didn't sign, by the updates
 pub unsigned_is : (here : Setting) (J : List Record) (text : List ℕ) (ids : List (List ℕ)) (us : List Update) (nodes : List RosterEntry) (o : Option ℕ) → accepted J ≡ us → here.listed ≡ nodes
-    → o ≡ option_map (λ e. e.node) (find (λ e. not (list_any (signs_as us text ids e.node) us)) nodes) → unsigned_node here J text ids ≡ o
+    → o ≡ first_unsigned us text ids nodes → unsigned_node here J text ids ≡ o
 unfolding unsigned_node is_signed_by
 unsigned_is here J text ids us nodes o is listed found =
-    ap (λ (es : List RosterEntry). option_map (λ e. e.node) (find (λ e. not (list_any (signs_as (accepted J) text ids e.node) (accepted J))) es)) listed
-    ∙ ap (λ (xs : List Update). option_map (λ e. e.node) (find (λ e. not (list_any (signs_as xs text ids e.node) xs)) nodes)) is ∙ sym found
+    ap (λ (es : List RosterEntry). first_unsigned (accepted J) text ids es) listed ∙ ap (λ (xs : List Update). first_unsigned xs text ids nodes) is ∙ sym found
 
 -- a node didn't sign it
 pub is_unsigned : (here : Setting) (J : List Record) (text : List ℕ) (ids : List (List ℕ)) (node : ℕ) → opened_text here J text ≡ opened ids → unsigned_node here J text ids ≡ Some node → trim_of here J text ≡ unsigned node

@@ -13,7 +13,7 @@ use Rattle.std.proofs.lemmas.List.{length-take-le, map-append}
 use Rattle.std.proofs.lemmas.List.Folds.{list_any-append}
 use Rattle.std.proofs.lemmas.Map.Text.{is_eq-slice_cmp}
 use Rattle.std.proofs.lemmas.Slice.Eq.{bytes_eq-Decides}
-use Rattle.depot_base.proofs.GeneralLaws.{is_eq-nat_cmp, is_eq-then, take_next}
+use Rattle.depot_base.proofs.GeneralLaws.{is_eq-nat_cmp, is_eq-then, same_test, take_next}
 use Rattle.depot_base.specs.declared.statement.Statement.{Statement}
 use Rattle.depot_base.specs.declared.statement.Statement.TheVariants as statement
 use Rattle.depot_base.specs.declared.update.Dep.{Dep}
@@ -68,19 +68,13 @@ one_name (name.Id g) (name.Number v l) e = absurd cc
 one_name (name.Id g) (name.Prev v h) e = absurd cc
 one_name (name.Id g) (name.Id h) e = let ids : g ≡ h = (bytes_eq-Decides g h).0 e in cc
 
--- two tests of which each one passes where the other does
-both_pass : (a b : Bool) → (a ≡ true → b ≡ true) → (b ≡ true → a ≡ true) → a ≡ b
-both_pass true b there back = sym (there refl)
-both_pass false true there back = back refl
-both_pass false false there back = refl
-
 same_name-refl : (m : Name) → same_name m m ≡ true
 same_name-refl (name.Number w n) = and_from (eqb w w) (eqb n n) (eq-eqb w w refl) (eq-eqb n n refl)
 same_name-refl (name.Prev w h) = and_from (eqb w w) (bytes_eq h h) (eq-eqb w w refl) ((bytes_eq-Decides h h).1 refl)
 same_name-refl (name.Id h) = (bytes_eq-Decides h h).1 refl
 
 same_either_way : (m k : Name) → same_name m k ≡ same_name k m
-same_either_way m k = both_pass (same_name m k) (same_name k m) (λ e. subst (λ (x : Name). same_name x m ≡ true) (one_name m k e) (same_name-refl m)) (λ e. subst (λ (x : Name). same_name x k ≡ true) (one_name k m e) (same_name-refl k))
+same_either_way m k = same_test (same_name m k) (same_name k m) (λ e. subst (λ (x : Name). same_name x m ≡ true) (one_name m k e) (same_name-refl m)) (λ e. subst (λ (x : Name). same_name x k ≡ true) (one_name k m e) (same_name-refl k))
 
 -- ---- what is found first
 
@@ -111,18 +105,6 @@ name_there old n place there asked = by_test (same_name asked n) refl where
   by_test : (b : Bool) → same_name asked n ≡ b → get name_cmp old asked ≡ option_or (get name_cmp old asked) (when b place)
   by_test true e = one (get name_cmp old asked) (subst (λ (x : Name). is_some (get name_cmp old x) ≡ true) (sym (one_name asked n e)) there)
   by_test false e = or_nothing (get name_cmp old asked)
-
--- a place under the three names of a mark
-pub three_names : (m : Mark) (place : ℕ) (n : Name) (old first second new : Option ℕ) → first ≡ option_or old (when (same_name n (name.Number m.writer m.seq)) place) → second ≡ option_or first (when (same_name n (name.Prev m.writer m.prev)) place)
-    → new ≡ option_or second (when (same_name n (name.Id m.id)) place) → new ≡ option_or old (when (has_name m n) place)
-three_names m place n old first second new one two three =
-    three ∙ ap (λ (o : Option ℕ). option_or o (when (same_name n (name.Id m.id)) place)) (two ∙ ap (λ (o : Option ℕ). option_or o (when (same_name n (name.Prev m.writer m.prev)) place)) one)
-    ∙ by_tests old (same_name n (name.Number m.writer m.seq)) (same_name n (name.Prev m.writer m.prev)) (same_name n (name.Id m.id)) where
-      by_tests : (o : Option ℕ) (a b c : Bool) → option_or (option_or (option_or o (when a place)) (when b place)) (when c place) ≡ option_or o (when ((a || b) || c) place)
-      by_tests (Some x) a b c = refl
-      by_tests None true b c = refl
-      by_tests None false true c = refl
-      by_tests None false false c = refl
 
 -- one more behind the others
 place_behind : {X : Type 0} (test : X → Bool) (xs : List X) (x : X) → first_place test (xs ++ x ∷ []) ≡ option_or (first_place test xs) (when (test x) (length xs))

@@ -1,8 +1,8 @@
 -- A mark is named as its update is, and the first one that is named is that of the first such update.
-use Rattle.std.proofs.Common.{◌≡◌, ℕ, Bool, true, false, cond, ◌||◌, List, [], ◌∷◌, ◌++◌, map, Option, Some, refl, ap, ◌∙◌}
+use Rattle.std.proofs.Common.{◌≡◌, ℕ, Bool, true, false, cond, ◌||◌, List, [], ◌∷◌, map, Option, Some, refl, sym, ap, ◌∙◌}
 use Rattle.std.specs.Prelude.{find, option_map}
 use Rattle.std.specs.Str.{bytes_eq}
-use Rattle.std.specs.List.{list_any}
+use Rattle.std.proofs.lemmas.List.Folds.{list_any-append}
 use Rattle.depot_base.specs.declared.update.Update.{Update}
 use Rattle.depot_base.specs.declared.statement.Statement.{Statement}
 use Rattle.depot_base.specs.declared.statement.Statement.TheVariants as statement
@@ -33,13 +33,6 @@ first_is s (t ∷ ts) =
 
 -- ---- parents
 
-any_behind : {X : Type 0} (test : X → Bool) (xs ys : List X) → (list_any test xs || list_any test ys) ≡ list_any test (xs ++ ys)
-any_behind test [] ys = refl
-any_behind test (x ∷ xs) ys = by_test (test x) (any_behind test xs ys) where
-  by_test : (b : Bool) → (list_any test xs || list_any test ys) ≡ list_any test (xs ++ ys) → ((b || list_any test xs) || list_any test ys) ≡ (b || list_any test (xs ++ ys))
-  by_test true e = refl
-  by_test false e = e
-
 -- the prev's id, or an entry's
 pub parent_is : (h : List ℕ) (u : Update) → (is_among h (prevs u) || is_among h (map (λ d. d.id) u.deps)) ≡ is_among h (parents u)
-parent_is h u = any_behind (bytes_eq h) (prevs u) (map (λ d. d.id) u.deps)
+parent_is h u = sym (list_any-append (bytes_eq h) (prevs u) (map (λ d. d.id) u.deps))

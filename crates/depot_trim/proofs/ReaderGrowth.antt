@@ -18,7 +18,6 @@ use Rattle.depot_model.specs.declared.taken.Taken.TheVariants.{New, Known}
 use Rattle.depot_model.specs.Checks.{Setting, Given, given_statement, given_proof, given_value, opponent, named_opponent, is_kept, answer_to, due, added, exposed, growth_by, growth}
 use Rattle.depot_model.specs.Conviction.{proof_of}
 use Rattle.depot_model.specs.Journal.{accepted, accepted_by, foreign, has_id, is_convicted, is_vouched, update_in}
-use Rattle.depot_model.specs.Lawful.{is_empty}
 use Rattle.depot_model.specs.Lists.{IsIn}
 use Rattle.depot_model.specs.Readers.{Reader, left_of, kept, with_more}
 use Rattle.depot_model.specs.Texts.{id_of_update}
@@ -47,10 +46,6 @@ trimmed_still R new w = record {
   journal = ap (λ (J : List Record). J ++ new) w.journal ∙ append_assoc w.front w.more new;
   trimmed = w.trimmed;
 }
-
-pub some_still : (J new : List Record) → is_empty J ≡ false → is_empty (J ++ new) ≡ false
-some_still [] new e = absurd cc
-some_still (r ∷ J) new e = refl
 
 -- ---- what a growth brings
 

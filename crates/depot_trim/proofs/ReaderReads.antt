@@ -19,34 +19,29 @@ use Rattle.depot_model.specs.Order.{IsCausal, AreLatestIn, IsLatest, Precedes}
 use Rattle.depot_model.specs.Readers.{Reader, left_of, kept}
 use Rattle.depot_model.specs.Roster.{Verifies}
 use Rattle.depot_model.specs.Texts.{id_of_update}
-use Rattle.depot_model.specs.Trimming.{is_trimmed, trimmed}
+use Rattle.depot_model.specs.Trimming.{is_trimmed}
 use Rattle.depot_base.proofs.GeneralLaws.{at_place}
-use Rattle.depot_base.proofs.MembershipLaws.{in_right}
 use Rattle.depot_model.proofs.Elements.{in_at, in_option}
 use Rattle.depot_model.proofs.Members.{from_filter, in_filter}
 use Rattle.depot_model.proofs.NamedIds.{has_id_from, has_id_to, named_is, named_some}
-use Rattle.depot_model.proofs.Orders.{fresh, one_of_id, causal_behind, causal_front}
+use Rattle.depot_model.proofs.Orders.{one_of_id, causal_front}
+use Rattle.depot_graph.proofs.Front.{apart}
 use Rattle.depot_graph.proofs.ItemPlaces.{has_place, has_no_place}
 use Rattle.depot_laws.proofs.Causes.{lawful_is_causal}
 use Rattle.depot_laws.proofs.NeverLatest.{never_latest}
 use Rattle.depot_laws.proofs.PrunedReadings.{accepted_same, filter_both}
-use Rattle.depot_laws.proofs.Splits.{flat_gives, flat_left}
+use Rattle.depot_laws.proofs.Splits.{flat_gives}
 use Rattle.depot_trim.specs.ReaderView.{mark_of, WasTrimmed, IsReaderOf}
 use Rattle.depot_trim.specs.ReaderAnswers.{IsKeptItem}
 use Rattle.depot_trim.specs.declared.marks.Mark.{Mark}
 use Rattle.depot_trim.specs.declared.trimmed.Trimmed.{Trimmed}
+use Rattle.depot_trim.proofs.ReaderGrowth.{trimmed_within}
 
 -- ---- what was accepted, and what was trimmed of it
 
 -- the state has all that was accepted
 pub accepted_is : {S : Type 0} (verifies : Verifies) (R : Reader) (t : Trimmed S) → IsReaderOf verifies R t → accepted R.journal ≡ t.state.accepted
 accepted_is verifies R t r = sym (accepted_same R.trimmed R.journal) ∙ r.state.accepted
-
--- what was trimmed is accepted
-pub trimmed_within : (R : Reader) → WasTrimmed R → (u : Update) → IsIn u R.trimmed → IsIn u (accepted R.journal)
-trimmed_within R w u on =
-    let f = from_filter (is_trimmed w.front w.ids) u (accepted w.front) (subst (λ (us : List Update). IsIn u us) w.trimmed on) in
-    subst (λ (J : List Record). IsIn u (accepted J)) (sym w.journal) (flat_left accepted_by u w.front w.more f.0)
 
 -- an accepted update isn't trimmed where it is a latest write
 latest_is_kept : (R : Reader) (key : List ℕ) (u : Update) → IsLawful R.here R.journal → WasTrimmed R → IsLatest key (λ t. IsIn t (accepted R.journal)) (Precedes (accepted R.journal)) u → IsIn u (kept R)
@@ -73,12 +68,6 @@ items_kept R key ns lawful w latest inside = λ k d low.
     (u.0, (u.1, latest_is_kept R key u.0 lawful w (latest.only u.0 listed)))
 
 -- ---- how many are kept
-
--- no id stands twice
-pub twice : (ids : List (List ℕ)) (us vs : List Update) (t u : Update) → IsCausal ids (us ++ vs) → IsIn t us → IsIn u vs → id_of_update t ≡ id_of_update u → ⊥
-twice ids [] vs t u c never on e = absurd never
-twice ids (x ∷ xs) vs t u c (inl here) on e = fresh (id_of_update x ∷ ids) (xs ++ vs) u (causal_behind ids x (xs ++ vs) c) (in_right u xs vs on) (inl (ap id_of_update here ∙ e))
-twice ids (x ∷ xs) vs t u c (inr there) on e = twice (id_of_update x ∷ ids) xs vs t u (causal_behind ids x (xs ++ vs) c) there on e
 
 filter_alike : {X : Type 0} (f g : X → Bool) (xs : List X) → ((x : X) → IsIn x xs → f x ≡ g x) → filter f xs ≡ filter g xs
 filter_alike f g [] same = refl
@@ -122,7 +111,7 @@ count_left test us vs ts are c =
     let behind : filter left vs ≡ vs = filter_all left vs (λ u on. ap not (false_from_ne_true (has_id ts (id_of_update u)) (λ e.
     let t = has_id_to ts (id_of_update u) e in
     let f = from_filter test t.0 us (subst (λ (xs : List Update). IsIn t.0 xs) are t.1.0) in
-    twice [] us vs t.0 u c f.0 on t.1.1))) in
+    apart [] us vs t.0 u c f.0 on t.1.1))) in
     let parts = ap length (filter_both left us vs) ∙ length-append (filter left us) (filter left vs) in
     omega (arith, parts, ap length front, ap length behind, ap length are, split_count test us, length-append us vs)
 

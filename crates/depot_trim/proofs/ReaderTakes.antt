@@ -13,8 +13,8 @@ use Rattle.depot_base.specs.declared.record.Record.{Record}
 use Rattle.depot_base.specs.declared.statement.Signed.{Signed}
 use Rattle.depot_base.specs.declared.update.Update.{Update}
 use Rattle.depot_model.specs.declared.taken.Taken.{Taken}
-use Rattle.depot_model.specs.Checks.{Setting, Given, given_statement, given_proof, answer_to, growth}
-use Rattle.depot_model.specs.Journal.{accepted, accepted_by, foreign, is_wanted, value_with}
+use Rattle.depot_model.specs.Checks.{Setting, Given, given_statement, given_proof, growth}
+use Rattle.depot_model.specs.Journal.{accepted, accepted_by, is_wanted, value_with}
 use Rattle.depot_model.specs.Lawful.{IsLawful}
 use Rattle.depot_model.specs.Order.{IsCausal}
 use Rattle.depot_model.specs.Pruning.{pruned, below_of, AnswersAlike}
@@ -26,10 +26,9 @@ use Rattle.depot_model.specs.Trimming.{names}
 use Rattle.depot_model.proofs.BodyLaws.{body_is_text}
 use Rattle.depot_laws.proofs.Causes.{lawful_is_causal}
 use Rattle.depot_laws.proofs.FewLeaves.{few_foreign as few_leaves}
-use Rattle.depot_laws.proofs.Growing.{grown_is_lawful}
+use Rattle.depot_laws.proofs.Growing.{grown_is_lawful, still_some}
 use Rattle.depot_laws.proofs.PrunedAnswers.{proofs_alike}
 use Rattle.depot_laws.proofs.PrunedGrowth.{pruned_grows}
-use Rattle.depot_laws.proofs.PrunedReadings.{accepted_same}
 use Rattle.depot_accept.specs.StateView.{IsStateOf, setting}
 use Rattle.depot_accept.specs.AfterSignature.{IsCheckedAfterSignature}
 use Rattle.depot_accept.specs.CheckResults.{IsChecked}
@@ -40,19 +39,20 @@ use Rattle.depot_accept.proofs.CheckAnswers.{checked_later}
 use Rattle.depot_accept.specs.declared.answer.Front.{Front}
 use Rattle.depot_values.specs.Values as values
 use Rattle.depot_values.specs.declared.values.Values.{Values}
-use Rattle.depot_store.specs.AddedValues.{or_else}
-use Rattle.depot_store.specs.Counts.{AreCountsOf}
-use Rattle.depot_store.specs.Named.{AreNamed}
-use Rattle.depot_store.specs.NewRecords.{AreNew}
-use Rattle.depot_store.specs.Taken.{IsTaken}
-use Rattle.depot_store.proofs.HeldLaws.{Adds, one_added, with_behind}
+use Rattle.depot_readings.specs.AddedValues.{or_else}
+use Rattle.depot_readings.specs.Counts.{AreCountsOf}
+use Rattle.depot_readings.specs.Named.{AreNamed}
+use Rattle.depot_readings.specs.NewRecords.{AreNew}
+use Rattle.depot_readings.specs.Taken.{IsTaken}
+use Rattle.depot_readings.proofs.HeldLaws.{Adds, one_added, with_behind}
 use Rattle.depot_decide.specs.Deciding.{IsDecided}
 use Rattle.depot_trim.specs.ReaderAnswers.{Becomes}
 use Rattle.depot_trim.specs.ReaderDecides.{IsDecidedOf, MayTake, as_told}
-use Rattle.depot_trim.specs.ReaderView.{mark_of, WasTrimmed, IsReaderOf}
+use Rattle.depot_trim.specs.ReaderView.{mark_of, IsReaderOf}
 use Rattle.depot_trim.specs.declared.trimmed.Trimmed.{Trimmed}
 use Rattle.depot_trim.proofs.ReaderBounds.{few_updates, few_left}
-use Rattle.depot_trim.proofs.ReaderGrowth.{trimmed_within, trimmed_still, some_still, kept_grows}
+use Rattle.depot_trim.proofs.ReaderGrowth.{trimmed_within, trimmed_still, kept_grows}
+use Rattle.depot_trim.proofs.ReaderReads.{accepted_is}
 use Rattle.depot_trim.proofs.ReaderTold.{below_is, alike_above, told_with_room, told_too_full}
 use Rattle.depot_trim.proofs.TakenRecords.{growth_of_takes, all_new, all_taken}
 
@@ -119,9 +119,6 @@ module _ {S : Type 0} (verifies : Verifies) (R : Reader) (t : Trimmed S) (is : I
   pub grown_lawful : (new : List Record) → MayTake R new → IsLawful R.here (R.journal ++ new)
   grown_lawful new m = subst (λ (rs : List Record). IsLawful R.here (R.journal ++ rs)) m.grows (grown_is_lawful R.here R.journal m.given is.lawful is.some m.text (ap (full_by R.here.me R.journal) m.grows ∙ m.room))
 
-  pub updates_are : accepted R.journal ≡ t.state.accepted
-  updates_are = sym (accepted_same R.trimmed R.journal) ∙ is.state.accepted
-
   pub records_taken : (new : List Record) → MayTake R new → AllByRecursion (IsTaken t.state.listed) new
   records_taken new m =
       subst (λ (listed : List RosterEntry). AllByRecursion (IsTaken listed) new) (sym (ap (λ (s : Setting). s.listed) is.stands))
@@ -130,10 +127,10 @@ module _ {S : Type 0} (verifies : Verifies) (R : Reader) (t : Trimmed S) (is : I
 
   pub records_fit : (new : List Record) → MayTake R new → IsCausal [] (t.state.accepted ++ accepted new)
   records_fit new m =
-      subst (λ (us : List Update). IsCausal [] us) (flat_map-append accepted_by R.journal new ∙ ap (λ (us : List Update). us ++ accepted new) updates_are) (lawful_is_causal R.here (R.journal ++ new) (grown_lawful new m))
+      subst (λ (us : List Update). IsCausal [] us) (flat_map-append accepted_by R.journal new ∙ ap (λ (us : List Update). us ++ accepted new) (accepted_is verifies R t is)) (lawful_is_causal R.here (R.journal ++ new) (grown_lawful new m))
 
   pub few_accepted : length t.state.accepted < 4294967295
-  few_accepted = subst (λ (us : List Update). length us < 4294967295) updates_are (few_updates R.here R.journal is.lawful)
+  few_accepted = subst (λ (us : List Update). length us < 4294967295) (accepted_is verifies R t is) (few_updates R.here R.journal is.lawful)
 
   pub few_foreign : length t.state.foreign < 4294967295
   few_foreign = subst (λ (fs : List Signed). length fs < 4294967295) is.state.foreign (few_left R.here R.journal R.trimmed is.lawful)
@@ -146,7 +143,7 @@ module _ {S : Type 0} (verifies : Verifies) (R : Reader) (t : Trimmed S) (is : I
       → AreNamed (kept R ++ accepted new) u.named → AreCountsOf R.here.me (R.journal ++ new) u.counts → u.marks.list.items ≡ t.marks.list.items → IsReaderOf verifies (with_more R new) u
   grown_reader new u m state stands same named counts marks = record {
     lawful = grown_lawful new m;
-    some = some_still R.journal new is.some;
+    some = still_some R.journal new is.some;
     below = trimmed_still R new is.below;
     state = subst (λ (K : List Record). IsStateOf K u.state) (sym grows) state;
     stands = stands ∙ is.stands;

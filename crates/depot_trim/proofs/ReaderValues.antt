@@ -8,12 +8,13 @@ use Rattle.depot_base.specs.declared.update.NamedValue.{NamedValue}
 use Rattle.depot_base.specs.declared.update.Update.{Update}
 use Rattle.depot_base.specs.declared.write.Wrote.{Wrote}
 use Rattle.depot_base.specs.declared.write.Wrote.TheVariants.{Put, Gone}
+use Rattle.depot_base.proofs.GeneralLaws.{same_at}
 use Rattle.depot_model.specs.Contents.{held_value, not_held}
 use Rattle.depot_model.specs.Journal.{accepted, value_with}
 use Rattle.depot_model.specs.Lists.{when}
 use Rattle.depot_model.specs.Readers.{Reader, seen_among, seen_by_reader}
 use Rattle.depot_trim.specs.Trimmings.{held_of}
-use Rattle.depot_node.specs.ShownValues.{value_seen}
+use Rattle.depot_local.specs.ShownValues.{value_seen}
 
 -- a value of the hash and of the length is that of the name
 pub held_is : (held : List (List ℕ)) (n : NamedValue) (v : List ℕ) → Some v ≡ value_with n.hash held → length v ≡ n.size → Some v ≡ held_of held n
@@ -27,13 +28,10 @@ held_is_other held n v found long = sym (ap (option_and_then (λ w. when (eqb (l
 pub held_is_none : (held : List (List ℕ)) (n : NamedValue) → None ≡ value_with n.hash held → None ≡ held_of held n
 held_is_none held n found = sym (ap (option_and_then (λ w. when (eqb (length w) n.size) w)) (sym found))
 
-one_at : (us : List Update) (t u : Update) (item : ℕ) → slice_get us item ≡ Some t → slice_get us item ≡ Some u → t ≡ u
-one_at us t u item one two = cc
-
 of_write : (R : Reader) (key : List ℕ) (t u : Update) (item : ℕ) (what : Wrote) → slice_get (accepted R.journal) item ≡ Some t → slice_get (accepted R.journal) item ≡ Some u → Some what ≡ wrote_under key t.writes → seen_by_reader R key u ≡ seen_among R.held what
 unfolding seen_by_reader
 of_write R key t u item what one two says =
-    ap (λ (x : Update). option_map_or (seen_among R.held) (wrote_under key x.writes) not_held) (sym (one_at (accepted R.journal) t u item one two)) ∙ ap (λ (o : Option Wrote). option_map_or (seen_among R.held) o not_held) (sym says)
+    ap (λ (x : Update). option_map_or (seen_among R.held) (wrote_under key x.writes) not_held) (sym (same_at (accepted R.journal) item item t u refl one two)) ∙ ap (λ (o : Option Wrote). option_map_or (seen_among R.held) o not_held) (sym says)
 
 seen_deletion : (held : List (List ℕ)) (what : Wrote) → [] ≡ value_in what → None ≡ value_seen (seen_among held what)
 seen_deletion held (Put hash size) none = absurd cc

@@ -1,18 +1,26 @@
--- Whether an update follows what a checkpoint lists.
-use Rattle.std.proofs.Common.{◌≡◌, ◌∙◌, ℕ, Bool, true, false, List, [], Some, None, IsTrue, refl, sym, ap, subst}
+-- Whether an update follows what a checkpoint lists, and signs it.
+use Rattle.std.proofs.Common.{◌≡◌, ◌∙◌, ◌&&◌, ℕ, Bool, true, false, eqb, List, [], Some, None, IsTrue, refl, sym, ap, subst}
 use Rattle.std.specs.Prelude.{slice_get}
 use Rattle.std.proofs.lemmas.Bool.{false_from_ne_true}
 use Rattle.depot_base.specs.declared.update.Update.{Update}
+use Rattle.depot_model.specs.Checkpoints.{checkpoint_key}
 use Rattle.depot_model.specs.Items.{place_of_id, PrecedesAt}
 use Rattle.depot_model.specs.Journal.{has_id}
 use Rattle.depot_model.specs.Lists.{IsIn}
 use Rattle.depot_model.specs.Order.{IsCausal, Precedes, past}
+use Rattle.depot_model.specs.ReadTests.{is_value_of}
 use Rattle.depot_model.specs.Texts.{id_of_update}
 use Rattle.depot_model.proofs.Elements.{in_at}
 use Rattle.depot_model.proofs.NamedIds.{has_id_from, has_id_to}
 use Rattle.depot_model.proofs.Orders.{one_of_id}
 use Rattle.depot_model.proofs.Pasts.{past_in, past_of_listed}
 use Rattle.depot_graph.proofs.ItemPlaces.{has_place, has_no_place}
+use Rattle.depot_trim.specs.Trimmings.{has_all_in_past, signs_as}
+
+-- an update of the node that puts the text signs it where it follows all that is listed
+pub signs_where : (us : List Update) (text : List ℕ) (ids : List (List ℕ)) (n : ℕ) (u : Update) (told : Bool) → eqb u.writer n ≡ true → is_value_of (checkpoint_key text) u text ≡ true → told ≡ has_all_in_past us ids u → told ≡ signs_as us text ids n u
+signs_where us text ids n u told wrote put follows =
+    follows ∙ sym (ap (λ (b : Bool). b && (is_value_of (checkpoint_key text) u text && has_all_in_past us ids u)) wrote ∙ ap (λ (b : Bool). b && has_all_in_past us ids u) put)
 
 -- an id that no update has is in no past
 pub not_in_past : (us : List Update) (u : Update) (h : List ℕ) → None ≡ place_of_id h us → false ≡ has_id (past u us) h

@@ -17,9 +17,9 @@ use Rattle.depot_model.specs.Journal.{foreign, is_convicted, is_vouched}
 use Rattle.depot_model.specs.Lawful.{IsLawful}
 use Rattle.depot_laws.proofs.Splits.{lawful_front}
 use Rattle.depot_model.proofs.Members.{all_at}
-use Rattle.depot_store.specs.NewRecords.{AreNew}
-use Rattle.depot_store.specs.Taken.{IsTaken}
-use Rattle.depot_store.proofs.StateGrowth.{accused_is_listed}
+use Rattle.depot_readings.specs.NewRecords.{AreNew}
+use Rattle.depot_readings.specs.Taken.{IsTaken}
+use Rattle.depot_readings.proofs.StateGrowth.{accused_is_listed}
 use Rattle.depot_trim.specs.ReaderDecides.{IsSaid}
 
 -- a statement of another that is new to a journal, or a conviction

@@ -2,6 +2,7 @@ pub mod Opens
 pub mod Making
 pub mod Signing
 pub mod Trimmings
+pub mod ValuesLeft
 pub mod MarkedNames
 pub mod ReaderView
 pub mod Naming

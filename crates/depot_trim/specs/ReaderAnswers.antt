@@ -1,5 +1,5 @@
 -- What is answered where a reader is to be made, and what a reader answers.
-use Rattle.std.specs.Prelude.{◌≡◌, ◌<◌, ℕ, List, length, Result, Ok, Err, Some, slice_get}
+use Rattle.std.specs.Prelude.{◌≡◌, ℕ, List, Result, Ok, Err, Some, slice_get}
 use Rattle.depot_base.specs.declared.record.Record.{Record}
 use Rattle.depot_base.specs.declared.update.Update.{Update}
 use Rattle.depot_model.specs.declared.taken.Taken.{Taken}
@@ -7,7 +7,7 @@ use Rattle.depot_model.specs.Checks.{Setting}
 use Rattle.depot_model.specs.Journal.{accepted}
 use Rattle.depot_model.specs.Lists.{IsIn}
 use Rattle.depot_model.specs.Opening.{ill_at, of_roster, with_unknown}
-use Rattle.depot_model.specs.Readers.{Reader, ReaderOutcome, kept, TrimAnswer, unopened, unsigned, reading, trim_of, stands_below, too_full, told, reader_takes}
+use Rattle.depot_model.specs.Readers.{Reader, ReaderOutcome, kept, unopened, unsigned, reading, trim_of, stands_below, too_full, told, reader_takes}
 use Rattle.depot_model.specs.Roster.{Verifies}
 use Rattle.depot_model.specs.Taking.{Form}
 use Rattle.depot_model.specs.Texts.{hash_of_roster}

@@ -1,15 +1,20 @@
 -- What is decided of a statement or a proof that a reader is given, and what its journal grows by.
-use Rattle.std.specs.Prelude.{◌≡◌, List, None, Result, Ok, Err}
+use Rattle.std.specs.Prelude.{◌≡◌, ℕ, List, Option, None, Result, Ok, Err}
 use Rattle.depot_base.specs.declared.check.Check.{Check}
 use Rattle.depot_base.specs.declared.record.Record.{Record}
 use Rattle.depot_model.specs.declared.taken.Taken.{Taken}
 use Rattle.depot_model.specs.Checks.{Given, given_statement, given_proof, given_value, growth}
-use Rattle.depot_model.specs.Readers.{Reader}
+use Rattle.depot_model.specs.Journal.{accepted}
+use Rattle.depot_model.specs.Readers.{Reader, with_more}
 use Rattle.depot_model.specs.Room.{full_by}
+use Rattle.depot_model.specs.Roster.{Verifies}
 use Rattle.depot_laws.specs.Given.{HasText}
+use Rattle.depot_readings.specs.LeavesWith.{leaves_with}
 use Rattle.depot_decide.specs.Deciding.{IsDecided}
+use Rattle.depot_trim.specs.ReaderView.{IsReaderOf}
 use Rattle.depot_trim.specs.declared.trim_error.TrimTake.{TrimTake}
 use Rattle.depot_trim.specs.declared.trim_error.TrimTake.TheVariants as failed
+use Rattle.depot_trim.specs.declared.trimmed.Trimmed.{Trimmed}
 
 -- it is a statement or a proof
 abbrev pub IsSaid : Given → Type 0
@@ -36,3 +41,9 @@ pub record MayTake (R : Reader) (new : List Record) : Type 0 where
   pub text : HasText given
   pub grows : growth R.here R.journal given ≡ new
   pub room : full_by R.here.me R.journal new ≡ None
+
+-- Whosever reader it was: where the journal may grow by these records, and has so many leaves of other writers then, now it is the
+-- reader of the longer one.
+abbrev pub GrowsBy : {S : Type 0} → Verifies → List Record → Option ℕ → Trimmed S → Trimmed S → Type 0
+GrowsBy verifies new leaves_then old now = (R : Reader) → IsReaderOf verifies R old → MayTake R new
+    → leaves_then ≡ leaves_with (accepted R.journal) old.counts.leaves new → IsReaderOf verifies (with_more R new) now

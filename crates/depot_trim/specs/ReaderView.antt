@@ -10,8 +10,8 @@ use Rattle.depot_model.specs.Roster.{Verifies}
 use Rattle.depot_model.specs.Texts.{id_of_update}
 use Rattle.depot_model.specs.Trimming.{trimmed}
 use Rattle.depot_accept.specs.StateView.{IsStateOf, setting}
-use Rattle.depot_store.specs.Counts.{AreCountsOf}
-use Rattle.depot_store.specs.Named.{AreNamed}
+use Rattle.depot_readings.specs.Counts.{AreCountsOf}
+use Rattle.depot_readings.specs.Named.{AreNamed}
 use Rattle.depot_values.specs.Values as values
 use Rattle.depot_trim.specs.declared.marks.Mark.{Mark}
 use Rattle.depot_trim.specs.declared.trimmed.Trimmed.{Trimmed}

@@ -1,14 +1,16 @@
 -- What a node answers where it is to sign a checkpoint, and what its journal is then.
-use Rattle.std.specs.Prelude.{◌≡◌, ℕ, List, Result, Ok, Err}
+use Rattle.std.specs.Prelude.{◌≡◌, ◌≢◌, ℕ, List, Result, Ok, Err, IsErrOf, IsErrAnd}
 use Rattle.depot_base.specs.Writes.{one_change}
 use Rattle.depot_base.specs.declared.record.Record.{Record}
 use Rattle.depot_base.specs.declared.write.Change.{Change}
 use Rattle.depot_model.specs.Checkpoints.{checkpoint_key}
 use Rattle.depot_model.specs.Checks.{Setting}
-use Rattle.depot_decide.specs.Putting.{Puts, put_records}
-use Rattle.depot_decide.specs.declared.put_answers.PutDone.{PutDone}
-use Rattle.depot_decide.specs.declared.put_answers.PutError.{PutError}
-use Rattle.depot_decide.specs.declared.put_answers.PutError.TheVariants as put
+use Rattle.depot_model.specs.Putting.{Puts, put_records}
+use Rattle.depot_model.specs.Replicas.{IsNodeCall}
+use Rattle.depot_model.specs.declared.node_state.NodeState.{Ghosts}
+use Rattle.depot_model.specs.declared.put_answers.PutDone.{PutDone}
+use Rattle.depot_model.specs.declared.put_answers.PutError.{PutError}
+use Rattle.depot_model.specs.declared.put_answers.PutError.TheVariants as put
 use Rattle.depot_model.specs.Opening.{ill_at, with_unknown, opened, opened_text}
 use Rattle.depot_trim.specs.Opens.{IsOfOther}
 use Rattle.depot_trim.specs.declared.opening.OpenError.{OpenError}
@@ -47,6 +49,12 @@ Signs here J text (Err (sign.Spent n)) then = PutsCheckpoint here J text (Err (p
 Signs here J text (Err (sign.Tips n)) then = PutsCheckpoint here J text (Err (put.Tips n)) then
 Signs here J text (Err (sign.Collides h)) then = PutsCheckpoint here J text (Err (put.Collides h)) then
 Signs here J text (Err (sign.Full what)) then = PutsCheckpoint here J text (Err (put.Full what)) then
+
+-- the call was to sign this text, and answered so; after each error but Disk nothing is appended
+abbrev pub IsSigningCall : {N : Type 0} → Ghosts N → N → N → List ℕ → Result PutDone CheckpointError → Type 0
+IsSigningCall g old new text result =
+    IsNodeCall g old new (signing_records (g.stands old) (g.records old) text)
+    (IsErrOf result sign.Stopped) (IsErrOf result sign.Disk) (IsErrAnd result (λ e. e ≢ sign.Disk))
 
 -- ---- on the way
 

@@ -1,12 +1,15 @@
 -- What is found on the way to a reader.
-use Rattle.std.specs.Prelude.{◌≡◌, ℕ, List, [], ◌∷◌, ◌++◌, length, map, Option, option_and_then, Bool, not, ◌&&◌, ◌==◌}
-use Rattle.std.specs.List.{list_any, list_all}
+use Rattle.std.specs.Prelude.{◌≡◌, ℕ, List, [], ◌∷◌, ◌++◌, length, map, find, Option, Some, option_and_then, option_map, slice_get, Bool, not, ◌&&◌, ◌==◌}
+use Rattle.std.specs.List.{list_all, list_any}
+use Rattle.depot_base.specs.declared.key.RosterEntry.{RosterEntry}
 use Rattle.depot_base.specs.declared.record.Record.{Record}
 use Rattle.depot_base.specs.declared.update.NamedValue.{NamedValue}
 use Rattle.depot_base.specs.declared.update.Update.{Update}
 use Rattle.depot_model.specs.declared.hello.HelloLeaf.{HelloLeaf}
 use Rattle.depot_model.specs.Checkpoints.{checkpoint_key}
+use Rattle.depot_model.specs.Checks.{Setting}
 use Rattle.depot_model.specs.Journal.{accepted, has_id, value_with}
+use Rattle.depot_model.specs.LatestList.{latest_in}
 use Rattle.depot_model.specs.Lawful.{IsLawful}
 use Rattle.depot_model.specs.Lists.{when}
 use Rattle.depot_model.specs.Order.{past}
@@ -14,7 +17,7 @@ use Rattle.depot_model.specs.Pruning.{pruned}
 use Rattle.depot_model.specs.ReadTests.{is_value_of}
 use Rattle.depot_model.specs.Roster.{Verifies}
 use Rattle.depot_model.specs.Texts.{id_of_update}
-use Rattle.depot_model.specs.Trimming.{is_latest_below}
+use Rattle.depot_model.specs.Trimming.{is_latest_below, trimmed}
 use Rattle.depot_accept.specs.StateView.{View, IsStateOf, setting}
 use Rattle.depot_trim.specs.declared.opening.OpenError.{OpenError}
 use Rattle.depot_trim.specs.declared.opening.OpenError.TheVariants as open_error
@@ -25,6 +28,10 @@ use Rattle.depot_trim.specs.declared.trim_error.TrimError.TheVariants as refused
 abbrev pub ids_in : List HelloLeaf → List (List ℕ)
 ids_in leaves = map (λ l. l.id) leaves
 
+-- the answer is what a test says of the update at a place of these
+abbrev pub IsAnswerAt : List Update → ℕ → (Update → Bool) → Bool → Type 0
+IsAnswerAt us place test answer = (u : Update) → slice_get us place ≡ Some u → answer ≡ test u
+
 -- each of these ids is in the past of an update
 abbrev pub has_all_in_past : List Update → List (List ℕ) → Update → Bool
 has_all_in_past us ids u = list_all (λ h. has_id (past u us) h) ids
@@ -32,6 +39,18 @@ has_all_in_past us ids u = list_all (λ h. has_id (past u us) h) ids
 -- an update by which a node signs a checkpoint: it puts the text under its key, and each listed id is in its past
 abbrev pub signs_as : List Update → List ℕ → List (List ℕ) → ℕ → Update → Bool
 signs_as us text ids n u = (u.writer == n) && (is_value_of (checkpoint_key text) u text && has_all_in_past us ids u)
+
+-- a node signed it by one of these updates
+abbrev pub has_signed : List Update → List ℕ → List (List ℕ) → ℕ → Bool
+has_signed us text ids n = list_any (signs_as us text ids n) us
+
+-- the first of these nodes that didn't
+abbrev pub first_unsigned : List Update → List ℕ → List (List ℕ) → List RosterEntry → Option ℕ
+first_unsigned us text ids nodes = option_map (λ e. e.node) (find (λ e. not (has_signed us text ids e.node)) nodes)
+
+-- an update is among these a latest write of one of these keys
+abbrev pub is_latest_of : List Update → List (List ℕ) → Update → Bool
+is_latest_of us keys u = list_any (λ key. has_id (latest_in key us) (id_of_update u)) keys
 
 -- an update with this id is one of these, and of none of its keys a latest write among them
 abbrev pub is_given_up_below : List Update → Update → Bool
@@ -55,6 +74,10 @@ as_untrimmed (open_error.Unknown id) = refused.Unknown id
 -- of each of these updates, whether its id is that of one that is given up
 abbrev pub given_up : List Update → List Update → List Bool
 given_up ts us = map (λ u. has_id ts (id_of_update u)) us
+
+-- of each of these updates, whether it is trimmed below these ids, in whichever lawful journal they are the accepted ones
+abbrev pub TellTrimmed : List Update → List (List ℕ) → List Bool → Type 0
+TellTrimmed us ids flags = (here : Setting) (J : List Record) → IsLawful here J → accepted J ≡ us → flags ≡ given_up (trimmed J ids) (accepted J)
 
 -- The state is that of a journal without the signed statements of the updates that are given up, of which these flags tell. The record may
 -- stand behind it, and the updates that were accepted then are the first of these.

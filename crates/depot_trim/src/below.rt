@@ -1,16 +1,14 @@
 //! What stands below a checkpoint.
-ghost use Rattle.std.specs.Prelude.{◌≡◌, ◌<◌, ℕ, List, [], ◌∷◌, ◌++◌, length, map, filter, IfOk, OnOk, Some, slice_get};
-ghost use Rattle.std.specs.List.{list_any};
+ghost use Rattle.std.specs.Prelude.{◌≡◌, ◌<◌, List, [], ◌∷◌, ◌++◌, length, map, filter, IfOk, OnOk, Some, slice_get};
 ghost use Rattle.depot_base.specs.declared.record.Record.{Record};
 ghost use Rattle.depot_base.specs.declared.update.Update.{Update};
 ghost use Rattle.depot_model.specs.Bundle.{is_covered};
 ghost use Rattle.depot_model.specs.Checks.{Setting};
-ghost use Rattle.depot_model.specs.Journal.{accepted, has_id};
+ghost use Rattle.depot_model.specs.Journal.{accepted};
 ghost use Rattle.depot_model.specs.Lawful.{IsLawful};
-ghost use Rattle.depot_model.specs.LatestList.{latest_in};
 ghost use Rattle.depot_model.specs.Order.{IsCausal};
 ghost use Rattle.depot_model.specs.Texts.{IsUpdate, id_of_update};
-ghost use Rattle.depot_trim.specs.Trimmings.{ids_in, is_given_up_below};
+ghost use Rattle.depot_trim.specs.Trimmings.{IsAnswerAt, ids_in, is_given_up_below, is_latest_of};
 
 use crate::leaf_items::leaf_items;
 use depot_base::{Hash32, Memory, Update, Write};
@@ -81,7 +79,7 @@ fn is_given_up(below: &Graph, id: &Hash32, update: &Update) -> bool
 /// Whether an item is a latest write of a key of one of these writes.
 fn is_latest(graph: &Graph, item: u32, writes: &[Write]) -> bool
     requires { item < length (⟦<Graph as Past>⟧.updates graph.now) }
-    ensures { (u : Update) → slice_get (⟦<Graph as Past>⟧.updates graph.now) item ≡ Some u → result ≡ list_any (λ key. has_id (latest_in key (⟦<Graph as Past>⟧.updates graph.now)) (id_of_update u)) (map (λ w. w.key) writes.now) }
+    ensures { IsAnswerAt (⟦<Graph as Past>⟧.updates graph.now) item (is_latest_of (⟦<Graph as Past>⟧.updates graph.now) (map (λ w. w.key) writes.now)) result }
 {
     for write in writes {
         if graph.latest(&write.key).contains(&item) {

@@ -1,35 +1,52 @@
 //! What is decided of what a reader is given is carried out.
-ghost use Rattle.std.specs.Prelude.{◌≡◌, List, OnOk, OnErr, Option};
-ghost use Rattle.depot_base.specs.declared.record.Record.{Record};
+ghost use Rattle.std.specs.Prelude.{◌≡◌, OnOk, OnErr};
 ghost use Rattle.depot_model.specs.Checks.{Given};
 ghost use Rattle.depot_model.specs.Journal.{accepted};
-ghost use Rattle.depot_model.specs.Readers.{Reader, told_as_node, with_more};
-ghost use Rattle.depot_store.specs.RoomByCounts.{leaves_with};
+ghost use Rattle.depot_model.specs.Readers.{Reader, told_as_node};
+ghost use Rattle.depot_decide.specs.Deciding.{AreJoined};
+ghost use Rattle.depot_readings.specs.LeavesWith.{leaves_with};
 ghost use Rattle.depot_trim.specs.ReaderAnswers.{Becomes};
-ghost use Rattle.depot_trim.specs.ReaderDecides.{IsDecidedOf, MayTake, as_told};
+ghost use Rattle.depot_trim.specs.ReaderDecides.{GrowsBy, IsDecidedOf, MayTake, as_told};
 ghost use Rattle.depot_trim.specs.ReaderView.{IsReaderOf};
 
 use crate::trim_error::TrimTake;
 use crate::trimmed::Trimmed;
+use depot_accept::Parents;
 use depot_base::{Check, Full, Memory};
 use depot_decide::Decision;
 use depot_model::{Scheme, Taken};
-use depot_store::{Growth, leaves_with};
+use depot_readings::{Growth, leaves_with};
 
 impl<S: Scheme> Trimmed<S> {
     /// A decision is carried out where there is room for its growth, and its answer given.
     pub(crate) fn carry_out(&mut self, decision: Decision) -> Result<Taken, TrimTake>
-        requires { (R : Reader) × (IsReaderOf S.verifies R self.old × ((x : Given) × IsDecidedOf R x decision.answer decision.growth)) }
+        requires reader { (R : Reader) × (IsReaderOf S.verifies R self.old × ((x : Given) × IsDecidedOf R x decision.answer decision.growth)) }
+        requires joined { AreJoined self.old.state.accepted decision.parents }
         ensures { (R : Reader) (x : Given) → IsReaderOf S.verifies R self.old → IsDecidedOf R x decision.answer decision.growth → Becomes S.verifies R (told_as_node R x) result self.new }
     {
-        let Decision { answer, growth } = decision;
+        let Decision {
+            answer,
+            growth,
+            parents,
+        } = decision;
         let leaves = self.leaves_with(&growth);
         if let Some(full) = self.counts.limit(&growth, leaves) {
             drop(growth);
             return Err(TrimTake::Full(full));
         }
+        self.keep_parents(parents);
         self.grow(growth, leaves)?;
         answered(answer)
+    }
+
+    /// Keeps the joined row of an update's parents, so that the rows aren't joined again when it is added.
+    fn keep_parents(&mut self, parents: Option<Parents>)
+        requires { AreJoined self.old.state.accepted parents }
+        ensures { self.new ≡ self.old }
+    {
+        if let Some(parents) = parents {
+            self.state.keep_row(parents);
+        }
     }
 
     /// How many leaves of other writers there are with a growth, where it takes an update of another.
@@ -44,7 +61,7 @@ impl<S: Scheme> Trimmed<S> {
     /// values that it names is found first, so that nothing is kept of it where none is left.
     fn grow(&mut self, growth: Growth, leaves: Option<u32>) -> Result<(), Memory>
         requires { (R : Reader) × (IsReaderOf S.verifies R self.old × MayTake R growth) }
-        ensures ok { OnOk result ((R : Reader) → IsReaderOf S.verifies R self.old → MayTake R growth → leaves ≡ leaves_with (accepted R.journal) self.old.counts.leaves growth → IsReaderOf S.verifies (with_more R growth) self.new) }
+        ensures ok { OnOk result (GrowsBy S.verifies growth leaves self.old self.new) }
         ensures err { OnErr result ((R : Reader) → IsReaderOf S.verifies R self.old → IsReaderOf S.verifies R self.new) }
     {
         let Ok(names) = self.named.named_by(&growth) else {

@@ -1,21 +1,20 @@
 //! The values that a reader keeps of a node.
-ghost use Rattle.std.specs.Prelude.{◌≡◌, ◌||◌, ◌++◌, [], ◌∷◌, ℕ, List, Bool, false, Some, filter, IfOk, OnOk};
+ghost use Rattle.std.specs.Prelude.{◌≡◌, ◌++◌, [], ◌∷◌, ℕ, List, false, Some, IfOk, OnOk};
 ghost use Rattle.depot_base.specs.Sized.{IsValue};
 ghost use Rattle.depot_base.specs.declared.update.Update.{Update};
 ghost use Rattle.depot_model.specs.Contents.{names_value};
-ghost use Rattle.depot_model.specs.Journal.{accepted, held, value_with};
-ghost use Rattle.depot_model.specs.Readers.{left_of, is_named_by};
-ghost use Rattle.depot_store.specs.Named.{is_named, AreNamed};
-ghost use Rattle.depot_values.specs.Values.{held as held_in};
-ghost use Rattle.depot_trim.specs.Trimmings.{given_up, held_of, kept_of};
+ghost use Rattle.depot_model.specs.Journal.{accepted, held};
+ghost use Rattle.depot_model.specs.Readers.{left_of};
+ghost use Rattle.depot_readings.specs.Named.{is_named, AreNamed};
+ghost use Rattle.depot_trim.specs.Trimmings.{given_up, held_of};
+ghost use Rattle.depot_trim.specs.ValuesLeft.{AreValuesLeft, KeepsMore};
 
 use crate::flags::flag_at;
 use depot_base::{Bytes, Memory, NamedValue, Update, Value};
 use depot_graph::Graph;
-use depot_model::{Past, Replica, Scheme, Signer};
-use depot_node::Node;
-use depot_outside::Disk;
-use depot_store::{NamedValues, names_in_update};
+use depot_local::LocalNode;
+use depot_model::{NodeState, Past};
+use depot_readings::{NamedValues, names_in_update};
 use depot_values::Values;
 use std::alloc::Global;
 
@@ -48,33 +47,34 @@ fn add_names(alloc: Global, named: &mut NamedValues, update: &Update) -> Result<
 }
 
 /// The held values of a node that runs which its updates name that aren't given up.
-pub(crate) fn values_left<D: Disk, S: Scheme, G: Signer<Of = S>>(
+pub(crate) fn values_left<N: LocalNode>(
     alloc: Global,
-    node: &Node<D, S, G>,
+    node: &N,
     trimmed: &[bool],
 ) -> Result<Values, Memory>
-    requires runs { ⟦<Node<D, S, G> as Replica>⟧.stopped node.now ≡ false }
-    requires flags { (ts : List Update) × (trimmed.now ≡ given_up ts (accepted (⟦<Node<D, S, G> as Replica>⟧.records node.now))) }
-    ensures { IfOk result (λ values. (ts : List Update) (hash : List ℕ) → trimmed.now ≡ given_up ts (accepted (⟦<Node<D, S, G> as Replica>⟧.records node.now)) → held_in values hash ≡ value_with hash (filter (is_named_by (left_of ts (accepted (⟦<Node<D, S, G> as Replica>⟧.records node.now)))) (held (⟦<Node<D, S, G> as Replica>⟧.records node.now)))) }
+    requires runs { N.stopped node.now ≡ false }
+    requires flags { (ts : List Update) × (trimmed.now ≡ given_up ts (accepted (N.records node.now))) }
+    ensures { IfOk result (AreValuesLeft (N.records node.now) trimmed.now) }
 {
+    let graph = node.graph();
     let mut values = Values::new(alloc);
-    for item in 0..node.update_count() {
+    for item in 0..graph.count() {
         if !flag_at(trimmed, item) {
-            add_values(alloc, &mut values, node, node.update(item))?;
+            add_values(alloc, &mut values, node, graph.update(item))?;
         }
     }
     Ok(values)
 }
 
 /// Adds the values that an update names and that the node holds.
-fn add_values<D: Disk, S: Scheme, G: Signer<Of = S>>(
+fn add_values<N: LocalNode>(
     alloc: Global,
     values: &mut Values,
-    node: &Node<D, S, G>,
+    node: &N,
     update: &Update,
 ) -> Result<(), Memory>
-    requires { ⟦<Node<D, S, G> as Replica>⟧.stopped node.now ≡ false }
-    ensures { OnOk result ((wants : List ℕ → ℕ → Bool) → ((h : List ℕ) → held_in values.old h ≡ kept_of (held (⟦<Node<D, S, G> as Replica>⟧.records node.now)) wants h) → (h : List ℕ) → held_in values.new h ≡ kept_of (held (⟦<Node<D, S, G> as Replica>⟧.records node.now)) (λ k size. wants k size || names_value update.now k size) h) }
+    requires { N.stopped node.now ≡ false }
+    ensures { OnOk result (KeepsMore (held (N.records node.now)) (names_value update.now) values.old values.new) }
 {
     let names = names_in_update(alloc, update)?;
     for name in names.as_slice() {
@@ -84,14 +84,14 @@ fn add_values<D: Disk, S: Scheme, G: Signer<Of = S>>(
 }
 
 /// Adds the value of a name, if the node holds it.
-fn add_name<D: Disk, S: Scheme, G: Signer<Of = S>>(
+fn add_name<N: LocalNode>(
     alloc: Global,
     values: &mut Values,
-    node: &Node<D, S, G>,
+    node: &N,
     name: &NamedValue,
 ) -> Result<(), Memory>
-    requires { ⟦<Node<D, S, G> as Replica>⟧.stopped node.now ≡ false }
-    ensures { OnOk result ((wants : List ℕ → ℕ → Bool) → ((h : List ℕ) → held_in values.old h ≡ kept_of (held (⟦<Node<D, S, G> as Replica>⟧.records node.now)) wants h) → (h : List ℕ) → held_in values.new h ≡ kept_of (held (⟦<Node<D, S, G> as Replica>⟧.records node.now)) (λ k size. wants k size || is_named name.now k size) h) }
+    requires { N.stopped node.now ≡ false }
+    ensures { OnOk result (KeepsMore (held (N.records node.now)) (is_named name.now) values.old values.new) }
 {
     match node.held_as(name) {
         Some(value) => add_value(alloc, values, name, value),
@@ -108,7 +108,7 @@ fn add_value(
 ) -> Result<(), Memory>
     requires sized { IsValue value.now }
     requires held { (held : List (List ℕ)) × (held_of held name.now ≡ Some value.now) }
-    ensures { OnOk result ((held : List (List ℕ)) (wants : List ℕ → ℕ → Bool) → held_of held name.now ≡ Some value.now → ((h : List ℕ) → held_in values.old h ≡ kept_of held wants h) → (h : List ℕ) → held_in values.new h ≡ kept_of held (λ k size. wants k size || is_named name.now k size) h) }
+    ensures { OnOk result ((held : List (List ℕ)) → held_of held name.now ≡ Some value.now → KeepsMore held (is_named name.now) values.old values.new) }
 {
     let value = Value::from_bytes(Bytes::from_slice(alloc, value)?);
     values.add_hashed(name.hash, value)?;

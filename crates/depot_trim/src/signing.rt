@@ -1,21 +1,17 @@
 //! A node signs a checkpoint.
-ghost use Rattle.std.specs.Prelude.{◌≡◌, ◌≢◌, [], true, false, IfOk, IfErr, IsErrOf};
+ghost use Rattle.std.specs.Prelude.{◌≡◌, IfOk};
 ghost use Rattle.depot_base.specs.Sized.{IsValue};
 ghost use Rattle.depot_model.specs.Journal.{accepted};
-ghost use Rattle.depot_model.specs.Replicas.{IsSameNode, StopsBy, KeepsDisk};
-ghost use Rattle.depot_model.specs.Stops.{CallsDisk, Lasts};
 ghost use Rattle.depot_model.specs.Checkpoints.{checkpoint_key};
-ghost use Rattle.depot_trim.specs.Signing.{Signs, IsDue, as_unopened, as_refusal, as_signed, signing_records};
+ghost use Rattle.depot_trim.specs.Signing.{IsDue, IsSigningCall, Signs, as_refusal, as_signed, as_unopened};
 
 use crate::keys::checkpoint_key;
 use crate::opening::{OpenError, opened};
 use crate::sign_error::CheckpointError;
 use depot_base::{Bytes, Key, Memory, Value};
-use depot_decide::{PutDone, PutError};
 use depot_graph::Graph;
-use depot_model::{Past, Replica, Scheme, Signer};
-use depot_node::Node;
-use depot_outside::Disk;
+use depot_local::LocalNode;
+use depot_model::{Past, PutDone, PutError, Replica};
 use std::alloc::Global;
 
 /// Signs a checkpoint by a put of its text under its key: all that it names is in the past of this update.
@@ -23,20 +19,15 @@ use std::alloc::Global;
 /// `Stopped` comes exactly where the disk failed in an earlier call. `IllFormed` comes exactly where the text is no checkpoint's, with
 /// the offset in bytes of its first fault; else `OtherRoster` exactly where it is of another roster than the node's; else `Unknown`
 /// exactly where a leaf isn't an accepted update of its writer, with the first such id. Then come the answers of
-/// [`put`](Node::put). What stands after each is as there: after `Disk` the node is stopped, and where another error is answered, its
+/// [`put`](LocalNode::put). What stands after each is as there: after `Disk` the node is stopped, and where another error is answered, its
 /// journal is as before.
-pub fn sign_checkpoint<D: Disk, S: Scheme, G: Signer<Of = S>>(
+pub fn sign_checkpoint<N: LocalNode>(
     alloc: Global,
-    node: &mut Node<D, S, G>,
+    node: &mut N,
     text: &[u8],
 ) -> Result<PutDone, CheckpointError>
-    ensures signs { Signs (⟦<Node<D, S, G> as Replica>⟧.stands node.old) (⟦<Node<D, S, G> as Replica>⟧.records node.old) text.now result (⟦<Node<D, S, G> as Replica>⟧.records node.new) }
-    ensures stays { IsSameNode (⟦<Node<D, S, G> as Replica>⟧.stands node.old) (⟦<Node<D, S, G> as Replica>⟧.stands node.new) (⟦<Node<D, S, G> as Replica>⟧.key node.old) (⟦<Node<D, S, G> as Replica>⟧.key node.new) (⟦<Node<D, S, G> as Replica>⟧.signature_of node.old) (⟦<Node<D, S, G> as Replica>⟧.signature_of node.new) }
-    ensures stops { StopsBy (⟦<Node<D, S, G> as Replica>⟧.stopped node.old) (⟦<Node<D, S, G> as Replica>⟧.stopped node.new) (IsErrOf result CheckpointError.Stopped) (IsErrOf result CheckpointError.Disk) }
-    ensures disk { KeepsDisk (⟦<Node<D, S, G> as Replica>⟧.handle node.old) (⟦<Node<D, S, G> as Replica>⟧.handle node.new) (⟦<Node<D, S, G> as Replica>⟧.faults node.old) (⟦<Node<D, S, G> as Replica>⟧.faults node.new) (⟦<Node<D, S, G> as Replica>⟧.is_faultless node.old) (⟦<Node<D, S, G> as Replica>⟧.is_faultless node.new) (IsErrOf result CheckpointError.Disk) }
-    ensures lasts { Lasts ⟦<Node<D, S, G> as Replica>⟧.tells ⟦<Node<D, S, G> as Replica>⟧.stopped ⟦<Node<D, S, G> as Replica>⟧.records ⟦<Node<D, S, G> as Replica>⟧.moment ⟦<Node<D, S, G> as Replica>⟧.left_since ⟦<Node<D, S, G> as Replica>⟧.may_leave node.old node.new (signing_records (⟦<Node<D, S, G> as Replica>⟧.stands node.old) (⟦<Node<D, S, G> as Replica>⟧.records node.old) text.now) }
-    ensures calls { CallsDisk ⟦<Node<D, S, G> as Replica>⟧.after ⟦<Node<D, S, G> as Replica>⟧.reads ⟦<Node<D, S, G> as Replica>⟧.stopped ⟦<Node<D, S, G> as Replica>⟧.records node.old node.new (signing_records (⟦<Node<D, S, G> as Replica>⟧.stands node.old) (⟦<Node<D, S, G> as Replica>⟧.records node.old) text.now) (IsErrOf result CheckpointError.Disk) }
-    ensures idle { IfErr result (λ e. e ≢ CheckpointError.Disk → Lasts ⟦<Node<D, S, G> as Replica>⟧.tells ⟦<Node<D, S, G> as Replica>⟧.stopped ⟦<Node<D, S, G> as Replica>⟧.records ⟦<Node<D, S, G> as Replica>⟧.moment ⟦<Node<D, S, G> as Replica>⟧.left_since ⟦<Node<D, S, G> as Replica>⟧.may_leave node.old node.new []) }
+    ensures signs { Signs (N.stands node.old) (N.records node.old) text.now result (N.records node.new) }
+    ensures call { IsSigningCall N.NodeState node.old node.new text.now result }
 {
     if node.is_stopped() {
         return Err(CheckpointError::Stopped);

@@ -1,7 +1,7 @@
 //! A reader takes what it is given.
 ghost use Rattle.std.specs.Prelude.{◌≡◌};
 ghost use Rattle.depot_base.specs.Sized.{IsValue};
-ghost use Rattle.depot_model.specs.Checks.{given_statement, given_proof, given_value};
+ghost use Rattle.depot_model.specs.Checks.{given_statement, given_value};
 ghost use Rattle.depot_model.specs.Pruning.{pruned};
 ghost use Rattle.depot_model.specs.Readers.{Reader, told_of};
 ghost use Rattle.depot_model.specs.Taking.{as_statement, as_proof, as_value};
@@ -15,7 +15,7 @@ use crate::trim_error::TrimTake;
 use crate::trimmed::Trimmed;
 use depot_accept::Front;
 use depot_base::limits::MOST_VALUE;
-use depot_base::{Check, DecodeError, Hash32, Signed, Value};
+use depot_base::{Bytes, Check, DecodeError, Hash32, Signed, Value};
 use depot_decide::{decide_checked, decide_judged};
 use depot_model::{Scheme, Taken, hash_of};
 use depot_update::{decode_proof, decode_signed};
@@ -107,9 +107,7 @@ impl<S: Scheme> Trimmed<S> {
         if !self.named.names(&hash, bytes.len() as u32) {
             return Err(TrimTake::Refused(Check::Unwanted(hash)));
         }
-        let Ok(value) = Value::new(self.alloc, bytes) else {
-            return Err(TrimTake::Memory);
-        };
+        let value = Value::from_bytes(Bytes::from_slice(self.alloc, bytes)?);
         self.values.add_hashed(hash, value)?;
         Ok(Taken::New)
     }

@@ -5,10 +5,9 @@ ghost use Rattle.depot_model.specs.Checks.{Setting};
 ghost use Rattle.depot_model.specs.Journal.{accepted};
 ghost use Rattle.depot_model.specs.Lawful.{IsLawful};
 ghost use Rattle.depot_model.specs.Readers.{reader_of};
-ghost use Rattle.depot_model.specs.Trimming.{trimmed};
 ghost use Rattle.depot_trim.specs.ReaderAnswers.{Trims};
 ghost use Rattle.depot_trim.specs.ReaderView.{IsReaderOf};
-ghost use Rattle.depot_trim.specs.Trimmings.{ids_in, given_up, as_untrimmed};
+ghost use Rattle.depot_trim.specs.Trimmings.{TellTrimmed, ids_in, as_untrimmed};
 
 use crate::below::{graph_below, trimmed_items};
 use crate::filling::state_without;
@@ -21,9 +20,8 @@ use crate::trimmed::Trimmed;
 use crate::unsigned::first_unsigned;
 use depot_base::Memory;
 use depot_graph::Graph;
-use depot_model::{HelloLeaf, Past, Replica, Scheme, Signer};
-use depot_node::Node;
-use depot_outside::Disk;
+use depot_local::LocalNode;
+use depot_model::{HelloLeaf, NodeState, Past, Scheme};
 use depot_sign::Roster;
 use std::alloc::Global;
 
@@ -32,16 +30,16 @@ use std::alloc::Global;
 /// `OtherRoster` exactly where it is of another roster than the node's; else `Unknown` exactly where a leaf isn't an accepted update of
 /// its writer, with the first such id; else `Unsigned` exactly where a node of the roster has no accepted update that puts the text under
 /// its key and has all listed ids in its past, with the first such node.
-pub fn trim<D: Disk, S: Scheme, G: Signer<Of = S>>(
+pub fn trim<S: Scheme, N: LocalNode<Of = S>>(
     alloc: Global,
-    node: &Node<D, S, G>,
+    node: &N,
     roster: Roster,
     scheme: S,
     text: &[u8],
 ) -> Result<Trimmed<S>, TrimError>
-    requires runs { ⟦<Node<D, S, G> as Replica>⟧.stopped node.now ≡ false }
-    requires roster { roster ≡ (⟦<Node<D, S, G> as Replica>⟧.stands node.now).listed }
-    ensures { Trims S.verifies (⟦<Node<D, S, G> as Replica>⟧.stands node.now) (⟦<Node<D, S, G> as Replica>⟧.records node.now) text.now result }
+    requires runs { N.stopped node.now ≡ false }
+    requires roster { roster ≡ (N.stands node.now).listed }
+    ensures { Trims S.verifies (N.stands node.now) (N.records node.now) text.now result }
 {
     let checkpoint = match opened(alloc, node, node.graph(), text) {
         Ok(checkpoint) => checkpoint,
@@ -67,16 +65,16 @@ fn as_untrimmed(refusal: OpenError) -> TrimError
 }
 
 /// The reader of a node that runs below these leaves.
-fn reader_of<D: Disk, S: Scheme, G: Signer<Of = S>>(
+fn reader_of<S: Scheme, N: LocalNode<Of = S>>(
     alloc: Global,
-    node: &Node<D, S, G>,
+    node: &N,
     roster: Roster,
     scheme: S,
     leaves: &[HelloLeaf],
 ) -> Result<Trimmed<S>, Memory>
-    requires runs { ⟦<Node<D, S, G> as Replica>⟧.stopped node.now ≡ false }
-    requires roster { roster ≡ (⟦<Node<D, S, G> as Replica>⟧.stands node.now).listed }
-    ensures { IfOk result (IsReaderOf S.verifies (reader_of (⟦<Node<D, S, G> as Replica>⟧.stands node.now) (⟦<Node<D, S, G> as Replica>⟧.records node.now) (ids_in leaves.now))) }
+    requires runs { N.stopped node.now ≡ false }
+    requires roster { roster ≡ (N.stands node.now).listed }
+    ensures { IfOk result (IsReaderOf S.verifies (reader_of (N.stands node.now) (N.records node.now) (ids_in leaves.now))) }
 {
     let graph = node.graph();
     let trimmed = trimmed_below(alloc, graph, leaves)?;
@@ -94,7 +92,7 @@ fn reader_of<D: Disk, S: Scheme, G: Signer<Of = S>>(
 /// Of each item of a graph, whether it is trimmed below these leaves.
 fn trimmed_below(alloc: Global, graph: &Graph, leaves: &[HelloLeaf]) -> Result<Vec<bool>, Memory>
     requires { (here : Setting) × ((J : List Record) × (IsLawful here J × (accepted J ≡ ⟦<Graph as Past>⟧.updates graph.now))) }
-    ensures { IfOk result (λ flags. (here : Setting) (J : List Record) → IsLawful here J → accepted J ≡ ⟦<Graph as Past>⟧.updates graph.now → flags.items ≡ given_up (trimmed J (ids_in leaves.now)) (accepted J)) }
+    ensures { IfOk result (λ flags. TellTrimmed (⟦<Graph as Past>⟧.updates graph.now) (ids_in leaves.now) flags.items) }
 {
     let below = graph_below(alloc, graph, leaves)?;
     trimmed_items(alloc, graph, &below)

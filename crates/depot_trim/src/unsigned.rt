@@ -1,14 +1,12 @@
 //! Which nodes of the roster signed a checkpoint.
-ghost use Rattle.std.specs.Prelude.{◌≡◌, ◌<◌, ◌↔◌, ℕ, List, length, not, find, option_map, IfOk, IsTrue, Some, slice_get};
-ghost use Rattle.std.specs.List.{list_any};
+ghost use Rattle.std.specs.Prelude.{◌≡◌, ◌<◌, ◌↔◌, length, not, IfOk, IsTrue};
 ghost use Rattle.sha2.specs.Sha256.{sha256};
-ghost use Rattle.depot_base.specs.declared.update.Update.{Update};
 ghost use Rattle.depot_model.specs.Checkpoints.{checkpoint_key};
 ghost use Rattle.depot_model.specs.Items.{PrecedesAt};
 ghost use Rattle.depot_model.specs.Journal.{has_id};
 ghost use Rattle.depot_model.specs.Order.{past};
 ghost use Rattle.depot_model.specs.ReadTests.{is_value_of};
-ghost use Rattle.depot_trim.specs.Trimmings.{ids_in, has_all_in_past, signs_as};
+ghost use Rattle.depot_trim.specs.Trimmings.{IsAnswerAt, first_unsigned, has_all_in_past, has_signed, ids_in, signs_as};
 
 use crate::keys::checkpoint_key;
 use depot_base::{Hash32, Key, Memory, NodeId, RosterEntry, Steps, Update};
@@ -26,7 +24,7 @@ pub(crate) fn first_unsigned(
     text: &[u8],
     leaves: &[HelloLeaf],
 ) -> Result<Option<NodeId>, Memory>
-    ensures { IfOk result (λ node. node ≡ option_map (λ e. e.node) (find (λ e. not (list_any (signs_as (⟦<Graph as Past>⟧.updates graph.now) text.now (ids_in leaves.now) e.node) (⟦<Graph as Past>⟧.updates graph.now))) nodes.now)) }
+    ensures { IfOk result (λ node. node ≡ first_unsigned (⟦<Graph as Past>⟧.updates graph.now) text.now (ids_in leaves.now) nodes.now) }
 {
     let sought = Signature {
         key: checkpoint_key(alloc, text)?,
@@ -56,7 +54,7 @@ pub struct Signature<'a> {
 
 /// Whether no update of a node is its signature.
 fn is_unsigned(graph: &Graph, entry: &RosterEntry, sought: &Signature<'_>) -> bool
-    ensures { result ≡ not (list_any (signs_as (⟦<Graph as Past>⟧.updates graph.now) sought.now.text.now (ids_in sought.now.leaves.now) entry.now.node) (⟦<Graph as Past>⟧.updates graph.now)) }
+    ensures { result ≡ not (has_signed (⟦<Graph as Past>⟧.updates graph.now) sought.now.text.now (ids_in sought.now.leaves.now) entry.now.node) }
 {
     for item in 0..graph.count() {
         if signs(graph, item, entry.node, sought) {
@@ -69,7 +67,7 @@ fn is_unsigned(graph: &Graph, entry: &RosterEntry, sought: &Signature<'_>) -> bo
 /// Whether the update of an item is a node's signature.
 fn signs(graph: &Graph, item: u32, node: NodeId, sought: &Signature<'_>) -> bool
     requires { item < length (⟦<Graph as Past>⟧.updates graph.now) }
-    ensures { (u : Update) → slice_get (⟦<Graph as Past>⟧.updates graph.now) item ≡ Some u → result ≡ signs_as (⟦<Graph as Past>⟧.updates graph.now) sought.now.text.now (ids_in sought.now.leaves.now) node u }
+    ensures { IsAnswerAt (⟦<Graph as Past>⟧.updates graph.now) item (signs_as (⟦<Graph as Past>⟧.updates graph.now) sought.now.text.now (ids_in sought.now.leaves.now) node) result }
 {
     let update = graph.update(item);
     if update.writer != node || !puts(update, sought) {
@@ -94,7 +92,7 @@ fn puts(update: &Update, sought: &Signature<'_>) -> bool
 /// Whether all these leaves are in the past of an item.
 fn follows_all(graph: &Graph, item: u32, leaves: &[HelloLeaf]) -> bool
     requires { item < length (⟦<Graph as Past>⟧.updates graph.now) }
-    ensures { (u : Update) → slice_get (⟦<Graph as Past>⟧.updates graph.now) item ≡ Some u → result ≡ has_all_in_past (⟦<Graph as Past>⟧.updates graph.now) (ids_in leaves.now) u }
+    ensures { IsAnswerAt (⟦<Graph as Past>⟧.updates graph.now) item (has_all_in_past (⟦<Graph as Past>⟧.updates graph.now) (ids_in leaves.now)) result }
 {
     for leaf in leaves {
         if !follows(graph, item, &leaf.id) {
@@ -107,7 +105,7 @@ fn follows_all(graph: &Graph, item: u32, leaves: &[HelloLeaf]) -> bool
 /// Whether an id is that of an update in the past of an item.
 fn follows(graph: &Graph, item: u32, id: &Hash32) -> bool
     requires { item < length (⟦<Graph as Past>⟧.updates graph.now) }
-    ensures { (u : Update) → slice_get (⟦<Graph as Past>⟧.updates graph.now) item ≡ Some u → result ≡ has_id (past u (⟦<Graph as Past>⟧.updates graph.now)) id.now }
+    ensures { IsAnswerAt (⟦<Graph as Past>⟧.updates graph.now) item (λ u. has_id (past u (⟦<Graph as Past>⟧.updates graph.now)) id.now) result }
 {
     match graph.find(id) {
         Some(other) => precedes::<Brand>(graph, other, item, Blank::new(1)),

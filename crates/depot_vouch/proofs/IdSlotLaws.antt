@@ -1,5 +1,5 @@
 -- Sets of ids, with more of them.
-use Rattle.std.proofs.Common.{◌≡◌, ℕ, ◌+◌, ◌<◌, Result, Ok, Err, IsOk, IfOk, OnOk, rules, OnErr, IsSome, is_some, List, [], ◌∷◌, take, get_or, length, Bool, true, false, cond, Option, Some, None, ◌||◌, refl, sym, ap, subst, ◌∙◌, inl, inr}
+use Rattle.std.proofs.Common.{◌≡◌, ℕ, ◌<◌, Result, Ok, Err, IsOk, IfOk, OnOk, rules, OnErr, IsSome, is_some, List, [], ◌∷◌, get_or, length, Bool, true, false, cond, Option, Some, None, ◌||◌, refl, sym, ap, subst, ◌∙◌, inl, inr}
 use Rattle.std.specs.List.{AllByRecursion}
 use Rattle.std.specs.List.Sorted.{IsStrictlySortedBy}
 use Rattle.std.specs.Map.{keys_of, lookup}
@@ -12,14 +12,13 @@ use Rattle.std.specs.Cmp.Lexicographic.{slice_cmp}
 use Rattle.std.proofs.lemmas.Bool.{or_left, or_right, or_cases}
 use Rattle.std.proofs.lemmas.Map.Text.{is_eq-slice_cmp}
 use Rattle.std.proofs.lemmas.Slice.Eq.{bytes_eq-Decides}
-use Rattle.std.proofs.lemmas.List.Folds.{list_any-append}
 use Rattle.std.proofs.lemmas.Option.{slice_get-get_or}
 use Rattle.std.proofs.Math.Bool.{or_assoc}
 use Rattle.std.proofs.lemmas.Map.Lookups.{exact_bytes}
 use Rattle.depot_model.specs.Lists.{is_among, AreTogether}
 use Rattle.depot_model.proofs.Elements.{in_at}
 use Rattle.depot_model.proofs.Members.{all_at, among_from, among_to}
-use Rattle.depot_base.proofs.GeneralLaws.{or_none, take_next, or_again}
+use Rattle.depot_base.proofs.GeneralLaws.{or_none, or_again}
 use Rattle.depot_vouch.specs.VouchedView.{AreWithin}
 use Rattle.depot_vouch.specs.IdSlots.{vouched_in, DoAscend}
 
@@ -172,13 +171,6 @@ stays_together old more new together h on = together h ∙ or_left (is_among h o
 -- and what was added is there
 pub added_together : (old more new : List (List ℕ)) → AreTogether old more new → AreWithin more new
 added_together old more new together h on = together h ∙ or_right (is_among h old) (is_among h more) on
-
--- one id more than the first of them
-pub more_by_one : (old xs mid new : List (List ℕ)) (i : ℕ) (x : List ℕ) → i < length xs → x ≡ get_or xs i x → AreTogether old (take i xs) mid → AreTogether mid (x ∷ []) new → AreTogether old (take (i + 1) xs) new
-more_by_one old xs mid new i x low is before one h =
-    let front = take_next xs i x low is in
-    let parts : is_among h (take (i + 1) xs) ≡ (is_among h (take i xs) || (bytes_eq h x || false)) = ap (λ (l : List (List ℕ)). is_among h l) front ∙ list_any-append (bytes_eq h) (take i xs) (x ∷ []) in
-    one h ∙ ap (λ (b : Bool). b || (bytes_eq h x || false)) (before h) ∙ or_assoc (is_among h old) (is_among h (take i xs)) (bytes_eq h x || false) ∙ ap (λ (b : Bool). is_among h old || b) (sym parts)
 
 -- an id that was read is one of them
 pub read_is_within : (xs all : List (List ℕ)) (i : ℕ) (x : List ℕ) → AreWithin xs all → i < length xs → x ≡ get_or xs i x → is_among x all ≡ true

@@ -27,7 +27,7 @@ use Rattle.depot_model.proofs.Members.{all_at, from_map}
 use Rattle.depot_laws.proofs.Causes.{lawful_is_causal}
 use Rattle.depot_laws.proofs.OneFinding.{one_finding}
 use Rattle.depot_laws.proofs.Splits.{lawful_front}
-use Rattle.depot_world.specs.Audits.{traced_read, trace_by, comes_before, audited}
+use Rattle.depot_world.specs.Audits.{traced_read, trace_by, comes_before, traces_by, audited}
 use Rattle.depot_world.specs.Run.{Run, Host, world_by}
 use Rattle.depot_world.specs.Setups.{Setup}
 
@@ -175,10 +175,6 @@ found_in_world verifies listed traces W (split_found n place) of_world are is = 
 found_in_world verifies listed traces W (named_found n place) of_world are is = (W, (are, is))
 
 -- ---- the audit of a run
-
--- the traces of a run's nodes
-abbrev pub traces_by : Run → List Trace
-traces_by run = map trace_by (map (λ (s : Host). s.correct) run.hosts)
 
 pub run_is_audited : (setup : Setup) (run : Run) (found : Finding) → IsWorld (world_by setup run) → IsFindingOf setup.suite.verifies setup.listed (traces_by run) found → found ≡ finding_in (audited setup run)
 unfolding world_by audited

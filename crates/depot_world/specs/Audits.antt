@@ -25,6 +25,10 @@ trace_by c = trace_with c c.reads
 
 -- ---- the audit of a run
 
+-- the traces of a run's nodes
+abbrev pub traces_by : Run → List Trace
+traces_by run = map trace_by (map (λ s. s.correct) run.hosts)
+
 -- a node comes before those of higher numbers
 abbrev pub comes_before : Correct → Correct → Bool
 comes_before c d = not (nat_lt d.node c.node)

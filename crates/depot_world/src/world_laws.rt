@@ -1,9 +1,5 @@
 //! What holds of the worlds of schedules. Each law is a function that does nothing; its contract is the law.
-ghost use Rattle.std.specs.Prelude.{◌≡◌, ℕ, List, [], map, take};
-ghost use Rattle.depot_base.specs.Statement.{writer_of};
-ghost use Rattle.depot_base.specs.declared.proof.Kind.{Kind};
-ghost use Rattle.depot_base.specs.declared.proof.Proof.TheVariants.{Pair};
-ghost use Rattle.depot_base.specs.declared.statement.Signed.{Signed};
+ghost use Rattle.std.specs.Prelude.{◌≡◌, ℕ, List, [], take};
 ghost use Rattle.depot_base.specs.declared.update.Update.{Update};
 ghost use Rattle.depot_model.specs.Causality.{IsForkJoinCausal, ConvictsNoCorrectNode};
 ghost use Rattle.depot_model.specs.Lists.{IsIn};
@@ -12,11 +8,12 @@ ghost use Rattle.depot_model.specs.Receipts.{AreReceiptsTrue};
 ghost use Rattle.depot_model.specs.Audit.{Finding, finding_in};
 ghost use Rattle.depot_model.specs.Texts.{IsRoster};
 ghost use Rattle.depot_model.specs.Traces.{IsFindingOf};
-ghost use Rattle.depot_model.specs.World.{Correct, IsWorld, IsAuthentic, IsCollisionFree, proofs_of};
+ghost use Rattle.depot_model.specs.World.{Correct, IsWorld, IsAuthentic, IsCollisionFree};
 ghost use Rattle.depot_schedule.specs.Schedules.{IsSchedule};
 ghost use Rattle.depot_schedule.specs.declared.schedule.Schedule.{Schedule};
 ghost use Rattle.depot_model.specs.LatestList.{latest_in};
-ghost use Rattle.depot_world.specs.Audits.{IsSound, audited, trace_by};
+ghost use Rattle.depot_laws.specs.WorldFacts.{PairsConvictNoCorrectNode};
+ghost use Rattle.depot_world.specs.Audits.{IsSound, audited, traces_by};
 ghost use Rattle.depot_world.specs.Run.{Run, run_of, world_by};
 ghost use Rattle.depot_world.specs.Setups.{Setup, setup_of};
 ghost use Rattle.depot_world.specs.Transcript.{run_after, world_of};
@@ -41,7 +38,7 @@ pub fn schedules_make_worlds()
 pub fn worlds_of_schedules_are_causal()
     ensures causal { (s : Schedule) → IsSchedule s → IsAuthentic (world_of s) → IsCollisionFree (world_of s) → IsForkJoinCausal (world_of s) }
     ensures convicts { (s : Schedule) → IsSchedule s → IsAuthentic (world_of s) → IsCollisionFree (world_of s) → ConvictsNoCorrectNode (world_of s) }
-    ensures pairs { (s : Schedule) (c : Correct) (kind : Kind) (first second : Signed) → IsSchedule s → IsAuthentic (world_of s) → IsIn c (world_of s).nodes → IsIn (Pair kind first second) (proofs_of (world_of s)) → writer_of first.statement ≡ c.node → ⊥ }
+    ensures pairs { (s : Schedule) → IsSchedule s → IsAuthentic (world_of s) → PairsConvictNoCorrectNode (world_of s) }
 {}
 
 /// Each receipt that a correct node of a schedule's world gave is for an update that it had accepted, all of whose values it held,
@@ -58,5 +55,5 @@ pub fn runs_of_schedules_are_sound()
 
 /// Where the correct nodes of a run make a world, what is found in their traces is what is found in that world.
 pub fn audits_of_runs()
-    ensures { (setup : Setup) (run : Run) (found : Finding) → IsWorld (world_by setup run) → IsFindingOf setup.suite.verifies setup.listed (map trace_by (map (λ s. s.correct) run.hosts)) found → found ≡ finding_in (audited setup run) }
+    ensures { (setup : Setup) (run : Run) (found : Finding) → IsWorld (world_by setup run) → IsFindingOf setup.suite.verifies setup.listed (traces_by run) found → found ≡ finding_in (audited setup run) }
 {}

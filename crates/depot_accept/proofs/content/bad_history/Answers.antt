@@ -1,16 +1,24 @@
-use Rattle.std.proofs.Common.{sym, ◌∙◌}
-use Rattle.depot_model.specs.Order.{parents}
+use Rattle.std.proofs.Common.{sym, subst, ◌∙◌}
 use Rattle.depot_model.specs.Checks.{sight}
 use Rattle.depot_graph.specs.Kept.{updates_in}
-use Rattle.depot_graph.proofs.ItemPlaces.{places_within}
+use Rattle.depot_graph.specs.UpdateRows.{IsJoinedRow}
 use Rattle.depot_accept.proofs.ParentItems.{right_history, history_differs, history_same}
 use Rattle.depot_accept.proofs.content.bad_history.Goals as goal
 
-pub history_hash-requires : goal.history_hash-requires
-history_hash-requires c = places_within (updates_in c.args.graph.now.items.entries) (parents c.args.update.now) c.args.items.now c.requires
-
 pub returns-then-ne : goal.returns-then-ne
-returns-then-ne c = history_differs c.args.update.now (sight (updates_in c.args.graph.now.items.entries) c.args.update.now) c.in_ok-right.right (right_history (updates_in c.args.graph.now.items.entries) c.args.update.now c.args.items.now c.in_ok-right.right c.requires c.in_ok-right.ensures) (sym c.ne.ensures ∙ c.if-ne.true)
+returns-then-ne c =
+    let us = updates_in c.args.graph.now.items.entries in
+    let u = c.args.update.now in
+    let ns = c.args.parents.now.items.items in
+    let right = c.in_ok-right.right in
+    let joined : IsJoinedRow us ns c.as_slice.result.now = subst (IsJoinedRow us ns) (sym c.as_slice.ensures.value) c.requires.row in
+    history_differs u (sight us u) right (right_history us u ns right c.requires.items (c.in_ok-right.ensures ns joined)) (sym c.ne.ensures ∙ c.if-ne.true)
 
 pub returns : goal.returns
-returns c = history_same c.args.update.now (sight (updates_in c.args.graph.now.items.entries) c.args.update.now) c.in_ok-right.right (right_history (updates_in c.args.graph.now.items.entries) c.args.update.now c.args.items.now c.in_ok-right.right c.requires c.in_ok-right.ensures) (sym c.ne.ensures ∙ c.if-ne.false)
+returns c =
+    let us = updates_in c.args.graph.now.items.entries in
+    let u = c.args.update.now in
+    let ns = c.args.parents.now.items.items in
+    let right = c.in_ok-right.right in
+    let joined : IsJoinedRow us ns c.as_slice.result.now = subst (IsJoinedRow us ns) (sym c.as_slice.ensures.value) c.requires.row in
+    history_same u (sight us u) right (right_history us u ns right c.requires.items (c.in_ok-right.ensures ns joined)) (sym c.ne.ensures ∙ c.if-ne.false)

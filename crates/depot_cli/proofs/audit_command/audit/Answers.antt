@@ -1,4 +1,4 @@
-use Rattle.std.proofs.Common.{refl, sym}
+use Rattle.std.proofs.Common.{refl}
 use Rattle.std.proofs.lemmas.Result.{IfOk-weaker}
 use Rattle.depot_outside.specs.Told.{loads, shelves}
 use Rattle.depot_cli.proofs.AuditRuns.{audits_later}

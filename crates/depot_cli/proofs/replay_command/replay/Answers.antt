@@ -12,7 +12,7 @@ returns-in-Ok-Some-clause-ends g c =
     let shelf = shelves g.F.Shelf c.args.shelf.now c.load.new.shelf in
     let loaded = loads g.F.Shelf c.args.shelf.now c.load.new.shelf in
     let there = rw c.in-Ok-Some.field-0-is at c.in-Ok-Some.ensures.loaded in
-    replay_ends shelf loaded c.args.name.now c.in-Ok-Some.bytes (sinks g.S.Sink c.args.out.now c.replay_bytes.new.out) c.replay_bytes.result c.load.ensures.loads there.0 (rw c.as_slice.ensures at c.replay_bytes.ensures.ends)
+    replay_ends shelf loaded c.args.name.now c.in-Ok-Some.bytes (sinks g.S.Sink c.args.out.now c.replay_bytes.new.out) c.replay_bytes.result c.load.ensures.loads there.0 c.replay_bytes.ensures.ends
 
 pub returns-in-Ok-None-clause-ends : goal.returns-in-Ok-None-clause-ends
 returns-in-Ok-None-clause-ends g c =

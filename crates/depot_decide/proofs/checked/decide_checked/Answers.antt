@@ -26,23 +26,23 @@ pub refuse-requires-clause-failed : goal.refuse-requires-clause-failed
 refuse-requires-clause-failed g c =
     rw c.in-Err-Refused.field-0-is (checked_as (setting g.S.Scheme.verifies c.args.state.now) c.args.state.now c.args.signed c.args.checked (Err (failed.Refused c.in-Err-Refused.check c.in-Err-Refused.against)) (c.in-Err-Refused.is ∙ ap (λ (e : CheckError). Err e) c.in-Err-Refused.field-0-is) c.requires.checked)
 
-pub returns-in-Ok-Known : goal.returns-in-Ok-Known
-returns-in-Ok-Known g c = λ J state checked.
+pub returns-in-Ok-Known-clause-decided : goal.returns-in-Ok-Known-clause-decided
+returns-in-Ok-Known-clause-decided g c = λ J state checked.
     let here = setting g.S.Scheme.verifies c.args.state.now in
     made_decision here J (given_statement c.args.signed) (Ok Known) [] _ c.of.ensures
     (decided_known here J c.args.signed (subst (IsChecked here J c.args.signed) (c.in-Ok-Known.is ∙ ap (λ (p : Pass). Ok p) c.in-Ok-Known.field-0-is) checked))
 
-pub returns-in-Ok-Voucher : goal.returns-in-Ok-Voucher
-returns-in-Ok-Voucher g c =
+pub returns-in-Ok-Voucher-clause-decided : goal.returns-in-Ok-Voucher-clause-decided
+returns-in-Ok-Voucher-clause-decided g c =
     let here = setting g.S.Scheme.verifies c.args.state.now in
-    if_decided c.accept.result (λ d is J state checked. is J state (subst (IsChecked here J c.args.signed) (c.in-Ok-Voucher.is ∙ ap (λ (p : Pass). Ok p) c.in-Ok-Voucher.field-0-is) checked).1.1) c.accept.ensures
+    if_decided c.accept.result (λ d is J state checked. is J state (subst (IsChecked here J c.args.signed) (c.in-Ok-Voucher.is ∙ ap (λ (p : Pass). Ok p) c.in-Ok-Voucher.field-0-is) checked).1.1) c.accept.ensures.decided
 
-pub returns-in-Ok-Update : goal.returns-in-Ok-Update
-returns-in-Ok-Update g c =
+pub returns-in-Ok-Update-clause-decided : goal.returns-in-Ok-Update-clause-decided
+returns-in-Ok-Update-clause-decided g c =
     let here = setting g.S.Scheme.verifies c.args.state.now in
-    if_decided c.accept-in-Ok-Update.result (λ d is J state checked. is J state (subst (IsChecked here J c.args.signed) (c.in-Ok-Update.is ∙ ap (λ (p : Pass). Ok p) c.in-Ok-Update.field-0-is) checked).1) c.accept-in-Ok-Update.ensures
+    if_decided c.accept-in-Ok-Update.result (λ d is J state checked. is J state (subst (IsChecked here J c.args.signed) (c.in-Ok-Update.is ∙ ap (λ (p : Pass). Ok p) c.in-Ok-Update.field-0-is) checked).1) c.accept-in-Ok-Update.ensures.decided
 
-pub returns : goal.returns
-returns g c =
+pub returns-clause-decided : goal.returns-clause-decided
+returns-clause-decided g c =
     let here = setting g.S.Scheme.verifies c.args.state.now in
-    if_decided c.refuse.result (λ d is J state checked. is J state (rw c.in-Err-Refused.field-0-is (subst (IsChecked here J c.args.signed) (c.in-Err-Refused.is ∙ ap (λ (e : CheckError). Err e) c.in-Err-Refused.field-0-is) checked))) c.refuse.ensures
+    if_decided c.refuse.result (λ d is J state checked. is J state (rw c.in-Err-Refused.field-0-is (subst (IsChecked here J c.args.signed) (c.in-Err-Refused.is ∙ ap (λ (e : CheckError). Err e) c.in-Err-Refused.field-0-is) checked))) c.refuse.ensures.decided

@@ -1,6 +1,6 @@
 use Rattle.std.proofs.Common.{ap, ◌∙◌}
 use Rattle.sha2.specs.Sha256.{sha256}
-use Rattle.depot_store.specs.Holdings.{standing}
+use Rattle.depot_readings.specs.ReadingsView.{standing}
 use Rattle.depot_accept.specs.StateView.{setting}
 use Rattle.depot_model.specs.Checks.{given_statement}
 use Rattle.depot_decide.proofs.Decided.{if_decided, decided_here}
@@ -14,11 +14,11 @@ pub decide_checked-requires-clause-id : goal.decide_checked-requires-clause-id
 decide_checked-requires-clause-id g c = id_of_body c.args.signed _ c.requires.signed (c.hash_of-id.ensures ∙ ap sha256 c.as_slice.ensures)
 
 pub decide_checked-requires-clause-checked : goal.decide_checked-requires-clause-checked
-decide_checked-requires-clause-checked g c = (c.args.store.now.records, (c.state-state.ensures.state, c.check-checked.ensures c.args.store.now.records c.state-state.ensures.state))
+decide_checked-requires-clause-checked g c = (c.args.readings.now.records, (c.state-state.ensures.state, c.check-checked.ensures c.args.readings.now.records c.state-state.ensures.state))
 
-pub returns : goal.returns
-returns g c =
+pub returns-clause-decided : goal.returns-clause-decided
+returns-clause-decided g c =
     if_decided c.decide_checked.result
-    (λ d is. decided_here (standing g.S.Scheme.verifies c.args.store.now) (setting g.S.Scheme.verifies c.state-state.result.now) c.args.store.now.records (given_statement c.args.signed) d c.state-state.ensures.stands
-    (is c.args.store.now.records c.state-state.ensures.state (c.check-checked.ensures c.args.store.now.records c.state-state.ensures.state)))
-    c.decide_checked.ensures
+    (λ d is. decided_here (standing g.S.Scheme.verifies c.args.readings.now) (setting g.S.Scheme.verifies c.state-state.result.now) c.args.readings.now.records (given_statement c.args.signed) d c.state-state.ensures.stands
+    (is c.args.readings.now.records c.state-state.ensures.state (c.check-checked.ensures c.args.readings.now.records c.state-state.ensures.state)))
+    c.decide_checked.ensures.decided

@@ -13,11 +13,11 @@ returns-in-Some g c =
     let me = c.me.ensures ∙ ap (λ (s : Setting). s.me) c.state-state.ensures.stands in
     let all = c.state-state.ensures.state.accepted ∙ sym c.graph-graph.ensures in
     c.ne.ensures ∙ ap (λ (n : ℕ). not (eqb c.update.result.now.writer n)) me
-    ∙ sym (foreign_by_place c.args.store.now.me us c.args.id.now c.in-Some.item c.update.result.now (causal_from_test [] us c.graph-graph.result.now.causal) (sym c.in-Some.ensures) c.update.ensures)
-    ∙ ap (λ (ts : List Update). is_foreign c.args.store.now.me ts c.args.id.now) (sym all)
+    ∙ sym (foreign_by_place c.args.readings.now.me us c.args.id.now c.in-Some.item c.update.result.now (causal_from_test [] us c.graph-graph.result.now.causal) (sym c.in-Some.ensures) c.update.ensures)
+    ∙ ap (λ (ts : List Update). is_foreign c.args.readings.now.me ts c.args.id.now) (sym all)
 
 pub returns-in-None : goal.returns-in-None
 returns-in-None g c =
     let all = c.state-state.ensures.state.accepted ∙ sym c.graph-graph.ensures in
-    sym (not_foreign c.args.store.now.me (updates_in c.graph-graph.result.now.items.entries) c.args.id.now (sym c.in-None.ensures))
-    ∙ ap (λ (ts : List Update). is_foreign c.args.store.now.me ts c.args.id.now) (sym all)
+    sym (not_foreign c.args.readings.now.me (updates_in c.graph-graph.result.now.items.entries) c.args.id.now (sym c.in-None.ensures))
+    ∙ ap (λ (ts : List Update). is_foreign c.args.readings.now.me ts c.args.id.now) (sym all)

@@ -5,8 +5,8 @@ use Rattle.depot_gossip.proofs.bundle_stream.told_of.Goals as goal
 
 pub returns : goal.returns
 returns g c =
-    let sign = g.R.Replica.signature_of c.args.node.now in
-    let J = g.R.Replica.records c.args.node.now in
+    let sign = g.R.NodeState.signature_of c.args.node.now in
+    let J = g.R.NodeState.records c.args.node.now in
     let h = c.args.hello.now in
     let s = c.args.sending.now in
     IfOk-weaker c.stream_of.result (IsJoined c.in_ok-front.front s) (IsStream sign J h s) (λ b joined. joined_is_stream sign J h s c.in_ok-front.front b c.in_ok-front.ensures joined) c.stream_of.ensures

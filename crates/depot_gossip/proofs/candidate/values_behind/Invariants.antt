@@ -5,4 +5,4 @@ use Rattle.depot_gossip.specs.Choosing.{Finds}
 use Rattle.depot_gossip.proofs.candidate.values_behind.Given as goal
 
 abbrev pub invariant-loop-write : goal.invariant-loop-write
-invariant-loop-write g l = Finds (g.R.Replica.records l.node) l.initial.hashes.keys (values_in (take l.write-index l.writes)) (payloads_of l.found.items) l.hashes.keys
+invariant-loop-write g l = Finds (g.R.NodeState.records l.node) l.initial.hashes.keys (values_in (take l.write-index l.writes)) (payloads_of l.found.items) l.hashes.keys

@@ -18,7 +18,7 @@ use Rattle.depot_gossip.proofs.choose.add_candidate.Goals as goal
 pub signed_text-requires : goal.signed_text-requires
 signed_text-requires g c =
     let t = c.requires.tells in
-    (t.item, (t.at, ap length (told_by (g.R.Replica.signature_of c.args.node.now) t.item t.update t.accepts).tells))
+    (t.item, (t.at, ap length (told_by (g.R.NodeState.signature_of c.args.node.now) t.item t.update t.accepts).tells))
 
 pub foreign_id-foreign-requires : goal.foreign_id-foreign-requires
 foreign_id-foreign-requires g c =
@@ -27,10 +27,10 @@ foreign_id-foreign-requires g c =
 
 pub add_found-requires : goal.add_found-requires
 add_found-requires g c =
-    let here = g.R.Replica.stands c.args.node.now in
-    let J = g.R.Replica.records c.args.node.now in
+    let here = g.R.NodeState.stands c.args.node.now in
+    let J = g.R.NodeState.records c.args.node.now in
     let lawful = g.met.R.Replica.lawful c.args.node.now in
-    let t = told_at here (g.R.Replica.signature_of c.args.node.now) J c.args.place c.in_ok-told.told lawful (g.met.R.Replica.short c.args.node.now) c.requires.tells c.in_ok-told.ensures in
+    let t = told_at here (g.R.NodeState.signature_of c.args.node.now) J c.args.place c.in_ok-told.told lawful (g.met.R.Replica.short c.args.node.now) c.requires.tells c.in_ok-told.ensures in
     let found = payloads_of c.in_ok-found.found.items in
     let new = c.values_behind.new.hashes.keys in
     let is = told_update J c.args.place c.requires.tells t c.in-Some.update.now c.in-Some.ensures in
@@ -45,10 +45,10 @@ add_found-requires g c =
     }
 
 pub returns-clause-adds : goal.returns-clause-adds
-returns-clause-adds g c = λ xs r holds at.
-    let here = g.R.Replica.stands c.args.node.now in
-    let sign = g.R.Replica.signature_of c.args.node.now in
-    let J = g.R.Replica.records c.args.node.now in
+returns-clause-adds g c = λ r at xs holds.
+    let here = g.R.NodeState.stands c.args.node.now in
+    let sign = g.R.NodeState.signature_of c.args.node.now in
+    let J = g.R.NodeState.records c.args.node.now in
     let keys = c.args.hashes.now.keys in
     let t = told_at here sign J c.args.place c.in_ok-told.told (g.met.R.Replica.lawful c.args.node.now) (g.met.R.Replica.short c.args.node.now) c.requires.tells c.in_ok-told.ensures in
     let u = c.in-Some.update.now in
@@ -65,8 +65,8 @@ returns-clause-adds g c = λ xs r holds at.
 
 pub returns-clause-hashes : goal.returns-clause-hashes
 returns-clause-hashes g c = λ r at.
-    let sign = g.R.Replica.signature_of c.args.node.now in
-    let J = g.R.Replica.records c.args.node.now in
+    let sign = g.R.NodeState.signature_of c.args.node.now in
+    let J = g.R.NodeState.records c.args.node.now in
     let keys = c.args.hashes.now.keys in
     let found = payloads_of c.in_ok-found.found.items in
     let finds = rw c.as_slice.ensures at c.in_ok-found.ensures in

@@ -6,6 +6,6 @@ use Rattle.depot_gossip.proofs.choose.add_candidates.Given as goal
 
 abbrev pub invariant-loop-place : goal.invariant-loop-place
 invariant-loop-place g l = record {
-  holds : Holds (g.R.Replica.stands l.node).me (candidate_parcels (g.R.Replica.signature_of l.node) (g.R.Replica.records l.node) [] (records_at (g.R.Replica.records l.node) (take l.place-index l.places))) l.sending;
-  alike : AreAlike l.hashes.keys (hashes_of (candidate_parcels (g.R.Replica.signature_of l.node) (g.R.Replica.records l.node) [] (records_at (g.R.Replica.records l.node) (take l.place-index l.places))));
+  holds : Holds (g.R.NodeState.stands l.node).me (candidate_parcels (g.R.NodeState.signature_of l.node) (g.R.NodeState.records l.node) [] (records_at (g.R.NodeState.records l.node) (take l.place-index l.places))) l.sending;
+  alike : AreAlike l.hashes.keys (hashes_of (candidate_parcels (g.R.NodeState.signature_of l.node) (g.R.NodeState.records l.node) [] (records_at (g.R.NodeState.records l.node) (take l.place-index l.places))));
 }

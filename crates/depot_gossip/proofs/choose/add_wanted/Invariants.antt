@@ -5,4 +5,4 @@ use Rattle.depot_frames.specs.Sendings.{Holds}
 use Rattle.depot_gossip.proofs.choose.add_wanted.Given as goal
 
 abbrev pub invariant-loop-hash : goal.invariant-loop-hash
-invariant-loop-hash g l = (xs : List Parcel) → Holds (g.R.Replica.stands l.node).me xs l.initial.sending → Holds (g.R.Replica.stands l.node).me (xs ++ flat_map (wanted_parcel (g.R.Replica.records l.node) l.hashes.keys) (take l.hash-index l.wanted)) l.sending
+invariant-loop-hash g l = (xs : List Parcel) → Holds (g.R.NodeState.stands l.node).me xs l.initial.sending → Holds (g.R.NodeState.stands l.node).me (xs ++ flat_map (wanted_parcel (g.R.NodeState.records l.node) l.hashes.keys) (take l.hash-index l.wanted)) l.sending

@@ -8,18 +8,18 @@ use Rattle.depot_gossip.proofs.choose.chosen.Goals as goal
 
 pub add_all-requires-clause-tell : goal.add_all-requires-clause-tell
 add_all-requires-clause-tell g c =
-    let J = g.R.Replica.records c.args.node.now in
+    let J = g.R.NodeState.records c.args.node.now in
     let same = c.as_slice.ensures ∙ c.in_ok-places.ensures in
     subst (λ (places : List ℕ). AllByRecursion (TellsAt J) places) (sym same) (candidates_at J c.in_ok-ids.ids c.args.hello.now.node).tell
 
 pub add_all-requires-clause-none : goal.add_all-requires-clause-none
-add_all-requires-clause-none g c = c.new-sending.ensures (g.R.Replica.stands c.args.node.now).me
+add_all-requires-clause-none g c = c.new-sending.ensures (g.R.NodeState.stands c.args.node.now).me
 
 pub returns : goal.returns
 returns g c =
-    let J = g.R.Replica.records c.args.node.now in
-    let sign = g.R.Replica.signature_of c.args.node.now in
-    let me = (g.R.Replica.stands c.args.node.now).me in
+    let J = g.R.NodeState.records c.args.node.now in
+    let sign = g.R.NodeState.signature_of c.args.node.now in
+    let me = (g.R.NodeState.stands c.args.node.now).me in
     let h = c.args.hello.now in
     let are = parcels_are sign J h c.as_slice.result.now (c.as_slice.ensures ∙ c.in_ok-places.ensures ∙ ap (λ (ids : List (List ℕ)). candidate_places J ids h.node) c.in_ok-ids.ensures) in
     let front = candidate_parcels sign J [] (records_at J c.as_slice.result.now) in

@@ -6,6 +6,6 @@ use Rattle.depot_gossip.proofs.front.proof_frames.Given as goal
 
 abbrev pub invariant-loop-place : goal.invariant-loop-place
 invariant-loop-place g l = record {
-  made : AreFrames (map proof_frame (proofs_at (g.R.Replica.records l.node) (take l.place-index l.place-items))) l.frames;
+  made : AreFrames (map proof_frame (proofs_at (g.R.NodeState.records l.node) (take l.place-index l.place-items))) l.frames;
   few : l.frames.count ≤ l.place-index;
 }

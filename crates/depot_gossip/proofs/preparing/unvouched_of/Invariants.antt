@@ -4,4 +4,4 @@ use Rattle.depot_model.specs.Vouching.{is_mine_vouched}
 use Rattle.depot_gossip.proofs.preparing.unvouched_of.Given as goal
 
 abbrev pub invariant-loop-id : goal.invariant-loop-id
-invariant-loop-id g l = l.left ≡ filter (λ id. not (is_mine_vouched (g.R.Replica.records l.node) id)) (take l.id-index l.id-items)
+invariant-loop-id g l = l.left ≡ filter (λ id. not (is_mine_vouched (g.R.NodeState.records l.node) id)) (take l.id-index l.id-items)

@@ -5,7 +5,7 @@ pub returns-clause-writes : goal.returns-clause-writes
 returns-clause-writes x W t u world t_on u_on = writes_alone W world t u t_on u_on
 
 pub returns-clause-reads : goal.returns-clause-reads
-returns-clause-reads x W u c place r world u_on c_on at = reads_alone W world u c place r u_on c_on at
+returns-clause-reads x W world u c place r u_on c_on at = reads_alone W world u c place r u_on c_on at
 
 pub returns-clause-circle : goal.returns-clause-circle
 returns-clause-circle x W world = circle_alone W world

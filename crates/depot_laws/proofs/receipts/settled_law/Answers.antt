@@ -2,4 +2,4 @@ use Rattle.depot_laws.proofs.Settled.{settled}
 use Rattle.depot_laws.proofs.receipts.settled_law.Goals as goal
 
 pub returns : goal.returns
-returns x W c h k world authentic genuine few c_on long many = settled W world c h k authentic genuine few c_on long many
+returns x W k world authentic genuine few c h c_on long many = settled W world c h k authentic genuine few c_on long many

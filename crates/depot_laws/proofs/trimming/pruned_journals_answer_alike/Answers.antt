@@ -3,7 +3,7 @@ use Rattle.depot_laws.proofs.PrunedGrowth.{pruned_grows}
 use Rattle.depot_laws.proofs.trimming.pruned_journals_answer_alike.Goals as goal
 
 pub returns-clause-statements : goal.returns-clause-statements
-returns-clause-statements c here J ts s l within e = statements_alike here J ts l within s e
+returns-clause-statements c here J ts l within s e = statements_alike here J ts l within s e
 
 pub returns-clause-proofs : goal.returns-clause-proofs
 returns-clause-proofs c here J ts p = proofs_alike here J ts p

@@ -1,30 +1,15 @@
+use Rattle.std.proofs.Common.{rules, refl}
 use Rattle.std.proofs.lemmas.Result.{err_from_is_err_and}
-use Rattle.depot_model.proofs.CallsOnDisk.{nothing_called}
-use Rattle.depot_model.proofs.StopLaws.{idle_lasts}
+use Rattle.depot_model.proofs.JournalCallLaws.{idle_call, never_stopped}
+use Rattle.depot_node.specs.Holdings.{journal_on}
 use Rattle.depot_node.proofs.put.put.Goals as goal
 
--- ---- what a stop leaves
+-- ---- the call
 
-pub returns-then-is_stopped-clause-lasts : goal.returns-then-is_stopped-clause-lasts
-returns-then-is_stopped-clause-lasts g c = idle_lasts (λ v file left. g.met.D.Disk.only_now v.disk file left) _ _ (c.is_stopped.ensures.stable c.requires.read)
+pub returns-then-is_stopped-clause-call : goal.returns-then-is_stopped-clause-call
+returns-then-is_stopped-clause-call g c = idle_call (journal_on g.D.Disk) (λ v file left. g.met.D.Disk.only_now v.disk file left) (λ v. g.met.D.Disk.after_none v.disk) c.args.store.now _ (c.is_stopped.ensures.stable c.requires.kept.read) (λ s. search rules, λ was. refl) (λ e. cc)
 
-pub returns-in_err-changes-clause-lasts : goal.returns-in_err-changes-clause-lasts
-returns-in_err-changes-clause-lasts g c = idle_lasts (λ v file left. g.met.D.Disk.only_now v.disk file left) _ _ (c.is_stopped.ensures.stable c.requires.read)
-
-pub returns-then-is_stopped-clause-idle : goal.returns-then-is_stopped-clause-idle
-returns-then-is_stopped-clause-idle g c = λ _. idle_lasts (λ v file left. g.met.D.Disk.only_now v.disk file left) _ _ (c.is_stopped.ensures.stable c.requires.read)
-
-pub returns-in_err-changes-clause-idle : goal.returns-in_err-changes-clause-idle
-returns-in_err-changes-clause-idle g c =
+pub returns-in_err-changes-clause-call : goal.returns-in_err-changes-clause-call
+returns-in_err-changes-clause-call g c =
     let p = err_from_is_err_and c.from_residual.result c.from_residual.ensures.1 in
-    rw (p.1, p.2) (λ _. idle_lasts (λ v file left. g.met.D.Disk.only_now v.disk file left) _ _ (c.is_stopped.ensures.stable c.requires.read))
-
--- ---- the calls on the disk
-
-pub returns-then-is_stopped-clause-calls : goal.returns-then-is_stopped-clause-calls
-returns-then-is_stopped-clause-calls g c = nothing_called (λ v. g.met.D.Disk.after_none v.disk) _ _ (λ e. cc)
-
-pub returns-in_err-changes-clause-calls : goal.returns-in_err-changes-clause-calls
-returns-in_err-changes-clause-calls g c =
-    let p = err_from_is_err_and c.from_residual.result c.from_residual.ensures.1 in
-    rw (p.1, p.2) (nothing_called (λ v. g.met.D.Disk.after_none v.disk) _ _ (λ e. cc))
+    rw (p.1, p.2) (idle_call (journal_on g.D.Disk) (λ v file left. g.met.D.Disk.only_now v.disk file left) (λ v. g.met.D.Disk.after_none v.disk) c.args.store.now _ (c.is_stopped.ensures.stable c.requires.kept.read) (never_stopped c.args.store.now.stopped (search rules) (λ s. cc)) (λ e. cc))

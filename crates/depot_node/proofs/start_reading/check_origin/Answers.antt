@@ -1,4 +1,4 @@
-use Rattle.depot_store.specs.Holdings.{standing}
+use Rattle.depot_node.specs.Holdings.{standing}
 use Rattle.depot_node.proofs.Starts.{other_begins}
 use Rattle.depot_node.proofs.start_reading.check_origin.Goals as goal
 use Rattle.depot_node.proofs.start_reading.check_origin.Goals.{in-Birth, in_default}

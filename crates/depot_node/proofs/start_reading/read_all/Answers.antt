@@ -1,10 +1,9 @@
 use Rattle.std.proofs.Common.{Bool, sym, ap, subst, ◌∙◌}
 use Rattle.std.proofs.lemmas.Result.{err_from_is_err_and}
 use Rattle.depot_model.specs.Checks.{Setting}
-use Rattle.depot_model.specs.Lawful.{IsLawful}
 use Rattle.depot_model.specs.Stops.{LeavesAll}
 use Rattle.depot_model.specs.RecordFaults.{AreTextsOf}
-use Rattle.depot_store.specs.Holdings.{Holding, IsWhole, standing}
+use Rattle.depot_node.specs.Holdings.{Holding, IsWhole, standing}
 use Rattle.depot_node.proofs.RecordReads.{reading_begins, reading_ends, reading_goes_on, reading_is_shorter, reading_runs, reading_stands, reading_stops}
 use Rattle.depot_node.proofs.start_reading.read_all.Given.{Over}
 use Rattle.depot_node.proofs.start_reading.read_all.Goals as goal
@@ -16,12 +15,8 @@ at g v = standing g.S.Scheme.verifies v
 pub loop-init : goal.loop-init
 loop-init g c = reading_begins (at g c.args.store.now) c.args.store.now c.requires.none
 
-pub read_next-requires-clause-runs : goal.read_next-requires-clause-runs
-read_next-requires-clause-runs g c = reading_runs (at g c.args.store.now) c.args.store.now c.loop.store c.loop.invariant c.requires.runs
-
-pub read_next-requires-clause-lawful : goal.read_next-requires-clause-lawful
-read_next-requires-clause-lawful g c =
-    subst (λ (s : Setting). IsLawful s c.loop.store.records) (sym (reading_stands g.S.Scheme.verifies (at g c.args.store.now) c.args.store.now c.loop.store c.loop.invariant)) c.loop.invariant.lawful
+pub read_next-requires : goal.read_next-requires
+read_next-requires g c = record { runs = reading_runs (at g c.args.store.now) c.args.store.now c.loop.store c.loop.invariant c.requires.runs }
 
 pub loop-smaller : goal.loop-smaller
 loop-smaller g c = reading_is_shorter (at g c.loop.store) c.loop.store c.read_next.new.store (c.in_ok-read_next.ensures.read c.if-branch.true)

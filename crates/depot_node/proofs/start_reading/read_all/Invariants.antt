@@ -1,5 +1,5 @@
 use Rattle.std.proofs.Common.{length}
-use Rattle.depot_store.specs.Holdings.{standing}
+use Rattle.depot_node.specs.Holdings.{standing}
 use Rattle.depot_node.proofs.RecordReads.{IsReading}
 use Rattle.depot_node.proofs.start_reading.read_all.Given as goal
 

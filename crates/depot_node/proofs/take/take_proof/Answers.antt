@@ -1,53 +1,52 @@
-use Rattle.std.proofs.Common.{rules, refl}
+use Rattle.std.proofs.Common.{rules, refl, subst}
 use Rattle.std.proofs.lemmas.Result.{err_from_is_err_and}
 use Rattle.depot_base.specs.Closed.{closing}
 use Rattle.depot_model.specs.Checks.{given_proof}
 use Rattle.depot_model.specs.Texts.{proof}
 use Rattle.depot_model.specs.Taking.{as_proof}
-use Rattle.depot_model.proofs.CallsOnDisk.{nothing_called}
-use Rattle.depot_store.specs.Holdings.{standing}
+use Rattle.depot_model.proofs.JournalCallLaws.{idle_call, never_stopped}
+use Rattle.depot_readings.specs.ReadingsView as readings
+use Rattle.depot_readings.specs.ReadingsView.{Known}
+use Rattle.depot_decide.specs.Deciding.{DecidesProof}
 use Rattle.depot_decide.proofs.Decided.{may_grow, takes_decided}
-use Rattle.depot_node.proofs.DiskCalls.{calls_taken}
-use Rattle.depot_model.proofs.StopLaws.{idle_lasts}
-use Rattle.depot_node.proofs.TakenGrowth.{lasts_taken}
+use Rattle.depot_node.specs.Holdings.{journal_on, standing}
+use Rattle.depot_node.proofs.CallNames.{taken_call}
+use Rattle.depot_node.proofs.GivenTexts.{proof_given}
+use Rattle.depot_node.proofs.take.take_proof.Given.{Over}
 use Rattle.depot_node.proofs.take.take_proof.Goals as goal
+use Rattle.depot_node.proofs.take.take_proof.Goals.{In_ok-decision}
+
+-- what is decided of the text
+decided : (g : Over) (c : In_ok-decision g) → DecidesProof (standing g.S.Scheme.verifies c.args.store.now) c.args.store.now.records c.args.text.now c.in_ok-decision.decision.answer c.in_ok-decision.decision.growth
+decided g c = subst (λ (r : Known). DecidesProof (readings.standing g.S.Scheme.verifies r) r.records c.args.text.now c.in_ok-decision.decision.answer c.in_ok-decision.decision.growth) c.readings.ensures c.in_ok-decision.ensures.decided
 
 pub carry_out-requires-clause-may : goal.carry_out-requires-clause-may
 carry_out-requires-clause-may g c =
-    may_grow (closing proof) (λ p. given_proof p) (standing g.S.Scheme.verifies c.args.store.now) c.args.store.now.records c.args.text.now _ _ (λ v fits. fits) c.requires.lawful c.requires.some c.in_ok-decision.ensures
+    may_grow (closing proof) (λ p. given_proof p) (standing g.S.Scheme.verifies c.args.store.now) c.args.store.now.records c.args.text.now c.in_ok-decision.decision.answer c.in_ok-decision.decision.growth (λ v fits. fits) c.requires.kept.lawful c.requires.kept.some (decided g (goal.at.carry_out-requires-clause-may g c).In_ok-decision)
 
 pub returns-clause-takes : goal.returns-clause-takes
 returns-clause-takes g c =
-    takes_decided (closing proof) (λ p. given_proof p) (standing g.S.Scheme.verifies c.args.store.now) c.args.store.now.records c.args.text.now _ _ c.carry_out.result c.carry_out.new.store.records c.in_ok-decision.ensures c.carry_out.ensures.carried
+    takes_decided (closing proof) (λ p. given_proof p) (standing g.S.Scheme.verifies c.args.store.now) c.args.store.now.records c.args.text.now c.in_ok-decision.decision.answer c.in_ok-decision.decision.growth c.carry_out.result c.carry_out.new.store.records (decided g (goal.at.returns-clause-takes g c).In_ok-decision) c.carry_out.ensures.carried
 
 pub returns-in_err-decision-clause-takes : goal.returns-in_err-decision-clause-takes
 returns-in_err-decision-clause-takes g c = let p = err_from_is_err_and c.from_residual.result c.from_residual.ensures.1 in rw (p.1, p.2) refl
 
--- ---- what a stop leaves
+-- ---- the call
 
-pub returns-then-is_stopped-clause-lasts : goal.returns-then-is_stopped-clause-lasts
-returns-then-is_stopped-clause-lasts g c = idle_lasts (λ v file left. g.met.D.Disk.only_now v.disk file left) _ _ (c.is_stopped.ensures.stable c.requires.read)
+pub returns-then-is_stopped-clause-call : goal.returns-then-is_stopped-clause-call
+returns-then-is_stopped-clause-call g c =
+    idle_call (journal_on g.D.Disk) (λ v file left. g.met.D.Disk.only_now v.disk file left) (λ v. g.met.D.Disk.after_none v.disk) c.args.store.now _ (c.is_stopped.ensures.stable c.requires.kept.read) (λ s. search rules, λ was. refl) (λ e. cc)
 
-pub returns-in_err-decision-clause-lasts : goal.returns-in_err-decision-clause-lasts
-returns-in_err-decision-clause-lasts g c = idle_lasts (λ v file left. g.met.D.Disk.only_now v.disk file left) _ _ (c.is_stopped.ensures.stable c.requires.read)
+pub returns-in_err-decision-clause-call : goal.returns-in_err-decision-clause-call
+returns-in_err-decision-clause-call g c =
+    let p = err_from_is_err_and c.from_residual.result c.from_residual.ensures.1 in
+    rw (p.1, p.2) (idle_call (journal_on g.D.Disk) (λ v file left. g.met.D.Disk.only_now v.disk file left) (λ v. g.met.D.Disk.after_none v.disk) c.args.store.now _ (c.is_stopped.ensures.stable c.requires.kept.read) (never_stopped c.args.store.now.stopped (search rules) (λ s. cc)) (λ e. cc))
 
-pub returns-in_err-decision-clause-idle : goal.returns-in_err-decision-clause-idle
-returns-in_err-decision-clause-idle g c = λ _. idle_lasts (λ v file left. g.met.D.Disk.only_now v.disk file left) _ _ (c.is_stopped.ensures.stable c.requires.read)
+pub returns-clause-call : goal.returns-clause-call
+returns-clause-call g c =
+    taken_call g.D.Disk (λ v file left. g.met.D.Disk.only_now v.disk file left) (λ v. g.met.D.Disk.after_none v.disk) as_proof (standing g.S.Scheme.verifies c.args.store.now) c.args.text.now c.in_ok-decision.decision.answer c.in_ok-decision.decision.growth c.args.store.now c.carry_out.new.store c.carry_out.result
+    (c.is_stopped.ensures.stable c.requires.kept.read) (search rules) refl
+    (λ result then carried. takes_decided (closing proof) (λ p. given_proof p) (standing g.S.Scheme.verifies c.args.store.now) c.args.store.now.records c.args.text.now c.in_ok-decision.decision.answer c.in_ok-decision.decision.growth result then (decided g (goal.at.returns-clause-call g c).In_ok-decision) carried) c.carry_out.ensures.carried c.carry_out.ensures.full c.carry_out.ensures.call
 
-pub returns-clause-lasts : goal.returns-clause-lasts
-returns-clause-lasts g c =
-    lasts_taken (λ v file left. g.met.D.Disk.only_now v.disk file left) as_proof (standing g.S.Scheme.verifies c.args.store.now) c.args.text.now _ _ c.args.store.now c.carry_out.new.store (c.is_stopped.ensures.stable c.requires.read)
-    (λ result then carried. takes_decided (closing proof) (λ p. given_proof p) (standing g.S.Scheme.verifies c.args.store.now) c.args.store.now.records c.args.text.now _ _ result then c.in_ok-decision.ensures carried) c.carry_out.ensures.full c.carry_out.ensures.lasts
-
--- ---- the calls on the disk
-
-pub returns-then-is_stopped-clause-calls : goal.returns-then-is_stopped-clause-calls
-returns-then-is_stopped-clause-calls g c = nothing_called (λ v. g.met.D.Disk.after_none v.disk) _ _ (λ e. cc)
-
-pub returns-in_err-decision-clause-calls : goal.returns-in_err-decision-clause-calls
-returns-in_err-decision-clause-calls g c = let p = err_from_is_err_and c.from_residual.result c.from_residual.ensures.1 in rw (p.1, p.2) (nothing_called (λ v. g.met.D.Disk.after_none v.disk) _ _ (λ e. cc))
-
-pub returns-clause-calls : goal.returns-clause-calls
-returns-clause-calls g c =
-    calls_taken (λ v. g.met.D.Disk.after_none v.disk) as_proof (standing g.S.Scheme.verifies c.args.store.now) c.args.text.now _ _ c.args.store.now c.carry_out.new.store (search rules) (λ failed. c.carry_out.ensures.stops.1 failed)
-    (λ result then carried. takes_decided (closing proof) (λ p. given_proof p) (standing g.S.Scheme.verifies c.args.store.now) c.args.store.now.records c.args.text.now _ _ result then c.in_ok-decision.ensures carried) c.carry_out.ensures.full c.carry_out.ensures.calls
+pub carry_out-requires-clause-given : goal.carry_out-requires-clause-given
+carry_out-requires-clause-given g c = proof_given (standing g.S.Scheme.verifies c.args.store.now) c.args.store.now.records c.args.text.now _ c.in_ok-decision.decision.answer c.in_ok-decision.decision.growth (decided g (goal.at.carry_out-requires-clause-given g c).In_ok-decision)

@@ -5,8 +5,11 @@ use Rattle.depot_node_lines.specs.Printing.{IsPrintOf}
 use Rattle.depot_node_lines.specs.declared.checkpoints.Signing.TheVariants.{Put, Unopened}
 use Rattle.depot_model.specs.Opening.{opened}
 use Rattle.depot_node_lines.proofs.FedStreams.{if_both}
-use Rattle.depot_node_lines.proofs.CheckpointTexts.{sign_cut, sign_is, sign_settled, signed_by_put, signing_says_why, unopened_is_printed, unopened_runs}
+use Rattle.depot_node_lines.proofs.CheckpointTexts.{sign_cut, sign_is, sign_settled, sign_stopped, signed_by_put, signing_says_why, unopened_is_printed, unopened_runs}
 use Rattle.depot_node_lines.proofs.checkpoints.sign_printed.Goals as goal
+
+pub put_printed-requires : goal.put_printed-requires
+put_printed-requires c = λ stopped. c.requires (sign_stopped c.args.done c.in-Put.put (sym c.sign_outcome.ensures ∙ c.in-Put.is) stopped)
 
 pub returns-in-Put : goal.returns-in-Put
 returns-in-Put c =

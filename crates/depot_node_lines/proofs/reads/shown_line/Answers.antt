@@ -1,4 +1,7 @@
-use Rattle.std.proofs.Common.{ℕ, List, [], ◌∷◌, ◌++◌, refl, ap, ◌∙◌, arith}
+use Rattle.std.proofs.Common.{ℕ, List, [], ◌∷◌, ◌++◌, get_or, refl, sym, ap, subst, ◌∙◌, arith}
+use Rattle.std.specs.Prelude.{slice_get}
+use Rattle.depot_base.specs.declared.update.Update.{Update}
+use Rattle.depot_model.specs.Order.{AreLatestIn}
 use Rattle.std.proofs.lemmas.List.{take_all}
 use Rattle.depot_model.specs.Items.{updates_at}
 use Rattle.depot_model.specs.Journal.{accepted}
@@ -8,21 +11,24 @@ use Rattle.depot_node_lines.proofs.reads.shown_line.Goals as goal
 
 pub value_of-requires-clause-writes : goal.value_of-requires-clause-writes
 value_of-requires-clause-writes g c = λ v at.
-    let J = c.args.node.now.store.records in
+    let J = g.N.NodeState.records c.args.node.now in
     let items = c.latest-item-items.result.now in
-    (c.latest-item-items.ensures.latest.only v (is_one_of_them (accepted J) items c.loop-item.item-index _ v c.loop-item-test.true refl at)).writes
+    let latest = subst (λ (us : List Update). AreLatestIn c.args.key.now us (updates_at us items)) c.graph-graph.ensures c.latest-item-items.ensures.latest in
+    (latest.only v (is_one_of_them (accepted J) items c.loop-item.item-index _ v c.loop-item-test.true refl at)).writes
 
 pub loop-item-preserved : goal.loop-item-preserved
 loop-item-preserved g c =
-    let J = c.args.node.now.store.records in
+    let J = g.N.NodeState.records c.args.node.now in
     let items = c.latest-item-items.result.now in
     let u = c.update-update.result.now in
-    let shown = c.seen-shown.ensures J (c.value_of.ensures u c.update-update.ensures) in
-    printed_more J (accepted J) c.args.key.now items c.loop-item.item-index _ u c.loop-item.line c.add_write.new.line _ c.loop-item-test.true refl c.update-update.ensures shown c.loop-item.invariant c.in_ok-add_write.ensures
+    let at = ap (λ (us : List Update). slice_get us (get_or items c.loop-item.item-index 0)) (sym c.graph-graph.ensures) ∙ c.update-update.ensures in
+    let shown = c.seen-shown.ensures J (c.value_of.ensures u at) in
+    printed_more J (accepted J) c.args.key.now items c.loop-item.item-index _ u c.loop-item.line c.add_write.new.line _ c.loop-item-test.true refl at shown c.loop-item.invariant c.in_ok-add_write.ensures
 
 pub returns : goal.returns
 returns g c =
-    let J = c.args.node.now.store.records in
+    let J = g.N.NodeState.records c.args.node.now in
     let items = c.latest-item-items.result.now in
+    let latest = subst (λ (us : List Update). AreLatestIn c.args.key.now us (updates_at us items)) c.graph-graph.ensures c.latest-item-items.ensures.latest in
     let all = take_all c.loop-item.item-index items (omega (arith, c.loop-item-test.false)) in
-    c.in_ok-push_all.ensures.ok ∙ ap (λ (x : List ℕ). x ++ 10 ∷ []) (c.loop-item.invariant ∙ ap (λ (x : List ℕ). shown_text (shown_as J c.args.key.now (updates_at (accepted J) x))) all ∙ ap shown_text (shown_are _ J c.args.key.now items c.args.node.now.lawful c.latest-item-items.ensures.latest))
+    c.in_ok-push_all.ensures.ok ∙ ap (λ (x : List ℕ). x ++ 10 ∷ []) (c.loop-item.invariant ∙ ap (λ (x : List ℕ). shown_text (shown_as J c.args.key.now (updates_at (accepted J) x))) all ∙ ap shown_text (shown_are _ J c.args.key.now items (g.met.N.Replica.lawful c.args.node.now) latest))

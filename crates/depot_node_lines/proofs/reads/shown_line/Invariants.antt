@@ -6,4 +6,4 @@ use Rattle.depot_node_lines.proofs.ShownWrites.{shown_as}
 use Rattle.depot_node_lines.proofs.reads.shown_line.Given as goal
 
 abbrev pub invariant-loop-item : goal.invariant-loop-item
-invariant-loop-item g l = l.line ≡ shown_text (shown_as l.node.store.records l.key (updates_at (accepted l.node.store.records) (take l.item-index l.item-items)))
+invariant-loop-item g l = l.line ≡ shown_text (shown_as (g.N.NodeState.records l.node) l.key (updates_at (accepted (g.N.NodeState.records l.node)) (take l.item-index l.item-items)))

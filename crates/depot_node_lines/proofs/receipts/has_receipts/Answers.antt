@@ -1,4 +1,4 @@
-use Rattle.std.proofs.Common.{[], length, nat_le, sym, subst}
+use Rattle.std.proofs.Common.{[], subst}
 use Rattle.std.proofs.lemmas.Bool.{le-leb, leb-true}
 use Rattle.depot_base.proofs.GeneralLaws.{same_test}
 use Rattle.depot_receipts.specs.Books.{IsBookOf}

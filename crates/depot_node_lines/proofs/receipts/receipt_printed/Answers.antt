@@ -1,6 +1,6 @@
 use Rattle.std.proofs.Common.{◌≡◌, None, Result, Err, sym, subst, ◌∙◌}
 use Rattle.std.proofs.lemmas.Result.{IfOk-weaker}
-use Rattle.depot_decide.specs.declared.put_answers.PutDone.{PutDone}
+use Rattle.depot_model.specs.declared.put_answers.PutDone.{PutDone}
 use Rattle.depot_model.specs.Receipts.{unknown, lacks_value}
 use Rattle.depot_receipts.specs.Giving.{Gives}
 use Rattle.depot_receipts.specs.declared.give_error.GiveError.{GiveError}
@@ -9,8 +9,11 @@ use Rattle.depot_node_lines.specs.Printing.{IsPrintOf}
 use Rattle.depot_node_lines.specs.ReceiptPrinting.{SettlesGive, outcome_of}
 use Rattle.depot_node_lines.specs.declared.receipts.Outcome.TheVariants.{Put}
 use Rattle.depot_node_lines.proofs.FedStreams.{if_both}
-use Rattle.depot_node_lines.proofs.ReceiptTexts.{cut_by_put, given_by_put, gives_no_value, gives_unknown, receipt_is, refusal_is_printed, settled_by_put}
+use Rattle.depot_node_lines.proofs.ReceiptTexts.{cut_by_put, given_by_put, gives_no_value, gives_unknown, receipt_is, refusal_is_printed, settled_by_put, stopped_by_put}
 use Rattle.depot_node_lines.proofs.receipts.receipt_printed.Goals as goal
+
+pub put_printed-requires : goal.put_printed-requires
+put_printed-requires c = λ stopped. c.requires (stopped_by_put c.args.done c.in-Put.put (sym c.outcome_of.ensures ∙ c.in-Put.is) stopped)
 
 pub returns-in-Put : goal.returns-in-Put
 returns-in-Put c =

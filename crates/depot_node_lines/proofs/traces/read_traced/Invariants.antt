@@ -11,5 +11,5 @@ use Rattle.depot_node_lines.proofs.traces.read_traced.Given as goal
 abbrev pub invariant-loop-item : goal.invariant-loop-item
 invariant-loop-item g l = record {
   fit : AllByRecursion answered_text.fits l.answer;
-  told : map answered_of l.answer ≡ map answered (shown_as l.node.store.records l.key (updates_at (accepted l.node.store.records) (take l.item-index l.item-items)));
+  told : map answered_of l.answer ≡ map answered (shown_as (g.N.NodeState.records l.node) l.key (updates_at (accepted (g.N.NodeState.records l.node)) (take l.item-index l.item-items)));
 }

@@ -3,4 +3,4 @@ use Rattle.depot_model.specs.Records.{text_of_record}
 use Rattle.depot_node_lines.proofs.traces.record_texts.Given as goal
 
 abbrev pub invariant-loop-place : goal.invariant-loop-place
-invariant-loop-place g l = l.texts ≡ take l.place (map text_of_record (g.R.Replica.records l.node))
+invariant-loop-place g l = l.texts ≡ take l.place (map text_of_record (g.R.NodeState.records l.node))

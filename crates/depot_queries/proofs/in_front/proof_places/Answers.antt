@@ -1,6 +1,6 @@
 use Rattle.std.proofs.Common.{ℕ, List, [], ◌∷◌, ◌++◌, true, false, map, filter, sym, ap, ◌∙◌}
 use Rattle.std.proofs.lemmas.List.{append-nil, take_all}
-use Rattle.depot_store.specs.declared.front_places.ConvictedAt.{ConvictedAt}
+use Rattle.depot_readings.specs.declared.front_places.ConvictedAt.{ConvictedAt}
 use Rattle.depot_queries.proofs.FrontOrder.{is_other, other_is, other_next, others_are}
 use Rattle.depot_queries.proofs.in_front.proof_places.Goals as goal
 
@@ -23,4 +23,4 @@ returns g c =
     let convicted = c.convictions-conviction-items.result.now in
     c.loop-conviction.invariant
     ∙ ap (λ (cs : List ConvictedAt). map (λ (x : ConvictedAt). x.place) (filter (is_other c.args.listed.now) cs)) (take_all c.loop-conviction.conviction-index convicted c.loop-conviction-test.false ∙ c.convictions-conviction-items.ensures)
-    ∙ others_are c.args.store.now.records c.args.listed.now
+    ∙ others_are c.args.readings.now.records c.args.listed.now

@@ -2,25 +2,25 @@ use Rattle.std.proofs.Common.{◌<◌, ◌∙◌, [], length, get_or, refl, sym,
 use Rattle.std.proofs.lemmas.Option.{slice_get-get_or}
 use Rattle.depot_graph.specs.Causal.{causal_from_test}
 use Rattle.depot_graph.specs.Kept.{updates_in}
-use Rattle.depot_store.proofs.AcceptPlaceLaws.{as_many_places}
+use Rattle.depot_readings.proofs.AcceptPlaceLaws.{as_many_places}
 use Rattle.depot_queries.proofs.LeafInserts.{leaf_inside, leaves_begin, leaves_more, leaves_end}
 use Rattle.depot_queries.proofs.leaf_order.leaves_in_order.Goals as goal
 
 pub loop-item-init : goal.loop-item-init
-loop-item-init g c = leaves_begin c.args.store.now.records (updates_in c.graph-graph.result.now.items.entries) c.new-leaves.result.keys c.new-leaves.ensures.empty
+loop-item-init g c = leaves_begin c.args.readings.now.records (updates_in c.graph-graph.result.now.items.entries) c.new-leaves.result.keys c.new-leaves.ensures.empty
 
 pub bounds-places-item : goal.bounds-places-item
 bounds-places-item g c =
     let us = updates_in c.graph-graph.result.now.items.entries in
     let all = c.state.ensures.state.accepted ∙ sym c.graph-graph.ensures in
-    omega (arith, leaf_inside us c.leaves-items.result.now c.loop-item.item-index c.leaves-items.ensures c.loop-item-test.true, ap length c.places-places.ensures, as_many_places c.args.store.now.records, ap length all)
+    omega (arith, leaf_inside us c.leaves-items.result.now c.loop-item.item-index c.leaves-items.ensures c.loop-item-test.true, ap length c.places-places.ensures, as_many_places c.args.readings.now.records, ap length all)
 
 pub leaf_at-requires : goal.leaf_at-requires
 leaf_at-requires g c = leaf_inside (updates_in c.graph-graph.result.now.items.entries) c.leaves-items.result.now c.loop-item.item-index c.leaves-items.ensures c.loop-item-test.true
 
 pub loop-item-preserved : goal.loop-item-preserved
 loop-item-preserved g c =
-    let J = c.args.store.now.records in
+    let J = c.args.readings.now.records in
     let us = updates_in c.graph-graph.result.now.items.entries in
     let causal = causal_from_test [] us c.graph-graph.result.now.causal in
     let all = c.state.ensures.state.accepted ∙ sym c.graph-graph.ensures in
@@ -34,4 +34,4 @@ loop-item-preserved g c =
 pub returns : goal.returns
 returns g c =
     let us = updates_in c.graph-graph.result.now.items.entries in
-    leaves_end c.args.store.now.records us c.leaves-items.result.now c.loop-item.item-index c.loop-item.leaves.keys (c.state.ensures.state.accepted ∙ sym c.graph-graph.ensures) (causal_from_test [] us c.graph-graph.result.now.causal) c.leaves-items.ensures c.loop-item-test.false c.loop-item.invariant
+    leaves_end c.args.readings.now.records us c.leaves-items.result.now c.loop-item.item-index c.loop-item.leaves.keys (c.state.ensures.state.accepted ∙ sym c.graph-graph.ensures) (causal_from_test [] us c.graph-graph.result.now.causal) c.leaves-items.ensures c.loop-item-test.false c.loop-item.invariant

@@ -1,7 +1,7 @@
 use Rattle.std.proofs.Common.{Ok, ◌∙◌, rules}
 use Rattle.std.proofs.lemmas.Iterator.{YieldsList-from_map, items_from_collect}
 use Rattle.std.proofs.lemmas.Iterator.Consumers.{YieldsList-from_rest}
-use Rattle.depot_queries.specs.Telling.{name_of}
+use Rattle.depot_queries.specs.ItemPlaces.{name_of}
 use Rattle.depot_queries.proofs.leaf_order.names_of.Goals as goal
 
 pub returns : goal.returns

@@ -1,6 +1,6 @@
 use Rattle.std.proofs.Common.{◌≤◌, length, refl, arith}
 use Rattle.depot_graph.specs.Kept.{updates_in}
-use Rattle.depot_queries.proofs.JoinedRows.{chain_inside}
+use Rattle.depot_graph.proofs.CoveredItems.{chain_inside}
 use Rattle.depot_queries.proofs.TailLaws.{behind_next, all_behind}
 use Rattle.depot_queries.proofs.tails.behind.Goals as goal
 

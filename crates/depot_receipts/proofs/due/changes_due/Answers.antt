@@ -6,14 +6,14 @@ use Rattle.depot_receipts.proofs.DueReceipts.{nothing_against, unknown_against, 
 use Rattle.depot_receipts.proofs.due.changes_due.Goals as goal
 
 pub returns-in-Some : goal.returns-in-Some
-returns-in-Some g c = unknown_against (g.P.Replica.records c.args.node.now) c.args.ids.now c.in-Some.id (c.in-Some.ensures ∙ ap (λ (us : List Update). find (λ h. not (has_id us h)) c.args.ids.now) c.requires.graph)
+returns-in-Some g c = unknown_against (g.P.NodeState.records c.args.node.now) c.args.ids.now c.in-Some.id (c.in-Some.ensures ∙ ap (λ (us : List Update). find (λ h. not (has_id us h)) c.args.ids.now) c.requires.graph)
 
 pub returns-in-Some-first_lacking : goal.returns-in-Some-first_lacking
 returns-in-Some-first_lacking g c =
-    value_against (g.P.Replica.records c.args.node.now) c.args.ids.now c.in-Some-first_lacking.id (c.in_default.ensures ∙ ap (λ (us : List Update). find (λ h. not (has_id us h)) c.args.ids.now) c.requires.graph) c.in-Some-first_lacking.ensures
+    value_against (g.P.NodeState.records c.args.node.now) c.args.ids.now c.in-Some-first_lacking.id (c.in_default.ensures ∙ ap (λ (us : List Update). find (λ h. not (has_id us h)) c.args.ids.now) c.requires.graph) c.in-Some-first_lacking.ensures
 
 pub returns : goal.returns
 returns g c = (
-  nothing_against (g.P.Replica.records c.args.node.now) c.args.ids.now (c.in_default.ensures ∙ ap (λ (us : List Update). find (λ h. not (has_id us h)) c.args.ids.now) c.requires.graph) c.in_default-first_lacking.ensures,
+  nothing_against (g.P.NodeState.records c.args.node.now) c.args.ids.now (c.in_default.ensures ∙ ap (λ (us : List Update). find (λ h. not (has_id us h)) c.args.ids.now) c.requires.graph) c.in_default-first_lacking.ensures,
   c.in_ok-changes_of.ensures,
 )

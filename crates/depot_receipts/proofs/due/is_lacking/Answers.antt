@@ -16,9 +16,9 @@ in_place us h n e = sym e
 pub returns : goal.returns
 returns g c =
     let us = updates_in c.args.graph.now.items.entries in
-    let J = g.P.Replica.records c.args.node.now in
+    let J = g.P.NodeState.records c.args.node.now in
     ap not (c.holds_all.ensures ∙ ap (λ (ws : List Write). list_all (λ n. holds J n.hash n.size) (values_in ws)) c.as_slice.ensures)
     ∙ lacks_at J us c.args.id.now c.in-Some.item c.update.result.now (causal_from_test [] us c.args.graph.now.causal) c.requires.graph (in_place us c.args.id.now c.in-Some.item c.in-Some.ensures) c.update.ensures
 
 pub returns-in_default : goal.returns-in_default
-returns-in_default g c = lacks_none (g.P.Replica.records c.args.node.now) (updates_in c.args.graph.now.items.entries) c.args.id.now c.requires.graph (sym c.in_default.ensures)
+returns-in_default g c = lacks_none (g.P.NodeState.records c.args.node.now) (updates_in c.args.graph.now.items.entries) c.args.id.now c.requires.graph (sym c.in_default.ensures)

@@ -1,11 +1,13 @@
-use Rattle.std.proofs.Common.{◌≡◌, ℕ, List, true, sym, subst}
+use Rattle.std.proofs.Common.{◌≡◌, ◌∙◌, ℕ, List, true, refl, sym, ap, subst}
 use Rattle.depot_base.specs.Pairs.{AllPairsByRecursion}
 use Rattle.depot_base.specs.Parts.{is_below}
 use Rattle.depot_base.specs.declared.write.Change.{Change}
-use Rattle.depot_model.proofs.CallsOnDisk.{nothing_called}
-use Rattle.depot_model.proofs.StopLaws.{idle_lasts}
+use Rattle.depot_model.proofs.JournalCallLaws.{idle_call}
+use Rattle.depot_model.specs.Replicas.{journal_of}
+use Rattle.depot_model.specs.Putting.{IsPutCall}
+use Rattle.depot_model.specs.Receipts.{receipt_changes}
 use Rattle.depot_laws.proofs.TrueReceipts.{keys_rise}
-use Rattle.depot_receipts.proofs.GivenAnswers.{given_are_true, no_fault}
+use Rattle.depot_receipts.proofs.GivenAnswers.{given_are_true, no_fault, as_put_call}
 use Rattle.depot_receipts.proofs.giving.give.Goals as goal
 
 pub put_all-requires-clause-rising : goal.put_all-requires-clause-rising
@@ -15,16 +17,27 @@ put_all-requires-clause-rising g c =
 
 pub returns-in-Ok-clause-receipts : goal.returns-in-Ok-clause-receipts
 returns-in-Ok-clause-receipts g c =
-    let node = c.args.node.now in
-    given_are_true (record { verifies = g.S.Scheme.verifies; me = node.store.me; listed = node.store.listed }) node.store.records c.as_slice.result.now c.in-Ok.changes c.put_all.result c.put_all.new.self.store.records c.in-Ok.ensures c.put_all.ensures.puts
+    let n = g.N.NodeState in
+    given_are_true (n.stands c.args.node.now) (n.records c.args.node.now) c.as_slice.result.now c.in-Ok.changes c.put_all.result (n.records c.put_all.new.self) c.in-Ok.ensures c.put_all.ensures.puts
+
+pub returns-in-Ok-clause-call : goal.returns-in-Ok-clause-call
+returns-in-Ok-clause-call g c =
+    as_put_call g.N.NodeState c.args.node.now c.put_all.new.self c.args.ids.now c.put_all.result c.as_give.result c.as_give.ensures
+    (subst (λ (cs : List Change). IsPutCall g.N.NodeState c.args.node.now c.put_all.new.self cs c.put_all.result) (c.in-Ok.ensures.1 ∙ ap receipt_changes c.as_slice.ensures) c.put_all.ensures.call)
 
 -- ---- nothing is done where nothing is given
 
-pub returns-then-is_stopped-clause-calls : goal.returns-then-is_stopped-clause-calls
-returns-then-is_stopped-clause-calls g c = nothing_called (λ v. g.met.D.Disk.after_none v.store.disk) _ _ (λ e. cc)
+pub returns-then-is_stopped-clause-call : goal.returns-then-is_stopped-clause-call
+returns-then-is_stopped-clause-call g c = record {
+  same = record { stands = refl; key = refl; signs = refl };
+  journal = idle_call (journal_of g.N.NodeState) (λ n file left. g.met.N.Replica.only_now n file left) (λ n. g.met.N.Replica.after_none n) _ _ c.is_stopped.ensures.stable
+      ((λ _. sym c.is_stopped.ensures.stopped ∙ c.if-is_stopped.true), (λ _. cc)) (λ f. cc);
+}
 
-pub returns-in-Err-clause-lasts : goal.returns-in-Err-clause-lasts
-returns-in-Err-clause-lasts g c = idle_lasts (λ v file left. g.met.D.Disk.only_now v.store.disk file left) _ _ c.is_stopped.ensures.stable
-
-pub returns-in-Err-clause-calls : goal.returns-in-Err-clause-calls
-returns-in-Err-clause-calls g c = nothing_called (λ v. g.met.D.Disk.after_none v.store.disk) _ _ (λ e. (no_fault c.args.node.now.store.records c.as_slice.result.now c.in-Err.refusal c.in-Err.ensures).0 cc)
+pub returns-in-Err-clause-call : goal.returns-in-Err-clause-call
+returns-in-Err-clause-call g c =
+    let fault = no_fault (g.N.NodeState.records c.args.node.now) c.as_slice.result.now c.in-Err.refusal c.in-Err.ensures in record {
+      same = record { stands = refl; key = refl; signs = refl };
+      journal = idle_call (journal_of g.N.NodeState) (λ n file left. g.met.N.Replica.only_now n file left) (λ n. g.met.N.Replica.after_none n) _ _ c.is_stopped.ensures.stable
+          ((λ s. absurd (fault.1 cc)), (λ is. cc)) (λ f. fault.0 cc);
+    }

@@ -18,11 +18,11 @@ trim-made-requires-clause-roster g c = c.in_ok-copy.ensures ∙ c.requires.roste
 -- ---- no memory was found for the file
 
 pub returns-in_err-text-clause-keeps : goal.returns-in_err-text-clause-keeps
-returns-in_err-text-clause-keeps g c = keeps_uncalled g.R.Replica c.args.node.now c.requires.running (g.met.R.Replica.only_now) (g.met.R.Replica.lawful c.args.node.now) _ _ (names_memory _ _ (omega arith) _ c.from_residual.ensures.1 (never_rose _ _))
+returns-in_err-text-clause-keeps g c = keeps_uncalled g.R.NodeState c.args.node.now c.requires.running (g.met.R.Replica.only_now) (g.met.R.Replica.lawful c.args.node.now) _ _ (names_memory _ _ (omega arith) _ c.from_residual.ensures.1 (never_rose _ _))
 
 pub returns-in_err-text-clause-turns : goal.returns-in_err-text-clause-turns
 returns-in_err-text-clause-turns g c = λ s tells at keeps.
-    uncalled_without_memory g.R.Replica c.args.node.now c.requires.running s c.args.command.now (shelves g.F.Shelf c.args.shelf.now c.load.new.shelf) (sinks g.K.Sink c.args.out.now c.args.out.now) at (λ name. ap (λ files. files name) c.load.ensures.files) c.from_residual.result c.from_residual.ensures.1 refl
+    uncalled_without_memory g.R.NodeState c.args.node.now c.requires.running s c.args.command.now (shelves g.F.Shelf c.args.shelf.now c.load.new.shelf) (sinks g.K.Sink c.args.out.now c.args.out.now) at (λ name. ap (λ files. files name) c.load.ensures.files) c.from_residual.result c.from_residual.ensures.1 refl
 
 pub returns-in_err-text-clause-reader : goal.returns-in_err-text-clause-reader
 returns-in_err-text-clause-reader g c = not_without_memory c.from_residual.result _ c.from_residual.ensures.1
@@ -34,21 +34,21 @@ returns-in_err-text-clause-somebodys g c = not_without_memory c.from_residual.re
 
 pub returns-in_default-clause-keeps : goal.returns-in_default-clause-keeps
 returns-in_default-clause-keeps g c =
-    keeps_uncalled g.R.Replica c.args.node.now c.requires.running (g.met.R.Replica.only_now) (g.met.R.Replica.lawful c.args.node.now) _ _ (names_fault _ _ c.no_file.ensures.later _ ending.Shelf c.no_file.result tt c.no_file.ensures.told c.no_file.ensures.only)
+    keeps_uncalled g.R.NodeState c.args.node.now c.requires.running (g.met.R.Replica.only_now) (g.met.R.Replica.lawful c.args.node.now) _ _ (names_fault _ _ c.no_file.ensures.later _ ending.Shelf c.no_file.result tt c.no_file.ensures.told c.no_file.ensures.only)
 
 pub returns-in_default-clause-turns : goal.returns-in_default-clause-turns
 returns-in_default-clause-turns g c = λ s tells at keeps.
-    rw c.requires.command (uncalled_without_file g.R.Replica c.args.node.now c.requires.running s _ (shelves g.F.Shelf c.args.shelf.now c.load.new.shelf) _ at (λ name. ap (λ files. files name) c.load.ensures.files) c.args.file.now c.no_file.result refl (trims_absent _ _ s c.args.file.now) tells
+    rw c.requires.command (uncalled_without_file g.R.NodeState c.args.node.now c.requires.running s _ (shelves g.F.Shelf c.args.shelf.now c.load.new.shelf) _ at (λ name. ap (λ files. files name) c.load.ensures.files) c.args.file.now c.no_file.result refl (trims_absent _ _ s c.args.file.now) tells
     (rw c.in_default.is at c.in_ok-text.ensures.loaded) c.no_file.ensures.told)
 
 -- ---- no memory was found for the roster
 
 pub returns-in_err-copy-clause-keeps : goal.returns-in_err-copy-clause-keeps
-returns-in_err-copy-clause-keeps g c = keeps_uncalled g.R.Replica c.args.node.now c.requires.running (g.met.R.Replica.only_now) (g.met.R.Replica.lawful c.args.node.now) _ _ (names_memory _ _ (omega arith) _ c.from_residual-in_err-copy.ensures.1 (never_rose _ _))
+returns-in_err-copy-clause-keeps g c = keeps_uncalled g.R.NodeState c.args.node.now c.requires.running (g.met.R.Replica.only_now) (g.met.R.Replica.lawful c.args.node.now) _ _ (names_memory _ _ (omega arith) _ c.from_residual-in_err-copy.ensures.1 (never_rose _ _))
 
 pub returns-in_err-copy-clause-turns : goal.returns-in_err-copy-clause-turns
 returns-in_err-copy-clause-turns g c = λ s tells at keeps.
-    uncalled_without_memory g.R.Replica c.args.node.now c.requires.running s c.args.command.now (shelves g.F.Shelf c.args.shelf.now c.load.new.shelf) (sinks g.K.Sink c.args.out.now c.args.out.now) at (λ name. ap (λ files. files name) c.load.ensures.files) c.from_residual-in_err-copy.result
+    uncalled_without_memory g.R.NodeState c.args.node.now c.requires.running s c.args.command.now (shelves g.F.Shelf c.args.shelf.now c.load.new.shelf) (sinks g.K.Sink c.args.out.now c.args.out.now) at (λ name. ap (λ files. files name) c.load.ensures.files) c.from_residual-in_err-copy.result
     c.from_residual-in_err-copy.ensures.1 refl
 
 pub returns-in_err-copy-clause-reader : goal.returns-in_err-copy-clause-reader
@@ -60,11 +60,11 @@ returns-in_err-copy-clause-somebodys g c = not_without_memory c.from_residual-in
 -- ---- nor for the line
 
 pub returns-in_err-line-clause-keeps : goal.returns-in_err-line-clause-keeps
-returns-in_err-line-clause-keeps g c = keeps_uncalled g.R.Replica c.args.node.now c.requires.running (g.met.R.Replica.only_now) (g.met.R.Replica.lawful c.args.node.now) _ _ (names_memory _ _ (omega arith) _ c.from_residual-in_err-line.ensures.1 (never_rose _ _))
+returns-in_err-line-clause-keeps g c = keeps_uncalled g.R.NodeState c.args.node.now c.requires.running (g.met.R.Replica.only_now) (g.met.R.Replica.lawful c.args.node.now) _ _ (names_memory _ _ (omega arith) _ c.from_residual-in_err-line.ensures.1 (never_rose _ _))
 
 pub returns-in_err-line-clause-turns : goal.returns-in_err-line-clause-turns
 returns-in_err-line-clause-turns g c = λ s tells at keeps.
-    uncalled_without_memory g.R.Replica c.args.node.now c.requires.running s c.args.command.now (shelves g.F.Shelf c.args.shelf.now c.load.new.shelf) (sinks g.K.Sink c.args.out.now c.args.out.now) at (λ name. ap (λ files. files name) c.load.ensures.files) c.from_residual-in_err-line.result
+    uncalled_without_memory g.R.NodeState c.args.node.now c.requires.running s c.args.command.now (shelves g.F.Shelf c.args.shelf.now c.load.new.shelf) (sinks g.K.Sink c.args.out.now c.args.out.now) at (λ name. ap (λ files. files name) c.load.ensures.files) c.from_residual-in_err-line.result
     c.from_residual-in_err-line.ensures.1 refl
 
 pub returns-in_err-line-clause-reader : goal.returns-in_err-line-clause-reader
@@ -82,31 +82,31 @@ pub returns-clause-keeps : goal.returns-clause-keeps
 returns-clause-keeps g c =
     let n = c.args.node.now in
     let text = c.as_slice.result.now in
-    let here = g.R.Replica.stands n in
-    let ends = c.ending_of_trim-ends.ensures ∙ trim_ends _ here (g.R.Replica.records n) text c.trim-made.result c.in_ok-line.ensures.settled c.trim-made.ensures in
-    keeps_uncalled g.R.Replica n c.requires.running (g.met.R.Replica.only_now) (g.met.R.Replica.lawful n) _ _
-    (names_told _ _ c.tell.ensures.later _ c.ending_of_trim-ends.result c.tell.result (subst EndsCalmly (sym ends) (trim_ends_calmly (trim_of here (g.R.Replica.records n) text))) c.tell.ensures.tells c.tell.ensures.only)
+    let here = g.R.NodeState.stands n in
+    let ends = c.ending_of_trim-ends.ensures ∙ trim_ends _ here (g.R.NodeState.records n) text c.trim-made.result c.in_ok-line.ensures.settled c.trim-made.ensures in
+    keeps_uncalled g.R.NodeState n c.requires.running (g.met.R.Replica.only_now) (g.met.R.Replica.lawful n) _ _
+    (names_told _ _ c.tell.ensures.later _ c.ending_of_trim-ends.result c.tell.result (subst EndsCalmly (sym ends) (trim_ends_calmly (trim_of here (g.R.NodeState.records n) text))) c.tell.ensures.tells c.tell.ensures.only)
 
 pub returns-clause-turns : goal.returns-clause-turns
 returns-clause-turns g c = λ s tells at keeps.
     let n = c.args.node.now in
     let text = c.as_slice.result.now in
-    let here = g.R.Replica.stands n in
+    let here = g.R.NodeState.stands n in
     let loaded = rw c.in-Some.is at c.in_ok-text.ensures.loaded in
-    let ends = c.ending_of_trim-ends.ensures ∙ trim_ends _ here (g.R.Replica.records n) text c.trim-made.result c.in_ok-line.ensures.settled c.trim-made.ensures in
-    rw c.requires.command (trim_told g.R.Replica n c.requires.running s c.args.file.now (shelves g.F.Shelf c.args.shelf.now c.load.new.shelf) (sinks g.K.Sink c.args.out.now c.tell.new.out) at (λ name. ap (λ files. files name) c.load.ensures.files) text
-    (◌∙◌ {a = g.F.Shelf.file c.args.shelf.now c.args.file.now} (loaded tells) (ap (λ bytes. Some bytes) (sym c.as_slice.ensures))) c.in_ok-line.line c.ending_of_trim-ends.result c.tell.result (c.in_ok-line.ensures.printed here (g.R.Replica.records n) text c.trim-made.ensures) ends
+    let ends = c.ending_of_trim-ends.ensures ∙ trim_ends _ here (g.R.NodeState.records n) text c.trim-made.result c.in_ok-line.ensures.settled c.trim-made.ensures in
+    rw c.requires.command (trim_told g.R.NodeState n c.requires.running s c.args.file.now (shelves g.F.Shelf c.args.shelf.now c.load.new.shelf) (sinks g.K.Sink c.args.out.now c.tell.new.out) at (λ name. ap (λ files. files name) c.load.ensures.files) text
+    (◌∙◌ {a = g.F.Shelf.file c.args.shelf.now c.args.file.now} (loaded tells) (ap (λ bytes. Some bytes) (sym c.as_slice.ensures))) c.in_ok-line.line c.ending_of_trim-ends.result c.tell.result (c.in_ok-line.ensures.printed here (g.R.NodeState.records n) text c.trim-made.ensures) ends
     (rw c.requires.command at c.tell.ensures.tells))
 
 pub returns-clause-reader : goal.returns-clause-reader
 returns-clause-reader g c = on_ok c.tell.result _ (λ s tells at keeps.
     let n = c.args.node.now in
     let text = c.as_slice.result.now in
-    let here = g.R.Replica.stands n in
+    let here = g.R.NodeState.stands n in
     let loaded = rw c.in-Some.is at c.in_ok-text.ensures.loaded in
-    let reader = trim_reader g.R.Replica n c.requires.running s c.args.file.now (shelves g.F.Shelf c.args.shelf.now c.load.new.shelf) (sinks g.K.Sink c.args.out.now c.tell.new.out) at (λ name. ap (λ files. files name) c.load.ensures.files) text
+    let reader = trim_reader g.R.NodeState n c.requires.running s c.args.file.now (shelves g.F.Shelf c.args.shelf.now c.load.new.shelf) (sinks g.K.Sink c.args.out.now c.tell.new.out) at (λ name. ap (λ files. files name) c.load.ensures.files) text
     (◌∙◌ {a = g.F.Shelf.file c.args.shelf.now c.args.file.now} (loaded tells) (ap (λ bytes. Some bytes) (sym c.as_slice.ensures))) in
-    rw c.requires.command (subst (λ last. KeepsReader g.R.Checks.Scheme.verifies c.keep.new.self.made last) (sym reader) (c.keep.ensures.kept here (g.R.Replica.records n) text s.reader c.trim-made.ensures keeps)))
+    rw c.requires.command (subst (λ last. KeepsReader g.S.Scheme.verifies c.keep.new.self.made last) (sym reader) (c.keep.ensures.kept here (g.R.NodeState.records n) text s.reader c.trim-made.ensures keeps)))
 
 pub returns-clause-somebodys : goal.returns-clause-somebodys
 returns-clause-somebodys g c = on_ok c.tell.result _ (c.keep.ensures.somebodys _ _ _ c.trim-made.ensures c.requires.reader)

@@ -101,73 +101,73 @@ pub returns-in-Tget-clause-reads : goal.returns-in-Tget-clause-reads
 returns-in-Tget-clause-reads g c = on_ok c.tget.result _ (keeps_unread _ _ _ _ _ _ c.in-Tget.is tt)
 
 pub returns-in-Put-clause-reader : goal.returns-in-Put-clause-reader
-returns-in-Put-clause-reader g c = on_ok c.put_value.result _ (λ s told at keeps. keeps_last g.R.Checks.Scheme.verifies c.args.last.now.made (g.R.Replica.stands c.args.node.now) (g.R.Replica.signature_of c.args.node.now) s c.args.command.now _ c.in-Put.is tt keeps)
+returns-in-Put-clause-reader g c = on_ok c.put_value.result _ (λ s told at keeps. keeps_last g.S.Scheme.verifies c.args.last.now.made (g.R.NodeState.stands c.args.node.now) (g.R.NodeState.signature_of c.args.node.now) s c.args.command.now _ c.in-Put.is tt keeps)
 
 pub returns-in-Put-clause-somebodys : goal.returns-in-Put-clause-somebodys
 returns-in-Put-clause-somebodys g c = on_ok c.put_value.result _ c.requires.reader
 
 pub returns-in-Puts-clause-reader : goal.returns-in-Puts-clause-reader
-returns-in-Puts-clause-reader g c = on_ok c.put_changes.result _ (λ s told at keeps. keeps_last g.R.Checks.Scheme.verifies c.args.last.now.made (g.R.Replica.stands c.args.node.now) (g.R.Replica.signature_of c.args.node.now) s c.args.command.now _ c.in-Puts.is tt keeps)
+returns-in-Puts-clause-reader g c = on_ok c.put_changes.result _ (λ s told at keeps. keeps_last g.S.Scheme.verifies c.args.last.now.made (g.R.NodeState.stands c.args.node.now) (g.R.NodeState.signature_of c.args.node.now) s c.args.command.now _ c.in-Puts.is tt keeps)
 
 pub returns-in-Puts-clause-somebodys : goal.returns-in-Puts-clause-somebodys
 returns-in-Puts-clause-somebodys g c = on_ok c.put_changes.result _ c.requires.reader
 
 pub returns-in-Get-clause-reader : goal.returns-in-Get-clause-reader
-returns-in-Get-clause-reader g c = on_ok c.get.result _ (λ s told at keeps. keeps_last g.R.Checks.Scheme.verifies c.args.last.now.made (g.R.Replica.stands c.args.node.now) (g.R.Replica.signature_of c.args.node.now) s c.args.command.now _ c.in-Get.is tt keeps)
+returns-in-Get-clause-reader g c = on_ok c.get.result _ (λ s told at keeps. keeps_last g.S.Scheme.verifies c.args.last.now.made (g.R.NodeState.stands c.args.node.now) (g.R.NodeState.signature_of c.args.node.now) s c.args.command.now _ c.in-Get.is tt keeps)
 
 pub returns-in-Get-clause-somebodys : goal.returns-in-Get-clause-somebodys
 returns-in-Get-clause-somebodys g c = on_ok c.get.result _ c.requires.reader
 
 pub returns-in-Hello-clause-reader : goal.returns-in-Hello-clause-reader
-returns-in-Hello-clause-reader g c = on_ok c.say_hello.result _ (λ s told at keeps. keeps_last g.R.Checks.Scheme.verifies c.args.last.now.made (g.R.Replica.stands c.args.node.now) (g.R.Replica.signature_of c.args.node.now) s c.args.command.now _ c.in-Hello.is tt keeps)
+returns-in-Hello-clause-reader g c = on_ok c.say_hello.result _ (λ s told at keeps. keeps_last g.S.Scheme.verifies c.args.last.now.made (g.R.NodeState.stands c.args.node.now) (g.R.NodeState.signature_of c.args.node.now) s c.args.command.now _ c.in-Hello.is tt keeps)
 
 pub returns-in-Hello-clause-somebodys : goal.returns-in-Hello-clause-somebodys
 returns-in-Hello-clause-somebodys g c = on_ok c.say_hello.result _ c.requires.reader
 
 pub returns-in-Bundle-clause-reader : goal.returns-in-Bundle-clause-reader
-returns-in-Bundle-clause-reader g c = on_ok c.make_bundle.result _ (λ s told at keeps. keeps_last g.R.Checks.Scheme.verifies c.args.last.now.made (g.R.Replica.stands c.args.node.now) (g.R.Replica.signature_of c.args.node.now) s c.args.command.now _ c.in-Bundle.is tt keeps)
+returns-in-Bundle-clause-reader g c = on_ok c.make_bundle.result _ (λ s told at keeps. keeps_last g.S.Scheme.verifies c.args.last.now.made (g.R.NodeState.stands c.args.node.now) (g.R.NodeState.signature_of c.args.node.now) s c.args.command.now _ c.in-Bundle.is tt keeps)
 
 pub returns-in-Bundle-clause-somebodys : goal.returns-in-Bundle-clause-somebodys
 returns-in-Bundle-clause-somebodys g c = on_ok c.make_bundle.result _ c.requires.reader
 
 pub returns-in-Take-clause-reader : goal.returns-in-Take-clause-reader
-returns-in-Take-clause-reader g c = on_ok c.take.result _ (λ s told at keeps. keeps_last g.R.Checks.Scheme.verifies c.args.last.now.made (g.R.Replica.stands c.args.node.now) (g.R.Replica.signature_of c.args.node.now) s c.args.command.now _ c.in-Take.is tt keeps)
+returns-in-Take-clause-reader g c = on_ok c.take.result _ (λ s told at keeps. keeps_last g.S.Scheme.verifies c.args.last.now.made (g.R.NodeState.stands c.args.node.now) (g.R.NodeState.signature_of c.args.node.now) s c.args.command.now _ c.in-Take.is tt keeps)
 
 pub returns-in-Take-clause-somebodys : goal.returns-in-Take-clause-somebodys
 returns-in-Take-clause-somebodys g c = on_ok c.take.result _ c.requires.reader
 
 pub returns-in-Receipt-clause-reader : goal.returns-in-Receipt-clause-reader
-returns-in-Receipt-clause-reader g c = on_ok c.give_receipt.result _ (λ s told at keeps. keeps_last g.R.Checks.Scheme.verifies c.args.last.now.made (g.R.Replica.stands c.args.node.now) (g.R.Replica.signature_of c.args.node.now) s c.args.command.now _ c.in-Receipt.is tt keeps)
+returns-in-Receipt-clause-reader g c = on_ok c.give_receipt.result _ (λ s told at keeps. keeps_last g.S.Scheme.verifies c.args.last.now.made (g.R.NodeState.stands c.args.node.now) (g.R.NodeState.signature_of c.args.node.now) s c.args.command.now _ c.in-Receipt.is tt keeps)
 
 pub returns-in-Receipt-clause-somebodys : goal.returns-in-Receipt-clause-somebodys
 returns-in-Receipt-clause-somebodys g c = on_ok c.give_receipt.result _ c.requires.reader
 
 pub returns-in-Settled-clause-reader : goal.returns-in-Settled-clause-reader
-returns-in-Settled-clause-reader g c = on_ok c.tell_settled.result _ (λ s told at keeps. keeps_last g.R.Checks.Scheme.verifies c.args.last.now.made (g.R.Replica.stands c.args.node.now) (g.R.Replica.signature_of c.args.node.now) s c.args.command.now _ c.in-Settled.is tt keeps)
+returns-in-Settled-clause-reader g c = on_ok c.tell_settled.result _ (λ s told at keeps. keeps_last g.S.Scheme.verifies c.args.last.now.made (g.R.NodeState.stands c.args.node.now) (g.R.NodeState.signature_of c.args.node.now) s c.args.command.now _ c.in-Settled.is tt keeps)
 
 pub returns-in-Settled-clause-somebodys : goal.returns-in-Settled-clause-somebodys
 returns-in-Settled-clause-somebodys g c = on_ok c.tell_settled.result _ c.requires.reader
 
 pub returns-in-Export-clause-reader : goal.returns-in-Export-clause-reader
-returns-in-Export-clause-reader g c = on_ok c.export.result _ (λ s told at keeps. keeps_last g.R.Checks.Scheme.verifies c.args.last.now.made (g.R.Replica.stands c.args.node.now) (g.R.Replica.signature_of c.args.node.now) s c.args.command.now _ c.in-Export.is tt keeps)
+returns-in-Export-clause-reader g c = on_ok c.export.result _ (λ s told at keeps. keeps_last g.S.Scheme.verifies c.args.last.now.made (g.R.NodeState.stands c.args.node.now) (g.R.NodeState.signature_of c.args.node.now) s c.args.command.now _ c.in-Export.is tt keeps)
 
 pub returns-in-Export-clause-somebodys : goal.returns-in-Export-clause-somebodys
 returns-in-Export-clause-somebodys g c = on_ok c.export.result _ c.requires.reader
 
 pub returns-in-Checkpoint-clause-reader : goal.returns-in-Checkpoint-clause-reader
-returns-in-Checkpoint-clause-reader g c = on_ok c.checkpoint.result _ (λ s told at keeps. keeps_last g.R.Checks.Scheme.verifies c.args.last.now.made (g.R.Replica.stands c.args.node.now) (g.R.Replica.signature_of c.args.node.now) s c.args.command.now _ c.in-Checkpoint.is tt keeps)
+returns-in-Checkpoint-clause-reader g c = on_ok c.checkpoint.result _ (λ s told at keeps. keeps_last g.S.Scheme.verifies c.args.last.now.made (g.R.NodeState.stands c.args.node.now) (g.R.NodeState.signature_of c.args.node.now) s c.args.command.now _ c.in-Checkpoint.is tt keeps)
 
 pub returns-in-Checkpoint-clause-somebodys : goal.returns-in-Checkpoint-clause-somebodys
 returns-in-Checkpoint-clause-somebodys g c = on_ok c.checkpoint.result _ c.requires.reader
 
 pub returns-in-Sign-clause-reader : goal.returns-in-Sign-clause-reader
-returns-in-Sign-clause-reader g c = on_ok c.sign.result _ (λ s told at keeps. keeps_last g.R.Checks.Scheme.verifies c.args.last.now.made (g.R.Replica.stands c.args.node.now) (g.R.Replica.signature_of c.args.node.now) s c.args.command.now _ c.in-Sign.is tt keeps)
+returns-in-Sign-clause-reader g c = on_ok c.sign.result _ (λ s told at keeps. keeps_last g.S.Scheme.verifies c.args.last.now.made (g.R.NodeState.stands c.args.node.now) (g.R.NodeState.signature_of c.args.node.now) s c.args.command.now _ c.in-Sign.is tt keeps)
 
 pub returns-in-Sign-clause-somebodys : goal.returns-in-Sign-clause-somebodys
 returns-in-Sign-clause-somebodys g c = on_ok c.sign.result _ c.requires.reader
 
 pub returns-in-Tget-clause-reader : goal.returns-in-Tget-clause-reader
-returns-in-Tget-clause-reader g c = on_ok c.tget.result _ (λ s told at keeps. keeps_last g.R.Checks.Scheme.verifies c.args.last.now.made (g.R.Replica.stands c.args.node.now) (g.R.Replica.signature_of c.args.node.now) s c.args.command.now _ c.in-Tget.is tt keeps)
+returns-in-Tget-clause-reader g c = on_ok c.tget.result _ (λ s told at keeps. keeps_last g.S.Scheme.verifies c.args.last.now.made (g.R.NodeState.stands c.args.node.now) (g.R.NodeState.signature_of c.args.node.now) s c.args.command.now _ c.in-Tget.is tt keeps)
 
 pub returns-in-Tget-clause-somebodys : goal.returns-in-Tget-clause-somebodys
 returns-in-Tget-clause-somebodys g c = on_ok c.tget.result _ c.requires.reader
@@ -212,43 +212,43 @@ pub returns-in-Tget-clause-loads : goal.returns-in-Tget-clause-loads
 returns-in-Tget-clause-loads g c = rw c.in-Tget.is (sym (append-nil (g.F.Shelf.loads c.args.shelf.now)))
 
 pub returns-in-Put-clause-stores : goal.returns-in-Put-clause-stores
-returns-in-Put-clause-stores g c = λ s told at. nothing_stored (g.F.Shelf.stores c.args.shelf.now) (g.F.Shelf.stores c.args.shelf.now) (g.R.Replica.stands c.args.node.now) (g.R.Replica.signature_of c.args.node.now) s c.args.command.now c.put_value.result _ c.in-Put.is tt refl
+returns-in-Put-clause-stores g c = λ s told at. nothing_stored (g.F.Shelf.stores c.args.shelf.now) (g.F.Shelf.stores c.args.shelf.now) (g.R.NodeState.stands c.args.node.now) (g.R.NodeState.signature_of c.args.node.now) s c.args.command.now c.put_value.result _ c.in-Put.is tt refl
 
 pub returns-in-Puts-clause-stores : goal.returns-in-Puts-clause-stores
-returns-in-Puts-clause-stores g c = λ s told at. nothing_stored (g.F.Shelf.stores c.args.shelf.now) (g.F.Shelf.stores c.args.shelf.now) (g.R.Replica.stands c.args.node.now) (g.R.Replica.signature_of c.args.node.now) s c.args.command.now c.put_changes.result _ c.in-Puts.is tt refl
+returns-in-Puts-clause-stores g c = λ s told at. nothing_stored (g.F.Shelf.stores c.args.shelf.now) (g.F.Shelf.stores c.args.shelf.now) (g.R.NodeState.stands c.args.node.now) (g.R.NodeState.signature_of c.args.node.now) s c.args.command.now c.put_changes.result _ c.in-Puts.is tt refl
 
 pub returns-in-Get-clause-stores : goal.returns-in-Get-clause-stores
-returns-in-Get-clause-stores g c = λ s told at. nothing_stored (g.F.Shelf.stores c.args.shelf.now) (g.F.Shelf.stores c.args.shelf.now) (g.R.Replica.stands c.args.node.now) (g.R.Replica.signature_of c.args.node.now) s c.args.command.now c.get.result _ c.in-Get.is tt refl
+returns-in-Get-clause-stores g c = λ s told at. nothing_stored (g.F.Shelf.stores c.args.shelf.now) (g.F.Shelf.stores c.args.shelf.now) (g.R.NodeState.stands c.args.node.now) (g.R.NodeState.signature_of c.args.node.now) s c.args.command.now c.get.result _ c.in-Get.is tt refl
 
 pub returns-in-Hello-clause-stores : goal.returns-in-Hello-clause-stores
-returns-in-Hello-clause-stores g c = λ s told at. hello_stored (g.F.Shelf.stores c.args.shelf.now) (g.F.Shelf.stores c.say_hello.new.shelf) (g.R.Replica.stands c.args.node.now) (g.R.Replica.signature_of c.args.node.now) s c.args.command.now c.say_hello.result _ c.in-Hello.is c.say_hello.ensures.stores
+returns-in-Hello-clause-stores g c = λ s told at. hello_stored (g.F.Shelf.stores c.args.shelf.now) (g.F.Shelf.stores c.say_hello.new.shelf) (g.R.NodeState.stands c.args.node.now) (g.R.NodeState.signature_of c.args.node.now) s c.args.command.now c.say_hello.result _ c.in-Hello.is c.say_hello.ensures.stores
 
 pub returns-in-Bundle-clause-stores : goal.returns-in-Bundle-clause-stores
-returns-in-Bundle-clause-stores g c = λ s told at. bundle_stored (g.F.Shelf.stores c.args.shelf.now) (g.F.Shelf.stores c.make_bundle.new.shelf) (g.R.Replica.stands c.args.node.now) (g.R.Replica.signature_of c.args.node.now) s c.args.command.now c.make_bundle.result _ _ c.in-Bundle.is (c.make_bundle.ensures.unstored s told at) c.make_bundle.ensures.stores
+returns-in-Bundle-clause-stores g c = λ s told at. bundle_stored (g.F.Shelf.stores c.args.shelf.now) (g.F.Shelf.stores c.make_bundle.new.shelf) (g.R.NodeState.stands c.args.node.now) (g.R.NodeState.signature_of c.args.node.now) s c.args.command.now c.make_bundle.result _ _ c.in-Bundle.is (c.make_bundle.ensures.unstored s told at) c.make_bundle.ensures.stores
 
 pub returns-in-Take-clause-stores : goal.returns-in-Take-clause-stores
-returns-in-Take-clause-stores g c = λ s told at. nothing_stored (g.F.Shelf.stores c.args.shelf.now) (g.F.Shelf.stores c.take.new.shelf) (g.R.Replica.stands c.args.node.now) (g.R.Replica.signature_of c.args.node.now) s c.args.command.now c.take.result _ c.in-Take.is tt c.take.ensures.stores
+returns-in-Take-clause-stores g c = λ s told at. nothing_stored (g.F.Shelf.stores c.args.shelf.now) (g.F.Shelf.stores c.take.new.shelf) (g.R.NodeState.stands c.args.node.now) (g.R.NodeState.signature_of c.args.node.now) s c.args.command.now c.take.result _ c.in-Take.is tt c.take.ensures.stores
 
 pub returns-in-Receipt-clause-stores : goal.returns-in-Receipt-clause-stores
-returns-in-Receipt-clause-stores g c = λ s told at. nothing_stored (g.F.Shelf.stores c.args.shelf.now) (g.F.Shelf.stores c.args.shelf.now) (g.R.Replica.stands c.args.node.now) (g.R.Replica.signature_of c.args.node.now) s c.args.command.now c.give_receipt.result _ c.in-Receipt.is tt refl
+returns-in-Receipt-clause-stores g c = λ s told at. nothing_stored (g.F.Shelf.stores c.args.shelf.now) (g.F.Shelf.stores c.args.shelf.now) (g.R.NodeState.stands c.args.node.now) (g.R.NodeState.signature_of c.args.node.now) s c.args.command.now c.give_receipt.result _ c.in-Receipt.is tt refl
 
 pub returns-in-Settled-clause-stores : goal.returns-in-Settled-clause-stores
-returns-in-Settled-clause-stores g c = λ s told at. nothing_stored (g.F.Shelf.stores c.args.shelf.now) (g.F.Shelf.stores c.args.shelf.now) (g.R.Replica.stands c.args.node.now) (g.R.Replica.signature_of c.args.node.now) s c.args.command.now c.tell_settled.result _ c.in-Settled.is tt refl
+returns-in-Settled-clause-stores g c = λ s told at. nothing_stored (g.F.Shelf.stores c.args.shelf.now) (g.F.Shelf.stores c.args.shelf.now) (g.R.NodeState.stands c.args.node.now) (g.R.NodeState.signature_of c.args.node.now) s c.args.command.now c.tell_settled.result _ c.in-Settled.is tt refl
 
 pub returns-in-Export-clause-stores : goal.returns-in-Export-clause-stores
-returns-in-Export-clause-stores g c = λ s told at. trace_stored (g.F.Shelf.stores c.args.shelf.now) (g.F.Shelf.stores c.export.new.shelf) (g.R.Replica.stands c.args.node.now) (g.R.Replica.signature_of c.args.node.now) s c.args.command.now c.export.result _ c.in-Export.is c.export.ensures.stores
+returns-in-Export-clause-stores g c = λ s told at. trace_stored (g.F.Shelf.stores c.args.shelf.now) (g.F.Shelf.stores c.export.new.shelf) (g.R.NodeState.stands c.args.node.now) (g.R.NodeState.signature_of c.args.node.now) s c.args.command.now c.export.result _ c.in-Export.is c.export.ensures.stores
 
 pub returns-in-Sign-clause-stores : goal.returns-in-Sign-clause-stores
-returns-in-Sign-clause-stores g c = λ s told at. nothing_stored (g.F.Shelf.stores c.args.shelf.now) (g.F.Shelf.stores c.sign.new.shelf) (g.R.Replica.stands c.args.node.now) (g.R.Replica.signature_of c.args.node.now) s c.args.command.now c.sign.result _ c.in-Sign.is tt c.sign.ensures.stores
+returns-in-Sign-clause-stores g c = λ s told at. nothing_stored (g.F.Shelf.stores c.args.shelf.now) (g.F.Shelf.stores c.sign.new.shelf) (g.R.NodeState.stands c.args.node.now) (g.R.NodeState.signature_of c.args.node.now) s c.args.command.now c.sign.result _ c.in-Sign.is tt c.sign.ensures.stores
 
 pub returns-in-Trim-clause-stores : goal.returns-in-Trim-clause-stores
-returns-in-Trim-clause-stores g c = λ s told at. nothing_stored (g.F.Shelf.stores c.args.shelf.now) (g.F.Shelf.stores c.trim.new.shelf) (g.R.Replica.stands c.args.node.now) (g.R.Replica.signature_of c.args.node.now) s c.args.command.now c.trim.result _ c.in-Trim.is tt c.trim.ensures.stores
+returns-in-Trim-clause-stores g c = λ s told at. nothing_stored (g.F.Shelf.stores c.args.shelf.now) (g.F.Shelf.stores c.trim.new.shelf) (g.R.NodeState.stands c.args.node.now) (g.R.NodeState.signature_of c.args.node.now) s c.args.command.now c.trim.result _ c.in-Trim.is tt c.trim.ensures.stores
 
 pub returns-in-Tgive-clause-stores : goal.returns-in-Tgive-clause-stores
-returns-in-Tgive-clause-stores g c = λ s told at. nothing_stored (g.F.Shelf.stores c.args.shelf.now) (g.F.Shelf.stores c.tgive.new.shelf) (g.R.Replica.stands c.args.node.now) (g.R.Replica.signature_of c.args.node.now) s c.args.command.now c.tgive.result _ c.in-Tgive.is tt c.tgive.ensures.stores
+returns-in-Tgive-clause-stores g c = λ s told at. nothing_stored (g.F.Shelf.stores c.args.shelf.now) (g.F.Shelf.stores c.tgive.new.shelf) (g.R.NodeState.stands c.args.node.now) (g.R.NodeState.signature_of c.args.node.now) s c.args.command.now c.tgive.result _ c.in-Tgive.is tt c.tgive.ensures.stores
 
 pub returns-in-Tget-clause-stores : goal.returns-in-Tget-clause-stores
-returns-in-Tget-clause-stores g c = λ s told at. nothing_stored (g.F.Shelf.stores c.args.shelf.now) (g.F.Shelf.stores c.args.shelf.now) (g.R.Replica.stands c.args.node.now) (g.R.Replica.signature_of c.args.node.now) s c.args.command.now c.tget.result _ c.in-Tget.is tt refl
+returns-in-Tget-clause-stores g c = λ s told at. nothing_stored (g.F.Shelf.stores c.args.shelf.now) (g.F.Shelf.stores c.args.shelf.now) (g.R.NodeState.stands c.args.node.now) (g.R.NodeState.signature_of c.args.node.now) s c.args.command.now c.tget.result _ c.in-Tget.is tt refl
 
 pub returns-in-Put-clause-unstored : goal.returns-in-Put-clause-unstored
 returns-in-Put-clause-unstored g c = λ s told at. unstored (g.F.Shelf.stores c.args.shelf.now) (g.F.Shelf.stores c.args.shelf.now) _ refl
@@ -260,7 +260,7 @@ pub returns-in-Get-clause-unstored : goal.returns-in-Get-clause-unstored
 returns-in-Get-clause-unstored g c = λ s told at. unstored (g.F.Shelf.stores c.args.shelf.now) (g.F.Shelf.stores c.args.shelf.now) _ refl
 
 pub returns-in-Hello-clause-unstored : goal.returns-in-Hello-clause-unstored
-returns-in-Hello-clause-unstored g c = λ s told at. rw c.in-Hello.is (goes_on_anyhow _ _ (hello_goes_on (g.R.Replica.stands c.args.node.now) (g.R.Replica.signature_of c.args.node.now) s _))
+returns-in-Hello-clause-unstored g c = λ s told at. rw c.in-Hello.is (goes_on_anyhow _ _ (hello_goes_on (g.R.NodeState.stands c.args.node.now) (g.R.NodeState.signature_of c.args.node.now) s _))
 
 pub returns-in-Take-clause-unstored : goal.returns-in-Take-clause-unstored
 returns-in-Take-clause-unstored g c = λ s told at. unstored (g.F.Shelf.stores c.args.shelf.now) (g.F.Shelf.stores c.take.new.shelf) _ c.take.ensures.stores
@@ -272,10 +272,10 @@ pub returns-in-Settled-clause-unstored : goal.returns-in-Settled-clause-unstored
 returns-in-Settled-clause-unstored g c = λ s told at. unstored (g.F.Shelf.stores c.args.shelf.now) (g.F.Shelf.stores c.args.shelf.now) _ refl
 
 pub returns-in-Export-clause-unstored : goal.returns-in-Export-clause-unstored
-returns-in-Export-clause-unstored g c = λ s told at. rw c.in-Export.is (goes_on_anyhow _ _ (export_goes_on (g.R.Replica.stands c.args.node.now) (g.R.Replica.signature_of c.args.node.now) s _))
+returns-in-Export-clause-unstored g c = λ s told at. rw c.in-Export.is (goes_on_anyhow _ _ (export_goes_on (g.R.NodeState.stands c.args.node.now) (g.R.NodeState.signature_of c.args.node.now) s _))
 
 pub returns-in-Checkpoint-clause-unstored : goal.returns-in-Checkpoint-clause-unstored
-returns-in-Checkpoint-clause-unstored g c = λ s told at. checkpoint_unstored (g.F.Shelf.stores c.args.shelf.now) (g.F.Shelf.stores c.checkpoint.new.shelf) (g.R.Replica.stands c.args.node.now) (g.R.Replica.signature_of c.args.node.now) s c.args.command.now c.checkpoint.result _ c.in-Checkpoint.is (c.checkpoint.ensures.stores s told at)
+returns-in-Checkpoint-clause-unstored g c = λ s told at. checkpoint_unstored (g.F.Shelf.stores c.args.shelf.now) (g.F.Shelf.stores c.checkpoint.new.shelf) (g.R.NodeState.stands c.args.node.now) (g.R.NodeState.signature_of c.args.node.now) s c.args.command.now c.checkpoint.result _ c.in-Checkpoint.is (c.checkpoint.ensures.stores s told at)
 
 pub returns-in-Sign-clause-unstored : goal.returns-in-Sign-clause-unstored
 returns-in-Sign-clause-unstored g c = λ s told at. unstored (g.F.Shelf.stores c.args.shelf.now) (g.F.Shelf.stores c.sign.new.shelf) _ c.sign.ensures.stores

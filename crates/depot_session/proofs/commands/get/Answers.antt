@@ -7,25 +7,25 @@ use Rattle.depot_session.proofs.Uncalled.{keeps_uncalled, uncalled_without_memor
 use Rattle.depot_session.proofs.commands.get.Goals as goal
 
 pub returns-in_err-lines-clause-keeps : goal.returns-in_err-lines-clause-keeps
-returns-in_err-lines-clause-keeps g c = keeps_uncalled g.R.Replica c.args.node.now c.requires.running (g.met.R.Replica.only_now) (g.met.R.Replica.lawful c.args.node.now) _ _ (names_memory _ _ (omega arith) _ c.from_residual.ensures.1 (never_rose _ _))
+returns-in_err-lines-clause-keeps g c = keeps_uncalled g.R.NodeState c.args.node.now c.requires.running (g.met.R.Replica.only_now) (g.met.R.Replica.lawful c.args.node.now) _ _ (names_memory _ _ (omega arith) _ c.from_residual.ensures.1 (never_rose _ _))
 
 pub returns-in_err-lines-clause-turns : goal.returns-in_err-lines-clause-turns
 returns-in_err-lines-clause-turns g c = λ shelf s unchanged at.
-    uncalled_without_memory g.R.Replica c.args.node.now c.requires.running s c.args.command.now shelf (sinks g.K.Sink c.args.out.now c.args.out.now) at unchanged c.from_residual.result c.from_residual.ensures.1 refl
+    uncalled_without_memory g.R.NodeState c.args.node.now c.requires.running s c.args.command.now shelf (sinks g.K.Sink c.args.out.now c.args.out.now) at unchanged c.from_residual.result c.from_residual.ensures.1 refl
 
 pub returns-in_err-keep-clause-keeps : goal.returns-in_err-keep-clause-keeps
-returns-in_err-keep-clause-keeps g c = keeps_uncalled g.R.Replica c.args.node.now c.requires.running (g.met.R.Replica.only_now) (g.met.R.Replica.lawful c.args.node.now) _ _ (names_memory _ _ (omega arith) _ c.from_residual-in_err-keep.ensures.1 (never_rose _ _))
+returns-in_err-keep-clause-keeps g c = keeps_uncalled g.R.NodeState c.args.node.now c.requires.running (g.met.R.Replica.only_now) (g.met.R.Replica.lawful c.args.node.now) _ _ (names_memory _ _ (omega arith) _ c.from_residual-in_err-keep.ensures.1 (never_rose _ _))
 
 pub returns-in_err-keep-clause-turns : goal.returns-in_err-keep-clause-turns
 returns-in_err-keep-clause-turns g c = λ shelf s unchanged at.
-    uncalled_without_memory g.R.Replica c.args.node.now c.requires.running s c.args.command.now shelf (sinks g.K.Sink c.args.out.now c.args.out.now) at unchanged c.from_residual-in_err-keep.result c.from_residual-in_err-keep.ensures.1 refl
+    uncalled_without_memory g.R.NodeState c.args.node.now c.requires.running s c.args.command.now shelf (sinks g.K.Sink c.args.out.now c.args.out.now) at unchanged c.from_residual-in_err-keep.result c.from_residual-in_err-keep.ensures.1 refl
 
 pub returns-clause-keeps : goal.returns-clause-keeps
-returns-clause-keeps g c = keeps_uncalled g.R.Replica c.args.node.now c.requires.running (g.met.R.Replica.only_now) (g.met.R.Replica.lawful c.args.node.now) _ _ (names_told _ _ c.tell.ensures.later _ _ c.tell.result tt c.tell.ensures.tells c.tell.ensures.only)
+returns-clause-keeps g c = keeps_uncalled g.R.NodeState c.args.node.now c.requires.running (g.met.R.Replica.only_now) (g.met.R.Replica.lawful c.args.node.now) _ _ (names_told _ _ c.tell.ensures.later _ _ c.tell.result tt c.tell.ensures.tells c.tell.ensures.only)
 
 pub returns-clause-turns : goal.returns-clause-turns
 returns-clause-turns g c = λ shelf s unchanged at.
-    rw c.requires.command (get_turns g.R.Replica c.args.node.now s c.args.key.now c.in_ok-lines.lines shelf (sinks g.K.Sink c.args.out.now c.tell.new.out) c.tell.result c.requires.running at unchanged c.in_ok-lines.ensures (rw c.requires.command at c.tell.ensures.tells))
+    rw c.requires.command (get_turns g.R.NodeState c.args.node.now s c.args.key.now c.in_ok-lines.lines shelf (sinks g.K.Sink c.args.out.now c.tell.new.out) c.tell.result c.requires.running at unchanged c.in_ok-lines.ensures (rw c.requires.command at c.tell.ensures.tells))
 
 pub returns-clause-reads : goal.returns-clause-reads
-returns-clause-reads g c = rw c.requires.command (on_ok c.tell.result _ (keeps_more (g.R.Replica.stands c.args.node.now) (g.R.Replica.signature_of c.args.node.now) (g.R.Replica.records c.args.node.now) c.args.key.now c.args.reads.now c.keep.new.reads c.in_ok-keep.ensures))
+returns-clause-reads g c = rw c.requires.command (on_ok c.tell.result _ (keeps_more (g.R.NodeState.stands c.args.node.now) (g.R.NodeState.signature_of c.args.node.now) (g.R.NodeState.records c.args.node.now) c.args.key.now c.args.reads.now c.keep.new.reads c.in_ok-keep.ensures))

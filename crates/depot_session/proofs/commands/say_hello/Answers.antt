@@ -11,35 +11,35 @@ use Rattle.depot_world.specs.Transcript.{ended}
 use Rattle.depot_session.proofs.commands.say_hello.Goals as goal
 
 pub returns-in_err-told-clause-keeps : goal.returns-in_err-told-clause-keeps
-returns-in_err-told-clause-keeps g c = keeps_uncalled g.R.Replica c.args.node.now c.requires.running (g.met.R.Replica.only_now) (g.met.R.Replica.lawful c.args.node.now) _ _ (names_memory _ _ (omega arith) _ c.from_residual.ensures.1 (never_rose _ _))
+returns-in_err-told-clause-keeps g c = keeps_uncalled g.R.NodeState c.args.node.now c.requires.running (g.met.R.Replica.only_now) (g.met.R.Replica.lawful c.args.node.now) _ _ (names_memory _ _ (omega arith) _ c.from_residual.ensures.1 (never_rose _ _))
 
 pub returns-in_err-told-clause-turns : goal.returns-in_err-told-clause-turns
 returns-in_err-told-clause-turns g c = λ s tells at.
-    uncalled_without_memory g.R.Replica c.args.node.now c.requires.running s c.args.command.now (shelves g.F.Shelf c.args.shelf.now c.args.shelf.now) (sinks g.K.Sink c.args.out.now c.args.out.now) at (λ _. refl) c.from_residual.result c.from_residual.ensures.1 refl
+    uncalled_without_memory g.R.NodeState c.args.node.now c.requires.running s c.args.command.now (shelves g.F.Shelf c.args.shelf.now c.args.shelf.now) (sinks g.K.Sink c.args.out.now c.args.out.now) at (λ _. refl) c.from_residual.result c.from_residual.ensures.1 refl
 
 pub returns-in_err-text-clause-keeps : goal.returns-in_err-text-clause-keeps
-returns-in_err-text-clause-keeps g c = keeps_uncalled g.R.Replica c.args.node.now c.requires.running (g.met.R.Replica.only_now) (g.met.R.Replica.lawful c.args.node.now) _ _ (names_memory _ _ (omega arith) _ c.from_residual-in_err-text.ensures.1 (never_rose _ _))
+returns-in_err-text-clause-keeps g c = keeps_uncalled g.R.NodeState c.args.node.now c.requires.running (g.met.R.Replica.only_now) (g.met.R.Replica.lawful c.args.node.now) _ _ (names_memory _ _ (omega arith) _ c.from_residual-in_err-text.ensures.1 (never_rose _ _))
 
 pub returns-in_err-lines-clause-keeps : goal.returns-in_err-lines-clause-keeps
-returns-in_err-lines-clause-keeps g c = keeps_uncalled g.R.Replica c.args.node.now c.requires.running (g.met.R.Replica.only_now) (g.met.R.Replica.lawful c.args.node.now) _ _ (names_memory _ _ (omega arith) _ c.from_residual-in_err-lines.ensures.1 (never_rose _ _))
+returns-in_err-lines-clause-keeps g c = keeps_uncalled g.R.NodeState c.args.node.now c.requires.running (g.met.R.Replica.only_now) (g.met.R.Replica.lawful c.args.node.now) _ _ (names_memory _ _ (omega arith) _ c.from_residual-in_err-lines.ensures.1 (never_rose _ _))
 
 pub returns-in_err-text-clause-turns : goal.returns-in_err-text-clause-turns
 returns-in_err-text-clause-turns g c = λ s tells at.
-    uncalled_without_memory g.R.Replica c.args.node.now c.requires.running s c.args.command.now (shelves g.F.Shelf c.args.shelf.now c.args.shelf.now) (sinks g.K.Sink c.args.out.now c.args.out.now) at (λ _. refl) c.from_residual-in_err-text.result c.from_residual-in_err-text.ensures.1 refl
+    uncalled_without_memory g.R.NodeState c.args.node.now c.requires.running s c.args.command.now (shelves g.F.Shelf c.args.shelf.now c.args.shelf.now) (sinks g.K.Sink c.args.out.now c.args.out.now) at (λ _. refl) c.from_residual-in_err-text.result c.from_residual-in_err-text.ensures.1 refl
 
 pub returns-in_err-lines-clause-turns : goal.returns-in_err-lines-clause-turns
 returns-in_err-lines-clause-turns g c = λ s tells at.
-    uncalled_without_memory g.R.Replica c.args.node.now c.requires.running s c.args.command.now (shelves g.F.Shelf c.args.shelf.now c.args.shelf.now) (sinks g.K.Sink c.args.out.now c.args.out.now) at (λ _. refl) c.from_residual-in_err-lines.result c.from_residual-in_err-lines.ensures.1 refl
+    uncalled_without_memory g.R.NodeState c.args.node.now c.requires.running s c.args.command.now (shelves g.F.Shelf c.args.shelf.now c.args.shelf.now) (sinks g.K.Sink c.args.out.now c.args.out.now) at (λ _. refl) c.from_residual-in_err-lines.result c.from_residual-in_err-lines.ensures.1 refl
 
 pub returns-clause-keeps : goal.returns-clause-keeps
 returns-clause-keeps g c =
-    keeps_uncalled g.R.Replica c.args.node.now c.requires.running (g.met.R.Replica.only_now) (g.met.R.Replica.lawful c.args.node.now) _ _ (names_stored _ _ c.store_and_tell.ensures.later _ _ _ _ c.store_and_tell.result c.store_and_tell.ensures.stores c.store_and_tell.ensures.only)
+    keeps_uncalled g.R.NodeState c.args.node.now c.requires.running (g.met.R.Replica.only_now) (g.met.R.Replica.lawful c.args.node.now) _ _ (names_stored _ _ c.store_and_tell.ensures.later _ _ _ _ c.store_and_tell.result c.store_and_tell.ensures.stores c.store_and_tell.ensures.only)
 
 pub returns-clause-turns : goal.returns-clause-turns
 returns-clause-turns g c = λ s tells at.
     let n = c.args.node.now in
     let told_is = c.in_ok-told.ensures.told in
-    rw c.requires.command (hello_turns g.R.Replica n s c.args.file.now c.in_ok-text.text c.in_ok-lines.lines (shelves g.F.Shelf c.args.shelf.now c.store_and_tell.new.shelf) (sinks g.K.Sink c.args.out.now c.store_and_tell.new.out) c.store_and_tell.result c.requires.running at (c.in_ok-text.ensures ∙ ap text_of_hello told_is)
+    rw c.requires.command (hello_turns g.R.NodeState n s c.args.file.now c.in_ok-text.text c.in_ok-lines.lines (shelves g.F.Shelf c.args.shelf.now c.store_and_tell.new.shelf) (sinks g.K.Sink c.args.out.now c.store_and_tell.new.out) c.store_and_tell.result c.requires.running at (c.in_ok-text.ensures ∙ ap text_of_hello told_is)
     (c.in_ok-lines.ensures ∙ ap (λ (h : Hello). ended (spaced (text_of_named h))) told_is) tells (rw c.requires.command at c.store_and_tell.ensures.stores))
 
 pub returns-in_err-told-clause-stores : goal.returns-in_err-told-clause-stores

@@ -1,5 +1,5 @@
 use Rattle.std.proofs.Common.{Some, refl, sym, ap, subst, ◌∙◌, arith}
-use Rattle.depot_node_lines.specs.Printing.{is_disk}
+use Rattle.depot_feeds.specs.NodeCalls.{says_disk}
 use Rattle.depot_outside.specs.Told.{shelves, sinks}
 use Rattle.depot_model.specs.Feeding.{feed_of}
 use Rattle.depot_session.specs.declared.ending.Ending.TheVariants as ending
@@ -10,64 +10,64 @@ use Rattle.depot_session.proofs.Uncalled.{keeps_uncalled, uncalled_without_file,
 use Rattle.depot_session.proofs.commands.take.Goals as goal
 
 pub returns-in_err-stream-clause-keeps : goal.returns-in_err-stream-clause-keeps
-returns-in_err-stream-clause-keeps g c = keeps_uncalled g.R.Replica c.args.node.now c.requires.running (g.met.R.Replica.only_now) (g.met.R.Replica.lawful c.args.node.now) _ _ (names_memory _ _ (omega arith) _ c.from_residual.ensures.1 (never_rose _ _))
+returns-in_err-stream-clause-keeps g c = keeps_uncalled g.R.NodeState c.args.node.now c.requires.running (g.met.R.Replica.only_now) (g.met.R.Replica.lawful c.args.node.now) _ _ (names_memory _ _ (omega arith) _ c.from_residual.ensures.1 (never_rose _ _))
 
 pub returns-in_err-stream-clause-turns : goal.returns-in_err-stream-clause-turns
 returns-in_err-stream-clause-turns g c = λ s tells at.
-    uncalled_without_memory g.R.Replica c.args.node.now c.requires.running s c.args.command.now (shelves g.F.Shelf c.args.shelf.now c.load.new.shelf) (sinks g.K.Sink c.args.out.now c.args.out.now) at (λ name. ap (λ files. files name) c.load.ensures.files) c.from_residual.result c.from_residual.ensures.1 refl
+    uncalled_without_memory g.R.NodeState c.args.node.now c.requires.running s c.args.command.now (shelves g.F.Shelf c.args.shelf.now c.load.new.shelf) (sinks g.K.Sink c.args.out.now c.args.out.now) at (λ name. ap (λ files. files name) c.load.ensures.files) c.from_residual.result c.from_residual.ensures.1 refl
 
 pub returns-in_default-clause-keeps : goal.returns-in_default-clause-keeps
 returns-in_default-clause-keeps g c =
-    keeps_uncalled g.R.Replica c.args.node.now c.requires.running (g.met.R.Replica.only_now) (g.met.R.Replica.lawful c.args.node.now) _ _ (names_fault _ _ c.no_file.ensures.later _ ending.Shelf c.no_file.result tt c.no_file.ensures.told c.no_file.ensures.only)
+    keeps_uncalled g.R.NodeState c.args.node.now c.requires.running (g.met.R.Replica.only_now) (g.met.R.Replica.lawful c.args.node.now) _ _ (names_fault _ _ c.no_file.ensures.later _ ending.Shelf c.no_file.result tt c.no_file.ensures.told c.no_file.ensures.only)
 
 pub returns-in_default-clause-turns : goal.returns-in_default-clause-turns
 returns-in_default-clause-turns g c = λ s tells at.
-    rw c.requires.command (uncalled_without_file g.R.Replica c.args.node.now c.requires.running s _ (shelves g.F.Shelf c.args.shelf.now c.load.new.shelf) _ at (λ name. ap (λ files. files name) c.load.ensures.files) c.args.file.now c.no_file.result refl (takes_absent _ _ s c.args.file.now) tells
+    rw c.requires.command (uncalled_without_file g.R.NodeState c.args.node.now c.requires.running s _ (shelves g.F.Shelf c.args.shelf.now c.load.new.shelf) _ at (λ name. ap (λ files. files name) c.load.ensures.files) c.args.file.now c.no_file.result refl (takes_absent _ _ s c.args.file.now) tells
     (rw c.in_default.is at c.in_ok-stream.ensures.loaded) c.no_file.ensures.told)
 
 pub returns-in_err-printed-clause-keeps : goal.returns-in_err-printed-clause-keeps
 returns-in_err-printed-clause-keeps g c =
     let fed = c.feed_whole-fed.ensures in
-    keeps_without_memory g.R.Replica c.args.node.now c.feed_whole-fed.new.node _ _ _ fed.stays fed.disk fed.lasts (omega arith) c.from_residual-in_err-printed.result c.from_residual-in_err-printed.ensures.1 (never_rose _ _)
+    keeps_without_memory g.R.NodeState c.args.node.now c.feed_whole-fed.new.node _ _ _ fed.call.left.node.same fed.call.left.node.journal.disk fed.call.left.lasts (omega arith) c.from_residual-in_err-printed.result c.from_residual-in_err-printed.ensures.1 (never_rose _ _)
 
 pub returns-in_err-printed-clause-turns : goal.returns-in_err-printed-clause-turns
 returns-in_err-printed-clause-turns g c = λ s tells at.
     let loaded = rw c.in-Some.is at c.in_ok-stream.ensures.loaded in
-    rw c.requires.command (taken_without_memory g.R.Replica (g.met.R.Replica.counts_now) c.args.node.now c.feed_whole-fed.new.node s c.args.file.now c.as_slice.result.now (shelves g.F.Shelf c.args.shelf.now c.load.new.shelf) at
-    (λ name. ap (λ files. files name) c.load.ensures.files) (◌∙◌ {a = g.F.Shelf.file c.args.shelf.now c.args.file.now} (loaded tells) (ap (λ bytes. Some bytes) (sym c.as_slice.ensures))) c.requires.running.runs c.feed_whole-fed.ensures.brings
+    rw c.requires.command (taken_without_memory g.R.NodeState (g.met.R.Replica.counts_now) c.args.node.now c.feed_whole-fed.new.node s c.args.file.now c.as_slice.result.now (shelves g.F.Shelf c.args.shelf.now c.load.new.shelf) at
+    (λ name. ap (λ files. files name) c.load.ensures.files) (◌∙◌ {a = g.F.Shelf.file c.args.shelf.now c.args.file.now} (loaded tells) (ap (λ bytes. Some bytes) (sym c.as_slice.ensures))) c.requires.running.runs c.feed_whole-fed.result c.feed_whole-fed.ensures.call
     (sinks g.K.Sink c.args.out.now c.args.out.now) c.from_residual-in_err-printed.result c.from_residual-in_err-printed.ensures.1 refl)
 
 pub returns-in-Some-2-clause-keeps : goal.returns-in-Some-2-clause-keeps
 returns-in-Some-2-clause-keeps g c =
     let n = c.args.node.now in
     let fed = c.feed_whole-fed.ensures in
-    let x = feed_of (g.R.Replica.stands n) (g.R.Replica.records n) c.as_slice.result.now in
+    let x = feed_of (g.R.NodeState.stands n) (g.R.NodeState.records n) c.as_slice.result.now in
     let settled = c.in_ok-printed.ensures.settled in
     let not = not_where_some _ _ _ c.in-Some-2.is c.in_ok-printed.ensures.stopped.1 in
     let ends = ends_fed c.feed_whole-fed.result x c.ending_of_take-ends.result settled not fed.told c.ending_of_take-ends.ensures.ends in
-    keeps_running g.R.Replica n c.feed_whole-fed.new.node _ _ _ fed.stays fed.disk fed.lasts c.tell.result (ap is_disk (is_fed c.feed_whole-fed.result settled not).1) (of_fed c.feed_whole-fed.result _ settled not fed.runs) not
+    keeps_running g.R.NodeState n c.feed_whole-fed.new.node _ _ _ fed.call.left.node.same fed.call.left.node.journal.disk fed.call.left.lasts c.tell.result (ap says_disk (is_fed c.feed_whole-fed.result settled not).1) (of_fed c.feed_whole-fed.result _ settled not fed.runs) not
     (names_told _ _ c.tell.ensures.later _ c.ending_of_take-ends.result c.tell.result (subst EndsCalmly (sym ends) (take_ends_calmly x.closed)) c.tell.ensures.tells c.tell.ensures.only)
 
 pub returns-in-Some-2-clause-turns : goal.returns-in-Some-2-clause-turns
 returns-in-Some-2-clause-turns g c = λ s tells at.
     let n = c.args.node.now in
     let m = c.feed_whole-fed.new.node in
-    let x = feed_of (g.R.Replica.stands n) (g.R.Replica.records n) c.as_slice.result.now in
+    let x = feed_of (g.R.NodeState.stands n) (g.R.NodeState.records n) c.as_slice.result.now in
     let loaded = rw c.in-Some.is at c.in_ok-stream.ensures.loaded in
     let settled = c.in_ok-printed.ensures.settled in
     let not = not_where_some _ _ _ c.in-Some-2.is c.in_ok-printed.ensures.stopped.1 in
     let print = rw c.in-Some-2.is at (c.in_ok-printed.ensures.printed s.correct x c.feed_whole-fed.ensures.told) in
-    rw c.requires.command (taken_told g.R.Replica (g.met.R.Replica.counts_now) n m s c.args.file.now c.as_slice.result.now (shelves g.F.Shelf c.args.shelf.now c.load.new.shelf) at (λ name. ap (λ files. files name) c.load.ensures.files) (◌∙◌ {a = g.F.Shelf.file c.args.shelf.now c.args.file.now} (loaded tells) (ap (λ bytes. Some bytes) (sym c.as_slice.ensures))) c.requires.running.runs c.feed_whole-fed.ensures.brings
+    rw c.requires.command (taken_told g.R.NodeState (g.met.R.Replica.counts_now) n m s c.args.file.now c.as_slice.result.now (shelves g.F.Shelf c.args.shelf.now c.load.new.shelf) at (λ name. ap (λ files. files name) c.load.ensures.files) (◌∙◌ {a = g.F.Shelf.file c.args.shelf.now c.args.file.now} (loaded tells) (ap (λ bytes. Some bytes) (sym c.as_slice.ensures))) c.requires.running.runs c.feed_whole-fed.result c.feed_whole-fed.ensures.call
     (sinks g.K.Sink c.args.out.now c.tell.new.out) c.ending_of_take-ends.result _ c.tell.result (of_fed c.feed_whole-fed.result _ settled not c.feed_whole-fed.ensures.runs) (of_fed c.feed_whole-fed.result _ settled not c.feed_whole-fed.ensures.grown)
     (ends_fed c.feed_whole-fed.result x c.ending_of_take-ends.result settled not c.feed_whole-fed.ensures.told c.ending_of_take-ends.ensures.ends) print.0 (rw c.requires.command at c.tell.ensures.tells))
 
 pub returns-clause-keeps : goal.returns-clause-keeps
 returns-clause-keeps g c =
     let fed = c.feed_whole-fed.ensures in
-    keeps_to_disk g.R.Replica c.args.node.now c.feed_whole-fed.new.node _ _ _ fed.stays fed.disk fed.lasts c.disk_failed.ensures.later _ c.disk_failed.result (c.in_ok-printed.ensures.stopped.0 c.in-None.is) c.disk_failed.ensures.told c.disk_failed.ensures.only
+    keeps_to_disk g.R.NodeState c.args.node.now c.feed_whole-fed.new.node _ _ _ fed.call.left.node.same fed.call.left.node.journal.disk fed.call.left.lasts c.disk_failed.ensures.later _ c.disk_failed.result (c.in_ok-printed.ensures.stopped.0 c.in-None.is) c.disk_failed.ensures.told c.disk_failed.ensures.only
 
 pub returns-clause-turns : goal.returns-clause-turns
 returns-clause-turns g c = λ s tells at.
     let loaded = rw c.in-Some.is at c.in_ok-stream.ensures.loaded in
-    rw c.requires.command (taken_to_disk g.R.Replica (g.met.R.Replica.counts_now) c.args.node.now c.feed_whole-fed.new.node s c.args.file.now c.as_slice.result.now (shelves g.F.Shelf c.args.shelf.now c.load.new.shelf) at (λ name. ap (λ files. files name) c.load.ensures.files)
-    (◌∙◌ {a = g.F.Shelf.file c.args.shelf.now c.args.file.now} (loaded tells) (ap (λ bytes. Some bytes) (sym c.as_slice.ensures))) c.requires.running.runs c.feed_whole-fed.ensures.brings (sinks g.K.Sink c.args.out.now c.disk_failed.new.out) c.disk_failed.result (c.feed_whole-fed.ensures.disk.cause.rose (c.in_ok-printed.ensures.stopped.0 c.in-None.is)) c.disk_failed.ensures.told)
+    rw c.requires.command (taken_to_disk g.R.NodeState (g.met.R.Replica.counts_now) c.args.node.now c.feed_whole-fed.new.node s c.args.file.now c.as_slice.result.now (shelves g.F.Shelf c.args.shelf.now c.load.new.shelf) at (λ name. ap (λ files. files name) c.load.ensures.files)
+    (◌∙◌ {a = g.F.Shelf.file c.args.shelf.now c.args.file.now} (loaded tells) (ap (λ bytes. Some bytes) (sym c.as_slice.ensures))) c.requires.running.runs c.feed_whole-fed.result c.feed_whole-fed.ensures.call (sinks g.K.Sink c.args.out.now c.disk_failed.new.out) c.disk_failed.result (c.feed_whole-fed.ensures.call.left.node.journal.disk.cause.rose (c.in_ok-printed.ensures.stopped.0 c.in-None.is)) c.disk_failed.ensures.told)

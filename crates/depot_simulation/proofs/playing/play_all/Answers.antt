@@ -1,60 +1,88 @@
-use Rattle.std.proofs.Common.{take, IsTrue, refl, sym, subst, ◌∙◌}
+use Rattle.std.proofs.Common.{◌≡◌, ◌+◌, ◌-◌, List, [], ◌++◌, length, take, reverse, IsTrue, refl, sym, ap, subst, inl, inr, ◌∙◌, arith}
 use Rattle.std.proofs.lemmas.List.{append-nil}
 use Rattle.depot_base.proofs.Writing.{on_err_from}
+use Rattle.depot_schedule.specs.declared.event.Event.{Event}
 use Rattle.depot_world.specs.Run.{Run}
 use Rattle.depot_world.specs.Setups.{Setup}
 use Rattle.depot_world.specs.Transcript.{printed, run_after}
 use Rattle.depot_simulation.specs.Playing.{IsSimulationAt}
-use Rattle.depot_simulation.proofs.PlayedEvents.{no_fault, run_more, printed_more, front_before, front_within, on_at}
+use Rattle.depot_simulation.proofs.PlayedEvents.{AreToCome, IsNext, all_so_far, all_to_come, front_before, front_within, next_is, no_fault, none_so_far, on_at, printed_more, run_more, so_far}
+use Rattle.depot_simulation.proofs.playing.play_all.Given.{Over}
 use Rattle.depot_simulation.proofs.playing.play_all.Goals as goal
+use Rattle.depot_simulation.proofs.playing.play_all.Goals.{In-Some}
 
-pub event-requires-clause-may : goal.event-requires-clause-may
-event-requires-clause-may g c = c.requires.may c.event-item.result (on_at c.args.events.now c.loop-event.event-index c.event-item.result c.loop-event-test.true c.event-item.is)
-
-pub event-requires-clause-played : goal.event-requires-clause-played
-event-requires-clause-played g c =
-    let p = c.requires.played in
-    record { setup = p.setup; run = run_after p.setup p.run (take c.loop-event.event-index c.args.events.now); on = p.on; sound = p.sound c.loop-event.event-index; at = c.loop-event.invariant.at p.setup p.run p.on p.sound p.at }
+-- the event is the next one
+next : (g : Over) (c : In-Some g) → IsNext c.args.events c.loop-event.to_come.items c.pop.new.self.items c.in-Some.event
+next g c = next_is c.args.events c.loop-event.to_come.items c.pop.new.self.items c.in-Some.event c.in-Some.ensures.items c.loop-event.invariant.left
 
 pub loop-event-init : goal.loop-event-init
 unfolding run_after printed
-loop-event-init g c = record {
-  at = λ setup run on sound at. at;
-  written = λ setup run on sound at tells. sym (append-nil (g.K.Sink.written c.args.out.now));
-  tells = refl;
-  faults = refl;
-  faultless = λ is. is;
-}
+loop-event-init g c =
+    let es = c.args.events in
+    let out = g.K.Sink.written c.args.out.now in
+    let turned : c.reverse.new.self.items ≡ reverse es = c.reverse.ensures.items ∙ ap (λ (xs : List Event). reverse xs) c.into_vec-to_come.ensures in
+    let none : so_far es c.reverse.new.self.items ≡ [] = ap (λ (xs : List Event). so_far es xs) turned ∙ none_so_far es in
+    record {
+      left = subst (λ (xs : List Event). AreToCome es xs) (sym turned) (all_to_come es);
+      at = λ setup run on sound at. subst (λ (xs : List Event). IsSimulationAt g.A.Actor.view g.A.Reader.Reading.reads setup (run_after setup run xs) c.args.simulation.now) (sym none) at;
+      written = λ setup run on sound at tells. sym (ap (λ (xs : List Event). out ++ printed setup run xs) none ∙ append-nil out);
+      tells = refl;
+      faults = refl;
+      faultless = λ is. is;
+    }
 
-pub returns-in_err-lines-clause-front : goal.returns-in_err-lines-clause-front
-returns-in_err-lines-clause-front g c = λ setup run on sound at tells. on_err_from c.from_residual.result (
-    front_before setup run c.args.events.now c.loop-event.event-index (g.K.Sink.written c.args.out.now) (g.K.Sink.written c.loop-event.out) (c.loop-event.invariant.written setup run on sound at tells))
+pub play_one-played-requires-clause-may : goal.play_one-played-requires-clause-may
+play_one-played-requires-clause-may g c =
+    let n = next g (goal.at.play_one-played-requires-clause-may g c).In-Some in
+    c.requires.may c.in-Some.event (on_at c.args.events (length c.args.events - length c.loop-event.to_come.items) c.in-Some.event n.within n.is)
 
-pub returns-in_err-write-clause-front : goal.returns-in_err-write-clause-front
-returns-in_err-write-clause-front g c = λ setup run on sound at tells. on_err_from c.from_residual-in_err-write.result (
+pub play_one-played-requires-clause-played : goal.play_one-played-requires-clause-played
+play_one-played-requires-clause-played g c =
+    let p = c.requires.played in
+    record { setup = p.setup; run = run_after p.setup p.run (so_far c.args.events c.loop-event.to_come.items); on = p.on; sound = p.sound (length c.args.events - length c.loop-event.to_come.items); at = c.loop-event.invariant.at p.setup p.run p.on p.sound p.at }
+
+pub returns-in_err-played-clause-front : goal.returns-in_err-played-clause-front
+returns-in_err-played-clause-front g c = λ setup run on sound at. on_err_from c.from_residual.result (λ tells.
     let inv = c.loop-event.invariant in
-    let told = c.in_ok-lines.ensures setup (run_after setup run (take c.loop-event.event-index c.args.events.now)) on (sound c.loop-event.event-index) (inv.at setup run on sound at) in
+    let n = next g (goal.at.returns-in_err-played-clause-front g c).In-Some in
+    let es = c.args.events in
+    let i = length es - length c.loop-event.to_come.items in
+    let old = g.K.Sink.written c.args.out.now in
+    let before = g.K.Sink.written c.loop-event.out in
+    let so = inv.written setup run on sound at tells in
     let still = subst IsTrue (sym inv.tells) tells in
-    front_within setup run c.args.events.now c.loop-event.event-index c.event-item.result (g.K.Sink.written c.args.out.now) (g.K.Sink.written c.loop-event.out) c.as_slice.result.now (g.K.Sink.written c.write.new.out)
-    c.loop-event-test.true c.event-item.is (inv.written setup run on sound at tells) (c.as_slice.ensures ∙ told.lines_are) (c.in_err-write.ensures.front still))
+    elim c.in_err-played.ensures.front [
+      | inl none ↦ front_before setup run es i old (g.K.Sink.written c.play_one-played.new.out) (none still ∙ append-nil before ∙ so)
+      | inr some ↦
+          let told = some.1.0 setup (run_after setup run (take i es)) on (sound i) (inv.at setup run on sound at) in
+          front_within setup run es i c.in-Some.event old before some.0 (g.K.Sink.written c.play_one-played.new.out) n.within n.is so told.lines_are (some.1.1 still)
+    ])
 
 pub loop-event-preserved : goal.loop-event-preserved
 loop-event-preserved g c =
     let inv = c.loop-event.invariant in
-    let es = c.args.events.now in
-    let i = c.loop-event.event-index in
-    let e = c.event-item.result in
+    let n = next g (goal.at.loop-event-preserved g c).In-Some in
+    let es = c.args.events in
+    let i = length es - length c.loop-event.to_come.items in
+    let e = c.in-Some.event in
     let then : Setup → Run → Run = λ setup run. run_after setup run (take i es) in
-    let wrote = c.in_ok-write.ensures in
+    let played = c.in_ok-played.ensures in
+    let on_goes : take (i + 1) es ≡ so_far es c.give_back.new.events.items = sym (ap (λ (xs : List Event). so_far es xs) c.give_back.ensures ∙ n.then) in
     record {
+      left = subst (λ (xs : List Event). AreToCome es xs) (sym c.give_back.ensures) n.left;
       at = λ setup run on sound at.
-          let told = c.in_ok-lines.ensures setup (then setup run) on (sound i) (inv.at setup run on sound at) in
-          subst (λ (r : Run). IsSimulationAt g.A.Actor.view g.A.Reader.Reading.reads setup r c.event.new.self) (run_more setup run es i e c.loop-event-test.true c.event-item.is) told.at;
+          let told = played.done.1.0 setup (then setup run) on (sound i) (inv.at setup run on sound at) in
+          subst (λ (r : Run). IsSimulationAt g.A.Actor.view g.A.Reader.Reading.reads setup r c.play_one-played.new.simulation) (run_more setup run es i e n.within n.is ∙ ap (λ (xs : List Event). run_after setup run xs) on_goes) told.at;
       written = λ setup run on sound at tells.
-          let told = c.in_ok-lines.ensures setup (then setup run) on (sound i) (inv.at setup run on sound at) in
-          printed_more setup run es i e (g.K.Sink.written c.args.out.now) (g.K.Sink.written c.loop-event.out) c.as_slice.result.now (g.K.Sink.written c.write.new.out) c.loop-event-test.true c.event-item.is
-          (inv.written setup run on sound at tells) (c.as_slice.ensures ∙ told.lines_are) (wrote.done (subst IsTrue (sym inv.tells) tells));
-      tells = wrote.tells ∙ inv.tells;
-      faults = no_fault (g.K.Sink.faults c.loop-event.out) (g.K.Sink.faults c.write.new.out) _ wrote.cause (λ is. cc) ∙ inv.faults;
-      faultless = λ is. (wrote.faultless (inv.faultless is)).0;
+          let told = played.done.1.0 setup (then setup run) on (sound i) (inv.at setup run on sound at) in
+          printed_more setup run es i e (g.K.Sink.written c.args.out.now) (g.K.Sink.written c.loop-event.out) played.done.0 (g.K.Sink.written c.play_one-played.new.out) n.within n.is
+          (inv.written setup run on sound at tells) told.lines_are (played.done.1.1 (subst IsTrue (sym inv.tells) tells)) ∙ ap (λ (xs : List Event). g.K.Sink.written c.args.out.now ++ printed setup run xs) on_goes;
+      tells = played.tells ∙ inv.tells;
+      faults = no_fault (g.K.Sink.faults c.loop-event.out) (g.K.Sink.faults c.play_one-played.new.out) _ played.cause (λ is. cc) ∙ inv.faults;
+      faultless = λ is. (played.faultless (inv.faultless is)).0;
     }
+
+pub returns-clause-done : goal.returns-clause-done
+returns-clause-done g c = λ setup run on sound at tells.
+    let none : length c.loop-event.to_come.items ≡ 0 = omega (arith, c.in_default.ensures.cases.0) in
+    c.loop-event.invariant.written setup run on sound at tells ∙ ap (λ (xs : List Event). g.K.Sink.written c.args.out.now ++ printed setup run xs) (all_so_far c.args.events c.loop-event.to_come.items none)

@@ -1,5 +1,4 @@
-use Rattle.std.proofs.Common.{◌≡◌, ◌<◌, ◌+◌, ◌∙◌, ℕ, List, [], ◌∷◌, ◌++◌, length, take, Some, arith, sym, ap, subst}
-use Rattle.std.specs.Prelude.{slice_get}
+use Rattle.std.proofs.Common.{◌≡◌, ◌<◌, ◌+◌, ◌∙◌, ℕ, List, [], ◌∷◌, ◌++◌, length, take, arith, sym, ap, subst}
 use Rattle.std.specs.List.{filter}
 use Rattle.std.proofs.lemmas.List.{append-nil}
 use Rattle.depot_base.specs.declared.update.Update.{Update}
@@ -8,16 +7,15 @@ use Rattle.depot_model.specs.Bundle.{is_covered}
 use Rattle.depot_model.specs.Items.{places_of}
 use Rattle.depot_model.specs.Lists.{IsIn}
 use Rattle.depot_model.specs.Order.{IsCausal}
-use Rattle.depot_model.specs.Texts.{IsUpdate}
 use Rattle.depot_model.proofs.Elements.{in_at}
 use Rattle.depot_graph.specs.Causal.{causal_from_test}
 use Rattle.depot_graph.specs.Kept.{updates_in}
 use Rattle.depot_graph.specs.UpdateRows.{IsJoinedRow}
+use Rattle.depot_graph.proofs.CoveredItems.{row_counts_covered}
 use Rattle.depot_laws.proofs.OwnTexts.{accepted_fit}
-use Rattle.depot_trim.proofs.BelowRows.{row_covers}
 use Rattle.depot_trim.specs.Trimmings.{ids_in}
 use Rattle.depot_trim.proofs.BelowLaws.{below_fits, fewer_below, few_items, next_fits}
-use Rattle.depot_trim.proofs.SoFar.{filter_next, whole}
+use Rattle.depot_trim.proofs.SoFar.{filter_next}
 use Rattle.depot_trim.proofs.below.graph_below.Goals as goal
 use Rattle.depot_trim.proofs.below.graph_below.Goals.{then-within+in_ok-add_item, else-within}
 
@@ -33,7 +31,7 @@ add_item-requires-clause-fits c = λ u at.
     let l = c.requires.1.1 in
     let named = c.as_slice.ensures.value ∙ c.in_ok-items.ensures.items in
     let joined = subst (λ (ns : List ℕ). IsJoinedRow us (places_of us ids) ns) (sym c.as_slice-in-loop-item.ensures.value) (subst (λ (ns : List ℕ). IsJoinedRow us ns c.in_ok-row.row.items) named c.in_ok-row.ensures) in
-    let covered = row_covers us ids c.as_slice-in-loop-item.result.now c.loop-item.item u (causal_from_test [] us c.args.graph.now.causal) at joined c.within.result c.within.ensures.counts ∙ c.if-within.true in
+    let covered = row_counts_covered us ids c.as_slice-in-loop-item.result.now c.loop-item.item u (causal_from_test [] us c.args.graph.now.causal) at joined c.within.result c.within.ensures.counts ∙ c.if-within.true in
     subst (λ (xs : List Update). IsCausal [] (xs ++ u ∷ [])) (sym c.loop-item.invariant) (next_fits (is_covered us ids) us c.loop-item.item u (below_fits c.requires.0 c.requires.1.0 ids us l.0 l.1) at covered)
 
 pub add_item-requires-clause-room : goal.add_item-requires-clause-room
@@ -54,7 +52,7 @@ loop-item-preserved c =
     let u = at_place us i within in
     let named = c.as_slice.ensures.value ∙ c.in_ok-items.ensures.items in
     let joined = subst (λ (ns : List ℕ). IsJoinedRow us (places_of us ids) ns) (sym c.as_slice-in-loop-item.ensures.value) (subst (λ (ns : List ℕ). IsJoinedRow us ns c.in_ok-row.row.items) named c.in_ok-row.ensures) in
-    let told = row_covers us ids c.as_slice-in-loop-item.result.now i u.0 (causal_from_test [] us c.args.graph.now.causal) u.1 joined c.within.result c.within.ensures.counts in
+    let told = row_counts_covered us ids c.as_slice-in-loop-item.result.now i u.0 (causal_from_test [] us c.args.graph.now.causal) u.1 joined c.within.result c.within.ensures.counts in
     elim c.if-within.branch as (λ _. updates_in c.if-within.below.items.entries ≡ filter test (take (i + 1) us)) [
       | then-within+in_ok-add_item w ↦
           ap (λ g. updates_in g.items.entries) w.below-is ∙ w.in_ok-add_item.ensures u.0 u.1 ∙ ap (λ (xs : List Update). xs ++ u.0 ∷ []) c.loop-item.invariant ∙ sym (filter_next test us i u.0 _ u.1 (told ∙ w.if-within.true))

@@ -1,4 +1,4 @@
-use Rattle.std.proofs.Common.{◌∙◌, List, map, sym, ap}
+use Rattle.std.proofs.Common.{◌∙◌, List, map, ap}
 use Rattle.std.specs.List.{list_any}
 use Rattle.depot_base.specs.declared.write.Write.{Write}
 use Rattle.depot_model.specs.Journal.{has_id}

@@ -2,7 +2,6 @@ use Rattle.std.proofs.Common.{refl}
 use Rattle.std.proofs.lemmas.Result.{on_ok_weaker}
 use Rattle.depot_base.specs.declared.record.Record.TheVariants.{Foreign}
 use Rattle.depot_model.specs.Journal.{update_in}
-use Rattle.depot_graph.specs.Kept.{updates_in}
 use Rattle.depot_laws.proofs.LawfulRecords.{IsSigned-from_record}
 use Rattle.depot_laws.proofs.Splits.{lawful_last}
 use Rattle.depot_trim.proofs.Fillings.{few, few_foreign, fill, fits, told_of_voucher}

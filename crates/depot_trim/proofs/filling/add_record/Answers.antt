@@ -1,7 +1,7 @@
-use Rattle.std.proofs.Common.{◌∙◌, [], ◌∷◌, ◌++◌, List, refl, sym, ap, subst}
+use Rattle.std.proofs.Common.{◌∙◌, [], ◌∷◌, ◌++◌, refl, sym, ap, subst}
 use Rattle.std.proofs.lemmas.Result.{on_ok_weaker}
 use Rattle.depot_base.specs.declared.record.Record.{Record}
-use Rattle.depot_base.specs.declared.record.Record.TheVariants.{OwnPut, OwnVoucher, Conviction}
+use Rattle.depot_base.specs.declared.record.Record.TheVariants.{OwnVoucher, Conviction}
 use Rattle.depot_model.specs.Journal.{accepted_by}
 use Rattle.depot_model.specs.Lawful.{IsLawful}
 use Rattle.depot_model.specs.Pruning.{pruned_by}
@@ -10,7 +10,7 @@ use Rattle.depot_model.specs.Roster.{has_node}
 use Rattle.depot_laws.proofs.LawfulRecords.{IsStatement-from_own_voucher}
 use Rattle.depot_laws.proofs.Splits.{lawful_last}
 use Rattle.depot_accept.specs.StateView.{setting}
-use Rattle.depot_store.proofs.StateGrowth.{accused_is_listed, silent_state}
+use Rattle.depot_readings.proofs.StateGrowth.{accused_is_listed, silent_state}
 use Rattle.depot_trim.proofs.Fillings.{few, fill, fits, is_update, next}
 use Rattle.depot_trim.proofs.filling.add_record.Goals as goal
 

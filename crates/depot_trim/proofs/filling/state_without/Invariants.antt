@@ -8,6 +8,6 @@ use Rattle.depot_trim.proofs.filling.state_without.Given as goal
 
 abbrev pub invariant-loop-place : goal.invariant-loop-place
 invariant-loop-place g l = record {
-  state : (ts : List Update) → l.trimmed ≡ given_up ts (updates_in l.graph.items.entries) → IsStateOf (pruned ts (take l.place (g.R.Replica.records l.node))) l.state;
-  stands : setting g.S.Scheme.verifies l.state ≡ g.R.Replica.stands l.node;
+  state : (ts : List Update) → l.trimmed ≡ given_up ts (updates_in l.graph.items.entries) → IsStateOf (pruned ts (take l.place (g.R.NodeState.records l.node))) l.state;
+  stands : setting g.S.Scheme.verifies l.state ≡ g.R.NodeState.stands l.node;
 }

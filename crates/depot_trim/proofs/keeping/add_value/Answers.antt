@@ -1,4 +1,4 @@
-use Rattle.std.proofs.Common.{◌≡◌, ◌∙◌, ℕ, List, false, Some, Ok, sym, ap, subst}
+use Rattle.std.proofs.Common.{◌∙◌, ℕ, List, false, Some, Ok, sym, ap, subst}
 use Rattle.sha2.specs.Sha256.{sha256}
 use Rattle.depot_base.specs.Sized.{IsValue}
 use Rattle.depot_values.specs.Values as values
@@ -14,6 +14,6 @@ add_hashed-requires c =
     (hashed c.args.name.now.hash c.args.value.now c.requires.held.0 found).0 ∙ ap sha256 (sym (c.from_bytes-value.ensures ∙ c.in_ok-from_slice.ensures))
 
 pub returns : goal.returns
-returns c = λ held wants is kept.
+returns c = λ held is wants kept.
     one_added held c.args.name.now wants c.args.value.now (values.held c.args.values.now) (values.held c.add_hashed.new.self) (Ok c.in_ok-add_hashed.field-0) is c.in_ok-add_hashed.ensures.known.0
     (λ e. c.in_ok-add_hashed.ensures.new e ∙ ap (λ (v : List ℕ). Some v) (c.from_bytes-value.ensures ∙ c.in_ok-from_slice.ensures)) c.in_ok-add_hashed.ensures.else_stays c.in_ok-add_hashed.ensures.others_stay kept

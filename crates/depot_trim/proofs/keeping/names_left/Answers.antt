@@ -7,7 +7,7 @@ use Rattle.depot_model.specs.Journal.{has_id}
 use Rattle.depot_model.specs.Readers.{left_of}
 use Rattle.depot_model.specs.Texts.{id_of_update}
 use Rattle.depot_graph.specs.Kept.{updates_in}
-use Rattle.depot_store.specs.Named.{AreNamed}
+use Rattle.depot_readings.specs.Named.{AreNamed}
 use Rattle.depot_trim.proofs.SoFar.{filter_next, map_at}
 use Rattle.depot_trim.proofs.keeping.names_left.Goals as goal
 use Rattle.depot_trim.proofs.keeping.names_left.Goals.{then-not-flag_at+in_ok-add_names, else-not-flag_at}

@@ -1,12 +1,11 @@
-use Rattle.std.proofs.Common.{◌<◌, ◌∙◌, ℕ, List, [], ◌∷◌, ◌++◌, length, map, take, Some, None, sym, ap, subst}
+use Rattle.std.proofs.Common.{◌<◌, ◌∙◌, ℕ, List, [], ◌∷◌, ◌++◌, length, take, Some, None, sym, ap, subst}
 use Rattle.std.specs.List.{AllByRecursion}
-use Rattle.std.specs.Option.{option_to_list}
 use Rattle.std.proofs.lemmas.List.{append-nil}
 use Rattle.depot_model.specs.declared.hello.HelloLeaf.{HelloLeaf}
 use Rattle.depot_model.specs.Items.{places_of}
 use Rattle.depot_model.proofs.Members.{all_push}
 use Rattle.depot_graph.specs.Kept.{updates_in}
-use Rattle.depot_trim.proofs.BelowRows.{place_within}
+use Rattle.depot_graph.proofs.CoveredItems.{place_within}
 use Rattle.depot_trim.specs.Trimmings.{ids_in}
 use Rattle.depot_trim.proofs.SoFar.{element_at, map_at, places_next}
 use Rattle.depot_trim.proofs.leaf_items.leaf_items.Goals as goal

@@ -1,5 +1,4 @@
-use Rattle.std.proofs.Common.{◌≡◌, ◌∙◌, ℕ, List, true, length, map, arith, sym, subst}
-use Rattle.std.specs.List.{list_all}
+use Rattle.std.proofs.Common.{◌≡◌, ◌∙◌, ℕ, List, true, arith, sym, subst}
 use Rattle.std.proofs.lemmas.List.{length-map}
 use Rattle.depot_model.specs.declared.hello.HelloLeaf.{HelloLeaf}
 use Rattle.depot_model.specs.Journal.{has_id}

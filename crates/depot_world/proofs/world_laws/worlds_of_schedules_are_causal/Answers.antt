@@ -8,4 +8,4 @@ pub returns-clause-convicts : goal.returns-clause-convicts
 returns-clause-convicts c s is authentic free = schedule_world_convicts_none s is authentic free
 
 pub returns-clause-pairs : goal.returns-clause-pairs
-returns-clause-pairs c s d kind first second is authentic d_on on named = schedule_pairs_spare s d kind first second is authentic d_on on named
+returns-clause-pairs c s is authentic d kind first second d_on on named = schedule_pairs_spare s d kind first second is authentic d_on on named

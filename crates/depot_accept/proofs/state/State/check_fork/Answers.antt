@@ -7,7 +7,7 @@ use Rattle.depot_accept.proofs.state.State.check_fork.Goals as goal
 
 pub returns-then-is_vouched : goal.returns-then-is_vouched
 returns-then-is_vouched g c = λ J st content. (
-  behind_parents J _ c.args.signed.now c.args.update.now c.args.items.items c.requires.update st c.requires.parents,
+  behind_parents J _ c.args.signed.now c.args.update.now c.args.parents c.requires.update st c.requires.parents c.requires.row,
   passes_convicted J c.args.signed.now c.args.update.now content c.requires.update
       (writer_convicted J _ _ c.args.signed.now.statement c.args.update.now.writer true c.self.view_is st (ap (λ (x : Statement). writer_of x) c.requires.update) (sym c.if-is_convicted.true ∙ c.is_convicted.ensures))
       (update_vouched J _ _ c.args.signed.now.statement c.args.update.now c.args.id.now true c.self.view_is st c.requires.update c.requires.id (sym c.if-is_vouched.true ∙ c.is_vouched-is_vouched.ensures)),
@@ -25,7 +25,7 @@ contradiction-found-requires-clause-text g c = IsStatement-from_signed c.args.si
 
 pub returns-then-is_vouched-2 : goal.returns-then-is_vouched-2
 returns-then-is_vouched-2 g c = λ J st content. (
-  behind_parents J _ c.args.signed.now c.args.update.now c.args.items.items c.requires.update st c.requires.parents,
+  behind_parents J _ c.args.signed.now c.args.update.now c.args.parents c.requires.update st c.requires.parents c.requires.row,
   passes_vouched J c.args.signed.now c.contradiction-found.result content
       (writer_convicted J _ _ c.args.signed.now.statement c.args.update.now.writer false c.self.view_is st (ap (λ (x : Statement). writer_of x) c.requires.update) (sym c.if-is_convicted.false ∙ c.is_convicted.ensures))
       (update_vouched J _ _ c.args.signed.now.statement c.args.update.now c.args.id.now true c.self.view_is st c.requires.update c.requires.id (sym c.if-is_vouched-2.true ∙ c.is_vouched-is_vouched.ensures))
@@ -46,7 +46,7 @@ returns-in-Some g c = λ J st content.
 
 pub returns-in-None : goal.returns-in-None
 returns-in-None g c = λ J st content. (
-  behind_parents J _ c.args.signed.now c.args.update.now c.args.items.items c.requires.update st c.requires.parents,
+  behind_parents J _ c.args.signed.now c.args.update.now c.args.parents c.requires.update st c.requires.parents c.requires.row,
   passes_alone J c.args.signed.now content
       (writer_convicted J _ _ c.args.signed.now.statement c.args.update.now.writer false c.self.view_is st (ap (λ (x : Statement). writer_of x) c.requires.update) (sym c.if-is_convicted.false ∙ c.is_convicted.ensures))
       (update_vouched J _ _ c.args.signed.now.statement c.args.update.now c.args.id.now false c.self.view_is st c.requires.update c.requires.id (sym c.if-is_vouched-2.false ∙ c.is_vouched-is_vouched.ensures))

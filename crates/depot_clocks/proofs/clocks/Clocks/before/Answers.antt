@@ -9,7 +9,7 @@ use Rattle.depot_clocks.proofs.clocks.Clocks.before.Goals as goal
 
 pub returns-clause-answer : goal.returns-clause-answer
 returns-clause-answer g c =
-    let keeps = subst (λ (l : List ChainItem). KeepsItems l c.self.inside.kept.items c.self.inside.chains) c.self.view_is c.self.invariant in
+    let keeps = subst (λ (l : List ChainItem). KeepsItems l c.self.inside.kept.items c.self.inside.chains) c.self.view_is c.self.invariant.0 in
     let kept = kept_of c.args.self.now c.self.inside.kept.items c.self.inside.chains c.args.a c.index-kept.result.now keeps c.requires.a c.index-kept.ensures in
     let spot = standing c.args.self.now c.args.a c.index-kept.result.now.chain c.index-kept.result.now.place kept.spot in
     let count = subst (λ (k : ℕ). IsCount c.args.self.now k c.args.b c.count_of.result) (sym spot.of_chain) c.count_of.ensures in
@@ -20,7 +20,7 @@ returns-clause-answer g c =
 
 pub returns-then-a-b-clause-answer : goal.returns-then-a-b-clause-answer
 returns-then-a-b-clause-answer g c =
-    let keeps = subst (λ (l : List ChainItem). KeepsItems l c.self.inside.kept.items c.self.inside.chains) c.self.view_is c.self.invariant in (
+    let keeps = subst (λ (l : List ChainItem). KeepsItems l c.self.inside.kept.items c.self.inside.chains) c.self.view_is c.self.invariant.0 in (
       (λ never. absurd (true≢false (sym never))),
       (λ p. absurd (never_itself c.args.self.now c.args.a keeps.chained (subst (λ (k : ℕ). Precedes c.args.self.now c.args.a k) (sym c.if-a-b.true) p))),
     )

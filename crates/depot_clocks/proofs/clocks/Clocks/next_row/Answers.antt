@@ -11,7 +11,7 @@ put_own-requires-clause-chain c = λ not_first.
     let low = goes_on c.args.self.now x c.in_ok-row.ensures.chained c.requires.next later in
     omega (arith, low, c.in_ok-row.ensures.joined.long)
 
-pub returns : goal.returns
-returns c =
+pub returns-clause-row : goal.returns-clause-row
+returns-clause-row c =
     let x : ChainItem = record { chain = c.args.chain; place = c.args.place; parents = c.args.parents.now } in
     rw c.in_ok-put_own.ensures (next_row_made c.args.self.now x c.in_ok-row.row.items c.in_ok-row.ensures.chained c.requires.next c.in_ok-row.ensures.joined)

@@ -1,13 +1,7 @@
-use Rattle.std.proofs.lemmas.Result.{IfErr-weaker}
-use Rattle.depot_node.proofs.DiskCalls.{calls_over}
-use Rattle.depot_node.proofs.LastingCalls.{lasts_over}
+use Rattle.std.proofs.Common.{refl}
+use Rattle.depot_model.proofs.JournalCallLaws.{call_within}
+use Rattle.depot_node.specs.Holdings.{journal_on}
 use Rattle.depot_node.proofs.node.Node.put.Goals as goal
 
-pub returns-clause-lasts : goal.returns-clause-lasts
-returns-clause-lasts g c = lasts_over (λ n. n.store) _ _ _ c.put.ensures.lasts
-
-pub returns-clause-calls : goal.returns-clause-calls
-returns-clause-calls g c = calls_over (λ n. n.store) _ _ _ c.put.ensures.calls
-
-pub returns-clause-idle : goal.returns-clause-idle
-returns-clause-idle g c = IfErr-weaker c.put.result _ _ (λ e idle other. lasts_over (λ n. n.store) _ _ _ (idle other)) c.put.ensures.idle
+pub returns-clause-call : goal.returns-clause-call
+returns-clause-call g c = record { same = record { stands = c.put.ensures.stands; key = refl; signs = refl }; journal = call_within (λ n. n.store) {v = journal_on g.D.Disk} c.put.ensures.call }

@@ -1,16 +1,16 @@
-use Rattle.std.proofs.Common.{◌≡◌, List, [], Some, is_some, sym, ap, subst, ◌∙◌}
+use Rattle.std.proofs.Common.{◌≡◌, List, Some, is_some, refl, sym, ap, subst, ◌∙◌}
 use Rattle.depot_accept.specs.StateView.{View, setting}
-use Rattle.depot_base.specs.Calls.{FailsAmong, made}
-use Rattle.depot_base.specs.File.{IsFileOf}
 use Rattle.depot_base.specs.declared.key.RosterEntry.{RosterEntry}
 use Rattle.depot_base.specs.declared.record.Record.{Record}
 use Rattle.depot_model.specs.Checks.{Setting}
 use Rattle.depot_model.specs.Lawful.{IsLawful, is_empty}
 use Rattle.depot_model.specs.Roster.{key_of}
 use Rattle.depot_model.specs.Texts.{IsRoster}
-use Rattle.depot_store.specs.Holdings.{standing}
-use Rattle.depot_node.specs.Starting.{LeavesBetween, StartLeaves, calls_to_start_node, started}
-use Rattle.depot_node.proofs.TakenTexts.{none_accepted}
+use Rattle.depot_node.specs.Holdings.{standing}
+use Rattle.depot_node.specs.Starting.{IsDiskThen, IsHandedBack, IsStartedOn, started}
+use Rattle.depot_node.specs.declared.start_error.StartError.TheVariants as refused
+use Rattle.depot_decide.proofs.TakenTexts.{none_accepted}
+use Rattle.depot_node.proofs.Fills.{key_is_no_disk, untouched_back, untouched_disk}
 use Rattle.depot_node.proofs.Started.{started_is_lawful, started_has_one}
 use Rattle.depot_node.proofs.node.Node.start.Given.{Over}
 use Rattle.depot_node.proofs.node.Node.start.Goals as goal
@@ -34,24 +34,40 @@ invariant_of-result g c =
     let J = subst (λ (v : View g.row.S.Denot). (K : List Record) × (IsLawful (setting g.S.Scheme.verifies v) K × (c.in-Ok-open.store.records ≡ started (setting g.S.Scheme.verifies v) K))) c.in-Ok.ensures c.in-Ok-open.ensures.lawful in
     let lawful = started_is_lawful (here g c) J.0 roster (ap is_some own) J.1.0 in
     record {
-      lawful = subst (λ (t : Setting). IsLawful t c.in-Ok-open.store.records) (sym s) (subst (λ (K : List Record). IsLawful (here g c) K) (sym J.1.1) lawful);
-      some = ap is_empty J.1.1 ∙ started_has_one (here g c) J.0;
+      kept = record {
+        read = c.in-Ok-open.ensures.whole.read;
+        lawful = subst (λ (t : Setting). IsLawful t c.in-Ok-open.store.records) (sym s) (subst (λ (K : List Record). IsLawful (here g c) K) (sym J.1.1) lawful);
+        some = ap is_empty J.1.1 ∙ started_has_one (here g c) J.0;
+      };
       formed = subst (λ (t : Setting). IsRoster t.listed) (sym s) roster;
       keyed = subst (λ (t : Setting). key_of t.listed t.me ≡ Some (g.G.Signer.key_of c.args.signer)) (sym s) own;
-      read = c.in-Ok-open.ensures.whole.read;
     }
 
-pub returns-in-Ok-open-clause-any_moment : goal.returns-in-Ok-open-clause-any_moment
-returns-in-Ok-open-clause-any_moment g c = λ told.
-    let l = subst (λ (v : View g.row.S.Denot). LeavesBetween (g.D.Disk.moment c.args.disk) (g.D.Disk.moment c.in-Ok-open.store.disk) (g.D.Disk.left_since c.args.disk) (g.D.Disk.left_since c.in-Ok-open.store.disk) (StartLeaves (setting g.S.Scheme.verifies v) (IsFileOf (g.D.Disk.seen c.args.disk) []) (g.D.Disk.may_leave c.args.disk))) c.in-Ok.ensures (c.in-Ok-open.ensures.any_moment told) in
-    record { later = l.later; each = l.each; before_it = l.before_it }
+pub returns-in-Ok-open-clause-node : goal.returns-in-Ok-open-clause-node
+returns-in-Ok-open-clause-node g c = record { stands = stands g (goal.at.returns-in-Ok-open-clause-node g c).In-Ok-open; keyed = c.key_fault.ensures.none c.in_default.is; signs = refl; runs = c.in-Ok-open.ensures.whole.runs }
 
--- ---- the calls on the disk
+pub returns-in-Ok-open-clause-started : goal.returns-in-Ok-open-clause-started
+returns-in-Ok-open-clause-started g c = subst (λ (v : View g.row.S.Denot). IsStartedOn g.D.Disk (setting g.S.Scheme.verifies v) c.args.disk c.in-Ok-open.store.disk c.in-Ok-open.store.records) c.in-Ok.ensures c.in-Ok-open.ensures.started
 
-pub returns-in-Ok-open-clause-calls : goal.returns-in-Ok-open-clause-calls
-returns-in-Ok-open-clause-calls g c = λ told J has.
-    subst (λ (v : View g.row.S.Denot). g.D.Disk.after c.args.disk (made (calls_to_start_node (setting g.S.Scheme.verifies v) (g.D.Disk.seen c.args.disk) J)) c.in-Ok-open.store.disk) c.in-Ok.ensures (c.in-Ok-open.ensures.calls told J has)
+pub returns-in-Ok-open-clause-disk : goal.returns-in-Ok-open-clause-disk
+returns-in-Ok-open-clause-disk g c = subst (λ (v : View g.row.S.Denot). IsDiskThen g.D.Disk (setting g.S.Scheme.verifies v) c.args.disk c.in-Ok-open.store.disk) c.in-Ok.ensures c.in-Ok-open.ensures.disk
 
-pub returns-in-Err-clause-failing : goal.returns-in-Err-clause-failing
-returns-in-Err-clause-failing g c = λ failed told J has.
-    subst (λ (v : View g.row.S.Denot). FailsAmong g.D.Disk.after c.args.disk c.in-Err.back.disk (calls_to_start_node (setting g.S.Scheme.verifies v) (g.D.Disk.seen c.args.disk) J)) c.in-Ok.ensures (c.in-Err.ensures.failing failed told J has)
+-- ---- nothing is started
+
+pub returns-in-Some-clause-back : goal.returns-in-Some-clause-back
+returns-in-Some-clause-back g c = untouched_back g.D.Disk g.met.D.Disk.only_now _ c.args.disk c.in-Some.error (key_is_no_disk c.args.roster c.args.me (g.G.Signer.key_of c.args.signer) c.in-Some.error c.in-Some.ensures.some)
+
+pub returns-in-Some-clause-disk : goal.returns-in-Some-clause-disk
+returns-in-Some-clause-disk g c = untouched_disk g.D.Disk g.met.D.Disk.only_now _ c.args.disk
+
+pub returns-in_default-new-clause-back : goal.returns-in_default-new-clause-back
+returns-in_default-new-clause-back g c = untouched_back g.D.Disk g.met.D.Disk.only_now _ c.args.disk refused.Memory (λ e. cc)
+
+pub returns-in_default-new-clause-disk : goal.returns-in_default-new-clause-disk
+returns-in_default-new-clause-disk g c = untouched_disk g.D.Disk g.met.D.Disk.only_now _ c.args.disk
+
+pub returns-in-Err-clause-back : goal.returns-in-Err-clause-back
+returns-in-Err-clause-back g c = subst (λ (v : View g.row.S.Denot). IsHandedBack g.D.Disk (setting g.S.Scheme.verifies v) c.args.disk c.in-Err.back) c.in-Ok.ensures c.in-Err.ensures.back
+
+pub returns-in-Err-clause-disk : goal.returns-in-Err-clause-disk
+returns-in-Err-clause-disk g c = subst (λ (v : View g.row.S.Denot). IsDiskThen g.D.Disk (setting g.S.Scheme.verifies v) c.args.disk c.in-Err.back.disk) c.in-Ok.ensures c.in-Err.ensures.disk

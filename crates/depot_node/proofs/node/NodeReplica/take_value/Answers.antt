@@ -1,9 +1,7 @@
-use Rattle.depot_node.proofs.DiskCalls.{calls_over}
-use Rattle.depot_node.proofs.LastingCalls.{lasts_over}
+use Rattle.std.proofs.Common.{refl}
+use Rattle.depot_model.proofs.JournalCallLaws.{call_within}
+use Rattle.depot_node.specs.Holdings.{journal_on}
 use Rattle.depot_node.proofs.node.NodeReplica.take_value.Goals as goal
 
-pub returns-clause-lasts : goal.returns-clause-lasts
-returns-clause-lasts g c = lasts_over (λ n. n.store) _ _ _ c.take_value.ensures.lasts
-
-pub returns-clause-calls : goal.returns-clause-calls
-returns-clause-calls g c = calls_over (λ n. n.store) _ _ _ c.take_value.ensures.calls
+pub returns-clause-call : goal.returns-clause-call
+returns-clause-call g c = record { same = record { stands = c.take_value.ensures.stands; key = refl; signs = refl }; journal = call_within (λ n. n.store) {v = journal_on g.D.Disk} c.take_value.ensures.call }

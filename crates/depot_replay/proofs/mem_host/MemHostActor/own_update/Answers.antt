@@ -11,7 +11,7 @@ pub returns-then-is_by : goal.returns-then-is_by
 returns-then-is_by g c =
     let a = c.args.self.now in
     let is = c.is_by.ensures.0 c.if-is_by.true in
-    let l = lawful_there g.S.Scheme.verifies a.node.store.me a.start_config.me a.node.store.listed a.start_config.roster a.node.store.records a.is_me a.is_listed a.node.lawful in
+    let l = lawful_there g.S.Scheme.verifies a.node.store.me a.start_config.me a.node.store.listed a.start_config.roster a.node.store.records a.is_me a.is_listed a.node.kept.lawful in
     sym (own_by_seq _ a.node.store.records c.args.seq l ∙ found a.start_config.me c.args.seq (accepted a.node.store.records) c.loop-item.item c.update-update.result.now c.update-update.ensures c.loop-item.invariant is.0 is.1)
 
 pub loop-item-preserved : goal.loop-item-preserved
@@ -22,6 +22,6 @@ loop-item-preserved g c =
 pub returns : goal.returns
 returns g c =
     let a = c.args.self.now in
-    let l = lawful_there g.S.Scheme.verifies a.node.store.me a.start_config.me a.node.store.listed a.start_config.roster a.node.store.records a.is_me a.is_listed a.node.lawful in
+    let l = lawful_there g.S.Scheme.verifies a.node.store.me a.start_config.me a.node.store.listed a.start_config.roster a.node.store.records a.is_me a.is_listed a.node.kept.lawful in
     let all = take_all c.loop-item.item (accepted a.node.store.records) (omega (arith, c.update_count-item-end.ensures, c.loop-item-test.false)) in
     sym (own_by_seq _ a.node.store.records c.args.seq l ∙ ap (λ (us : List Update). first_update us) (sym (ap (of_seq a.start_config.me c.args.seq) all) ∙ c.loop-item.invariant))

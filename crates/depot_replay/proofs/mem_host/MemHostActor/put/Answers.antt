@@ -1,4 +1,5 @@
 use Rattle.std.proofs.Common.{refl, ◌∙◌}
+use Rattle.depot_model.proofs.JournalCallLaws.{never_answered, runs_on}
 use Rattle.depot_outside.specs.Stopping.{state_of}
 use Rattle.depot_replay.proofs.MemHostCalls.{done_on}
 use Rattle.depot_replay.proofs.MemHostEvents.{begun_there, if_printed, of_printed, same_signs}
@@ -6,8 +7,19 @@ use Rattle.std.proofs.lemmas.Result.{IfOk-at_ok}
 use Rattle.depot_replay.proofs.MemHostTurns.{put_hosted, put_turn, same_setting}
 use Rattle.depot_replay.proofs.mem_host.MemHostActor.put.Goals as goal
 
+pub put_printed-printed-requires : goal.put_printed-printed-requires
+put_printed-printed-requires g c = never_answered _ c.args.self.runs c.put_all-done.ensures.call.journal.stops
+
+pub hosted-requires-clause-stands : goal.hosted-requires-clause-stands
+hosted-requires-clause-stands g c =
+    let a = c.args.self in
+    c.put_all-done.ensures.call.same.stands ∙ same_setting g.S.Scheme.verifies a.node.store.me a.start_config.me a.node.store.listed a.start_config.roster a.is_me a.is_listed
+
 pub hosted-requires-clause-signs : goal.hosted-requires-clause-signs
-hosted-requires-clause-signs g c = c.put_all-done.ensures.stays.signs ∙ same_signs _ _ c.args.self.signs
+hosted-requires-clause-signs g c = c.put_all-done.ensures.call.same.signs ∙ same_signs _ _ c.args.self.signs
+
+pub hosted-requires-clause-runs : goal.hosted-requires-clause-runs
+hosted-requires-clause-runs g c = of_printed c.put_printed-printed.result _ (λ printed is some. runs_on _ c.args.self.runs c.put_all-done.ensures.call.journal.stops (λ failed. some ((IfOk-at_ok _ is c.put_printed-printed.ensures.stopped).1 failed)))
 
 pub hosted-requires-clause-called : goal.hosted-requires-clause-called
 hosted-requires-clause-called g c =
@@ -15,8 +27,8 @@ hosted-requires-clause-called g c =
     let n = a.node in
     let m = c.put_all-done.new.self in
     let there = same_setting g.S.Scheme.verifies n.store.me a.start_config.me n.store.listed a.start_config.roster a.is_me a.is_listed in
-    let begun = begun_there g.S.Scheme.verifies n.store.me a.start_config.me n.store.listed a.start_config.roster (state_of n.store.disk) n.store.records a.is_me a.is_listed n.lawful n.some a.kept in
-    let done = done_on n m (state_of n.store.disk) (state_of m.store.disk) _ (λ calls led. led) c.put_all-done.ensures.calls in
+    let begun = begun_there g.S.Scheme.verifies n.store.me a.start_config.me n.store.listed a.start_config.roster (state_of n.store.disk) n.store.records a.is_me a.is_listed n.kept.lawful n.kept.some a.kept in
+    let done = done_on n m (state_of n.store.disk) (state_of m.store.disk) _ c.put_all-done.ensures.call.journal.calls (λ calls led. led) in
     of_printed c.put_printed-printed.result _ (λ printed is.
     let called = put_hosted _ _ there _ _ (same_signs _ _ a.signs) (state_of n.store.disk) (state_of m.store.disk) n.store.records m.store.records begun c.args.changes c.put_all-done.result printed c.requires c.put_all-done.ensures.puts
     (IfOk-at_ok _ is c.put_printed-printed.ensures.settled) done (IfOk-at_ok _ is c.put_printed-printed.ensures.stopped) in
@@ -28,8 +40,8 @@ returns g c =
     let n = a.node in
     let m = c.put_all-done.new.self in
     let there = same_setting g.S.Scheme.verifies n.store.me a.start_config.me n.store.listed a.start_config.roster a.is_me a.is_listed in
-    let begun = begun_there g.S.Scheme.verifies n.store.me a.start_config.me n.store.listed a.start_config.roster (state_of n.store.disk) n.store.records a.is_me a.is_listed n.lawful n.some a.kept in
-    let done = done_on n m (state_of n.store.disk) (state_of m.store.disk) _ (λ calls led. led) c.put_all-done.ensures.calls in
+    let begun = begun_there g.S.Scheme.verifies n.store.me a.start_config.me n.store.listed a.start_config.roster (state_of n.store.disk) n.store.records a.is_me a.is_listed n.kept.lawful n.kept.some a.kept in
+    let done = done_on n m (state_of n.store.disk) (state_of m.store.disk) _ c.put_all-done.ensures.call.journal.calls (λ calls led. led) in
     if_printed c.hosted.result c.put_printed-printed.result _ _ (λ printed told is ends.
     let called = put_hosted _ _ there _ _ (same_signs _ _ a.signs) (state_of n.store.disk) (state_of m.store.disk) n.store.records m.store.records begun c.args.changes c.put_all-done.result printed c.requires c.put_all-done.ensures.puts
     (IfOk-at_ok _ is c.put_printed-printed.ensures.settled) done (IfOk-at_ok _ is c.put_printed-printed.ensures.stopped) in

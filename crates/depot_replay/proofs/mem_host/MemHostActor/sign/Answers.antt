@@ -1,6 +1,6 @@
 use Rattle.std.proofs.Common.{refl, ◌∙◌, arith}
 use Rattle.depot_outside.specs.Stopping.{state_of}
-use Rattle.depot_node_lines.proofs.FedStreams.{runs_on}
+use Rattle.depot_model.proofs.JournalCallLaws.{never_answered, runs_on}
 use Rattle.depot_replay.proofs.MemHostCalls.{done_on}
 use Rattle.depot_replay.proofs.MemHostEvents.{begun_there, if_printed, of_printed, same_signs}
 use Rattle.std.proofs.lemmas.Result.{IfOk-at_ok}
@@ -9,11 +9,19 @@ use Rattle.depot_replay.proofs.MemHostCheckpoints.{sign_hosted, sign_turn}
 use Rattle.depot_replay.proofs.MemHostTurns.{same_setting}
 use Rattle.depot_replay.proofs.mem_host.MemHostActor.sign.Goals as goal
 
+pub sign_printed-printed-requires : goal.sign_printed-printed-requires
+sign_printed-printed-requires g c = never_answered _ c.args.self.runs c.sign_checkpoint-done.ensures.call.journal.stops
+
+pub hosted-requires-clause-stands : goal.hosted-requires-clause-stands
+hosted-requires-clause-stands g c =
+    let a = c.args.self in
+    c.sign_checkpoint-done.ensures.call.same.stands ∙ same_setting g.S.Scheme.verifies a.node.store.me a.start_config.me a.node.store.listed a.start_config.roster a.is_me a.is_listed
+
 pub hosted-requires-clause-signs : goal.hosted-requires-clause-signs
-hosted-requires-clause-signs g c = c.sign_checkpoint-done.ensures.stays.signs ∙ same_signs _ _ c.args.self.signs
+hosted-requires-clause-signs g c = c.sign_checkpoint-done.ensures.call.same.signs ∙ same_signs _ _ c.args.self.signs
 
 pub hosted-requires-clause-runs : goal.hosted-requires-clause-runs
-hosted-requires-clause-runs g c = of_printed c.sign_printed-printed.result _ (λ printed is some. runs_on _ _ _ _ c.sign_checkpoint-done.ensures.stops c.args.self.runs (λ failed. some ((IfOk-at_ok _ is c.sign_printed-printed.ensures.stopped).1 failed)))
+hosted-requires-clause-runs g c = of_printed c.sign_printed-printed.result _ (λ printed is some. runs_on _ c.args.self.runs c.sign_checkpoint-done.ensures.call.journal.stops (λ failed. some ((IfOk-at_ok _ is c.sign_printed-printed.ensures.stopped).1 failed)))
 
 pub hosted-requires-clause-called : goal.hosted-requires-clause-called
 hosted-requires-clause-called g c =
@@ -21,8 +29,8 @@ hosted-requires-clause-called g c =
     let n = a.node in
     let m = c.sign_checkpoint-done.new.node in
     let there = same_setting g.S.Scheme.verifies n.store.me a.start_config.me n.store.listed a.start_config.roster a.is_me a.is_listed in
-    let begun = begun_there g.S.Scheme.verifies n.store.me a.start_config.me n.store.listed a.start_config.roster (state_of n.store.disk) n.store.records a.is_me a.is_listed n.lawful n.some a.kept in
-    let done = done_on n m (state_of n.store.disk) (state_of m.store.disk) _ (λ calls led. led) c.sign_checkpoint-done.ensures.calls in
+    let begun = begun_there g.S.Scheme.verifies n.store.me a.start_config.me n.store.listed a.start_config.roster (state_of n.store.disk) n.store.records a.is_me a.is_listed n.kept.lawful n.kept.some a.kept in
+    let done = done_on n m (state_of n.store.disk) (state_of m.store.disk) _ c.sign_checkpoint-done.ensures.call.journal.calls (λ calls led. led) in
     of_printed c.sign_printed-printed.result _ (λ printed is.
     let called = sign_hosted _ _ there _ _ (same_signs _ _ a.signs) (state_of n.store.disk) (state_of m.store.disk) n.store.records m.store.records begun c.args.text.now c.sign_checkpoint-done.result printed (from_places c.args.text.now (λ i. omega (arith, c.type_inv.text i))) c.sign_checkpoint-done.ensures.signs
     (IfOk-at_ok _ is c.sign_printed-printed.ensures.settled) done (IfOk-at_ok _ is c.sign_printed-printed.ensures.stopped) in
@@ -34,8 +42,8 @@ returns g c =
     let n = a.node in
     let m = c.sign_checkpoint-done.new.node in
     let there = same_setting g.S.Scheme.verifies n.store.me a.start_config.me n.store.listed a.start_config.roster a.is_me a.is_listed in
-    let begun = begun_there g.S.Scheme.verifies n.store.me a.start_config.me n.store.listed a.start_config.roster (state_of n.store.disk) n.store.records a.is_me a.is_listed n.lawful n.some a.kept in
-    let done = done_on n m (state_of n.store.disk) (state_of m.store.disk) _ (λ calls led. led) c.sign_checkpoint-done.ensures.calls in
+    let begun = begun_there g.S.Scheme.verifies n.store.me a.start_config.me n.store.listed a.start_config.roster (state_of n.store.disk) n.store.records a.is_me a.is_listed n.kept.lawful n.kept.some a.kept in
+    let done = done_on n m (state_of n.store.disk) (state_of m.store.disk) _ c.sign_checkpoint-done.ensures.call.journal.calls (λ calls led. led) in
     if_printed c.hosted.result c.sign_printed-printed.result _ _ (λ printed told is ends.
     let called = sign_hosted _ _ there _ _ (same_signs _ _ a.signs) (state_of n.store.disk) (state_of m.store.disk) n.store.records m.store.records begun c.args.text.now c.sign_checkpoint-done.result printed (from_places c.args.text.now (λ i. omega (arith, c.type_inv.text i))) c.sign_checkpoint-done.ensures.signs
     (IfOk-at_ok _ is c.sign_printed-printed.ensures.settled) done (IfOk-at_ok _ is c.sign_printed-printed.ensures.stopped) in

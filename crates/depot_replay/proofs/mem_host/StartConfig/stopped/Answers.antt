@@ -5,34 +5,38 @@ use Rattle.depot_answers.specs.AnswerTexts.{text_of_number, spaced}
 use Rattle.depot_world.specs.Transcript.{ended}
 use Rattle.depot_base.specs.Calls.{calls_to_start}
 use Rattle.depot_model.specs.Bundle.{Signs}
+use Rattle.depot_model.specs.Checks.{Setting}
 use Rattle.depot_outside.specs.Stopping.{state_of}
 use Rattle.depot_node_lines.proofs.FedStreams.{if_both}
 use Rattle.depot_replay.specs.MemHosts.{IsKeptOn}
 use Rattle.depot_replay.proofs.DiskStops.{none_waits_after}
-use Rattle.depot_replay.proofs.MemHostStarts.{started_on}
+use Rattle.depot_replay.proofs.MemHostStarts.{again_wants, started_on}
 use Rattle.depot_replay.proofs.mem_host.StartConfig.stopped.Goals as goal
 
 pub invariant_of-told : goal.invariant_of-told
 invariant_of-told g c =
-    let x = started_on _ (state_of c.args.disk) (state_of c.in-Ok.node.store.disk) c.requires.0 c.in-Ok.node.store.records c.requires.1 c.in-Ok.ensures.records c.in-Ok.ensures.calls in
+    let x = started_on _ (state_of c.args.disk) (state_of c.in-Ok.node.store.disk) c.requires.journal c.in-Ok.node.store.records c.requires.begun c.in-Ok.ensures.started.from c.in-Ok.ensures.started.calls in
     record {
-      runs = c.in-Ok.ensures.runs;
-      is_me = c.in-Ok.ensures.me;
-      is_listed = c.in-Ok.ensures.listed;
-      signs = λ seq body. ap (λ (s : Signs). s seq body) c.in-Ok.ensures.signs;
+      runs = c.in-Ok.ensures.node.runs;
+      is_me = ap (λ (h : Setting). h.me) c.in-Ok.ensures.node.stands;
+      is_listed = ap (λ (h : Setting). h.listed) c.in-Ok.ensures.node.stands;
+      signs = λ seq body. ap (λ (s : Signs). s seq body) c.in-Ok.ensures.node.signs;
       kept = subst (IsKeptOn (state_of c.in-Ok.node.store.disk)) (sym x.same) x.begun.kept;
     }
 
-pub returns : goal.returns
-returns g c =
+pub returns-in-Ok : goal.returns-in-Ok
+returns-in-Ok g c =
     let s = state_of c.args.disk in
     let u = state_of c.in-Ok.node.store.disk in
-    let x = started_on _ s u c.requires.0 c.in-Ok.node.store.records c.requires.1 c.in-Ok.ensures.records c.in-Ok.ensures.calls in
+    let x = started_on _ s u c.requires.journal c.in-Ok.node.store.records c.requires.begun c.in-Ok.ensures.started.from c.in-Ok.ensures.started.calls in
     if_both _ _ _ c.told.result (λ t same is. rw same (record {
       here_is = refl;
       sign_is = refl;
-      journal = λ J begun. (started_on _ s u J c.in-Ok.node.store.records begun c.in-Ok.ensures.records c.in-Ok.ensures.calls).same;
-      none_waits = λ none. none_waits_after s u (calls_to_start c.args.disk.file.bytes.items) x.led none;
+      journal = λ J begun. (started_on _ s u J c.in-Ok.node.store.records begun c.in-Ok.ensures.started.from c.in-Ok.ensures.started.calls).same;
+      none_waits = none_waits_after s u (calls_to_start c.args.disk.file.bytes.items) x.led c.requires.none_waits;
       line = IfOk-at_ok _ is c.counted_printed-printed.ensures.lines ∙ ap (λ (n : ℕ). ended (spaced (text_of_number (codes "stopped records") n))) c.record_count.ensures;
       none = IfOk-at_ok _ is c.counted_printed-printed.ensures.bytes;
     })) c.told.ensures.actor c.told.ensures.printed
+
+pub wanting-requires : goal.wanting-requires
+wanting-requires g c = again_wants _ (state_of c.args.disk) (state_of c.in-Err.back.disk) c.in-Err.back.error c.requires c.in-Err.ensures.spares c.in-Err.ensures.failing

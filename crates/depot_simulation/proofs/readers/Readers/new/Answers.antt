@@ -1,4 +1,3 @@
-use Rattle.std.proofs.Common.{refl}
 use Rattle.depot_simulation.specs.Readers.{first_named}
 use Rattle.depot_simulation.proofs.readers.Readers.new.Goals as goal
 

@@ -27,7 +27,7 @@ returns-in_default g c = λ setup run at.
 
 pub returns-in-Some-leave : goal.returns-in-Some-leave
 returns-in-Some-leave g c = IfOk-weaker c.give_receipts.result _ _ (λ lines done setup run at.
-    receipts_done g.row.A.Denot g.A.Actor.view g.A.Reader.Reading.reads setup run c.args.node c.args.refs.now _ lines c.give_receipts.new.self (sym c.in-Some.is ∙ c.in_ok-ids.ensures setup run at) (done setup run at)) (c.give_receipts.ensures c.args.node c.args.self.now c.in-Some-leave.ensures)
+    receipts_done g.row.A.Denot g.A.Actor.view g.A.Reader.Reading.reads setup run c.args.node c.args.refs.now _ lines c.give_receipts.new.self (sym c.in-Some.is ∙ c.in_ok-ids.ensures setup run at) (done c.args.node c.args.self.now c.in-Some-leave.ensures setup run at)) c.give_receipts.ensures
 
 pub returns : goal.returns
 returns g c = λ setup run at.

@@ -17,7 +17,7 @@ returns-in_default g c = λ setup run at.
 
 pub returns-in-Some-leave : goal.returns-in-Some-leave
 returns-in-Some-leave g c = IfOk-weaker c.count_receipts.result _ _ (λ lines done setup run at.
-    settled_done g.row.A.Denot g.A.Actor.view g.A.Reader.Reading.reads setup run c.args.node c.args.update.now _ c.args.k lines c.count_receipts.new.self (sym c.in-Some.is ∙ c.in_ok-id.ensures setup run at) (done setup run at)) (c.count_receipts.ensures c.args.node c.args.self.now c.in-Some-leave.ensures)
+    settled_done g.row.A.Denot g.A.Actor.view g.A.Reader.Reading.reads setup run c.args.node c.args.update.now _ c.args.k lines c.count_receipts.new.self (sym c.in-Some.is ∙ c.in_ok-id.ensures setup run at) (done c.args.node c.args.self.now c.in-Some-leave.ensures setup run at)) c.count_receipts.ensures
 
 pub returns-in_ok-from_slice-in-None : goal.returns-in_ok-from_slice-in-None
 returns-in_ok-from_slice-in-None g c = λ setup run at.

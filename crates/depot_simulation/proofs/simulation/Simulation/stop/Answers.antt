@@ -1,4 +1,5 @@
 use Rattle.std.proofs.Common.{ℕ, List, [], ◌∷◌, sym, subst}
+use Rattle.std.proofs.lemmas.Result.{IfOk-weaker}
 use Rattle.depot_world.specs.Transcript.{pending_at}
 use Rattle.depot_simulation.specs.Doing.{HasDone}
 use Rattle.depot_simulation.specs.declared.simulation.Simulation.{Simulation}
@@ -9,7 +10,7 @@ pub arm-requires-clause-left : goal.arm-requires-clause-left
 arm-requires-clause-left g c = (c.args.node, record { before = c.args.self.now; played = c.requires.played; left = c.in-Some.ensures })
 
 pub returns-in-Some : goal.returns-in-Some
-returns-in-Some g c = c.arm.ensures c.args.node c.args.self.now c.in-Some.ensures
+returns-in-Some g c = IfOk-weaker c.arm.result _ _ (λ lines done. done c.args.node c.args.self.now c.in-Some.ensures) c.arm.ensures
 
 pub returns-in_ok-from_slice-in-None : goal.returns-in_ok-from_slice-in-None
 returns-in_ok-from_slice-in-None g c = λ setup run at.

@@ -14,11 +14,11 @@ use Rattle.depot_simulation.proofs.simulation.Simulation.updated.Goals as goal
 use Rattle.depot_simulation.proofs.simulation.Simulation.updated.Goals.{After-drafted-draft, In_ok-with_history}
 
 pub returns-in_default-clause-is : goal.returns-in_default-clause-is
-returns-in_default-clause-is g c = λ setup run sign at.
+returns-in_default-clause-is g c = λ setup run at sign.
     no_prev sign run c.args.writer c.args.seq c.args.clock c.args.prev.now c.args.changes.now c.args.deps.now c.args.history (sym c.in_default.is ∙ c.in_ok-prev.ensures setup run at)
 
 pub returns-in_default-2-clause-is : goal.returns-in_default-2-clause-is
-returns-in_default-2-clause-is g c = λ setup run sign at.
+returns-in_default-2-clause-is g c = λ setup run at sign.
     no_entries sign run c.args.writer c.args.seq c.args.clock c.args.prev.now c.args.changes.now c.args.deps.now c.args.history (sym c.in_default-2.is ∙ c.in_ok-deps.ensures setup run at)
 
 -- how the draft was put together
@@ -35,7 +35,7 @@ with_history-requires g c =
     (named_here g.A.Actor.view g.A.Reader.Reading.reads setup run c.args.self.now g.met.A.Actor.lawful at) c.requires.fits (sym c.in-Some.is ∙ c.in_ok-prev.ensures setup run at) (sym c.in-Some-2.is ∙ c.in_ok-deps.ensures setup run at) (made g c))
 
 pub returns-clause-is : goal.returns-clause-is
-returns-clause-is g c = λ setup run sign at.
+returns-clause-is g c = λ setup run at sign.
     let draft = c.drafted-draft.result in
     draft_is_updated sign run c.args.writer c.args.seq c.args.clock c.args.prev.now c.in-Some.prev c.args.changes.now c.args.deps.now c.args.history c.in-Some-2.deps draft c.in_ok-with_history.field-0
     (sym c.in-Some.is ∙ c.in_ok-prev.ensures setup run at) (sym c.in-Some-2.is ∙ c.in_ok-deps.ensures setup run at) (made g (goal.at.returns-clause-is g c).After-drafted-draft)
@@ -49,7 +49,7 @@ seen g c =
     let at = c.requires.played.at in
     subst (λ (us : List Update). IsSeenUpdate us c.in_ok-with_history.field-0) (sym at.seen_are)
     (updated_is_seen run (λ _ _. []) c.args.writer c.args.seq c.args.clock c.args.prev.now c.args.changes.now c.args.deps.now c.args.history c.in_ok-with_history.field-0
-    (named_here g.A.Actor.view g.A.Reader.Reading.reads setup run c.args.self.now g.met.A.Actor.lawful at) c.requires.fits (returns-clause-is g c setup run (λ _ _. []) at))
+    (named_here g.A.Actor.view g.A.Reader.Reading.reads setup run c.args.self.now g.met.A.Actor.lawful at) c.requires.fits (returns-clause-is g c setup run at (λ _ _. [])))
 
 pub returns-clause-text : goal.returns-clause-text
 returns-clause-text g c = (seen g (goal.at.returns-clause-text g c).In_ok-with_history).fits
@@ -61,4 +61,4 @@ pub returns-clause-numbered : goal.returns-clause-numbered
 returns-clause-numbered g c =
     let setup = c.requires.played.setup in
     let run = c.requires.played.run in
-    is_numbered (λ _ _. []) run c.args.writer c.args.seq c.args.clock c.args.prev.now c.args.changes.now c.args.deps.now c.args.history c.in_ok-with_history.field-0 (returns-clause-is g (goal.at.returns-clause-numbered g c).In_ok-with_history setup run (λ _ _. []) c.requires.played.at)
+    is_numbered (λ _ _. []) run c.args.writer c.args.seq c.args.clock c.args.prev.now c.args.changes.now c.args.deps.now c.args.history c.in_ok-with_history.field-0 (returns-clause-is g (goal.at.returns-clause-numbered g c).In_ok-with_history setup run c.requires.played.at (λ _ _. []))

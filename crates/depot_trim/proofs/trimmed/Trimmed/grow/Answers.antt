@@ -1,4 +1,4 @@
-use Rattle.std.proofs.Common.{refl, sym, ap, ◌∙◌}
+use Rattle.std.proofs.Common.{refl, ◌∙◌}
 use Rattle.depot_model.specs.Journal.{accepted}
 use Rattle.depot_model.specs.Pruning.{pruned}
 use Rattle.depot_model.specs.Readers.{kept}

@@ -1,4 +1,4 @@
-use Rattle.std.proofs.Common.{◌≡◌, ◌∙◌, ◌+◌, length, arith, ap}
+use Rattle.std.proofs.Common.{length, arith, ap}
 use Rattle.std.proofs.lemmas.List.{length-map}
 use Rattle.depot_trim.specs.ReaderView.{mark_of}
 use Rattle.depot_trim.proofs.ReaderReads.{kept_count}

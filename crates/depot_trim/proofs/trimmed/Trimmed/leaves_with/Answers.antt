@@ -1,7 +1,8 @@
 use Rattle.std.proofs.Common.{List, sym, ap, ◌∙◌}
 use Rattle.depot_base.specs.declared.update.Update.{Update}
-use Rattle.depot_store.specs.RoomByCounts.{leaves_with}
-use Rattle.depot_trim.proofs.ReaderTakes.{updates_are, leaves_are_few}
+use Rattle.depot_readings.specs.LeavesWith.{leaves_with}
+use Rattle.depot_trim.proofs.ReaderReads.{accepted_is}
+use Rattle.depot_trim.proofs.ReaderTakes.{leaves_are_few}
 use Rattle.depot_trim.proofs.trimmed.Trimmed.leaves_with.Goals as goal
 
 pub leaves_with-requires : goal.leaves_with-requires
@@ -9,4 +10,4 @@ leaves_with-requires g c = leaves_are_few g.S.Scheme.verifies c.requires.0 c.arg
 
 pub returns : goal.returns
 returns g c R is =
-    c.leaves_with.ensures ∙ ap (λ (us : List Update). leaves_with us c.args.self.now.counts.leaves c.args.growth.now) (c.graph.ensures ∙ sym (updates_are g.S.Scheme.verifies R c.args.self.now is))
+    c.leaves_with.ensures ∙ ap (λ (us : List Update). leaves_with us c.args.self.now.counts.leaves c.args.growth.now) (c.graph.ensures ∙ sym (accepted_is g.S.Scheme.verifies R c.args.self.now is))

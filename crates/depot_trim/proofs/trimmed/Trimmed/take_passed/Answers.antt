@@ -1,5 +1,4 @@
-use Rattle.std.proofs.Common.{List, map, sym, ◌∙◌}
-use Rattle.depot_base.specs.declared.update.Update.{Update}
+use Rattle.std.proofs.Common.{◌∙◌}
 use Rattle.depot_model.specs.Checks.{given_statement}
 use Rattle.depot_model.specs.Pruning.{pruned}
 use Rattle.depot_model.specs.Readers.{told_of, told_as_node}
@@ -19,14 +18,14 @@ decide_checked-requires-clause-checked g c =
     let K = pruned R.trimmed R.journal in
     (K, (is.state, passed_checked g.S.Scheme.verifies R c.args.self.now is c.args.signed c.check_after_signature-checked.result (c.requires.passed R is) (c.check_after_signature-checked.ensures K is.state)))
 
-pub carry_out-requires : goal.carry_out-requires
-carry_out-requires g c =
+pub carry_out-requires-clause-reader : goal.carry_out-requires-clause-reader
+carry_out-requires-clause-reader g c =
     let R = c.requires.reader.0 in
     let is = c.requires.reader.1 in
     let K = pruned R.trimmed R.journal in
     let above = first_below g.S.Scheme.verifies R c.args.self.now is c.args.signed c.first_named.result (c.requires.passed R is) (λ ts are. c.first_named.ensures ts are) ∙ c.in_default.is in
     let checked = passed_checked g.S.Scheme.verifies R c.args.self.now is c.args.signed c.check_after_signature-checked.result (c.requires.passed R is) (c.check_after_signature-checked.ensures K is.state) in
-    (R, (is, (given_statement c.args.signed, statement_decided g.S.Scheme.verifies R c.args.self.now is c.args.signed _ _ c.requires.signed above (c.in_ok-decision.ensures K is.state checked))))
+    (R, (is, (given_statement c.args.signed, statement_decided g.S.Scheme.verifies R c.args.self.now is c.args.signed _ _ c.requires.signed above (c.in_ok-decision.ensures.decided K is.state checked))))
 
 pub returns : goal.returns
 returns g c R is =
@@ -34,4 +33,4 @@ returns g c R is =
     let above = first_below g.S.Scheme.verifies R c.args.self.now is c.args.signed c.first_named.result (c.requires.passed R is) (λ ts are. c.first_named.ensures ts are) ∙ c.in_default.is in
     let checked = passed_checked g.S.Scheme.verifies R c.args.self.now is c.args.signed c.check_after_signature-checked.result (c.requires.passed R is) (c.check_after_signature-checked.ensures K is.state) in
     becomes_as g.S.Scheme.verifies R (told_of R (given_statement c.args.signed)) (told_as_node R (given_statement c.args.signed)) c.carry_out.result c.carry_out.new.self (told_here R c.args.signed above)
-    (c.carry_out.ensures R (given_statement c.args.signed) is (statement_decided g.S.Scheme.verifies R c.args.self.now is c.args.signed _ _ c.requires.signed above (c.in_ok-decision.ensures K is.state checked)))
+    (c.carry_out.ensures R (given_statement c.args.signed) is (statement_decided g.S.Scheme.verifies R c.args.self.now is c.args.signed _ _ c.requires.signed above (c.in_ok-decision.ensures.decided K is.state checked)))

@@ -1,4 +1,6 @@
-use Rattle.std.proofs.Common.{◌∷◌, [], ◌++◌, List, ℕ, IsOk, Result, Ok, Err, refl, sym, ap, subst, ◌∙◌}
+use Rattle.std.proofs.Common.{◌∷◌, [], ◌++◌, List, ℕ, IsOk, Result, Err, refl, sym, ap, subst, ◌∙◌}
+use Rattle.sha2.specs.Sha256.{sha256}
+use Rattle.depot_base.specs.Sized.{IsValue}
 use Rattle.depot_base.specs.declared.check.Check.TheVariants as check
 use Rattle.depot_base.specs.declared.memory.Memory.{Memory}
 use Rattle.depot_model.specs.declared.taken.Taken.{Taken}
@@ -19,6 +21,12 @@ returns-then-not-names g c R is =
     let wanted = hash_is_wanted g.S.Scheme.verifies R c.args.self.now is v c.hash_of-hash.result _ _ c.hash_of-hash.ensures (c.names.ensures.wanted (kept R) is.named) c.if-not-names.true in
     (R, (told_unwanted R v held wanted ∙ ap (λ (h : List ℕ). told (Err (check.Unwanted h)) R) (sym c.hash_of-hash.ensures), is))
 
+pub from_bytes-value-requires : goal.from_bytes-value-requires
+from_bytes-value-requires g c = subst (λ (v : List ℕ). IsValue v) (sym c.in_ok-from_slice.ensures) c.requires
+
+pub add_hashed-requires : goal.add_hashed-requires
+add_hashed-requires g c = c.hash_of-hash.ensures ∙ ap sha256 (sym (c.from_bytes-value.ensures ∙ c.in_ok-from_slice.ensures))
+
 pub returns : goal.returns
 returns g c R is =
     let v = c.args.bytes.now in
@@ -28,7 +36,7 @@ returns g c R is =
       record R { held = R.held ++ v ∷ [] },
       (
         told_new R v held wanted,
-        holding_reader g.S.Scheme.verifies R c.args.self.now is c.hash_of-hash.result v c.in-Ok.value _ c.add_hashed.result c.hash_of-hash.ensures c.in-Ok.ensures.1 ok
+        holding_reader g.S.Scheme.verifies R c.args.self.now is c.hash_of-hash.result v c.from_bytes-value.result _ c.add_hashed.result c.hash_of-hash.ensures (c.from_bytes-value.ensures ∙ c.in_ok-from_slice.ensures) ok
             (record { known = c.add_hashed.ensures.known; new = c.add_hashed.ensures.new; else_stays = c.add_hashed.ensures.else_stays; others_stay = c.add_hashed.ensures.others_stay }),
       ),
     )

@@ -1,0 +1,62 @@
+-- A node of a handle that is called: where it runs, it goes on, and refuses nothing for the disk.
+use Rattle.std.proofs.Common.{◌≡◌, [], None, Result, Ok, Err, refl, arith}
+use Rattle.std.specs.Prelude.{IsErrOf}
+use Rattle.depot_feeds.specs.declared.feed_error.FeedError.{FeedError}
+use Rattle.depot_feeds.specs.declared.feed_error.FeedError.TheVariants as feed_error
+use Rattle.depot_gossip.specs.declared.bundle_error.BundleError.{BundleError}
+use Rattle.depot_gossip.specs.declared.bundle_error.BundleError.TheVariants as bundle_error
+use Rattle.depot_gossip.specs.declared.bundle_stream.Bundled.{Bundled}
+use Rattle.depot_model.specs.JournalCalls.{JournalView, KeepsDisk, StopsBy}
+use Rattle.depot_model.specs.declared.put_answers.PutDone.{PutDone}
+use Rattle.depot_model.specs.declared.put_answers.PutError.{PutError}
+use Rattle.depot_model.specs.declared.put_answers.PutError.TheVariants as put_error
+use Rattle.depot_model.proofs.JournalCallLaws.{never_answered, runs_on}
+use Rattle.depot_c.specs.Handles.{fed_as}
+use Rattle.depot_c.specs.NodeViews.{NodeView, Runs, RunsOn, bundled_as, put_as}
+
+-- Nothing was answered for the disk, and the node runs.
+record IsCalm (t : NodeView) (stopped failed : Type 0) : Type 0 where
+  well : failed → ⊥
+  ran : stopped → ⊥
+  runs : Runs t
+
+-- The node is seen so before and after a call that keeps its disk so, on which nothing is to fail just where that disk never fails.
+module _ {N : Type 0} {v : JournalView N} {old new : N} (s t : NodeView) where
+  calm : {stopped failed : Type 0} → StopsBy s.stopped t.stopped stopped failed → KeepsDisk v old new failed → ((s.fails ≡ []) × (s.stop ≡ None) → v.is_faultless old) → (v.is_faultless new → (t.fails ≡ []) × (t.stop ≡ None)) → Runs s
+      → IsCalm t stopped failed
+  calm {failed = failed} stops disk before after runs =
+      let kept = disk.calm (before (runs.none, runs.never)) in
+      let well : failed → ⊥ = λ is. omega (arith, disk.cause.rose is, kept.1) in
+      record {
+        well = well;
+        ran = never_answered s.stopped runs.running stops;
+        runs = record { running = runs_on s.stopped runs.running stops well; none = (after kept.0).0; never = (after kept.0).1 };
+      }
+
+  pub put_runs : (r : Result PutDone PutError) → StopsBy s.stopped t.stopped (IsErrOf r put_error.Stopped) (IsErrOf r put_error.Disk) → KeepsDisk v old new (IsErrOf r put_error.Disk) → ((s.fails ≡ []) × (s.stop ≡ None) → v.is_faultless old) → (v.is_faultless new → (t.fails ≡ []) × (t.stop ≡ None)) → RunsOn s (put_as r) t
+  put_runs (Ok done) stops disk before after = λ runs. (calm stops disk before after runs).runs
+  put_runs (Err put_error.Memory) stops disk before after = λ runs. ((calm stops disk before after runs).runs, refl)
+  put_runs (Err put_error.Disk) stops disk before after = λ runs. absurd ((calm stops disk before after runs).well refl)
+  put_runs (Err put_error.Stopped) stops disk before after = λ runs. absurd ((calm stops disk before after runs).ran refl)
+  put_runs (Err (put_error.Spent n)) stops disk before after = λ runs. ((calm stops disk before after runs).runs, refl)
+  put_runs (Err (put_error.Tips n)) stops disk before after = λ runs. ((calm stops disk before after runs).runs, refl)
+  put_runs (Err (put_error.Collides h)) stops disk before after = λ runs. ((calm stops disk before after runs).runs, refl)
+  put_runs (Err (put_error.Full what)) stops disk before after = λ runs. ((calm stops disk before after runs).runs, refl)
+
+  pub bundle_runs : (r : Result Bundled BundleError) → StopsBy s.stopped t.stopped (IsErrOf r bundle_error.Stopped) (IsErrOf r bundle_error.Disk) → KeepsDisk v old new (IsErrOf r bundle_error.Disk) → ((s.fails ≡ []) × (s.stop ≡ None) → v.is_faultless old) → (v.is_faultless new → (t.fails ≡ []) × (t.stop ≡ None)) → RunsOn s (bundled_as r) t
+  bundle_runs (Ok b) stops disk before after = λ runs. (calm stops disk before after runs).runs
+  bundle_runs (Err bundle_error.Memory) stops disk before after = λ runs. ((calm stops disk before after runs).runs, refl)
+  bundle_runs (Err bundle_error.Disk) stops disk before after = λ runs. absurd ((calm stops disk before after runs).well refl)
+  bundle_runs (Err bundle_error.Stopped) stops disk before after = λ runs. absurd ((calm stops disk before after runs).ran refl)
+  bundle_runs (Err (bundle_error.IllFormed at)) stops disk before after = λ runs. ((calm stops disk before after runs).runs, refl)
+  bundle_runs (Err (bundle_error.OtherRoster given mine)) stops disk before after = λ runs. ((calm stops disk before after runs).runs, refl)
+  bundle_runs (Err (bundle_error.Spent n)) stops disk before after = λ runs. ((calm stops disk before after runs).runs, refl)
+  bundle_runs (Err (bundle_error.Full what)) stops disk before after = λ runs. ((calm stops disk before after runs).runs, refl)
+
+  pub fed_runs : (r : Result (Unit {0}) FeedError) → StopsBy s.stopped t.stopped (IsErrOf r feed_error.Stopped) (IsErrOf r feed_error.Disk) → KeepsDisk v old new (IsErrOf r feed_error.Disk) → ((s.fails ≡ []) × (s.stop ≡ None) → v.is_faultless old) → (v.is_faultless new → (t.fails ≡ []) × (t.stop ≡ None)) → RunsOn s (fed_as r) t
+  fed_runs (Ok done) stops disk before after = λ runs. (calm stops disk before after runs).runs
+  fed_runs (Err feed_error.Memory) stops disk before after = λ runs. ((calm stops disk before after runs).runs, refl)
+  fed_runs (Err feed_error.Disk) stops disk before after = λ runs. absurd ((calm stops disk before after runs).well refl)
+  fed_runs (Err feed_error.Stopped) stops disk before after = λ runs. absurd ((calm stops disk before after runs).ran refl)
+  fed_runs (Err (feed_error.IllFormed at)) stops disk before after = λ runs. ((calm stops disk before after runs).runs, refl)
+  fed_runs (Err (feed_error.Full what)) stops disk before after = λ runs. ((calm stops disk before after runs).runs, refl)

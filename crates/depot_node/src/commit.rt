@@ -1,0 +1,137 @@
+//! The journal grows: this is the one write path.
+ghost use Rattle.std.specs.Prelude.{◌≡◌, ◌++◌, [], false, Some};
+ghost use Rattle.depot_base.specs.declared.check.Full.{Full};
+ghost use Rattle.depot_model.specs.Journal.{accepted};
+ghost use Rattle.depot_model.specs.Lawful.{IsLawful};
+ghost use Rattle.depot_model.specs.Room.{full_by};
+ghost use Rattle.depot_readings.specs.NewRecords.{MayGrow};
+ghost use Rattle.depot_readings.specs.RecordTexts.{IsGiven};
+ghost use Rattle.depot_decide.specs.Deciding.{AreJoined};
+ghost use Rattle.depot_node.specs.Commits.{Appends, Commits};
+ghost use Rattle.depot_node.specs.Holdings.{IsWhole, standing};
+ghost use Rattle.depot_node.specs.StoreCalls.{IsCommitCall, IsKept, IsWriteCall};
+ghost use Rattle.depot_node.specs.declared.commit.WriteError.TheVariants as write_error;
+
+use crate::store::Store;
+use depot_accept::Parents;
+use depot_base::{Full, Memory};
+use depot_decide::keep_parents;
+use depot_model::Scheme;
+use depot_outside::Disk;
+use depot_readings::Growth;
+use std::alloc::Global;
+
+/// Why records were not appended, for which there is room.
+#[derive(Clone, Copy, Debug, PartialEq, Eq)]
+pub enum WriteError {
+    /// No memory was found.
+    Memory,
+    /// The disk failed. The records before the failing one were appended, and the store is stopped.
+    Disk,
+}
+
+impl From<Memory> for WriteError {
+    ghost from_gives = { λ _ e. e ≡ write_error.Memory };
+
+    fn from(_e: Memory) -> WriteError {
+        WriteError::Memory
+    }
+}
+
+/// Why nothing was appended.
+#[derive(Clone, Copy, Debug, PartialEq, Eq)]
+pub enum CommitError {
+    /// No memory was found.
+    Memory,
+    /// The disk failed.
+    Disk,
+    /// There is no room for what was to be appended.
+    Full(Full),
+}
+
+impl<D: Disk, S: Scheme> Store<D, S> {
+    /// Appends a growth where there is room for it, and else leaves all as it is. Where it ends with a statement of another, `given` is
+    /// that statement's text; `parents` are those of its update, if it has them. `Full` comes exactly where a limit would be passed, the
+    /// first of records, bytes and leaves of other writers, with the number now. After `Disk` the records before the failing one were
+    /// appended, and the store is stopped. A stop at any moment leaves the records from before, and a front of the new ones; after
+    /// Memory and `Full` none of these.
+    pub fn commit(
+        &mut self,
+        alloc: Global,
+        new: Growth,
+        parents: Option<Parents>,
+        given: &[u8],
+    ) -> Result<(), CommitError>
+        requires runs { self.old.stopped ≡ false }
+        requires kept { IsKept S.verifies self.old }
+        requires may { MayGrow (standing S.verifies self.old) self.old.records new }
+        requires joined { AreJoined (accepted self.old.records) parents }
+        requires given { IsGiven new given.now }
+        ensures commits { Commits self.old.me self.old.records new result self.new.records }
+        ensures stands { standing S.verifies self.new ≡ standing S.verifies self.old }
+        ensures kept { IsKept S.verifies self.new }
+        ensures full { (what : Full) → full_by self.old.me self.old.records new ≡ Some what → self.new ≡ self.old }
+        ensures call { IsCommitCall D.Disk self.old self.new new result }
+    {
+        // Called for its clause alone: what a stop may leave has the records.
+        let _runs = self.is_stopped();
+        if let Some(full) = self.readings.limit(&new) {
+            drop(new);
+            drop(parents);
+            return Err(CommitError::Full(full));
+        }
+        match self.append(alloc, new, parents, given) {
+            Ok(()) => Ok(()),
+            Err(WriteError::Memory) => Err(CommitError::Memory),
+            Err(WriteError::Disk) => Err(CommitError::Disk),
+        }
+    }
+
+    /// Appends the records of a growth: all; or none, and then no memory was found, and a stop leaves none; or those before the one on
+    /// which the disk failed. No limit is asked for: that there is room is known, since the journal stays lawful.
+    pub(crate) fn append(
+        &mut self,
+        alloc: Global,
+        new: Growth,
+        parents: Option<Parents>,
+        given: &[u8],
+    ) -> Result<(), WriteError>
+        requires whole { IsWhole self.old }
+        requires lawful { IsLawful (standing S.verifies self.old) (self.old.records ++ new) }
+        requires joined { AreJoined (accepted self.old.records) parents }
+        requires given { IsGiven new given.now }
+        ensures appends { Appends self.old.records new result self.new.records }
+        ensures stands { standing S.verifies self.new ≡ standing S.verifies self.old }
+        ensures read { self.new.unread ≡ [] }
+        ensures call { IsWriteCall D.Disk self.old self.new new result }
+    {
+        // Called for its clause alone: what a stop may leave has the records.
+        let _runs = self.journal.is_stopped();
+        let mut new = new;
+        let count = new.count() as u32;
+        let size = new.bytes() as u32 - FRAME * count;
+        let Ok(()) = self.journal.reserve(count, size) else {
+            drop(new);
+            drop(parents);
+            return Err(WriteError::Memory);
+        };
+        let Ok(texts) = new.take_texts(alloc) else {
+            drop(new);
+            drop(parents);
+            return Err(WriteError::Memory);
+        };
+        let rest = new.given(given);
+        keep_parents(&mut self.readings, parents);
+        self.readings.read(new)?;
+        let written = self.journal.append_all(texts.as_slice(), rest);
+        self.read = self.journal.count();
+        match written {
+            Ok(()) => Ok(()),
+            // Memory and room were found before, and the store isn't stopped: the disk alone is left to fail.
+            Err(_) => Err(WriteError::Disk),
+        }
+    }
+}
+
+/// The bytes that a record takes in a journal besides its text: its length, and the gate after it.
+const FRAME: u32 = 5;

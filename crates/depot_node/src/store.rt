@@ -1,0 +1,147 @@
+//! A journal on a disk, with what was read off it.
+ghost use Rattle.std.specs.Prelude.{◌≡◌, ◌<◌, ◌++◌, List, ℕ, [], ◌∷◌, false, IsTrue, Some, None, drop, length, option_copied, map, slice_get, OnOk, OnErr};
+ghost use Rattle.depot_model.specs.Journal.{accepted};
+ghost use Rattle.depot_model.specs.Lawful.{IsLawful};
+ghost use Rattle.depot_model.specs.Records.{text_of_record};
+ghost use Rattle.depot_model.specs.Stops.{LeavesAll};
+ghost use Rattle.depot_accept.specs.StateView.{IsStateOf};
+ghost use Rattle.depot_decide.specs.Deciding.{AreJoined};
+ghost use Rattle.depot_node.specs.Holdings.{known, standing, with_records};
+
+use depot_accept::{Parents, State};
+use depot_base::{Memory, NodeId};
+use depot_decide::keep_parents;
+use depot_journal::Journal;
+use depot_model::Scheme;
+use depot_outside::Disk;
+use depot_readings::{Growth, Readings};
+use depot_sign::Roster;
+use std::alloc::Global;
+use std::marker::Model;
+
+/// The journal of a node on its disk, and what was read off it. A journal that was started is read record by record (`read`); from then
+/// on it grows by what is committed. Once the disk failed the store is stopped: it tells the texts of its records, and no more.
+#[derive(Drop)]
+pub struct Store<D: Disk, S: Scheme> {
+    // Once the disk failed these may be of more records than the journal has.
+    pub(crate) readings: Readings<S>,
+    pub(crate) journal: Journal<D>,
+    // How many of the journal's records were read.
+    pub(crate) read: u32,
+}
+
+impl<D: Disk, S: Scheme> Model for Store<D, S> {
+    ghost use Rattle.std.specs.Prelude.{◌≡◌, ◌≤◌, take, drop, length, false};
+    ghost use Rattle.depot_node.specs.Holdings.{Holding, holding_code};
+    ghost use Rattle.depot_node.specs.JournalRecords.{AreTexts, records_of};
+
+    ghost Value = { Holding D };
+
+    ghost coded = { holding_code D.code };
+
+    ghost view = { λ s. record { me = s.readings.me; listed = s.readings.listed; records = records_of (take s.read s.journal.records); unread = drop s.read s.journal.records; stopped = s.journal.is_stopped; disk = s.journal.disk } };
+
+    ghost invariant = { λ s. AreTexts (take s.read s.journal.records) × (s.read ≤ length s.journal.records)
+        × (s.journal.is_stopped ≡ false → s.readings.records ≡ records_of (take s.read s.journal.records)) };
+}
+
+impl<D: Disk, S: Scheme> Store<D, S> {
+    /// The store of a journal of which no record was read yet. It takes no memory.
+    pub fn new(alloc: Global, state: State<S>, journal: Journal<D>) -> Store<D, S>
+        requires { IsStateOf [] state }
+        ensures { result ≡ record { me = state.me; listed = state.listed; records = []; unread = journal.records; stopped = journal.is_stopped; disk = journal.disk } }
+    {
+        Store {
+            readings: Readings::new(alloc, state),
+            journal,
+            read: 0,
+        }
+    }
+
+    /// What was read off the records, of a store that runs. It takes no memory.
+    pub fn readings(&self) -> &Readings<S>
+        requires { self.now.stopped ≡ false }
+        ensures { result.now ≡ known self.now }
+    {
+        &self.readings
+    }
+
+    /// Reads the first record that wasn't read yet, which comes decoded, with the parents of its update if it has them. No text of it is
+    /// made, and nothing is done to the disk. After Memory all is as before.
+    pub(crate) fn read(&mut self, new: Growth, parents: Option<Parents>) -> Result<(), Memory>
+        requires runs { self.old.stopped ≡ false }
+        requires next { (rest : List (List ℕ)) × (self.old.unread ≡ map text_of_record new ++ rest) }
+        requires lawful { IsLawful (standing S.verifies self.old) (self.old.records ++ new) }
+        requires joined { AreJoined (accepted self.old.records) parents }
+        ensures ok { OnOk result (self.new ≡ with_records self.old (self.old.records ++ new) (drop (length new) self.old.unread)) }
+        ensures err { OnErr result (self.new ≡ self.old) }
+    {
+        let count = new.count() as u32;
+        keep_parents(&mut self.readings, parents);
+        self.readings.read(new)?;
+        self.read += count;
+        Ok(())
+    }
+
+    /// The text of the first record that wasn't read yet. It takes no memory.
+    pub(crate) fn unread(&self) -> Option<&[u8]>
+        ensures none { result ≡ None → self.now.unread ≡ [] }
+        ensures some { (text : List ℕ) → option_copied result ≡ Some text → (rest : List (List ℕ)) × (self.now.unread ≡ text ∷ rest) }
+    {
+        if self.read < self.journal.count() {
+            Some(self.journal.text(self.read))
+        } else {
+            None
+        }
+    }
+
+    /// The journal's disk, of a stopped one too. It takes no memory.
+    pub fn into_disk(self) -> D
+        ensures { result ≡ self.disk }
+    {
+        let Store {
+            journal,
+            readings,
+            ..
+        } = self;
+        drop(readings);
+        journal.into_disk()
+    }
+
+    /// Whether the disk has failed. The records stand in each file that a stop may leave. It takes no memory.
+    pub fn is_stopped(&self) -> bool
+        ensures stopped { result ≡ self.now.stopped }
+        ensures stable { self.now.unread ≡ [] → IsTrue (D.tells self.now.disk) → LeavesAll self.now.records self.now.stopped (D.may_leave self.now.disk) }
+    {
+        self.journal.is_stopped()
+    }
+
+    /// The node's own number. It takes no memory.
+    pub fn me(&self) -> NodeId
+        ensures { result ≡ self.now.me }
+    {
+        self.readings.me()
+    }
+
+    /// The roster. It takes no memory.
+    pub fn roster(&self) -> &Roster
+        ensures { result.now ≡ self.now.listed }
+    {
+        self.readings.roster()
+    }
+
+    /// How many records were read. It takes no memory.
+    pub fn count(&self) -> u32
+        ensures { result ≡ length self.now.records }
+    {
+        self.read
+    }
+
+    /// The text of the record of a place, from 0. It takes no memory.
+    pub fn text(&self, place: u32) -> &[u8]
+        requires { place < length self.now.records }
+        ensures { slice_get (map text_of_record self.now.records) place ≡ Some result.now }
+    {
+        self.journal.text(place)
+    }
+}

@@ -1,0 +1,43 @@
+-- What a take adds to a journal, in a state.
+use Rattle.std.proofs.Common.{◌≡◌, ℕ, List, [], ◌∷◌, ◌++◌, refl, sym, ap, subst, ◌∙◌, append_assoc}
+use Rattle.std.specs.Global.{Vec}
+use Rattle.std.specs.List.{AllByRecursion}
+use Rattle.std.proofs.lemmas.List.{append-nil}
+use Rattle.depot_base.specs.declared.key.RosterEntry.{RosterEntry}
+use Rattle.depot_base.specs.declared.proof.Proof.{Proof}
+use Rattle.depot_base.specs.declared.record.Record.{Record}
+use Rattle.depot_base.specs.declared.record.Record.TheVariants.{Foreign, Conviction}
+use Rattle.depot_base.specs.declared.statement.Signed.{Signed}
+use Rattle.depot_model.specs.Vouching.{records_of}
+use Rattle.depot_accept.specs.StateView.{View, IsStateOf}
+use Rattle.depot_accept.proofs.StateLaws.{turned_state}
+use Rattle.depot_readings.specs.NewRecords.{records_in, vouchers_of}
+use Rattle.depot_readings.specs.Taken.{IsTaken}
+use Rattle.depot_readings.specs.declared.news.NewVoucher.{NewVoucher}
+use Rattle.depot_readings.specs.declared.news.News.{News}
+use Rattle.depot_readings.specs.declared.news.News.TheVariants as news
+
+-- no records leave the state as it is
+pub none_taken : {S : Type 0} (J new : List Record) (v : View S) → new ≡ [] → IsStateOf J v → IsStateOf (J ++ new) v
+none_taken J new v none is = subst (λ (K : List Record). IsStateOf K v) (sym (ap (λ (rs : List Record). J ++ rs) none ∙ append-nil J)) is
+
+-- own vouchers are none of what a take adds
+no_vouchers : (listed : List RosterEntry) (xs : List NewVoucher) → AllByRecursion (IsTaken listed) (records_of (vouchers_of xs)) → records_of (vouchers_of xs) ≡ []
+no_vouchers listed [] all = refl
+no_vouchers listed (x ∷ xs) all = absurd all.0
+
+-- nor is anything but statements of others and convictions
+pub nothing_taken : (listed : List RosterEntry) (n : News) → ((s : Signed) (id : List ℕ) (parents : Vec ℕ) → n ≡ news.Foreign s id parents → ⊥) → ((p : Proof) (s : Signed) (id : List ℕ) (parents : Vec ℕ) → n ≡ news.Convicting p s id parents → ⊥)
+    → ((p : Proof) → n ≡ news.Conviction p → ⊥) → AllByRecursion (IsTaken listed) (records_in n) → records_in n ≡ []
+nothing_taken listed news.Nothing h k l all = refl
+nothing_taken listed (news.Birth node roster) h k l all = absurd all.0
+nothing_taken listed (news.Put u values id parents) h k l all = absurd all.0
+nothing_taken listed (news.Foreign s id parents) h k l all = absurd (h s id parents refl)
+nothing_taken listed (news.Convicting p s id parents) h k l all = absurd (k p s id parents refl)
+nothing_taken listed (news.Conviction p) h k l all = absurd (l p refl)
+nothing_taken listed (news.Held value hash) h k l all = absurd all.0
+nothing_taken listed (news.Vouchers xs) h k l all = no_vouchers listed xs all
+
+-- a conviction in front of a statement, which the state took first
+pub both_taken : {S : Type 0} (J : List Record) (p : Proof) (s : Signed) (v : View S) → IsStateOf ((J ++ Foreign s ∷ []) ++ Conviction p ∷ []) v → IsStateOf (J ++ Conviction p ∷ Foreign s ∷ []) v
+both_taken J p s v is = subst (λ (K : List Record). IsStateOf K v) (append_assoc J (Conviction p ∷ []) (Foreign s ∷ [])) (turned_state J s p v is)

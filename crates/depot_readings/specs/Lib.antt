@@ -1,0 +1,14 @@
+pub mod ReadingsView
+pub mod RecordTexts
+pub mod Totals
+pub mod LeavesWith
+pub mod Counts
+pub mod NewRecords
+pub mod Named
+pub mod Taken
+pub mod Places
+pub mod OwnIds
+pub mod FrontPlaces
+pub mod ReadingsParts
+pub mod AddedValues
+pub mod Lacking

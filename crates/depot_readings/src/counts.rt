@@ -1,0 +1,77 @@
+//! How much a journal takes, and whether there is room for more.
+ghost use Rattle.std.specs.Prelude.{◌≡◌, ◌≤◌, ◌+◌, ◌++◌, ◌^◌, ℕ, List};
+ghost use Rattle.depot_base.specs.declared.check.Full.{Full};
+ghost use Rattle.depot_base.specs.declared.record.Record.{Record};
+ghost use Rattle.depot_model.specs.Checks.{Setting};
+ghost use Rattle.depot_model.specs.Lawful.{IsLawful};
+ghost use Rattle.depot_model.specs.Room.{full_by, leaves_counted, limit_passed};
+ghost use Rattle.depot_readings.specs.Counts.{AreCountsOf, CountsMore, LimitsNew};
+
+use crate::growth::Growth;
+use depot_base::limits::{MOST_FOREIGN_LEAVES, MOST_JOURNAL, MOST_RECORDS};
+use depot_base::{Full, FullOf};
+
+/// How much a journal takes.
+#[derive(Clone, Copy, Debug, PartialEq, Eq)]
+pub struct Counts {
+    /// Its records.
+    pub records: u32,
+    /// Its bytes, with the gate in front.
+    pub bytes: u32,
+    /// The leaves of other writers.
+    pub leaves: u32,
+}
+
+impl Counts {
+    /// The first limit, of records, bytes and leaves of other writers, that a journal of these counts would pass with a growth, with the
+    /// number now; none where there is room for it. With the growth there are so many leaves of other writers, where it takes an update of
+    /// another: of a lawful journal to which the growth is new, as `leaves_with` counts them. It takes no memory.
+    pub fn limit(&self, growth: &Growth, leaves_then: Option<u32>) -> Option<Full>
+        ensures counted { (me : ℕ) (J : List Record) → AreCountsOf me J self.now → leaves_then ≡ leaves_counted me J growth.now → result ≡ full_by me J growth.now }
+        ensures lawful { LimitsNew self.now growth.now leaves_then result }
+    {
+        let records = growth.count();
+        if records == 0 {
+            return None;
+        }
+        self.limit_passed(records as u64, growth.bytes, leaves_then)
+    }
+
+    /// The first limit that so many records more, of so many bytes, pass, where there are so many leaves of other writers then.
+    fn limit_passed(&self, records: u64, bytes: u64, leaves: Option<u32>) -> Option<Full>
+        requires few { records ≤ 2 ^ 40 }
+        requires small { bytes ≤ 2 ^ 40 }
+        ensures { result ≡ limit_passed self.now.records self.now.bytes self.now.leaves (self.now.records + records) (self.now.bytes + bytes) leaves }
+    {
+        if self.records as u64 + records > MOST_RECORDS as u64 {
+            return Some(full(FullOf::Records, self.records));
+        }
+        if self.bytes as u64 + bytes > MOST_JOURNAL as u64 {
+            return Some(full(FullOf::Bytes, self.bytes));
+        }
+        match leaves {
+            Some(leaves) if leaves > MOST_FOREIGN_LEAVES => Some(full(
+                FullOf::Writers,
+                self.leaves,
+            )),
+            _ => None,
+        }
+    }
+
+    /// Makes the counts of a journal those of it with a growth behind, with which it stays lawful. With the growth there are so many leaves
+    /// of other writers, where it takes an update of another. It takes no memory.
+    pub fn grow(&mut self, growth: &Growth, leaves_then: Option<u32>)
+        requires { (here : Setting) × ((J : List Record) × (IsLawful here (J ++ growth.now) × AreCountsOf here.me J self.old)) }
+        ensures { CountsMore self.old growth.now leaves_then self.new }
+    {
+        self.records += growth.count() as u32;
+        self.bytes += growth.bytes as u32;
+        self.leaves = leaves_then.unwrap_or(self.leaves);
+    }
+}
+
+fn full(what: FullOf, number: u32) -> Full
+    ensures { result ≡ record { what = what; number = number } }
+{
+    Full { what, number }
+}

@@ -1,0 +1,37 @@
+//! What is read off the records of a node's journal, wherever its texts stand.
+//!
+//! `Readings` are seen as the node's number, its roster, and the list of the records that were read. They keep what the checks look at
+//! (`depot_accept::State`), the values by their hash, the names of values and which of these aren't held, the places of the records that
+//! accepted updates and of those that bundles have in front, counts of the node's own statements and of the leaves of other writers, the
+//! greatest clock, and how many records there are and how many bytes they take in a journal. The records themselves, and their texts, they
+//! don't keep: that there are some, contracts alone say.
+//!
+//! They grow by one call alone, `read`, whatever a journal grows by: a `Growth` is up to two records, or own vouchers, decoded, with their
+//! hashes and with the items at which the parents of an update were found. All memory is found before the first write; after Memory all is
+//! as before. `limit` tells the limit that a growth would pass. What a journal appends is told by the growth (`take_texts`, `given`).
+//!
+//! The records always make a lawful journal: `read` has that as its condition, and this crate decides nothing.
+#![tactic(auto)]
+
+mod counts;
+mod front_places;
+mod growth;
+mod kept;
+mod lacking;
+mod leaves;
+mod named;
+mod news;
+mod parts;
+mod places;
+mod readings;
+mod recorded;
+mod taken;
+mod totals;
+
+pub use counts::Counts;
+pub use front_places::ConvictedAt;
+pub use growth::Growth;
+pub use leaves::leaves_with;
+pub use named::{NamedValues, names_in_update};
+pub use readings::Readings;
+pub use totals::Totals;

@@ -1,0 +1,35 @@
+//! The records that were read.
+ghost use Rattle.std.specs.Prelude.{◌≡◌, List, [], ◌++◌};
+ghost use Rattle.std.specs.Borrow.{ftrue};
+ghost use Rattle.depot_base.specs.declared.record.Record.{Record};
+
+use crate::growth::Growth;
+use std::marker::Model;
+
+/// The records that were read. Contracts alone see them, so they take no bytes: what is asked of them, the readings tell.
+///
+/// No memory holds them: what keeps them are the contracts of `new` and `with`, which are proved by hand.
+#[derive(Drop)]
+pub struct Recorded {
+    pub ghost items: { List Record },
+}
+
+impl Model for Recorded {
+    ghost also_owns = { λ _. ftrue };
+}
+
+impl Recorded {
+    /// No records.
+    pub fn new() -> Recorded
+        ensures { result.items ≡ [] }
+    {
+        Recorded {}
+    }
+
+    /// These, and behind them those of a growth.
+    pub fn with(&self, new: &Growth) -> Recorded
+        ensures { result.items ≡ self.now.items ++ new.now }
+    {
+        Recorded {}
+    }
+}

@@ -1,9 +1,0 @@
-use Rattle.std.proofs.Common.{◌≡◌, ◌||◌, ℕ, List, take}
-use Rattle.depot_store.specs.Named.{names, is_name, HasRooms}
-use Rattle.depot_store.proofs.named.NamedValues.add_each.Given as goal
-
-abbrev pub invariant-loop-name : goal.invariant-loop-name
-invariant-loop-name l = record {
-  room : HasRooms l.self l.given;
-  named : (hash : List ℕ) (size : ℕ) → names l.self hash size ≡ (names l.initial.self hash size || is_name (take l.name-index l.given) hash size);
-}
